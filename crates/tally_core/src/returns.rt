@@ -1,0 +1,59 @@
+//! Returns of polling stations.
+
+ghost use Rattle.std.specs.Prelude.{◌≡◌};
+ghost use Rattle.tally_core.specs.Return.{first_return};
+
+use crate::counts::Counts;
+use std::alloc::Global;
+use std::marker::Model;
+use tally_rules::Code;
+
+/// How far the office has come with a return.
+#[derive(Clone, Copy, Debug, PartialEq, Eq)]
+pub enum Status {
+    /// Lodged, and not yet looked at.
+    Received,
+    /// Called in question.
+    Queried,
+    /// Corrected after a query.
+    Corrected,
+    /// Closed: its votes count.
+    Closed,
+}
+
+/// The return of a polling station.
+#[derive(Debug, Drop)]
+pub struct Return {
+    /// The revision, from 1.
+    pub rev: u32,
+    /// The code of the slip that it was lodged or last corrected with.
+    pub slip: Code,
+    pub status: Status,
+    /// The note of its last query, empty where there was none.
+    pub note: String,
+    pub counts: Counts,
+}
+
+impl Model for Return {
+    ghost use Rattle.std.specs.Prelude.{string_bytes};
+    ghost use Rattle.tally_core.specs.Return.{StationReturn};
+
+    ghost Value = { StationReturn };
+
+    ghost view = { λ r. record { rev = r.rev; slip = r.slip; status = r.status; note = string_bytes r.note; counts = r.counts } };
+}
+
+impl Return {
+    /// A return as it is lodged: revision 1, received, with no note.
+    pub fn lodged(alloc: Global, slip: Code, counts: Counts) -> Return
+        ensures { result ≡ first_return slip counts }
+    {
+        Return {
+            rev: 1,
+            slip,
+            status: Status::Received,
+            note: String::new(alloc),
+            counts,
+        }
+    }
+}

@@ -1,0 +1,113 @@
+//! The divisors of the divisor rules.
+
+ghost use Rattle.std.specs.Prelude.{◌≡◌, ℕ, ◌<◌, ◌≤◌};
+ghost use Rattle.std.proofs.Common.{arith};
+ghost use Rattle.tally_frac.specs.Divisors.{dhondt_divisor, sainte_lague_divisor};
+
+/// The divisors of a divisor rule, counted from 1: the `k`th seat of a list has the quotient of its
+/// votes by `nth(k) / unit()`. The unit is 1 where the divisors are whole numbers, and otherwise
+/// the number, up to 5, that makes them whole.
+pub trait Divisors {
+    ghost divisor: { Self → ℕ → ℕ };
+
+    ghost unit_of: { Self → ℕ };
+
+    /// The `k`th divisor, in `unit()`ths, for `k` from 1 to 501: one more than the seats that a
+    /// constituency may have.
+    fn nth(&self, k: u32) -> u64
+        requires first { 1 ≤ k }
+        requires last { k ≤ 501 }
+        ensures { result ≡ divisor self.now k };
+
+    /// What each `nth(k)` is to be divided by, 1 to 5.
+    fn unit(&self) -> u64
+        ensures { result ≡ unit_of self.now };
+
+    ghost positive: { (rule : Self) (k : ℕ) → 1 ≤ k → 1 ≤ divisor rule k };
+
+    ghost rises: { (rule : Self) (j k : ℕ) → 1 ≤ j → j < k → divisor rule j < divisor rule k };
+
+    ghost at_most: { (rule : Self) (k : ℕ) → 1 ≤ k → k ≤ 501 → divisor rule k ≤ 5005 };
+
+    ghost unit_from_one: { (rule : Self) → 1 ≤ unit_of rule };
+
+    ghost unit_to_five: { (rule : Self) → unit_of rule ≤ 5 };
+}
+
+/// The divisors 1, 2, 3 and so on of D'Hondt's rule (LOREG article 163.1 b) and c)).
+#[derive(Clone, Copy, Debug)]
+pub struct DHondt;
+
+impl Divisors for DHondt {
+    ghost divisor = { λ _ k. dhondt_divisor k };
+
+    ghost unit_of = { λ _. 1 };
+
+    fn nth(&self, k: u32) -> u64 {
+        u64::from(k)
+    }
+
+    fn unit(&self) -> u64 {
+        1
+    }
+
+    ghost positive = { λ _ k first. Prim.omega arith };
+
+    ghost rises = { λ _ j k first later. Prim.omega arith };
+
+    ghost at_most = { λ _ k first last. Prim.omega arith };
+
+    ghost unit_from_one = { λ _. Prim.omega arith };
+
+    ghost unit_to_five = { λ _. Prim.omega arith };
+}
+
+/// The odd divisors 1, 3, 5 and so on of Sainte-Laguë's rule.
+#[derive(Clone, Copy, Debug)]
+pub struct SainteLague;
+
+impl Divisors for SainteLague {
+    ghost divisor = { λ _ k. sainte_lague_divisor k };
+
+    ghost unit_of = { λ _. 1 };
+
+    fn nth(&self, k: u32) -> u64 {
+        2 * u64::from(k) - 1
+    }
+
+    fn unit(&self) -> u64 {
+        1
+    }
+
+    ghost positive = { λ _ k first. Prim.omega arith };
+
+    ghost rises = { λ _ j k first later. Prim.omega arith };
+
+    ghost at_most = { λ _ k first last. Prim.omega arith };
+
+    ghost unit_from_one = { λ _. Prim.omega arith };
+
+    ghost unit_to_five = { λ _. Prim.omega arith };
+}
+
+#[cfg(test)]
+mod tests {
+    use super::*;
+
+    /// The first, second, third and last divisor of a rule, and its unit.
+    fn sample<D: Divisors>(rule: &D) -> [u64; 5] {
+        [
+            rule.nth(1),
+            rule.nth(2),
+            rule.nth(3),
+            rule.nth(501),
+            rule.unit(),
+        ]
+    }
+
+    #[test]
+    fn the_rules_have_their_divisors(rt: HostRuntime) {
+        assert_eq!(rt; sample(&DHondt), [1, 2, 3, 501, 1]);
+        assert_eq!(rt; sample(&SainteLague), [1, 3, 5, 1001, 1]);
+    }
+}

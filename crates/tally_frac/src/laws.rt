@@ -1,0 +1,89 @@
+//! The laws of fractions and ranks. The functions do nothing: each contract is a law.
+
+ghost use Rattle.std.specs.Prelude.{ℕ, ◌≡◌, ◌*◌, ◌<◌, ◌≤◌, ◌⊎◌, ◌↔◌};
+ghost use Rattle.std.specs.declared.cmp.Ordering.TheVariants.{Less, Equal, Greater};
+ghost use Rattle.tally_frac.specs.Fraction.{Fraction, IsGreater, IsLevel, whole_part};
+ghost use Rattle.tally_frac.specs.Rank.{Pair, quotient, full_quotient, RanksAboveByVotes, TiesByVotes, RanksAbove, IsWithinLimits};
+
+use crate::RankKey;
+
+/// Of two fractions one is greater or they are level, and only one of these holds.
+pub fn fractions_are_ordered()
+    ensures total { (x y : Fraction) → IsGreater x y ⊎ (IsLevel x y ⊎ IsGreater y x) }
+    ensures one_way { (x y : Fraction) → IsGreater x y → ¬ (IsGreater y x) }
+    ensures not_level { (x y : Fraction) → IsGreater x y → ¬ (IsLevel x y) }
+{}
+
+/// What is greater than a greater fraction is greater.
+pub fn greater_fractions_chain()
+    ensures { (x y z : Fraction) → 1 ≤ x.den → IsGreater x y → IsGreater y z → IsGreater x z }
+{}
+
+/// Level fractions are of equal value: being level is an equivalence, holds between a fraction and
+/// itself in other terms, and holds exactly where no third fraction tells the two apart.
+pub fn level_fractions_are_equal()
+    ensures reflexive { (x : Fraction) → IsLevel x x }
+    ensures symmetric { (x y : Fraction) → IsLevel x y → IsLevel y x }
+    ensures transitive { (x y z : Fraction) → 1 ≤ y.den → IsLevel x y → IsLevel y z → IsLevel x z }
+    ensures other_terms { (x : Fraction) (k : ℕ) → IsLevel x (record { num = k * x.num; den = k * x.den }) }
+    ensures alike { (x y : Fraction) → 1 ≤ x.den → 1 ≤ y.den → IsLevel x y ↔ ((z : Fraction) → 1 ≤ z.den → IsGreater x z ↔ IsGreater y z) }
+{}
+
+/// The whole part is the greatest whole number that is not above the fraction, and a greater
+/// fraction has none that is less.
+pub fn whole_parts_are_rounded_down()
+    ensures greatest { (x : Fraction) (n : ℕ) → 1 ≤ x.den → (n ≤ whole_part x) ↔ (n * x.den ≤ x.num) }
+    ensures rises { (x y : Fraction) → 1 ≤ x.den → 1 ≤ y.den → IsGreater x y → whole_part y ≤ whole_part x }
+{}
+
+/// Quotients compare alike with the rule's unit and without it.
+pub fn units_cancel()
+    ensures greater { (p q : Pair) (unit : ℕ) → 1 ≤ unit → IsGreater (full_quotient unit p) (full_quotient unit q) ↔ IsGreater (quotient p) (quotient q) }
+    ensures level { (p q : Pair) (unit : ℕ) → 1 ≤ unit → IsLevel (full_quotient unit p) (full_quotient unit q) ↔ IsLevel (quotient p) (quotient q) }
+{}
+
+/// Of two pairs one ranks above the other by votes or they tie, and only one of these holds.
+pub fn weak_rank_is_ordered()
+    ensures total { (p q : Pair) → RanksAboveByVotes p q ⊎ (TiesByVotes p q ⊎ RanksAboveByVotes q p) }
+    ensures one_way { (p q : Pair) → RanksAboveByVotes p q → ¬ (RanksAboveByVotes q p) }
+    ensures not_tied { (p q : Pair) → RanksAboveByVotes p q → ¬ (TiesByVotes p q) }
+{}
+
+/// What ranks by votes above a pair that ranks above a third ranks above the third, and pairs that
+/// tie rank alike.
+pub fn weak_ranks_chain()
+    ensures above { (p q r : Pair) → 1 ≤ p.divisor → 1 ≤ q.divisor → 1 ≤ r.divisor → RanksAboveByVotes p q → RanksAboveByVotes q r → RanksAboveByVotes p r }
+    ensures ties { (p q r : Pair) → 1 ≤ p.divisor → 1 ≤ q.divisor → 1 ≤ r.divisor → TiesByVotes p q → TiesByVotes q r → TiesByVotes p r }
+    ensures tied_above { (p q r : Pair) → 1 ≤ p.divisor → 1 ≤ q.divisor → 1 ≤ r.divisor → TiesByVotes p q → RanksAboveByVotes q r → RanksAboveByVotes p r }
+    ensures tied_below { (p q r : Pair) → 1 ≤ p.divisor → 1 ≤ q.divisor → 1 ≤ r.divisor → RanksAboveByVotes p q → TiesByVotes q r → RanksAboveByVotes p r }
+{}
+
+/// Two pairs that tie by votes have the same divisor, and so are for seats of the same number.
+pub fn ties_have_one_divisor()
+    ensures { (p q : Pair) → 1 ≤ p.votes → TiesByVotes p q → p.divisor ≡ q.divisor }
+{}
+
+/// Of two seats of one list the one with the lesser divisor ranks above.
+pub fn earlier_seats_rank_above()
+    ensures { (p q : Pair) → 1 ≤ p.votes → p.votes ≡ q.votes → p.divisor < q.divisor → RanksAboveByVotes p q }
+{}
+
+/// Of two pairs one ranks above the other, or they tie by votes and have the same place, and only
+/// one of these holds.
+pub fn strict_rank_is_ordered()
+    ensures total { (p q : Pair) → RanksAbove p q ⊎ ((TiesByVotes p q × (p.place ≡ q.place)) ⊎ RanksAbove q p) }
+    ensures one_way { (p q : Pair) → RanksAbove p q → ¬ (RanksAbove q p) }
+    ensures not_tied { (p q : Pair) → RanksAbove p q → ¬ (TiesByVotes p q × (p.place ≡ q.place)) }
+{}
+
+/// What ranks above a pair that ranks above a third ranks above the third.
+pub fn strict_ranks_chain()
+    ensures { (p q r : Pair) → 1 ≤ p.divisor → 1 ≤ q.divisor → 1 ≤ r.divisor → RanksAbove p q → RanksAbove q r → RanksAbove p r }
+{}
+
+/// The order of keys is the strict rank, and keys are equal exactly where their pairs are.
+pub fn keys_follow_the_strict_rank()
+    ensures greater { (p q : Pair) → IsWithinLimits p → IsWithinLimits q → (⟦<RankKey as Ord>⟧.cmp p q ≡ Greater) ↔ RanksAbove p q }
+    ensures less { (p q : Pair) → IsWithinLimits p → IsWithinLimits q → (⟦<RankKey as Ord>⟧.cmp p q ≡ Less) ↔ RanksAbove q p }
+    ensures equal { (p q : Pair) → (⟦<RankKey as Ord>⟧.cmp p q ≡ Equal) ↔ (p ≡ q) }
+{}

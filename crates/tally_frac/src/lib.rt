@@ -1,0 +1,15 @@
+//! The arithmetic of shares and ranks: fractions compared exactly, the threshold, the divisors of
+//! the divisor rules, and the rank of a pair of a list and one of its seats. Nothing here takes
+//! memory, and no product wraps.
+#![tactic(auto)]
+
+mod divisors;
+pub mod laws;
+mod rank;
+mod share;
+mod threshold;
+
+pub use divisors::{DHondt, Divisors, SainteLague};
+pub use rank::RankKey;
+pub use share::Share;
+pub use threshold::is_at_least;

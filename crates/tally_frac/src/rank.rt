@@ -1,0 +1,161 @@
+//! The rank of a pair of a list and one of its seats.
+
+ghost use Rattle.std.specs.Prelude.{◌≡◌, ◌↔◌, Some, IsSome, IfSome, refl};
+ghost use Rattle.std.specs.Cmp.{partial_equiv_from_equiv, po};
+ghost use Rattle.tally_frac.specs.Rank.{IsWithinLimits};
+ghost use Rattle.tally_frac.specs.RankOrder.{rank_cmp, same_pair, rank_cmp-total, same_pair-equiv, same_pair-ties};
+
+use std::cmp::Ordering;
+use std::marker::Model;
+
+/// The most votes that a list may have.
+const MOST_VOTES: u64 = 5_000_000_000;
+
+/// The greatest divisor of a divisor rule, in units of the rule.
+const GREATEST_DIVISOR: u64 = 5_005;
+
+/// The last place that a list may have.
+const LAST_PLACE: u32 = 60;
+
+/// The rank of a pair of a list and one of its seats: the greater of two keys is the pair that the
+/// next seat goes to (LOREG article 163.1 c) and d)). Pairs rank by greater quotient of votes and
+/// divisor, then by more votes, then by earlier place, and keys are equal where the pairs are.
+#[derive(Clone, Copy, Debug)]
+pub struct RankKey {
+    votes: u64,
+    divisor: u64,
+    place: u32,
+}
+
+impl Model for RankKey {
+    ghost use Rattle.tally_frac.specs.Rank.{Pair, IsWithinLimits};
+
+    ghost Value = { Pair };
+
+    ghost view = { λ key. record { votes = key.votes; divisor = key.divisor; place = key.place } };
+
+    ghost invariant = { λ key. IsWithinLimits record { votes = key.votes; divisor = key.divisor; place = key.place } };
+
+    ghost inverse = { λ pair. record { votes = pair.votes; divisor = pair.divisor; place = pair.place } };
+}
+
+impl RankKey {
+    /// The key of a pair, or `None` outside votes 1 to 5,000,000,000, divisor 1 to 5,005 and place
+    /// 1 to 60.
+    pub fn new(votes: u64, divisor: u64, place: u32) -> Option<RankKey>
+        ensures limits { IsSome result ↔ IsWithinLimits record { votes = votes; divisor = divisor; place = place } }
+        ensures value { IfSome result (λ key. key ≡ record { votes = votes; divisor = divisor; place = place }) }
+    {
+        let is_key = (1..=MOST_VOTES).contains(&votes)
+            && (1..=GREATEST_DIVISOR).contains(&divisor)
+            && (1..=LAST_PLACE).contains(&place);
+        if !is_key {
+            return None;
+        }
+        Some(RankKey {
+            votes,
+            divisor,
+            place,
+        })
+    }
+}
+
+impl PartialEq for RankKey {
+    ghost eq = { same_pair };
+
+    ghost laws = { partial_equiv_from_equiv same_pair-equiv };
+
+    fn eq(&self, other: &RankKey) -> bool {
+        self.votes == other.votes && self.divisor == other.divisor && self.place == other.place
+    }
+}
+
+impl Eq for RankKey {
+    ghost laws = { same_pair-equiv };
+}
+
+impl PartialOrd for RankKey {
+    ghost partial_cmp = { λ p q. Some (rank_cmp p q) };
+
+    ghost laws = { po rank_cmp-total same_pair-ties };
+
+    fn partial_cmp(&self, other: &RankKey) -> Option<Ordering> {
+        Some(self.cmp(other))
+    }
+}
+
+impl Ord for RankKey {
+    ghost cmp = { rank_cmp };
+
+    ghost total = { rank_cmp-total };
+
+    ghost matches_partial_cmp = { λ p q. refl };
+
+    ghost matches_eq = { same_pair-ties };
+
+    fn cmp(&self, other: &RankKey) -> Ordering {
+        // Both products are at most 5,000,000,000 * 5,005, which is below 2^64.
+        let mine = self.votes * other.divisor;
+        let theirs = other.votes * self.divisor;
+        mine.cmp(&theirs)
+            .then(self.votes.cmp(&other.votes))
+            .then(other.place.cmp(&self.place))
+    }
+}
+
+#[cfg(test)]
+mod tests {
+    use super::*;
+
+    #[test]
+    fn pairs_rank_by_quotient_then_votes_then_place(rt: HostRuntime) {
+        // Votes, divisor and place of the pair that ranks above, and of the one below.
+        for (above, below) in [
+            // 17.5 against 17 and a third
+            ((35, 2, 2), (52, 3, 1)),
+            // 100 each, and more votes
+            ((200, 2, 1), (100, 1, 2)),
+            ((200, 2, 2), (100, 1, 1)),
+            // 100 each, votes alike, and the earlier place
+            ((100, 1, 1), (100, 1, 2)),
+            // The greatest products: 5,000,000,000 * 5,005
+            ((5_000_000_000, 5_004, 60), (5_000_000_000, 5_005, 1)),
+        ] {
+            let above = key(above).expect(&rt, "within the limits");
+            let below = key(below).expect(&rt, "within the limits");
+            assert_eq!(rt; above.cmp(&below), Ordering::Greater);
+            assert_eq!(rt; below.cmp(&above), Ordering::Less);
+            assert_eq!(rt; above.cmp(&above), Ordering::Equal);
+            assert!(rt; above > below);
+            assert!(rt; above != below);
+            assert!(rt; above == above);
+        }
+    }
+
+    #[test]
+    fn a_key_keeps_the_limits(rt: HostRuntime) {
+        for (pair, want) in [
+            ((0, 1, 1), false),
+            ((1, 0, 1), false),
+            ((1, 1, 0), false),
+            ((1, 1, 1), true),
+            ((5_000_000_000, 5_005, 60), true),
+            ((5_000_000_001, 1, 1), false),
+            ((1, 5_006, 1), false),
+            ((1, 1, 61), false),
+        ] {
+            assert_eq!(rt;
+                key(pair).is_some(),
+                want,
+                "{} / {}, {}",
+                pair.0,
+                pair.1,
+                pair.2
+            );
+        }
+    }
+
+    fn key((votes, divisor, place): (u64, u64, u32)) -> Option<RankKey> {
+        RankKey::new(votes, divisor, place)
+    }
+}

@@ -1,0 +1,34 @@
+//! The threshold that a list has to reach.
+
+ghost use Rattle.std.specs.Prelude.{◌*◌, ◌≤◌, ◌↔◌, IsTrue};
+
+/// Whether `votes` are at least `threshold` ten-thousandths of `base`. LOREG article 163.1 a) sets
+/// 3 per cent of the valid votes, a threshold of 300. Votes are up to 5,000,000,000 and the
+/// threshold up to 10,000, so that no product reaches 2^64.
+pub fn is_at_least(votes: u64, threshold: u32, base: u64) -> bool
+    requires few_votes { votes ≤ 5000000000 }
+    requires few_in_base { base ≤ 5000000000 }
+    requires threshold { threshold ≤ 10000 }
+    ensures { IsTrue result ↔ (threshold * base ≤ votes * 10000) }
+{
+    votes * 10_000 >= u64::from(threshold) * base
+}
+
+#[cfg(test)]
+mod tests {
+    use super::*;
+
+    #[test]
+    fn three_per_cent_is_reached_exactly(rt: HostRuntime) {
+        assert!(rt; is_at_least(300, 300, 10_000));
+        assert!(rt; !is_at_least(299, 300, 10_000));
+    }
+
+    #[test]
+    fn the_greatest_numbers_are_compared(rt: HostRuntime) {
+        let most = 5_000_000_000;
+        assert!(rt; is_at_least(most, 10_000, most));
+        assert!(rt; !is_at_least(most - 1, 10_000, most));
+        assert!(rt; is_at_least(0, 0, most));
+    }
+}

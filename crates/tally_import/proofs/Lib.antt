@@ -1,0 +1,10 @@
+pub mod FieldLemmas
+pub mod HeaderLemmas
+pub mod NumberLemmas
+pub mod InputLemmas
+pub mod RecordLemmas
+pub mod TotalsLemmas
+pub mod ProgressLemmas
+pub mod RoundsLemmas
+pub mod ReadingLemmas
+pub mod AnswerLemmas

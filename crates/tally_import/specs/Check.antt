@@ -1,0 +1,125 @@
+-- The check of a text of returns.
+use Rattle.std.specs.Prelude.{◌≡◌, ◌+◌, ◌++◌, if◌then◌else◌, nat_lt, ℕ, List, [], ◌∷◌, map, length, sum_by, slice_index, take, Option, Some, None, Result, Ok, Err, codes}
+use Rattle.std.specs.Fmt.{decimal}
+use Rattle.std.specs.FinMap.{empty}
+use Rattle.std.specs.Io.KnownBytes.{Appends, Keeps}
+use Rattle.tally_core.specs.Counts.{VoteCounts}
+use Rattle.tally_core.specs.Lodge.{Stations}
+use Rattle.tally_core.specs.Import.{answers, count_of, lodged_counts}
+use Rattle.tally_core.specs.declared.import.ImportCount.{ImportCount}
+use Rattle.tally_core.specs.declared.import.FirstRow.{FirstRow}
+use Rattle.tally_core.specs.declared.import.Row.{Row}
+use Rattle.tally_import.specs.Header.{header_lists}
+use Rattle.tally_import.specs.Input.{Gave, complete_records}
+use Rattle.tally_import.specs.Rows.{row_of}
+use Rattle.tally_import.specs.declared.check.CheckFault.{CheckFault}
+use Rattle.tally_import.specs.declared.check.CheckFault.TheVariants.{BadHeader, TooLong, Read, Memory, Write}
+use Rattle.tally_import.specs.declared.separator.Sep.{Sep}
+
+-- the most rows that a text may have
+abbrev pub row_limit : ℕ
+row_limit = 20000
+
+-- every code is a station, of 1,000,000 electors
+abbrev pub every_code : ℕ → Stations
+every_code lists station = Some (record { lists = lists; electors = 1000000 })
+
+-- ---- the check text
+
+abbrev pub named_number : List ℕ → ℕ → List ℕ
+named_number name n = name ++ 32 ∷ decimal n ++ 10 ∷ []
+
+abbrev pub first_text : Option FirstRow → List ℕ
+first_text None = codes "first -\n"
+first_text (Some first) = codes "first " ++ decimal first.row ++ 32 ∷ decimal first.number ++ 10 ∷ []
+
+-- the six lines of an import
+abbrev pub count_text : ImportCount → List ℕ
+count_text count =
+    named_number (codes "lodged") count.lodged
+    ++ named_number (codes "same") count.same
+    ++ named_number (codes "differs") count.differs
+    ++ named_number (codes "refused") count.refused
+    ++ named_number (codes "bad") count.bad
+    ++ first_text count.first
+
+-- the votes of the list at a place (from 0), together
+abbrev pub votes_for : ℕ → List VoteCounts → ℕ
+votes_for place returns = sum_by (λ c. slice_index c.votes place) returns
+
+-- the totals of the returns, the lists from this place on
+abbrev pub lists_text : ℕ → List (List ℕ) → List VoteCounts → List ℕ
+lists_text place [] returns = []
+lists_text place (code ∷ lists) returns = named_number code (votes_for place returns) ++ lists_text (place + 1) lists returns
+
+abbrev pub totals_text : List (List ℕ) → List VoteCounts → List ℕ
+totals_text lists returns =
+    named_number (codes "blank") (sum_by (λ c. c.blank) returns)
+    ++ named_number (codes "spoiled") (sum_by (λ c. c.spoiled) returns)
+    ++ lists_text 0 lists returns
+
+-- The check text of the import of these rows into the empty map: the counts of the rows, and the totals of the returns
+-- that were lodged.
+abbrev pub check_text : List (List ℕ) → List Row → List ℕ
+check_text lists rows =
+    let answered = answers (every_code (length lists)) empty rows in
+    count_text (count_of answered) ++ totals_text lists (lodged_counts rows answered)
+
+-- ---- the check of a text
+
+-- the rows that records are, under a header of so many lists
+abbrev pub rows_of_records : ℕ → List (List (List ℕ)) → List Row
+rows_of_records lists records = map (row_of (every_code lists) lists) records
+
+abbrev pub ended : List (List ℕ) → List (List (List ℕ)) → Option CheckFault → Result (List ℕ) CheckFault
+ended lists records None = Ok (check_text lists (rows_of_records (length lists) records))
+ended lists records (Some stop) = Err stop
+
+abbrev pub under_header : Option (List (List ℕ)) → List (List (List ℕ)) → Option CheckFault → Result (List ℕ) CheckFault
+under_header None records stop = Err BadHeader
+under_header (Some lists) records stop = if nat_lt row_limit (length records) then Err TooLong else ended lists records stop
+
+abbrev pub no_header : Option CheckFault → Result (List ℕ) CheckFault
+no_header None = Err BadHeader
+no_header (Some stop) = Err stop
+
+-- the check text of a text's complete records, or the fault that comes first: the header is looked at first, then the rows, and then what stopped the text
+abbrev pub examined : List (List (List ℕ)) → Option CheckFault → Result (List ℕ) CheckFault
+examined [] stop = no_header stop
+examined (header ∷ records) stop = under_header (header_lists header) records stop
+
+-- the same of the bytes that came, and what stopped them
+abbrev pub checked : Sep → List ℕ → Option CheckFault → Result (List ℕ) CheckFault
+checked sep bytes stop = examined (complete_records sep bytes stop) stop
+
+-- What is found in the bytes that came of a text, of which `left` is not read, before its end or before what stopped
+-- it: the check text or the first fault.
+abbrev pub Found : Sep → List ℕ → Option (List ℕ) → (Result (List ℕ) CheckFault → Type 0) → Type 0
+Found sep text left P = (bytes : List ℕ) × (stop : Option CheckFault) × Gave text left bytes stop × P (checked sep bytes stop)
+
+-- What the check of a text answers, and what it leaves on its writer: the check text is written, or the first fault is
+-- answered and nothing written. A write that failed leaves a front of the text. Want of memory may come at any place.
+abbrev pub Checks : Sep → List ℕ → Option (List ℕ) → Option (List ℕ) → Option (List ℕ) → Result (Unit {0}) CheckFault → Type 0
+Checks sep text left old new (Ok u) = Found sep text left (λ found. (t : List ℕ) × (found ≡ Ok t) × Appends old new t)
+Checks sep text left old new (Err BadHeader) = Found sep text left (λ found. found ≡ Err BadHeader) × Keeps old new
+Checks sep text left old new (Err TooLong) = Found sep text left (λ found. found ≡ Err TooLong) × Keeps old new
+Checks sep text left old new (Err Read) = Found sep text left (λ found. found ≡ Err Read) × Keeps old new
+Checks sep text left old new (Err Memory) = Keeps old new
+Checks sep text left old new (Err Write) = Found sep text left (λ found. (t : List ℕ) × (n : ℕ) × (found ≡ Ok t) × Appends old new (take n t))
+
+-- a failed check has written nothing, but for one whose writing failed
+abbrev pub IsSilent : Option (List ℕ) → Option (List ℕ) → Result (Unit {0}) CheckFault → Type 0
+IsSilent old new (Ok u) = Unit {0}
+IsSilent old new (Err Write) = Unit {0}
+IsSilent old new (Err BadHeader) = Keeps old new
+IsSilent old new (Err TooLong) = Keeps old new
+IsSilent old new (Err Read) = Keeps old new
+IsSilent old new (Err Memory) = Keeps old new
+
+-- the number of a fault
+abbrev pub fault_number : CheckFault → ℕ
+fault_number BadHeader = 1
+fault_number TooLong = 2
+fault_number Read = 3
+fault_number Memory = 4
+fault_number Write = 5

@@ -1,0 +1,25 @@
+-- The header of a text of returns: `station`, `slip`, `blank`, `spoiled` and the codes of the lists.
+use Rattle.std.specs.Prelude.{◌&&◌, not, if◌then◌else◌, ℕ, Bool, true, List, [], ◌∷◌, length, nat_eq, nat_le, Option, Some, None, codes}
+use Rattle.std.specs.List.{list_all, list_any}
+use Rattle.std.specs.Cmp.Lexicographic.{pointwise}
+use Rattle.tally_rules.specs.Code.{is_code}
+
+abbrev pub same_text : List ℕ → List ℕ → Bool
+same_text = pointwise nat_eq
+
+-- no code stands twice
+abbrev pub are_distinct : List (List ℕ) → Bool
+are_distinct [] = true
+are_distinct (text ∷ texts) = not (list_any (same_text text) texts) && are_distinct texts
+
+-- 1 to 60 lists, each named by a code of its own
+abbrev pub are_lists : List (List ℕ) → Bool
+are_lists lists = nat_le 1 (length lists) && nat_le (length lists) 60 && list_all is_code lists && are_distinct lists
+
+-- the lists that a record names, where it is a header
+abbrev pub header_lists : List (List ℕ) → Option (List (List ℕ))
+header_lists (station ∷ slip ∷ blank ∷ spoiled ∷ lists) =
+    if same_text station (codes "station") && same_text slip (codes "slip") && same_text blank (codes "blank") && same_text spoiled (codes "spoiled")
+    && are_lists lists
+    then Some lists else None
+header_lists fields = None

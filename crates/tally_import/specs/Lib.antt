@@ -1,0 +1,13 @@
+pub mod Separator
+pub mod Input
+pub mod Header
+pub mod Reading
+pub mod Rows
+pub mod Check
+pub mod Totals
+pub mod Progress
+pub mod Rounds
+pub use Rattle.tally_core.specs.Counts
+pub use Rattle.tally_core.specs.Return
+pub use Rattle.tally_core.specs.Lodge
+pub use Rattle.tally_core.specs.Import

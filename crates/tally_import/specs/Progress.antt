@@ -1,0 +1,58 @@
+-- How far an import into the empty map has come.
+use Rattle.std.specs.Prelude.{◌≡◌, ◌≤◌, ℕ, List, [], ◌∷◌, nat_eq, Result, Ok, Err}
+use Rattle.std.specs.Cmp.Lexicographic.{pointwise}
+use Rattle.std.specs.FinMap as map
+use Rattle.std.specs.HashMap as table
+use Rattle.std.specs.declared.hash.BuildHasherDefault.{BuildHasherDefault}
+use Rattle.std.specs.declared.hash.FoldHasher.{FoldHasher}
+use Rattle.tally_core.specs.Counts.{VoteCounts}
+use Rattle.tally_core.specs.Return.{StationReturn, Returns}
+use Rattle.tally_core.specs.Lodge.{Stations}
+use Rattle.tally_core.specs.Import.{Answer, answers, imported, count_of, lodged_counts}
+use Rattle.tally_core.specs.declared.import.Row.{Row}
+use Rattle.tally_core.specs.declared.refusal.Refusal.{Refusal}
+use Rattle.tally_core.specs.declared.reply.Reply.{Reply}
+use Rattle.tally_core.specs.declared.reply.Reply.TheVariants.{Lodged, Same}
+use Rattle.tally_import.specs.Check.{every_code}
+use Rattle.tally_import.specs.Totals.{AreTotals}
+use Rattle.tally_import.specs.declared.import.Import.{Import}
+
+-- a table of returns by the codes of their stations
+abbrev pub Table : Type 0
+Table = table.HashMap (List ℕ) StationReturn (BuildHasherDefault FoldHasher)
+
+-- the table holds these returns
+abbrev pub Holds : Table → Returns → Type 0
+Holds held returns = (code : List ℕ) → table.get (pointwise nat_eq) held code ≡ map.get returns code
+
+-- returns that stand, and the counts of those that were lodged
+pub record Lodgings : Type 0 where
+  pub returns : Returns
+  pub lodged : List VoteCounts
+
+-- the counts that an answer adds to those that were lodged
+abbrev pub lodged_of : VoteCounts → Result Reply Refusal → List VoteCounts
+lodged_of counts (Ok (Lodged rev)) = counts ∷ []
+lodged_of counts (Ok (Same rev)) = []
+lodged_of counts (Err refusal) = []
+
+-- rows, under a header of so many lists
+pub record Taken : Type 0 where
+  pub lists : ℕ
+  pub rows : List Row
+
+-- the stations of an import
+abbrev pub stations : Taken → Stations
+stations taken = every_code taken.lists
+
+-- what the rows were answered
+abbrev pub answered : Taken → List Answer
+answered taken = answers (stations taken) map.empty taken.rows
+
+-- the import has taken these rows
+pub record HasTaken (taken : Taken) (import : Import) : Type 0 where
+  pub few : taken.lists ≤ 60
+  pub lists : import.lists ≡ taken.lists
+  pub table : Holds import.returns (imported (stations taken) map.empty taken.rows)
+  pub count : import.count ≡ count_of (answered taken)
+  pub totals : AreTotals taken.lists (lodged_counts taken.rows (answered taken)) import.totals

@@ -1,0 +1,53 @@
+//! The header of a text of returns.
+
+ghost use Rattle.std.specs.Prelude.{◌≡◌, ◌≤◌, ◌&&◌, [], length, slice_index_or, codes, IfOk, option_map};
+ghost use Rattle.csv.specs.Records.{fields_of};
+ghost use Rattle.tally_import.specs.Header.{header_lists, same_text};
+
+use crate::field::field;
+use csv::ByteRecord;
+use std::alloc::{AllocError, Global};
+use tally_rules::Code;
+
+/// How many names stand before those of the lists.
+const FIXED_NAMES: usize = 4;
+
+/// The most lists that a constituency has.
+const MOST_LISTS: usize = 60;
+
+/// The lists that a record names, if it is a header.
+pub(crate) fn lists_of(alloc: Global, record: &ByteRecord) -> Result<Option<Vec<Code>>, AllocError>
+    ensures { IfOk result (λ lists. option_map (λ l. l.items) lists ≡ header_lists (fields_of record.now)) }
+{
+    if record.len() <= FIXED_NAMES || record.len() > FIXED_NAMES + MOST_LISTS {
+        return Ok(None);
+    }
+    if !has_fixed_names(record) {
+        return Ok(None);
+    }
+    let mut lists = Vec::new(alloc);
+    for place in FIXED_NAMES..record.len() {
+        let Some(code) = Code::new(field(record, place)) else {
+            return Ok(None);
+        };
+        if lists.contains(&code) {
+            return Ok(None);
+        }
+        lists.push(code)?;
+    }
+    Ok(Some(lists))
+}
+
+/// Whether a record begins with the names that every header begins with.
+fn has_fixed_names(record: &ByteRecord) -> bool
+    requires { 4 ≤ length (fields_of record.now) }
+    ensures { result ≡ (same_text (slice_index_or (fields_of record.now) 0 []) (codes "station")
+        && same_text (slice_index_or (fields_of record.now) 1 []) (codes "slip")
+        && same_text (slice_index_or (fields_of record.now) 2 []) (codes "blank")
+        && same_text (slice_index_or (fields_of record.now) 3 []) (codes "spoiled")) }
+{
+    field(record, 0) == b"station".as_slice()
+        && field(record, 1) == b"slip".as_slice()
+        && field(record, 2) == b"blank".as_slice()
+        && field(record, 3) == b"spoiled".as_slice()
+}

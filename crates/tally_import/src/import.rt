@@ -1,0 +1,115 @@
+//! An import into the empty map, in which every code is a station.
+
+ghost use Rattle.std.specs.Prelude.{◌≡◌, ◌+◌, ◌<◌, ◌≤◌, ◌++◌, [], ◌∷◌, length, Some, IfOk, OnOk};
+ghost use Rattle.tally_core.specs.Import.{row_answer, after_row, lodged_counts};
+ghost use Rattle.tally_core.specs.Lodge.{lodge, lodge_answer};
+ghost use Rattle.tally_core.specs.declared.import.Row.{Row};
+ghost use Rattle.tally_import.specs.Check.{every_code};
+
+use crate::totals::{Totals, add_return, no_totals};
+use std::alloc::{AllocError, Global};
+use std::collections::HashMap;
+use tally_core::{Ask, Counts, ImportCount, Refusal, Reply, Return, Row, decide_lodge};
+use tally_rules::Code;
+
+/// How many electors a station is taken to have.
+const ELECTORS: u32 = 1_000_000;
+
+/// How far an import has come.
+#[derive(Drop)]
+pub(crate) struct Import {
+    /// How many lists there are.
+    lists: usize,
+    /// The returns that were lodged, by station.
+    returns: HashMap<Code, Return>,
+    /// The rows, by what they were answered.
+    pub(crate) count: ImportCount,
+    /// The totals of the returns that were lodged.
+    pub(crate) totals: Totals,
+}
+
+impl Import {
+    ghost use Rattle.tally_import.specs.Progress.{HasTaken, Holds, Lodgings, Taken, lodged_of};
+    ghost use Rattle.tally_import.specs.Totals.{AreTotals};
+
+    /// An import that has taken no row, of so many lists.
+    pub(crate) fn new(alloc: Global, lists: usize) -> Result<Import, AllocError>
+        requires { lists ≤ 60 }
+        ensures { IfOk result (HasTaken (record { lists = lists; rows = [] })) }
+    {
+        Ok(Import {
+            lists,
+            returns: HashMap::new(alloc),
+            count: ImportCount::new(),
+            totals: no_totals(alloc, lists)?,
+        })
+    }
+
+    /// Takes the next row, by its number. After want of memory the import is of no further use.
+    pub(crate) fn take(&mut self, alloc: Global, number: u32, row: Row) -> Result<(), AllocError>
+        ghost taken: { Taken }
+        requires so_far { HasTaken taken self.old }
+        requires next { number ≡ length taken.rows + 1 }
+        requires few { number ≤ 20000 }
+        ensures { OnOk result (HasTaken (record taken { rows = taken.rows ++ row ∷ [] }) self.new) }
+    {
+        let Row::Lodge(ask) = row else {
+            self.count.add(number, None);
+            return Ok(());
+        };
+        let answer = self.lodge_row(alloc, ask)?;
+        self.count.add(number, Some(answer));
+        Ok(())
+    }
+
+    // Lodges the return of a row.
+    fn lodge_row(&mut self, alloc: Global, ask: Ask) -> Result<Result<Reply, Refusal>, AllocError>
+        ghost held: { Lodgings }
+        requires lists { self.old.lists ≤ 60 }
+        requires table { Holds self.old.returns held.returns }
+        requires totals { AreTotals self.old.lists held.lodged self.old.totals }
+        requires few { length held.lodged < 20000 }
+        ensures answer { IfOk result (λ answer. row_answer (every_code self.old.lists) held.returns (Row.Lodge ask) ≡ Some answer) }
+        ensures table { OnOk result (Holds self.new.returns (after_row (every_code self.old.lists) held.returns (Row.Lodge ask))) }
+        ensures totals { IfOk result (λ answer. AreTotals self.old.lists (held.lodged ++ lodged_counts (Row.Lodge ask ∷ []) (Some answer ∷ [])) self.new.totals) }
+        ensures lists { self.new.lists ≡ self.old.lists }
+        ensures count { self.new.count ≡ self.old.count }
+    {
+        let Ask::Lodge {
+            station,
+            slip,
+            counts,
+        } = ask;
+        self.lodge(alloc, station, slip, counts)
+    }
+
+    // Lodges a return: what it is answered, and the table and the totals with it.
+    fn lodge(
+        &mut self,
+        alloc: Global,
+        station: Code,
+        slip: Code,
+        counts: Counts,
+    ) -> Result<Result<Reply, Refusal>, AllocError>
+        ghost held: { Lodgings }
+        requires lists { self.old.lists ≤ 60 }
+        requires table { Holds self.old.returns held.returns }
+        requires totals { AreTotals self.old.lists held.lodged self.old.totals }
+        requires few { length held.lodged < 20000 }
+        ensures answer { IfOk result (λ answer. answer ≡ lodge_answer (every_code self.old.lists) held.returns station slip counts) }
+        ensures table { OnOk result (Holds self.new.returns (lodge (every_code self.old.lists) held.returns station slip counts)) }
+        ensures totals { IfOk result (λ answer. AreTotals self.old.lists (held.lodged ++ lodged_of counts answer) self.new.totals) }
+        ensures lists { self.new.lists ≡ self.old.lists }
+        ensures count { self.new.count ≡ self.old.count }
+    {
+        let found = self.returns.get(&station);
+        let answer = decide_lodge(self.lists, ELECTORS, found, slip, &counts);
+        let Ok(Reply::Lodged { .. }) = answer else {
+            return Ok(answer);
+        };
+        add_return(&mut self.totals, &counts);
+        let lodged = Return::lodged(alloc, slip, counts);
+        self.returns.insert(station, lodged)?;
+        Ok(answer)
+    }
+}

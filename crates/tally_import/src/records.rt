@@ -1,0 +1,39 @@
+//! The records of a text, one after the other.
+
+ghost use Rattle.std.specs.Prelude.{◌≡◌, ◌∷◌, [], true, IfOk, if◌then◌else◌};
+ghost use Rattle.csv.specs.Reading.{records, strip_bom};
+ghost use Rattle.csv.specs.Records.{fields_of};
+ghost use Rattle.tally_import.specs.Reading.{IsReading, rows_left};
+ghost use Rattle.tally_import.specs.Separator.{config};
+
+use crate::separator::Sep;
+use csv::{ByteRecord, Reader, ReaderBuilder};
+use std::alloc::{AllocError, Global};
+
+/// A reader of a text's records, of any length, as they stand in it.
+pub(crate) fn records_in(alloc: Global, text: &[u8], sep: Sep) -> Reader<&[u8]>
+    ensures reading { IsReading result }
+    ensures rows { rows_left result ≡ records (config sep) (strip_bom text.now) }
+{
+    ReaderBuilder::new()
+        .delimiter(sep.byte())
+        .has_headers(false)
+        .flexible(true)
+        .from_reader(alloc, text)
+}
+
+/// Reads the next record, if there is one. A text in memory can always be read, and its records
+/// may have any length and any bytes, so what the reader refuses is for want of memory.
+pub(crate) fn next_record(
+    reader: &mut Reader<&[u8]>,
+    record: &mut ByteRecord,
+) -> Result<bool, AllocError>
+    requires { IsReading reader.old }
+    ensures reading { IfOk result (λ found. found ≡ true → IsReading reader.new) }
+    ensures record { IfOk result (λ found. rows_left reader.old ≡ (if found then fields_of record.new ∷ rows_left reader.new else [])) }
+{
+    let Ok(found) = reader.read_byte_record(record) else {
+        return Err(AllocError);
+    };
+    Ok(found)
+}

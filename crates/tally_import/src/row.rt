@@ -1,0 +1,80 @@
+//! Rows of returns.
+
+ghost use Rattle.std.specs.Prelude.{◌≡◌, ◌≤◌, drop, option_map, Some, None, IfOk, if◌then◌else◌};
+ghost use Rattle.csv.specs.Records.{fields_of};
+ghost use Rattle.tally_import.specs.Check.{every_code};
+ghost use Rattle.tally_import.specs.Rows.{is_number_text, number_of, row_of, numbers_of};
+
+use crate::field::field;
+use csv::ByteRecord;
+use std::alloc::{AllocError, Global};
+use tally_core::{Ask, Counts, Row};
+use tally_rules::Code;
+
+/// The most digits that a number may have.
+const DIGITS: usize = 9;
+
+/// The row that a record is, under a header of so many lists, where every code is a station.
+pub(crate) fn row_of(alloc: Global, lists: usize, record: &ByteRecord) -> Result<Row, AllocError>
+    requires { lists ≤ 60 }
+    ensures { IfOk result (λ row. row ≡ row_of (every_code lists) lists (fields_of record.now)) }
+{
+    if record.len() != lists + 4 {
+        return Ok(Row::Bad);
+    }
+    let Some(station) = Code::new(field(record, 0)) else {
+        return Ok(Row::Bad);
+    };
+    let Some(slip) = Code::new(field(record, 1)) else {
+        return Ok(Row::Bad);
+    };
+    let Some(blank) = number(field(record, 2)) else {
+        return Ok(Row::Bad);
+    };
+    let Some(spoiled) = number(field(record, 3)) else {
+        return Ok(Row::Bad);
+    };
+    let Some(votes) = votes_of(alloc, record)? else {
+        return Ok(Row::Bad);
+    };
+    Ok(Row::Lodge(Ask::Lodge {
+        station,
+        slip,
+        counts: Counts {
+            votes,
+            blank,
+            spoiled,
+        },
+    }))
+}
+
+/// The numbers of a record's fields behind the first four, if they all are numbers.
+fn votes_of(alloc: Global, record: &ByteRecord) -> Result<Option<Vec<u32>>, AllocError>
+    ensures { IfOk result (λ votes. option_map (λ v. v.items) votes ≡ numbers_of (drop 4 (fields_of record.now))) }
+{
+    let mut votes = Vec::new(alloc);
+    for place in 4..record.len() {
+        match number(field(record, place)) {
+            Some(n) => votes.push(n)?,
+            None => return Ok(None),
+        }
+    }
+    Ok(Some(votes))
+}
+
+/// The number that a text of 1 to 9 digits writes.
+fn number(text: &[u8]) -> Option<u32>
+    ensures { result ≡ (if is_number_text text.now then Some (number_of text.now) else None) }
+{
+    if text.is_empty() || text.len() > DIGITS {
+        return None;
+    }
+    let mut n: u32 = 0;
+    for digit in text {
+        if !digit.is_ascii_digit() {
+            return None;
+        }
+        n = 10 * n + u32::from(digit - b'0');
+    }
+    Some(n)
+}

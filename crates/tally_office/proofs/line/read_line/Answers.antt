@@ -1,0 +1,35 @@
+use Rattle.std.proofs.Common.{◌≡◌, ◌∙◌, sym, ap, subst, map, string_bytes, [], true, List}
+use Rattle.clap.specs.Words.{App, HasKind, HasMatchesOf, Text, app_of, fault_of, is_simple, is_simple_and_free, subcommand_of}
+use Rattle.clap.specs.declared.parser.matches.ArgMatches.{ArgMatches}
+use Rattle.tally_office.specs.Line.{IsRefusal, fault_from, office_app}
+use Rattle.tally_office.proofs.CommandLemmas.{HasLine, has_line, is_some_line, office_is_free, office_is_simple, reads_line, refused_line, refuses}
+use Rattle.tally_office.proofs.line.read_line.Goals as goal
+
+is_free : (a : App) → a ≡ office_app → is_simple_and_free a ≡ true
+is_free a app = ap is_simple_and_free app ∙ office_is_free
+
+-- what the clauses of a parse that succeeds come to
+parsed : (a : App) (words : List Text) (m : ArgMatches) → a ≡ office_app → (is_simple_and_free a ≡ true → fault_of a words ≡ []) → HasMatchesOf a words m → HasLine words m
+parsed a words m app kinds matches =
+    has_line words m (sym (ap (λ (b : App). fault_of b words) app) ∙ kinds (is_free a app))
+    ((matches (ap is_simple app ∙ office_is_simple)).1 ∙ ap (λ (b : App). subcommand_of b words) app)
+
+pub returns-in_err-matches-clause-fault : goal.returns-in_err-matches-clause-fault
+returns-in_err-matches-clause-fault c =
+    let app : app_of c.in_ok-office_command.field-0 ≡ office_app = c.in_ok-office_command.ensures in
+    let error = c.in_err-matches.field-0.0 in
+    let words = map string_bytes c.args.words.now in
+    let kinds = subst (λ (a : App). HasKind (fault_of a words) error) app (c.in_err-matches.ensures.kinds (is_free _ app)) in
+    refused_line (IsRefusal words) (fault_from error) _ c.from_residual-in_err-matches.ensures.1 (refuses words error kinds)
+
+pub read_command-requires : goal.read_command-requires
+read_command-requires c =
+    let words = map string_bytes c.args.words.now in
+    let has = parsed _ words c.in_ok-matches.matches c.in_ok-office_command.ensures c.in_ok-matches.ensures.kinds c.in_ok-matches.ensures.matches in
+    is_some_line _ _ has.line (reads_line words c.in_ok-matches.matches has _ _ c.in-Some.ensures.name c.in-Some.ensures.rows) has.is_line
+
+pub returns-clause-line : goal.returns-clause-line
+returns-clause-line c =
+    let words = map string_bytes c.args.words.now in
+    let has = parsed _ words c.in_ok-matches.matches c.in_ok-office_command.ensures c.in_ok-matches.ensures.kinds c.in_ok-matches.ensures.matches in
+    sym (reads_line words c.in_ok-matches.matches has _ _ c.in-Some.ensures.name c.in-Some.ensures.rows) ∙ c.read_command.ensures
