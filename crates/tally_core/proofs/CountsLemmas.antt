@@ -1,6 +1,6 @@
 -- What the check on counts says.
-use Rattle.std.proofs.Common.{◌≡◌, ◌≤◌, ◌*◌, ◌∷◌, ℕ, List, [], Bool, true, false, length, arith}
-use Rattle.std.specs.Prelude.{sum, nat_le}
+use Rattle.std.proofs.Common.{◌≡◌, ◌<◌, ◌≤◌, ◌+◌, ◌*◌, ◌∷◌, ℕ, List, [], Bool, true, false, length, arith}
+use Rattle.std.specs.Prelude.{◌==◌, ◌&&◌, sum, nat_le}
 use Rattle.std.specs.List.{list_all}
 use Rattle.std.specs.Cmp.{first_so, second_so}
 use Rattle.std.proofs.lemmas.Bool.{leb-true, eqb-true}
@@ -21,8 +21,8 @@ sum-numbers (n ∷ votes) e =
 -- at most 60 numbers for lists and two more, each at most 1,000,000
 pub all_votes-counts : (lists : ℕ) (c : VoteCounts) → lists ≤ 60 → are_counts lists c ≡ true → all_votes c ≤ 62000000
 all_votes-counts lists c few e =
-    let numbers = first_so _ _ e in
-    let votes = first_so _ _ numbers in
+    let numbers : ((length c.votes == lists) && list_all is_number c.votes && is_number c.blank) ≡ true = first_so _ _ e in
+    let votes : ((length c.votes == lists) && list_all is_number c.votes) ≡ true = first_so _ _ numbers in
     let same : length c.votes ≡ lists = eqb-true _ _ (first_so _ _ votes) in
     let each : sum c.votes ≤ length c.votes * 1000000 = sum-numbers c.votes (second_so _ _ votes) in
     let blank : c.blank ≤ 1000000 = leb-true c.blank 1000000 (second_so _ _ numbers) in

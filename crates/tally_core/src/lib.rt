@@ -8,6 +8,8 @@ mod lodge;
 mod refusal;
 mod reply;
 mod returns;
+#[cfg(test)]
+mod tests;
 
 pub use ask::Ask;
 pub use counts::Counts;

@@ -3,6 +3,7 @@ pub mod HeaderLemmas
 pub mod NumberLemmas
 pub mod InputLemmas
 pub mod RecordLemmas
+pub mod FrontLemmas
 pub mod TotalsLemmas
 pub mod ProgressLemmas
 pub mod RoundsLemmas

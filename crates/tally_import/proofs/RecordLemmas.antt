@@ -47,8 +47,8 @@ step-ends cfg st.InQuoted c =
     choose (cfg.quoting && (c == cfg.quote)) _ _ (λ e. cc e) (choose (cfg.quoting && is_byte cfg.escape c) _ _ (λ e. cc e) (λ e. cc e))
 step-ends cfg st.InEscape c = λ e. cc e
 step-ends cfg st.AfterQuote c = choose (cfg.quoting && cfg.double_quote && (c == cfg.quote)) _ _ (λ e. cc e) (field-ends cfg c)
-step-ends cfg st.InComment c = choose (c == 10) _ _ (λ e. cc e) (λ e. cc e)
-step-ends cfg st.AfterCr c = choose (c == 10) _ _ (λ e. cc e) (record-ends cfg c)
+step-ends cfg st.InComment c = choose (c == 10) _ _ (λ e. refl) (λ e. cc e)
+step-ends cfg st.AfterCr c = choose (c == 10) _ _ (λ e. refl) (record-ends cfg c)
 
 -- what is left after a record: no more of the text, in a state between two records
 abbrev pub IsAfter : List ℕ → Read → Type 0

@@ -32,3 +32,7 @@ without_last (x ∷ y ∷ rest) = x ∷ without_last (y ∷ rest)
 abbrev pub complete_records : Sep → List ℕ → Option CheckFault → List (List (List ℕ))
 complete_records sep bytes None = records (config sep) (strip_bom bytes)
 complete_records sep bytes (Some stop) = without_last (records (config sep) (strip_bom (bytes ++ separator sep ∷ [])))
+
+-- a list of records begins with another
+abbrev pub BeginsWith : List (List (List ℕ)) → List (List (List ℕ)) → Type 0
+BeginsWith all front = (behind : List (List (List ℕ))) × (all ≡ front ++ behind)

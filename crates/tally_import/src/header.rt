@@ -16,18 +16,18 @@ const FIXED_NAMES: usize = 4;
 const MOST_LISTS: usize = 60;
 
 /// The lists that a record names, if it is a header.
-pub(crate) fn lists_of(alloc: Global, record: &ByteRecord) -> Result<Option<Vec<Code>>, AllocError>
-    ensures { IfOk result (λ lists. option_map (λ l. l.items) lists ≡ header_lists (fields_of record.now)) }
+pub(crate) fn lists_of(alloc: Global, fields: &ByteRecord) -> Result<Option<Vec<Code>>, AllocError>
+    ensures { IfOk result (λ lists. option_map (λ l. l.items) lists ≡ header_lists (fields_of fields.now)) }
 {
-    if record.len() <= FIXED_NAMES || record.len() > FIXED_NAMES + MOST_LISTS {
+    if fields.len() <= FIXED_NAMES || fields.len() > FIXED_NAMES + MOST_LISTS {
         return Ok(None);
     }
-    if !has_fixed_names(record) {
+    if !has_fixed_names(fields) {
         return Ok(None);
     }
     let mut lists = Vec::new(alloc);
-    for place in FIXED_NAMES..record.len() {
-        let Some(code) = Code::new(field(record, place)) else {
+    for place in FIXED_NAMES..fields.len() {
+        let Some(code) = Code::new(field(fields, place)) else {
             return Ok(None);
         };
         if lists.contains(&code) {
@@ -39,15 +39,15 @@ pub(crate) fn lists_of(alloc: Global, record: &ByteRecord) -> Result<Option<Vec<
 }
 
 /// Whether a record begins with the names that every header begins with.
-fn has_fixed_names(record: &ByteRecord) -> bool
-    requires { 4 ≤ length (fields_of record.now) }
-    ensures { result ≡ (same_text (slice_index_or (fields_of record.now) 0 []) (codes "station")
-        && same_text (slice_index_or (fields_of record.now) 1 []) (codes "slip")
-        && same_text (slice_index_or (fields_of record.now) 2 []) (codes "blank")
-        && same_text (slice_index_or (fields_of record.now) 3 []) (codes "spoiled")) }
+fn has_fixed_names(fields: &ByteRecord) -> bool
+    requires { 4 ≤ length (fields_of fields.now) }
+    ensures { result ≡ (same_text (slice_index_or (fields_of fields.now) 0 []) (codes "station")
+        && same_text (slice_index_or (fields_of fields.now) 1 []) (codes "slip")
+        && same_text (slice_index_or (fields_of fields.now) 2 []) (codes "blank")
+        && same_text (slice_index_or (fields_of fields.now) 3 []) (codes "spoiled")) }
 {
-    field(record, 0) == b"station".as_slice()
-        && field(record, 1) == b"slip".as_slice()
-        && field(record, 2) == b"blank".as_slice()
-        && field(record, 3) == b"spoiled".as_slice()
+    field(fields, 0) == b"station".as_slice()
+        && field(fields, 1) == b"slip".as_slice()
+        && field(fields, 2) == b"blank".as_slice()
+        && field(fields, 3) == b"spoiled".as_slice()
 }

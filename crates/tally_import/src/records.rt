@@ -26,13 +26,13 @@ pub(crate) fn records_in(alloc: Global, text: &[u8], sep: Sep) -> Reader<&[u8]>
 /// may have any length and any bytes, so what the reader refuses is for want of memory.
 pub(crate) fn next_record(
     reader: &mut Reader<&[u8]>,
-    record: &mut ByteRecord,
+    into: &mut ByteRecord,
 ) -> Result<bool, AllocError>
     requires { IsReading reader.old }
     ensures reading { IfOk result (λ found. found ≡ true → IsReading reader.new) }
-    ensures record { IfOk result (λ found. rows_left reader.old ≡ (if found then fields_of record.new ∷ rows_left reader.new else [])) }
+    ensures record { IfOk result (λ found. rows_left reader.old ≡ (if found then fields_of into.new ∷ rows_left reader.new else [])) }
 {
-    let Ok(found) = reader.read_byte_record(record) else {
+    let Ok(found) = reader.read_byte_record(into) else {
         return Err(AllocError);
     };
     Ok(found)

@@ -15,26 +15,26 @@ use tally_rules::Code;
 const DIGITS: usize = 9;
 
 /// The row that a record is, under a header of so many lists, where every code is a station.
-pub(crate) fn row_of(alloc: Global, lists: usize, record: &ByteRecord) -> Result<Row, AllocError>
+pub(crate) fn row_of(alloc: Global, lists: usize, fields: &ByteRecord) -> Result<Row, AllocError>
     requires { lists ≤ 60 }
-    ensures { IfOk result (λ row. row ≡ row_of (every_code lists) lists (fields_of record.now)) }
+    ensures { IfOk result (λ row. row ≡ row_of (every_code lists) lists (fields_of fields.now)) }
 {
-    if record.len() != lists + 4 {
+    if fields.len() != lists + 4 {
         return Ok(Row::Bad);
     }
-    let Some(station) = Code::new(field(record, 0)) else {
+    let Some(station) = Code::new(field(fields, 0)) else {
         return Ok(Row::Bad);
     };
-    let Some(slip) = Code::new(field(record, 1)) else {
+    let Some(slip) = Code::new(field(fields, 1)) else {
         return Ok(Row::Bad);
     };
-    let Some(blank) = number(field(record, 2)) else {
+    let Some(blank) = number(field(fields, 2)) else {
         return Ok(Row::Bad);
     };
-    let Some(spoiled) = number(field(record, 3)) else {
+    let Some(spoiled) = number(field(fields, 3)) else {
         return Ok(Row::Bad);
     };
-    let Some(votes) = votes_of(alloc, record)? else {
+    let Some(votes) = votes_of(alloc, lists, fields)? else {
         return Ok(Row::Bad);
     };
     Ok(Row::Lodge(Ask::Lodge {
@@ -48,13 +48,20 @@ pub(crate) fn row_of(alloc: Global, lists: usize, record: &ByteRecord) -> Result
     }))
 }
 
-/// The numbers of a record's fields behind the first four, if they all are numbers.
-fn votes_of(alloc: Global, record: &ByteRecord) -> Result<Option<Vec<u32>>, AllocError>
-    ensures { IfOk result (λ votes. option_map (λ v. v.items) votes ≡ numbers_of (drop 4 (fields_of record.now))) }
+/// The numbers of a record's fields behind the first four, one for each of so many lists, if they
+/// all are numbers. A call of its own leaves the registers to its loops, where most of a check's own
+/// time goes.
+#[inline(never)]
+fn votes_of(
+    alloc: Global,
+    lists: usize,
+    fields: &ByteRecord,
+) -> Result<Option<Vec<u32>>, AllocError>
+    ensures { IfOk result (λ votes. option_map (λ v. v.items) votes ≡ numbers_of (drop 4 (fields_of fields.now))) }
 {
-    let mut votes = Vec::new(alloc);
-    for place in 4..record.len() {
-        match number(field(record, place)) {
+    let mut votes = Vec::with_capacity(alloc, lists)?;
+    for place in 4..fields.len() {
+        match number(field(fields, place)) {
             Some(n) => votes.push(n)?,
             None => return Ok(None),
         }

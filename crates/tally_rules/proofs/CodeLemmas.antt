@@ -1,6 +1,6 @@
 -- A code is text, and its bytes fit the field that keeps them.
-use Rattle.std.proofs.Common.{◌≡◌, ◌<◌, ◌≤◌, ◌-◌, ◌++◌, ◌∷◌, ℕ, zero, suc, List, [], Bool, true, false, length, take, drop, replicate, arith, ◌∙◌, ap, sym, subst, refl, ◌+◌, length-append, length-drop}
-use Rattle.std.specs.Prelude.{◌==◌, ◌&&◌, ◌||◌, IsUtf8, nat_le}
+use Rattle.std.proofs.Common.{◌≡◌, ◌<◌, ◌≤◌, ◌-◌, ◌++◌, ◌∷◌, ℕ, zero, suc, List, [], Bool, true, false, length, take, drop, replicate, arith, ◌∙◌, ap, refl, length-append, length-drop}
+use Rattle.std.specs.Prelude.{◌==◌, ◌&&◌, IsUtf8, nat_le}
 use Rattle.std.specs.List.{list_all}
 use Rattle.std.specs.Str.{IsAscii}
 use Rattle.std.proofs.lemmas.Str.{IsUtf8-from_ascii}

@@ -1,1 +1,6 @@
 pub mod CodeLemmas
+pub mod TextLemmas
+pub mod CodesLemmas
+pub mod SetupLemmas
+pub mod ReadLemmas
+pub mod ProfileLemmas

@@ -1,5 +1,5 @@
 -- A code: the short name of a list, a station, a constituency, a profile or a slip.
-use Rattle.std.specs.Prelude.{◌-◌, ◌≤◌, ◌++◌, ◌==◌, ◌&&◌, ◌||◌, ◌≡◌, ℕ, Bool, true, nat_le, length, List, [], take, drop, replicate, Option, Some, None, if◌then◌else◌}
+use Rattle.std.specs.Prelude.{◌-◌, ◌≤◌, ◌++◌, ◌==◌, ◌&&◌, ◌||◌, ◌≡◌, ℕ, Bool, nat_le, length, List, take, drop, replicate, Option, Some, None, if◌then◌else◌}
 use Rattle.std.proofs.Common.{length-take-le, take-append-drop, ◌∙◌, ap, sym}
 use Rattle.std.specs.Char.{is_ascii_alphanumeric}
 use Rattle.std.specs.List.{list_all}

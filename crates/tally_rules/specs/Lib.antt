@@ -1,1 +1,11 @@
 pub mod Code
+pub mod Codes
+pub mod Constituency
+pub mod Fault
+pub mod Found
+pub mod Index
+pub mod Limits
+pub mod Reading
+pub mod Setup
+pub mod Text
+pub mod Threshold

@@ -162,3 +162,6 @@ impl fmt::Display for Code {
         f.pad(self.as_str())
     }
 }
+
+#[cfg(test)]
+mod tests;

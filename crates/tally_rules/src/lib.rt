@@ -1,6 +1,24 @@
-//! The rules that an election is held under: the codes that name its parts.
+//! The rules that an election is held under: the setup with its constituencies, lists and
+//! stations, the codes that name them, and the threshold that decides which lists are eligible.
 #![tactic(auto)]
 
 mod code;
+mod codes;
+mod constituency;
+mod fault;
+mod profile;
+mod read;
+mod setup;
+#[cfg(test)]
+mod tests;
+mod text;
+mod threshold;
 
 pub use code::Code;
+pub use constituency::{Constituency, ListEntry, Station};
+pub use fault::SetupFault;
+pub use profile::{Base, Method, Profile};
+pub use read::read_setup;
+pub use setup::Setup;
+pub use text::good_note;
+pub use threshold::eligible;

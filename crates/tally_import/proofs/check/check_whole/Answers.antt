@@ -10,7 +10,7 @@ use Rattle.tally_import.proofs.check.check_whole.Goals as goal
 pub returns : goal.returns
 returns c =
     let all = sym c.records_in-reader.ensures.rows ∙ rw c.if-not-branch.false at c.in_ok-next_record.ensures.record in
-    let header = fields_of c.next_record.new.record in
+    let header = fields_of c.next_record.new.into in
     let rest = rows_left c.next_record.new.reader in
     let lists = c.in-Some.lists.items in
     let named : Some lists ≡ header_lists header = ap (option_map (λ l. l.items)) (sym c.in-Some.is) ∙ c.in_ok-lists.ensures in

@@ -15,7 +15,7 @@ returns c =
     c.as_slice.ensures.value ∙ c.in_ok-push.ensures.items ∙ ap (λ b. c.args.bytes.items ++ b ∷ []) c.byte.ensures in
     let all = ap (λ t. records (config sep) (strip_bom t)) (sym bytes) ∙ sym c.records_in-reader.ensures.rows
     ∙ rw c.if-not-branch.false at c.in_ok-next_record.ensures.record in
-    let header = fields_of c.next_record.new.record in
+    let header = fields_of c.next_record.new.into in
     let has : c.is_some-has_header.result ≡ is_some (header_lists header) =
     c.is_some-has_header.ensures ∙ sym (is_some-map (λ l. l.items) c.in_ok-lists_of.field-0) ∙ ap is_some c.in_ok-lists_of.ensures in
     examined-stopped _ header (rows_left c.next_record.new.reader) c.is_some-has_header.result c.in_ok-behind.behind c.args.stop all has c.in_ok-behind.ensures

@@ -5,7 +5,7 @@ use Rattle.tally_import.proofs.field.field.Goals as goal
 
 pub unreachable-requires : goal.unreachable-requires
 unreachable-requires c =
-    absurd (none_some _ (c.in-None.ensures.value ∙ field_at-within (fields_of c.args.record.now) c.args.place c.requires))
+    absurd (none_some _ (c.in-None.ensures.value ∙ field_at-within (fields_of c.args.fields.now) c.args.place c.requires))
 
 pub returns : goal.returns
-returns c = same_some _ _ (c.in-Some.ensures.value ∙ field_at-within (fields_of c.args.record.now) c.args.place c.requires)
+returns c = same_some _ _ (c.in-Some.ensures.value ∙ field_at-within (fields_of c.args.fields.now) c.args.place c.requires)

@@ -8,7 +8,7 @@ use Rattle.tally_import.proofs.header.lists_of.Goals as goal
 
 pub loop-place-preserved : goal.loop-place-preserved
 loop-place-preserved c =
-    let fields = fields_of c.args.record.now in
+    let fields = fields_of c.args.fields.now in
     let place = c.loop-place.place in
     let seen = c.loop-place.lists.items in
     let text = get_or fields place [] in
@@ -25,7 +25,7 @@ loop-place-preserved c =
 
 pub returns-in_default : goal.returns-in_default
 returns-in_default c =
-    let fields = fields_of c.args.record.now in
+    let fields = fields_of c.args.fields.now in
     let place = c.loop-place.place in
     let seen = c.loop-place.lists.items in
     let text = get_or fields place [] in
@@ -39,7 +39,7 @@ returns-in_default c =
 
 pub returns-then-contains : goal.returns-then-contains
 returns-then-contains c =
-    let fields = fields_of c.args.record.now in
+    let fields = fields_of c.args.fields.now in
     let place = c.loop-place.place in
     let seen = c.loop-place.lists.items in
     let text = get_or fields place [] in
@@ -56,7 +56,7 @@ returns-then-contains c =
 
 pub returns : goal.returns
 returns c =
-    let fields = fields_of c.args.record.now in
+    let fields = fields_of c.args.fields.now in
     let place = c.loop-place.place in
     let seen = c.loop-place.lists.items in
     let whole : header_lists fields ≡ lists_from [] (drop 4 fields) =

@@ -5,4 +5,4 @@ use Rattle.tally_import.proofs.header.lists_of.Given as goal
 
 abbrev pub invariant-loop-place : goal.invariant-loop-place
 invariant-loop-place l =
-    lists_from [] (drop 4 (fields_of l.record)) ≡ lists_from l.lists.items (drop l.place (fields_of l.record))
+    lists_from [] (drop 4 (fields_of l.fields)) ≡ lists_from l.lists.items (drop l.place (fields_of l.fields))

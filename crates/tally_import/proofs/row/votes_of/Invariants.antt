@@ -6,6 +6,6 @@ use Rattle.tally_import.proofs.row.votes_of.Given as goal
 
 abbrev pub invariant-loop-place : goal.invariant-loop-place
 invariant-loop-place l = record {
-  numbers : list_all is_number_text (take (l.place - 4) (drop 4 (fields_of l.record))) ≡ true;
-  values : l.votes.items ≡ map number_of (take (l.place - 4) (drop 4 (fields_of l.record)));
+  numbers : list_all is_number_text (take (l.place - 4) (drop 4 (fields_of l.fields))) ≡ true;
+  values : l.votes.items ≡ map number_of (take (l.place - 4) (drop 4 (fields_of l.fields)));
 }

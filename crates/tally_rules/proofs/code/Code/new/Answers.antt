@@ -1,4 +1,4 @@
-use Rattle.std.proofs.Common.{◌≡◌, ◌∙◌, sym, ap, subst, arith, ◌≤◌, length, true, List, ℕ, ◌++◌, drop, replicate}
+use Rattle.std.proofs.Common.{◌≡◌, ◌∙◌, sym, ap, ◌≤◌, length, true}
 use Rattle.tally_rules.specs.Code.{is_code}
 use Rattle.tally_rules.proofs.CodeLemmas.{length-code, length-padded, take-padded, drop-padded}
 use Rattle.tally_rules.proofs.code.Code.new.Goals as goal

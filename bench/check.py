@@ -1,0 +1,212 @@
+#!/usr/bin/env python3
+"""Measures the time and the memory of `office check` against a plain Python program.
+
+The workloads are made in a temporary folder, the same ones on every run. The two programs run in
+turn, and what they write is compared byte for byte. A time is the processor's, for the program and
+for the system on its behalf, so that other work on the machine disturbs it little. Times are given
+as medians and as the ratio of the medians, since a ratio says the same on a faster or a slower
+machine.
+
+    bench/check.py [--program PATH] [--rounds N]
+"""
+
+import argparse
+import os
+import shutil
+import statistics
+import subprocess
+import sys
+import tempfile
+from pathlib import Path
+
+HERE = Path(__file__).resolve().parent
+PROGRAM = HERE.parent / "crates" / "tally_office" / "out" / "tally_office"
+PLAIN = HERE / "check_plain.py"
+
+ROWS = 20_000
+LISTS = 60
+FEW_STATIONS = 50
+MOST_BYTES = 16 * 1024 * 1024
+
+# A good row has at most this many votes, the blank and the spoiled ones among them.
+ELECTORS = 1_000_000
+
+
+class Numbers:
+    """Numbers that look random and are the same on every run."""
+
+    def __init__(self, seed):
+        self.state = seed
+
+    def below(self, limit):
+        self.state = (self.state * 6364136223846793005 + 1442695040888963407) % 2**64
+        return (self.state >> 33) % limit
+
+
+def codes(word, count):
+    """So many codes of 16 characters."""
+    return [f"{word}-{n:0{15 - len(word)}d}" for n in range(count)]
+
+
+def header():
+    return ",".join(["station", "slip", "blank", "spoiled"] + codes("list", LISTS))
+
+
+def short_row(station, slip, numbers):
+    """A row as most are: a number has the digits that it needs."""
+    return ",".join([station, slip] + [str(n) for n in numbers])
+
+
+def long_row(station, slip, numbers):
+    """A row about as long as a good one can be without quotes: every number has nine digits."""
+    return ",".join([station, slip] + [f"{n:09d}" for n in numbers])
+
+
+def quoted_row(station, slip, numbers):
+    """A long row with every field in quotes, ended by CR and LF."""
+    return ",".join(f'"{field}"' for field in long_row(station, slip, numbers).split(",")) + "\r"
+
+
+def counts(numbers):
+    """The blank votes, the spoiled ones, and the votes for each list, within the electors."""
+    most = ELECTORS // (LISTS + 2)
+    return [numbers.below(most) for _ in range(LISTS + 2)]
+
+
+def distinct_rows(rows, row):
+    """Rows of as many stations, which are all lodged."""
+    numbers = Numbers(1)
+    return [
+        row(station, slip, counts(numbers))
+        for station, slip in zip(codes("station", rows), codes("slip", rows))
+    ]
+
+
+def repeated_rows(rows, row):
+    """Rows of few stations: behind the first of each, every third one differs and the others repeat."""
+    numbers = Numbers(2)
+    stations = codes("station", FEW_STATIONS)
+    slips = codes("slip", FEW_STATIONS)
+    standing = [counts(numbers) for _ in stations]
+    made = []
+    for n in range(rows):
+        at = n if n < FEW_STATIONS else numbers.below(FEW_STATIONS)
+        votes = list(standing[at])
+        if n >= FEW_STATIONS and n % 3 == 0:
+            votes[-1] += 1
+        made.append(row(stations[at], slips[at], votes))
+    return made
+
+
+def filled(rows):
+    """The rows with a remark in front of every hundredth one's station, up to the limit on bytes.
+
+    Good rows alone do not come up to the limit; a row with a remark is bad.
+    """
+    room = MOST_BYTES - len(text_of(rows)) - 1
+    remarked = range(99, len(rows), 100)
+    share, rest = divmod(room, len(remarked))
+    for place, at in enumerate(remarked):
+        quote = '"' if rows[at].startswith('"') else ""
+        remark = "x" * (share + (place < rest))
+        rows[at] = quote + remark + rows[at][len(quote) :]
+    return rows
+
+
+def text_of(rows):
+    return "\n".join([header()] + rows) + "\n"
+
+
+# The workloads by name, and how their rows are made.
+WORKLOADS = {
+    "distinct": lambda: filled(distinct_rows(ROWS, long_row)),
+    "repeated": lambda: repeated_rows(ROWS, short_row),
+    "distinct, short": lambda: distinct_rows(ROWS, short_row),
+    "distinct, quoted": lambda: filled(distinct_rows(ROWS, quoted_row)),
+    "repeated, long": lambda: filled(repeated_rows(ROWS, long_row)),
+}
+
+
+def write(path, rows):
+    """Writes the text of these rows, and answers its size in MiB."""
+    path.write_bytes(text_of(rows).encode("ascii"))
+    return path.stat().st_size / 2**20
+
+
+def run(command, path):
+    """Runs a command on a file: its processor time in milliseconds, and what it wrote."""
+    with open(path, "rb") as text, tempfile.TemporaryFile() as output:
+        child = subprocess.Popen(command, stdin=text, stdout=output)
+        _, status, usage = os.wait4(child.pid, 0)
+        child.returncode = os.waitstatus_to_exitcode(status)
+        if child.returncode != 0:
+            sys.exit(f"{command[0]} answered the exit status {child.returncode}")
+        output.seek(0)
+        return (usage.ru_utime + usage.ru_stime) * 1000, output.read()
+
+
+def peak_of(command, path):
+    """The peak memory of a command on a file, in MiB as text, or `-` where GNU time is not there.
+
+    A process that this script starts counts the script's own memory at first, so GNU time starts it.
+    """
+    timer = shutil.which("time")
+    if timer is None:
+        return "-"
+    with open(path, "rb") as text:
+        timed = [timer, "-f", "%M"] + command
+        ended = subprocess.run(timed, stdin=text, stdout=subprocess.DEVNULL, stderr=subprocess.PIPE)
+    return f"{int(ended.stderr.split()[-1]) / 1024:.1f}"
+
+
+def medians(commands, path, rounds):
+    """The median time of each command, run in turn on one file."""
+    times = [[] for _ in commands]
+    for _ in range(rounds):
+        outputs = set()
+        for command, taken in zip(commands, times):
+            milliseconds, output = run(command, path)
+            taken.append(milliseconds)
+            outputs.add(output)
+        if len(outputs) != 1:
+            sys.exit("the two programs write different texts")
+    return [statistics.median(taken) for taken in times]
+
+
+def compare(office, path, rounds):
+    """Prints the times and the memory of both programs on each workload."""
+    plain = [sys.executable, str(PLAIN)]
+    print("workload             MiB   office ms   Python ms   ratio   office MiB   Python MiB")
+    for name, make in WORKLOADS.items():
+        size = write(path, make())
+        fast, slow = medians([office, plain], path, rounds)
+        low, high = peak_of(office, path), peak_of(plain, path)
+        print(f"{name:18} {size:5.2f} {fast:11.1f} {slow:11.1f} {slow / fast:7.1f} {low:>12} {high:>12}")
+
+
+def grow(office, path, rounds):
+    """Prints the time and the memory of the program by the number of rows."""
+    print("\n  rows     MiB   office ms   us a row   office MiB")
+    for rows in (1_500, 5_000, 10_000, 20_000):
+        size = write(path, distinct_rows(rows, long_row))
+        (taken,) = medians([office], path, rounds)
+        print(f"{rows:6} {size:7.2f} {taken:11.2f} {taken / rows * 1000:10.2f} {peak_of(office, path):>12}")
+
+
+def main():
+    parser = argparse.ArgumentParser(description="Measures `office check` against a plain Python program.")
+    parser.add_argument("--program", type=Path, default=PROGRAM, help="the built program")
+    parser.add_argument("--rounds", type=int, default=9, help="how often each program runs on a file")
+    args = parser.parse_args()
+    if not args.program.is_file():
+        sys.exit(f"{args.program} is not built: run ./office check < examples/returns.csv first")
+    office = [str(args.program), "check"]
+    print(f"{os.cpu_count()} processors, Python {sys.version.split()[0]}, {args.rounds} rounds\n")
+    with tempfile.TemporaryDirectory() as folder:
+        path = Path(folder) / "returns.csv"
+        compare(office, path, args.rounds)
+        grow(office, path, args.rounds)
+
+
+if __name__ == "__main__":
+    main()

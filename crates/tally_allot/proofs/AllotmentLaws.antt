@@ -1,0 +1,229 @@
+-- The laws of the allotment.
+use Rattle.std.proofs.Common.{◌≡◌, ℕ, ◌+◌, ◌-◌, ◌<◌, ◌≤◌, ◌≢◌, ◌⊎◌, ◌↔◌, List, [], Bool, true, false, length, get_or, sum, refl, sym, ap, ◌∙◌, subst, inl, inr, arith, map}
+use Rattle.std.specs.List.{range_with_len}
+use Rattle.std.proofs.lemmas.Bool.{cases_lt, cases_eq}
+use Rattle.std.proofs.lemmas.List.{get_or_past, length-map}
+use Rattle.std.proofs.lemmas.List.FromFn.{get_or-map-range_with_len, length-range_with_len}
+use Rattle.tally_allot.specs.Poll.{Poll, IsEligible, votes_of}
+use Rattle.tally_allot.specs.Lot.{place_of, IsOrderOf}
+use Rattle.tally_allot.specs.Allotment.{Rule, divisors, hare, IsAllotment, IsAllotmentByVotes}
+use Rattle.tally_allot.specs.AllotFault.{HasEligible}
+use Rattle.tally_allot.specs.DivisorAllotment.{IsDivisorAllotment}
+use Rattle.tally_allot.specs.HareAllotment.{IsHareAllotment}
+use Rattle.tally_allot.specs.LotNeed.{IsDecidedByVotes, IsLotNeeded, IsLotTaken, IsNeed, IsInGroup}
+use Rattle.tally_allot.specs.Race.{IsFair, IsTie, CanHold}
+use Rattle.tally_allot.specs.Sums.{sum_before}
+use Rattle.tally_allot.specs.Terms.{Terms, IsRule, IsSound, AreDivisors, ArePlacedApart, vote_race, placed_race}
+use Rattle.tally_allot.proofs.Vectors.{equal_or_apart}
+use Rattle.tally_allot.proofs.AwardStep.{further}
+use Rattle.tally_allot.proofs.Sums.{sum-is, sum_before-same}
+use Rattle.tally_allot.proofs.Ties.{IsMoved, loses, gains, moved, tie_alike, class_differs, ties_are_one}
+use Rattle.tally_allot.proofs.DivisorRace.{eligible_or_not}
+use Rattle.tally_allot.proofs.TermsRace.{AreRaces, are_races, one_allotment, fair_by_votes, within_placed}
+use Rattle.tally_allot.proofs.Room.{room_of, floors_of}
+use Rattle.tally_allot.proofs.OrderOfChoice.{order_before, in_order, order_of_group, first_placed}
+use Rattle.tally_allot.proofs.LotLaws.{apart_if_taken, decided_not_needed, group_is_class, setup_apart, some_in_group}
+
+abbrev terms_of : Rule → Poll → List ℕ → ℕ → Terms
+terms_of rule poll lot seats = record { rule = rule; poll = poll; lot = lot; seats = seats }
+
+pub unique_by_divisors : (nth : ℕ → ℕ) (poll : Poll) (lot : List ℕ) (seats : ℕ) (a b : List ℕ) → AreDivisors nth → IsSound poll → 1 ≤ seats → ArePlacedApart poll lot → IsDivisorAllotment nth poll lot seats a → IsDivisorAllotment nth poll lot seats b → a ≡ b
+unique_by_divisors nth poll lot seats a b d s some apart wa wb = one_allotment (terms_of (divisors nth) poll lot seats) (are_races (divisors nth) poll lot seats d s some) apart a b wa wb
+
+pub unique_by_quotas : (poll : Poll) (lot : List ℕ) (seats : ℕ) (a b : List ℕ) → IsSound poll → 1 ≤ seats → ArePlacedApart poll lot → IsHareAllotment poll lot seats a → IsHareAllotment poll lot seats b → a ≡ b
+unique_by_quotas poll lot seats a b s some apart wa wb = one_allotment (terms_of hare poll lot seats) (are_races hare poll lot seats tt s some) apart a b wa wb
+
+pub placed_apart : (rule : Rule) (poll : Poll) (lot : List ℕ) (seats : ℕ) → IsRule rule → IsSound poll → 1 ≤ seats → IsLotTaken rule poll seats lot → ArePlacedApart poll lot
+placed_apart rule poll lot seats d s some taken = apart_if_taken (terms_of rule poll lot seats) (are_races rule poll lot seats d s some) taken
+
+-- one number for each list
+abbrev each_of : (ℕ → ℕ) → ℕ → List ℕ
+each_of f n = map f (range_with_len 0 n)
+
+length-each_of : (f : ℕ → ℕ) (n : ℕ) → length (each_of f n) ≡ n
+length-each_of f n = length-map (range_with_len 0 n) f ∙ length-range_with_len 0 n
+
+at-each_of : (f : ℕ → ℕ) (n l : ℕ) → l < n → get_or (each_of f n) l 0 ≡ f l
+at-each_of f n l lt = get_or-map-range_with_len f 0 n l l 0 lt (omega arith)
+
+module _ (terms : Terms) (r : AreRaces terms) (s : IsSound terms.poll) where
+  floor_le_cap : (l : ℕ) → (placed_race terms).floor l ≤ (placed_race terms).cap l
+  floor_le_cap l = by_test (eligible_or_not terms.poll l)
+    where
+      by_test : IsEligible terms.poll l ⊎ ¬ IsEligible terms.poll l → (placed_race terms).floor l ≤ (placed_race terms).cap l
+      by_test (inl e) = omega (arith, r.runs_if_eligible l e, r.same_floor l, r.same_cap l)
+      by_test (inr ne) = omega (arith, r.ineligible l ne, r.same_floor l)
+
+  floor_past : (l : ℕ) → length terms.poll.votes ≤ l → (placed_race terms).floor l ≡ 0
+  floor_past l ge = omega (arith, r.ineligible l (λ e. absurd (omega (arith, s.listed l e))), r.same_floor l)
+
+  start_at : (l : ℕ) → get_or (each_of (placed_race terms).floor (length terms.poll.votes)) l 0 ≡ (placed_race terms).floor l
+  start_at l = by_cases (cases_lt l (length terms.poll.votes))
+    where
+      by_cases : (l < length terms.poll.votes) ⊎ (length terms.poll.votes ≤ l) → get_or (each_of (placed_race terms).floor (length terms.poll.votes)) l 0 ≡ (placed_race terms).floor l
+      by_cases (inl lt) = at-each_of (placed_race terms).floor (length terms.poll.votes) l lt
+      by_cases (inr ge) = omega (arith, get_or_past (each_of (placed_race terms).floor (length terms.poll.votes)) l 0 (omega (arith, length-each_of (placed_race terms).floor (length terms.poll.votes))), floor_past l ge)
+
+  -- what each list holds in any case is a vector that the race allows
+  start_fair : IsFair (placed_race terms) (sum (each_of (placed_race terms).floor (length terms.poll.votes))) (each_of (placed_race terms).floor (length terms.poll.votes))
+  start_fair =
+      record {
+        one_each = omega (arith, length-each_of (placed_race terms).floor (length terms.poll.votes), r.same_count, r.count_is);
+        low = λ l. omega (arith, start_at l);
+        high = λ l. omega (arith, start_at l, floor_le_cap l);
+        total = refl;
+        last_not_below_next = λ l m ne win room. absurd (omega (arith, start_at l));
+      }
+
+  start_sum : sum (each_of (placed_race terms).floor (length terms.poll.votes)) ≡ sum_before (placed_race terms).floor (length terms.poll.votes)
+  start_sum =
+      let long = length-each_of (placed_race terms).floor (length terms.poll.votes) in
+      let e : sum_before (placed_race terms).floor (length (each_of (placed_race terms).floor (length terms.poll.votes))) ≡ sum_before (placed_race terms).floor (length terms.poll.votes) = ap (sum_before (placed_race terms).floor) long in
+      sum-is (each_of (placed_race terms).floor (length terms.poll.votes)) ∙ sum_before-same _ (placed_race terms).floor _ (λ i _. start_at i) ∙ e
+
+  exists_fair : (seats : ℕ) → sum_before (placed_race terms).floor (length terms.poll.votes) ≤ seats → CanHold (placed_race terms) seats → (a : List ℕ) × IsFair (placed_race terms) seats a
+  exists_fair seats few room =
+      let start = each_of (placed_race terms).floor (length terms.poll.votes) in
+      let start_few : sum start ≤ seats = omega (arith, start_sum, few) in
+      let more = further (placed_race terms) r.placed (within_placed terms r) (sum start) start room.0 start_fair room.2 room.1 (seats - sum start) (omega (arith, room.3)) in
+      let whole : sum start + (seats - sum start) ≡ seats = omega arith in
+      let P : ℕ → Type 0 = λ k. IsFair (placed_race terms) k more.0 in
+      (more.0, subst P whole more.1)
+
+pub exists : (rule : Rule) (poll : Poll) (lot : List ℕ) (seats : ℕ) → IsRule rule → IsSound poll → 1 ≤ seats → HasEligible poll → ArePlacedApart poll lot → (a : List ℕ) × IsAllotment rule poll lot seats a
+exists rule poll lot seats d s some e apart =
+    let r = are_races rule poll lot seats d s some in
+    let w = exists_fair (terms_of rule poll lot seats) r s seats (floors_of rule poll lot seats e.0 s e.1) (room_of rule poll lot seats e.0 s e.1) in
+    (w.0, r.from_placed apart w.0 w.1)
+
+pub needed_where_choice : (rule : Rule) (poll : Poll) (seats : ℕ) → IsRule rule → IsSound poll → 1 ≤ seats → (a : List ℕ) → IsAllotmentByVotes rule poll seats a → IsDecidedByVotes rule poll seats ↔ ¬ (IsLotNeeded rule poll seats)
+needed_where_choice rule poll seats d s some a w = (λ dec needed. decided_not_needed (terms_of rule poll [] seats) dec needed, λ none. (a, w, λ b wb. same b wb none))
+  where
+    r : AreRaces (terms_of rule poll [] seats)
+    r = are_races rule poll [] seats d s some
+
+    same : (b : List ℕ) → IsAllotmentByVotes rule poll seats b → ¬ (IsLotNeeded rule poll seats) → b ≡ a
+    same b wb none = by_cases (equal_or_apart b a (omega (arith, (r.to_fair b wb).one_each, (r.to_fair a w).one_each)))
+      where
+        by_cases : (b ≡ a) ⊎ ((l : ℕ) × (get_or b l 0 ≢ get_or a l 0)) → b ≡ a
+        by_cases (inl e) = e
+        by_cases (inr x) = absurd (none (b, a, wb, w, λ e. x.1 (ap (λ v. get_or v x.0 0) e)))
+
+pub by_votes : (rule : Rule) (poll : Poll) (lot : List ℕ) (seats : ℕ) (a : List ℕ) → IsRule rule → IsSound poll → 1 ≤ seats → IsAllotment rule poll lot seats a → IsAllotmentByVotes rule poll seats a
+by_votes rule poll lot seats a d s some w =
+    let terms = terms_of rule poll lot seats in
+    let r = are_races rule poll lot seats d s some in
+    r.from_fair a (fair_by_votes terms r seats a (r.to_placed a w))
+
+pub decided_or_needed : (rule : Rule) (poll : Poll) (seats : ℕ) → IsRule rule → IsSound poll → 1 ≤ seats → HasEligible poll → IsDecidedByVotes rule poll seats ↔ ¬ (IsLotNeeded rule poll seats)
+decided_or_needed rule poll seats d s some e =
+    let w = exists rule poll [] seats d s some e (λ l m _ _ ne _. setup_apart l m ne) in
+    needed_where_choice rule poll seats d s some w.0 (by_votes rule poll [] seats w.0 d s some w.1)
+
+-- where the seats of two lists differ between allotments by the votes alone, the lists have equal votes
+module _ (terms : Terms) (r : AreRaces terms) where
+  abbrev pub Moved : List ℕ → List ℕ → ℕ → Type 0
+  Moved a b l = IsMoved (vote_race terms) r.by_votes r.within (votes_of terms.poll) r.classes a b l
+
+  pub move_of : (a b : List ℕ) → IsAllotmentByVotes terms.rule terms.poll terms.seats a → IsAllotmentByVotes terms.rule terms.poll terms.seats b → (l : ℕ) → get_or b l 0 ≢ get_or a l 0 → Moved a b l
+  move_of a b wa wb l ne = moved (vote_race terms) r.by_votes r.within (votes_of terms.poll) r.classes terms.seats a b l (r.to_fair a wa) (r.to_fair b wb) ne
+
+  -- of a list that moves: eligible, and with the votes of each tie
+  moved_votes : (a b : List ℕ) → IsAllotmentByVotes terms.rule terms.poll terms.seats a → (l x y : ℕ) → IsTie (vote_race terms) a x y → Moved a b l → IsEligible terms.poll l × (votes_of terms.poll l ≡ votes_of terms.poll x)
+  moved_votes a b wa l x y t (loses z _ u) =
+      let f = r.to_fair a wa in
+      (r.eligible_if_runs l ((vote_race terms).floor l) (omega (arith, f.high l, u.wins)), (ties_are_one (vote_race terms) r.by_votes r.within (votes_of terms.poll) r.classes terms.seats a x y l z f t u).0)
+  moved_votes a b wa l x y t (gains z _ u) =
+      let f = r.to_fair a wa in
+      let alike = tie_alike (vote_race terms) r.by_votes r.within (votes_of terms.poll) r.classes terms.seats a z l f u in
+      (r.eligible_if_runs l (get_or a l 0) u.runs, sym alike.0 ∙ (ties_are_one (vote_race terms) r.by_votes r.within (votes_of terms.poll) r.classes terms.seats a x y z l f t u).0)
+
+  pub tie_of : (a b : List ℕ) (l : ℕ) → Moved a b l → (x : ℕ) × (y : ℕ) × IsTie (vote_race terms) a x y
+  tie_of a b l (loses y _ t) = (l, y, t)
+  tie_of a b l (gains y _ t) = (y, l, t)
+
+  -- a list whose seats differ anywhere moves from a too
+  pub moves_from : (a : List ℕ) → IsAllotmentByVotes terms.rule terms.poll terms.seats a → (l : ℕ) → IsInGroup terms.rule terms.poll terms.seats l → (b : List ℕ) × Moved a b l
+  moves_from a wa l w = by_cases (cases_eq (get_or w.0 l 0) (get_or a l 0))
+    where
+      by_cases : (get_or w.0 l 0 ≡ get_or a l 0) ⊎ (get_or w.0 l 0 ≡ get_or a l 0 → ⊥) → (b : List ℕ) × Moved a b l
+      by_cases (inl e) = (w.1, move_of a w.1 wa w.3 l (λ e'. w.4 (e ∙ sym e')))
+      by_cases (inr ne) = (w.0, move_of a w.0 wa w.2 l ne)
+
+module _ (terms : Terms) (r : AreRaces terms) (group : List Bool) (in_question : ℕ) (need : IsNeed terms.rule terms.poll terms.seats group in_question) where
+  in_class : (a : List ℕ) → IsAllotmentByVotes terms.rule terms.poll terms.seats a → (x y k : ℕ) → IsTie (vote_race terms) a x y → votes_of terms.poll k ≡ votes_of terms.poll x → (l : ℕ) → get_or group l false ≡ true → IsEligible terms.poll l × (votes_of terms.poll l ≡ votes_of terms.poll k)
+  in_class a wa x y k t same l marked =
+      let b = moves_from terms r a wa l ((need.group_is l).0 marked) in
+      let v = moved_votes terms r a b.0 wa l x y t b.1 in
+      (v.0, v.1 ∙ sym same)
+
+  group_votes : (votes : ℕ) × ((l : ℕ) → (get_or group l false ≡ true) ↔ (IsEligible terms.poll l × (votes_of terms.poll l ≡ votes)))
+  group_votes =
+      let some_list = some_in_group terms r group in_question need in
+      let w = (need.group_is some_list.0).0 some_list.1 in
+      let m = move_of terms r w.0 w.1 w.2 w.3 some_list.0 (λ e. w.4 (sym e)) in
+      let t = tie_of terms r w.0 w.1 some_list.0 m in
+      let v = moved_votes terms r w.0 w.1 w.2 some_list.0 t.0 t.1 t.2 m in
+      (votes_of terms.poll some_list.0, λ l. (in_class w.0 w.2 t.0 t.1 some_list.0 t.2 v.1 l, λ e. group_is_class terms r group in_question need some_list.0 l e.0 (sym e.1) some_list.1))
+
+pub group_of_votes : (rule : Rule) (poll : Poll) (seats : ℕ) (group : List Bool) (in_question : ℕ) → IsRule rule → IsSound poll → 1 ≤ seats → IsNeed rule poll seats group in_question → (votes : ℕ) × ((l : ℕ) → (get_or group l false ≡ true) ↔ (IsEligible poll l × (votes_of poll l ≡ votes)))
+group_of_votes rule poll seats group in_question d s some need = group_votes (terms_of rule poll [] seats) (are_races rule poll [] seats d s some) group in_question need
+
+-- Each allotment by the votes alone comes from an order of the group, at a tie of its: lists x and y.
+module _ (terms : Terms) (r : AreRaces terms) (group : List Bool) (in_question : ℕ) (need : IsNeed terms.rule terms.poll terms.seats group in_question) (a : List ℕ) (wa : IsAllotmentByVotes terms.rule terms.poll terms.seats a) (x y : ℕ) (t : IsTie (vote_race terms) a x y) where
+  fa : IsFair (vote_race terms) terms.seats a
+  fa = r.to_fair a wa
+
+  -- both lists of a tie are in the group, and hold the seat in question and one less
+  tied_in_group : (l m : ℕ) → IsTie (vote_race terms) a l m → (get_or group l false ≡ true) × (get_or group m false ≡ true) × (get_or a l 0 ≡ get_or a x 0) × (get_or a m 0 + 1 ≡ get_or a x 0)
+  tied_in_group l m u =
+      let one = ties_are_one (vote_race terms) r.by_votes r.within (votes_of terms.poll) r.classes terms.seats a x y l m fa t u in
+      let alike = tie_alike (vote_race terms) r.by_votes r.within (votes_of terms.poll) r.classes terms.seats a l m fa u in
+      let el : IsEligible terms.poll l = r.eligible_if_runs l ((vote_race terms).floor l) (omega (arith, fa.high l, u.wins)) in
+      let em : IsEligible terms.poll m = r.eligible_if_runs m (get_or a m 0) u.runs in
+      let dl = class_differs (vote_race terms) r.by_votes r.within (votes_of terms.poll) r.classes terms.seats a l m l fa u (r.runs_if_eligible l el) refl in
+      let ml : get_or group l false ≡ true = (need.group_is l).1 (dl.0, a, r.from_fair dl.0 dl.1, wa, dl.2) in
+      (ml, group_is_class terms r group in_question need l m em alike.0 ml, one.1, omega (arith, alike.1, one.1))
+
+  -- the places of a lot in which those that hold the seat in question come first give these seats
+  choice_fair : ((l m : ℕ) → get_or group l false ≡ true → get_or group m false ≡ true → get_or a l 0 ≡ get_or a x 0 → get_or a m 0 ≢ get_or a x 0 → place_of terms.lot l < place_of terms.lot m) → IsFair (placed_race terms) terms.seats a
+  choice_fair placed =
+      record {
+        one_each = omega (arith, fa.one_each, r.same_count);
+        low = λ l. omega (arith, fa.low l, r.same_floor l);
+        high = λ l. omega (arith, fa.high l, r.same_cap l);
+        total = fa.total;
+        last_not_below_next = λ l m ne win room ab. by_rank l m ne (omega (arith, r.same_floor l)) (omega (arith, r.same_cap m)) (r.placed_is _ _ _ _ ab);
+      }
+    where
+      by_rank : (l m : ℕ) → l ≢ m → (vote_race terms).floor l < get_or a l 0 → get_or a m 0 < (vote_race terms).cap m → (vote_race terms).Above m (get_or a m 0 + 1) l (get_or a l 0) ⊎ ((¬ (vote_race terms).Above l (get_or a l 0) m (get_or a m 0 + 1)) × (place_of terms.lot m < place_of terms.lot l)) → ⊥
+      by_rank l m ne win room (inl ab) = fa.last_not_below_next l m ne win room ab
+      by_rank l m ne win room (inr e) =
+          let g = tied_in_group l m (record { apart = ne; wins = win; runs = room; tied = e.0 }) in
+          omega (arith, placed l m g.0 g.1 g.2 (omega (arith, g.3)), e.1)
+
+pub choice_of_order : (rule : Rule) (poll : Poll) (seats : ℕ) (group : List Bool) (in_question : ℕ) (a : List ℕ) → IsRule rule → IsSound poll → 1 ≤ seats → IsNeed rule poll seats group in_question → IsAllotmentByVotes rule poll seats a → (lot : List ℕ) × IsOrderOf group lot × IsAllotment rule poll lot seats a
+choice_of_order rule poll seats group in_question a d s some need w =
+    let r = are_races rule poll [] seats d s some in
+    let some_list = some_in_group (terms_of rule poll [] seats) r group in_question need in
+    let m = moves_from (terms_of rule poll [] seats) r a w some_list.0 ((need.group_is some_list.0).0 some_list.1) in
+    let t = tie_of (terms_of rule poll [] seats) r a m.0 some_list.0 m.1 in
+    from_tie t.0 t.1 t.2
+  where
+    inside : (x : ℕ) → get_or group x false ≡ true → x < length poll.votes
+    inside x marked = let v = group_of_votes rule poll seats group in_question d s some need in s.listed x ((v.1 x).0 marked).0
+
+    from_tie : (x y : ℕ) → IsTie (vote_race (terms_of rule poll [] seats)) a x y → (lot : List ℕ) × IsOrderOf group lot × IsAllotment rule poll lot seats a
+    from_tie x y t =
+        let n = length poll.votes in
+        let lot = order_before group a (get_or a x 0) n in
+        let o = in_order group a (get_or a x 0) n in
+        let order = order_of_group group a (get_or a x 0) n inside lot o in
+        let r = are_races rule poll lot seats d s some in
+        let taken : IsLotTaken rule poll seats lot = inr (group, in_question, need, order) in
+        let same : IsTie (vote_race (terms_of rule poll lot seats)) a x y = same_tie rule x y t lot in
+        let fair = choice_fair (terms_of rule poll lot seats) r group in_question need a w x y same (λ l m ml mm hl hm. first_placed group a (get_or a x 0) n inside lot o l m ml mm hl hm) in
+        (lot, order, r.from_placed (apart_if_taken (terms_of rule poll lot seats) r taken) a fair)
+      where
+        same_tie : (rule : Rule) (x y : ℕ) → IsTie (vote_race (terms_of rule poll [] seats)) a x y → (lot : List ℕ) → IsTie (vote_race (terms_of rule poll lot seats)) a x y
+        same_tie rule x y t lot = t

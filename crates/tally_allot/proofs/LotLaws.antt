@@ -1,0 +1,146 @@
+-- What holds of lots: places, groups, and which lot is to be taken.
+use Rattle.std.proofs.Common.{◌≡◌, ℕ, zero, suc, ◌+◌, ◌<◌, ◌≤◌, ◌≢◌, ◌⊎◌, List, [], ◌∷◌, Bool, true, false, cond, eqb, length, get_or, refl, sym, ap, ◌∙◌, subst, inl, inr, arith}
+use Rattle.std.proofs.lemmas.Bool.{cases_lt, cases_Bool, eqb-true, eqb-false}
+use Rattle.tally_allot.specs.Poll.{IsEligible, votes_of}
+use Rattle.tally_allot.specs.ListSet.{has_place}
+use Rattle.tally_allot.specs.Lot.{place_from, place_of, IsOrderOf}
+use Rattle.tally_allot.specs.Allotment.{IsAllotmentByVotes}
+use Rattle.tally_allot.specs.LotNeed.{IsLotNeeded, IsDecidedByVotes, IsNeed, IsLotTaken, IsLotWrong}
+use Rattle.tally_allot.specs.Race.{IsFair, IsTie}
+use Rattle.tally_allot.specs.Terms.{Terms, ArePlacedApart, vote_race}
+use Rattle.tally_allot.proofs.Vectors.{equal_or_apart}
+use Rattle.tally_allot.proofs.Ties.{IsMoved, loses, gains, moved, tie_alike, class_differs}
+use Rattle.tally_allot.proofs.TermsRace.{AreRaces}
+
+-- a list is named in the lot and has that place, or is not named and has the setup's
+pub data IsPlaced (n : ℕ) (lot : List ℕ) (l : ℕ) : Type 0 where
+  at_name : (i : ℕ) → i < length lot → get_or lot i 0 ≡ l + 1 → place_from n lot l ≡ n + i → IsPlaced n lot l
+  at_setup : ((i : ℕ) → i < length lot → get_or lot i 0 ≢ l + 1) → place_from n lot l ≡ l + 1 → IsPlaced n lot l
+
+pub placed_at : (n : ℕ) (lot : List ℕ) (l : ℕ) → IsPlaced n lot l
+placed_at n [] l = at_setup (λ i lt. absurd (omega arith)) refl
+placed_at n (p ∷ rest) l = by_test (cases_Bool (eqb p (l + 1))) (placed_at (n + 1) rest l)
+  where
+    here : eqb p (l + 1) ≡ true → place_from n (p ∷ rest) l ≡ n + 0
+    here e = ap (λ b. cond b n (place_from (n + 1) rest l)) e ∙ omega arith
+
+    there : eqb p (l + 1) ≡ false → place_from n (p ∷ rest) l ≡ place_from (n + 1) rest l
+    there e = ap (λ b. cond b n (place_from (n + 1) rest l)) e
+
+    by_test : (eqb p (l + 1) ≡ true) ⊎ (eqb p (l + 1) ≡ false) → IsPlaced (n + 1) rest l → IsPlaced n (p ∷ rest) l
+    by_test (inl e) _ = at_name 0 (omega arith) (eqb-true p (l + 1) e) (here e)
+    by_test (inr e) (at_name i lt at place) = at_name (suc i) (omega arith) at (there e ∙ place ∙ omega arith)
+    by_test (inr e) (at_setup none place) = at_setup (elim [ zero ↦ (λ lt q. eqb-false p (l + 1) e q) | suc i ↦ (λ lt q. none i (omega arith) q) ]) (there e ∙ place)
+
+-- with no lot, places are the setup's
+pub setup_apart : (l m : ℕ) → l ≢ m → place_of [] l ≢ place_of [] m
+setup_apart l m ne e = ne (omega (arith, e))
+
+has_place-marked : (group : List Bool) (place l : ℕ) → place ≡ l + 1 → has_place group place ≡ true → get_or group l false ≡ true
+has_place-marked group place l e h =
+    let e' : place ≡ suc l = omega arith in
+    sym (ap (has_place group) e') ∙ h
+
+has_place-from_marked : (group : List Bool) (place l : ℕ) → place ≡ l + 1 → get_or group l false ≡ true → has_place group place ≡ true
+has_place-from_marked group place l e h =
+    let e' : place ≡ suc l = omega arith in
+    ap (has_place group) e' ∙ h
+
+once_each : (lot : List ℕ) → ((i j : ℕ) → i < j → j < length lot → get_or lot i 0 ≢ get_or lot j 0) → (i j : ℕ) → i < length lot → j < length lot → get_or lot i 0 ≡ get_or lot j 0 → i ≡ j
+once_each lot once i j li lj e = by_order (cases_lt i j) (cases_lt j i)
+  where
+    by_order : (i < j) ⊎ (j ≤ i) → (j < i) ⊎ (i ≤ j) → i ≡ j
+    by_order (inl lt) _ = absurd (once i j lt lj e)
+    by_order (inr _) (inl gt) = absurd (once j i gt li (sym e))
+    by_order (inr a) (inr b) = omega arith
+
+-- An order of a group gives different places to lists that are both in the group or both outside it.
+pub order_apart : (group : List Bool) (lot : List ℕ) → IsOrderOf group lot → (l m : ℕ) → l ≢ m → (get_or group l false ≡ true → get_or group m false ≡ true) → (get_or group m false ≡ true → get_or group l false ≡ true) → place_of lot l ≢ place_of lot m
+order_apart group lot o l m ne there back = by_cases (placed_at 1 lot l) (placed_at 1 lot m)
+  where
+    marked : (x i : ℕ) → i < length lot → get_or lot i 0 ≡ x + 1 → get_or group x false ≡ true
+    marked x i lt at = has_place-marked group (get_or lot i 0) x at (o.no_other i lt)
+
+    by_cases : IsPlaced 1 lot l → IsPlaced 1 lot m → place_of lot l ≢ place_of lot m
+    by_cases (at_name i li ai pi) (at_name j lj aj pj) e =
+        let same : i ≡ j = omega arith in
+        let q : get_or lot i 0 ≡ get_or lot j 0 = ap (λ k. get_or lot k 0) same in
+        ne (omega arith)
+    by_cases (at_setup ni pi) (at_setup nj pj) e = ne (omega arith)
+    by_cases (at_name i li ai pi) (at_setup nj pj) e = let w = o.all m (there (marked l i li ai)) in nj w.0 w.1 w.2
+    by_cases (at_setup ni pi) (at_name j lj aj pj) e = let w = o.all l (back (marked m j lj aj)) in ni w.0 w.1 w.2
+
+pub decided_not_needed : (terms : Terms) → IsDecidedByVotes terms.rule terms.poll terms.seats → IsLotNeeded terms.rule terms.poll terms.seats → ⊥
+decided_not_needed terms d w = w.4 (d.2 w.0 w.2 ∙ sym (d.2 w.1 w.3))
+
+-- the group is not empty
+pub some_in_group : (terms : Terms) → AreRaces terms → (group : List Bool) (n : ℕ) → IsNeed terms.rule terms.poll terms.seats group n → (l : ℕ) × (get_or group l false ≡ true)
+some_in_group terms r group n need =
+    let w = need.needed in
+    let fa = r.to_fair w.0 w.2 in
+    let fb = r.to_fair w.1 w.3 in
+    by_cases w.0 w.1 w.2 w.3 w.4 (equal_or_apart w.0 w.1 (omega (arith, fa.one_each, fb.one_each)))
+  where
+    by_cases : (a b : List ℕ) → IsAllotmentByVotes terms.rule terms.poll terms.seats a → IsAllotmentByVotes terms.rule terms.poll terms.seats b → a ≢ b → (a ≡ b) ⊎ ((l : ℕ) × (get_or a l 0 ≢ get_or b l 0)) → (l : ℕ) × (get_or group l false ≡ true)
+    by_cases a b wa wb ne (inl e) = absurd (ne e)
+    by_cases a b wa wb ne (inr d) = (d.0, (need.group_is d.0).1 (a, b, wa, wb, d.1))
+
+pub order_not_empty : (terms : Terms) → AreRaces terms → (group : List Bool) (n : ℕ) → IsNeed terms.rule terms.poll terms.seats group n → (lot : List ℕ) → IsOrderOf group lot → lot ≢ []
+order_not_empty terms r group n need lot o e =
+    let w = some_in_group terms r group n need in
+    let i = o.all w.0 w.1 in
+    let none : length lot ≡ 0 = ap length e in
+    omega (arith, i.1)
+
+-- an order of one group is one of the other
+pub order_same : (terms : Terms) (g h : List Bool) (n k : ℕ) → IsNeed terms.rule terms.poll terms.seats g n → IsNeed terms.rule terms.poll terms.seats h k → (lot : List ℕ) → IsOrderOf h lot → IsOrderOf g lot
+order_same terms g h n k need need' lot o = record { all = λ l m. o.all l (to_h l m); no_other = no_other; once = o.once }
+  where
+    to_h : (l : ℕ) → get_or g l false ≡ true → get_or h l false ≡ true
+    to_h l m = (need'.group_is l).1 ((need.group_is l).0 m)
+
+    to_g : (l : ℕ) → get_or h l false ≡ true → get_or g l false ≡ true
+    to_g l m = (need.group_is l).1 ((need'.group_is l).0 m)
+
+    carried : (place : ℕ) → has_place h place ≡ true → has_place g place ≡ true
+    carried zero e = e
+    carried (suc l) e = to_g l e
+
+    no_other : (i : ℕ) → i < length lot → has_place g (get_or lot i 0) ≡ true
+    no_other i lt = carried (get_or lot i 0) (o.no_other i lt)
+
+-- all eligible lists of one number of votes are in the group, or none is
+pub group_is_class : (terms : Terms) → AreRaces terms → (group : List Bool) (n : ℕ) → IsNeed terms.rule terms.poll terms.seats group n → (l m : ℕ) → IsEligible terms.poll m → votes_of terms.poll l ≡ votes_of terms.poll m → get_or group l false ≡ true → get_or group m false ≡ true
+group_is_class terms r group n need l m em same marked =
+    let w = (need.group_is l).0 marked in
+    let fa = r.to_fair w.0 w.2 in
+    let fb = r.to_fair w.1 w.3 in
+    by_move w.0 w.1 w.2 fa (moved (vote_race terms) r.by_votes r.within (votes_of terms.poll) r.classes terms.seats w.0 w.1 l fa fb (λ e. w.4 (sym e)))
+  where
+    from_tie : (a : List ℕ) → IsAllotmentByVotes terms.rule terms.poll terms.seats a → IsFair (vote_race terms) terms.seats a → (x y : ℕ) → IsTie (vote_race terms) a x y → votes_of terms.poll m ≡ votes_of terms.poll x → get_or group m false ≡ true
+    from_tie a wa fa x y t e =
+        let d = class_differs (vote_race terms) r.by_votes r.within (votes_of terms.poll) r.classes terms.seats a x y m fa t (r.runs_if_eligible m em) e in
+        (need.group_is m).1 (d.0, a, r.from_fair d.0 d.1, wa, d.2)
+
+    by_move : (a b : List ℕ) → IsAllotmentByVotes terms.rule terms.poll terms.seats a → IsFair (vote_race terms) terms.seats a → IsMoved (vote_race terms) r.by_votes r.within (votes_of terms.poll) r.classes a b l → get_or group m false ≡ true
+    by_move a b wa fa (loses y _ t) = from_tie a wa fa l y t (sym same)
+    by_move a b wa fa (gains y _ t) = from_tie a wa fa y l t (sym same ∙ sym (tie_alike (vote_race terms) r.by_votes r.within (votes_of terms.poll) r.classes terms.seats a y l fa t).0)
+
+-- the lot that is to be taken places lists of equal votes apart
+pub apart_if_taken : (terms : Terms) → AreRaces terms → IsLotTaken terms.rule terms.poll terms.seats terms.lot → ArePlacedApart terms.poll terms.lot
+apart_if_taken terms r taken l m el em ne same = by_cases taken
+  where
+    by_cases : IsLotTaken terms.rule terms.poll terms.seats terms.lot → place_of terms.lot l ≢ place_of terms.lot m
+    by_cases (inl w) = let P : List ℕ → Type 0 = λ lot. place_of lot l ≢ place_of lot m in subst P (sym w.1) (setup_apart l m ne)
+    by_cases (inr w) = order_apart w.0 terms.lot w.3 l m ne (group_is_class terms r w.0 w.1 w.2 l m em same) (group_is_class terms r w.0 w.1 w.2 m l el (sym same))
+
+-- a lot that is to be taken is not wrong, and is not missing
+pub taken_not_wrong : (terms : Terms) → AreRaces terms → IsLotTaken terms.rule terms.poll terms.seats terms.lot → IsLotWrong terms.rule terms.poll terms.seats terms.lot → ⊥
+taken_not_wrong terms r (inl t) (inl w) = w.1 t.1
+taken_not_wrong terms r (inl t) (inr w) = decided_not_needed terms t.0 (w.2).needed
+taken_not_wrong terms r (inr t) (inl w) = decided_not_needed terms w.0 (t.2).needed
+taken_not_wrong terms r (inr t) (inr w) = w.4 (order_same terms w.0 t.0 w.1 t.1 w.2 t.2 terms.lot t.3)
+
+pub taken_not_missing : (terms : Terms) → AreRaces terms → (group : List Bool) (n : ℕ) → IsLotTaken terms.rule terms.poll terms.seats terms.lot → IsNeed terms.rule terms.poll terms.seats group n → terms.lot ≡ [] → ⊥
+taken_not_missing terms r group n (inl t) need e = decided_not_needed terms t.0 need.needed
+taken_not_missing terms r group n (inr t) need e = order_not_empty terms r t.0 t.1 t.2 terms.lot t.3 e

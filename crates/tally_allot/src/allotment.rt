@@ -1,0 +1,324 @@
+//! Seats from votes.
+
+ghost use Rattle.std.specs.Prelude.{◌≡◌, ℕ, ◌≤◌, ◌<◌, ◌↔◌, IsTrue, IfOk, IfErr, OnOk, length, slice_index, sum};
+ghost use Rattle.tally_rules.specs.Threshold.{IsWithinVotes};
+ghost use Rattle.tally_allot.specs.Poll.{IsEligible};
+ghost use Rattle.tally_allot.specs.Allotment.{IsAllotment, divisors as by_divisors, hare};
+ghost use Rattle.tally_allot.specs.Conditions.{AreLimitsKept};
+ghost use Rattle.tally_allot.specs.AllotFault.{HasEligible, IsAllotmentUnderLot, IsFaultOf, IsNeedFaultOf, IsNeedOrNone};
+ghost use Rattle.tally_allot.specs.LotNeed.{IsDecidedByVotes, IsNeed, IsLotTaken};
+ghost use Rattle.tally_allot.specs.Rules.{rule_of, poll_of};
+ghost use Rattle.tally_allot.specs.Race.{IsFair};
+ghost use Rattle.tally_allot.specs.Terms.{AreSound, placed_race, poll_under};
+
+use crate::contest::{Contest, award, is_fair};
+use crate::divisor_contest::DivisorContest;
+use crate::fault::AllotFault;
+use crate::hare_contest::HareContest;
+use crate::need::{LotVerdict, Need, need_of, verdict_on_lot};
+use crate::poll::Poll;
+use std::alloc::{AllocError, Global};
+use tally_frac::{DHondt, Divisors, SainteLague};
+use tally_rules::{Method, Profile};
+
+/// The seats of each list, in order of place (LOREG article 163.1). `lot` has the places of the
+/// lists that a lot was drawn among, in its order, and is empty where no lot was drawn. It refuses
+/// in the order of `AllotFault`.
+pub fn allot(
+    alloc: Global,
+    profile: &Profile,
+    seats: u32,
+    votes: &[u64],
+    blank: u64,
+    lot: &[u32],
+) -> Result<Vec<u32>, AllotFault>
+    requires { AreLimitsKept profile.now seats votes.now blank }
+    ensures allotment { IfOk result (λ given. IsAllotment (rule_of profile.now.method) (poll_of profile.now votes.now blank) lot.now seats given.items) }
+    ensures lot_taken { OnOk result (IsLotTaken (rule_of profile.now.method) (poll_of profile.now votes.now blank) seats lot.now) }
+    ensures eligible { OnOk result (HasEligible (poll_of profile.now votes.now blank)) }
+    ensures fault { IfErr result (IsFaultOf (rule_of profile.now.method) (poll_of profile.now votes.now blank) seats lot.now) }
+{
+    let poll = Poll::new(profile, votes, blank);
+    match profile.method {
+        Method::DHondt => seats_by_divisors(alloc, DHondt, &poll, seats, lot),
+        Method::SainteLague => seats_by_divisors(alloc, SainteLague, &poll, seats, lot),
+        Method::Hare => seats_by_quotas(alloc, &poll, seats, lot),
+    }
+}
+
+fn seats_by_divisors<D: Divisors + Drop>(
+    alloc: Global,
+    divisors: D,
+    poll: &Poll,
+    seats: u32,
+    lot: &[u32],
+) -> Result<Vec<u32>, AllotFault>
+    requires some_seat { 1 ≤ seats }
+    requires few_seats { seats ≤ 500 }
+    ensures allotment { IfOk result (λ given. IsAllotment (by_divisors (D.divisor divisors)) (poll_under poll.now.threshold poll.now.base poll.now.votes.now) lot.now seats given.items) }
+    ensures lot_taken { OnOk result (IsLotTaken (by_divisors (D.divisor divisors)) (poll_under poll.now.threshold poll.now.base poll.now.votes.now) seats lot.now) }
+    ensures eligible { OnOk result (HasEligible (poll_under poll.now.threshold poll.now.base poll.now.votes.now)) }
+    ensures fault { IfErr result (IsFaultOf (by_divisors (D.divisor divisors)) (poll_under poll.now.threshold poll.now.base poll.now.votes.now) seats lot.now) }
+{
+    let contest = DivisorContest {
+        divisors,
+        poll: *poll,
+        lot,
+        seats,
+    };
+    seats_in(alloc, &contest)
+}
+
+fn seats_by_quotas(
+    alloc: Global,
+    poll: &Poll,
+    seats: u32,
+    lot: &[u32],
+) -> Result<Vec<u32>, AllotFault>
+    requires some_seat { 1 ≤ seats }
+    requires few_seats { seats ≤ 500 }
+    ensures allotment { IfOk result (λ given. IsAllotment hare (poll_under poll.now.threshold poll.now.base poll.now.votes.now) lot.now seats given.items) }
+    ensures lot_taken { OnOk result (IsLotTaken hare (poll_under poll.now.threshold poll.now.base poll.now.votes.now) seats lot.now) }
+    ensures eligible { OnOk result (HasEligible (poll_under poll.now.threshold poll.now.base poll.now.votes.now)) }
+    ensures fault { IfErr result (IsFaultOf hare (poll_under poll.now.threshold poll.now.base poll.now.votes.now) seats lot.now) }
+{
+    let contest = HareContest {
+        poll: *poll,
+        total: poll.eligible_votes(),
+        lot,
+        seats,
+    };
+    seats_in(alloc, &contest)
+}
+
+/// The lot that is needed, or `None` where the votes decide (LOREG article 163.1 d)). Of the faults
+/// it answers `NoEligible` and `Memory`.
+pub fn lot_need(
+    alloc: Global,
+    profile: &Profile,
+    seats: u32,
+    votes: &[u64],
+    blank: u64,
+) -> Result<Option<Need>, AllotFault>
+    requires { AreLimitsKept profile.now seats votes.now blank }
+    ensures need { IfOk result (IsNeedOrNone (rule_of profile.now.method) (poll_of profile.now votes.now blank) seats) }
+    ensures eligible { OnOk result (HasEligible (poll_of profile.now votes.now blank)) }
+    ensures fault { IfErr result (IsNeedFaultOf (poll_of profile.now votes.now blank)) }
+{
+    let poll = Poll::new(profile, votes, blank);
+    match profile.method {
+        Method::DHondt => need_by_divisors(alloc, DHondt, &poll, seats),
+        Method::SainteLague => need_by_divisors(alloc, SainteLague, &poll, seats),
+        Method::Hare => need_by_quotas(alloc, &poll, seats),
+    }
+}
+
+fn need_by_divisors<D: Divisors + Drop>(
+    alloc: Global,
+    divisors: D,
+    poll: &Poll,
+    seats: u32,
+) -> Result<Option<Need>, AllotFault>
+    requires some_seat { 1 ≤ seats }
+    requires few_seats { seats ≤ 500 }
+    ensures need { IfOk result (IsNeedOrNone (by_divisors (D.divisor divisors)) (poll_under poll.now.threshold poll.now.base poll.now.votes.now) seats) }
+    ensures eligible { OnOk result (HasEligible (poll_under poll.now.threshold poll.now.base poll.now.votes.now)) }
+    ensures fault { IfErr result (IsNeedFaultOf (poll_under poll.now.threshold poll.now.base poll.now.votes.now)) }
+{
+    let contest = DivisorContest {
+        divisors,
+        poll: *poll,
+        lot: &[],
+        seats,
+    };
+    need_in(alloc, &contest)
+}
+
+fn need_by_quotas(alloc: Global, poll: &Poll, seats: u32) -> Result<Option<Need>, AllotFault>
+    requires some_seat { 1 ≤ seats }
+    requires few_seats { seats ≤ 500 }
+    ensures need { IfOk result (IsNeedOrNone hare (poll_under poll.now.threshold poll.now.base poll.now.votes.now) seats) }
+    ensures eligible { OnOk result (HasEligible (poll_under poll.now.threshold poll.now.base poll.now.votes.now)) }
+    ensures fault { IfErr result (IsNeedFaultOf (poll_under poll.now.threshold poll.now.base poll.now.votes.now)) }
+{
+    let contest = HareContest {
+        poll: *poll,
+        total: poll.eligible_votes(),
+        lot: &[],
+        seats,
+    };
+    need_in(alloc, &contest)
+}
+
+fn need_in<C: Contest>(alloc: Global, contest: &C) -> Result<Option<Need>, AllotFault>
+    requires sound { AreSound (C.terms contest.now) }
+    ensures need { IfOk result (IsNeedOrNone (C.terms contest.now).rule (C.terms contest.now).poll (C.terms contest.now).seats) }
+    ensures eligible { OnOk result (HasEligible (C.terms contest.now).poll) }
+    ensures fault { IfErr result (IsNeedFaultOf (C.terms contest.now).poll) }
+{
+    if !has_eligible(contest) {
+        return Err(AllotFault::NoEligible);
+    }
+    let seats = contested_seats(alloc, contest)?;
+    Ok(need_of(contest, &seats))
+}
+
+/// Whether `given` are the seats of each list, in order of place, and the lot is the one to be
+/// taken: where `allot`, with ample memory, answers these very seats. It looks at the inequality of
+/// the allotment itself, over all pairs of lists, and takes no memory.
+pub fn is_allotment(
+    profile: &Profile,
+    seats: u32,
+    votes: &[u64],
+    blank: u64,
+    lot: &[u32],
+    given: &[u32],
+) -> bool
+    requires { AreLimitsKept profile.now seats votes.now blank }
+    ensures { IsTrue result ↔ IsAllotmentUnderLot (rule_of profile.now.method) (poll_of profile.now votes.now blank) lot.now seats given.now }
+{
+    let poll = Poll::new(profile, votes, blank);
+    match profile.method {
+        Method::DHondt => is_allotment_by_divisors(DHondt, &poll, seats, lot, given),
+        Method::SainteLague => is_allotment_by_divisors(SainteLague, &poll, seats, lot, given),
+        Method::Hare => is_allotment_by_quotas(&poll, seats, lot, given),
+    }
+}
+
+fn is_allotment_by_divisors<D: Divisors + Drop>(
+    divisors: D,
+    poll: &Poll,
+    seats: u32,
+    lot: &[u32],
+    given: &[u32],
+) -> bool
+    requires some_seat { 1 ≤ seats }
+    requires few_seats { seats ≤ 500 }
+    ensures { IsTrue result ↔ IsAllotmentUnderLot (by_divisors (D.divisor divisors)) (poll_under poll.now.threshold poll.now.base poll.now.votes.now) lot.now seats given.now }
+{
+    let contest = DivisorContest {
+        divisors,
+        poll: *poll,
+        lot,
+        seats,
+    };
+    is_allotment_in(&contest, given)
+}
+
+fn is_allotment_by_quotas(poll: &Poll, seats: u32, lot: &[u32], given: &[u32]) -> bool
+    requires some_seat { 1 ≤ seats }
+    requires few_seats { seats ≤ 500 }
+    ensures { IsTrue result ↔ IsAllotmentUnderLot hare (poll_under poll.now.threshold poll.now.base poll.now.votes.now) lot.now seats given.now }
+{
+    let contest = HareContest {
+        poll: *poll,
+        total: poll.eligible_votes(),
+        lot,
+        seats,
+    };
+    is_allotment_in(&contest, given)
+}
+
+fn is_allotment_in<C: Contest>(contest: &C, given: &[u32]) -> bool
+    requires sound { AreSound (C.terms contest.now) }
+    ensures { IsTrue result ↔ IsAllotmentUnderLot (C.terms contest.now).rule (C.terms contest.now).poll (C.terms contest.now).lot (C.terms contest.now).seats given.now }
+{
+    if !has_eligible(contest) {
+        return false;
+    }
+    if given.len() != contest.count() {
+        return false;
+    }
+    if sum_of(given) != u64::from(contest.seats()) {
+        return false;
+    }
+    if !is_fair(contest, given) {
+        return false;
+    }
+    match verdict_on_lot(contest, given) {
+        LotVerdict::Right => true,
+        LotVerdict::Missing(_) => false,
+        LotVerdict::Wrong => false,
+    }
+}
+
+/// The sum of up to 60 numbers.
+fn sum_of(numbers: &[u32]) -> u64
+    requires { length numbers.now ≤ 60 }
+    ensures { result ≡ sum numbers.now }
+{
+    let mut total = 0;
+    for number in numbers {
+        total += u64::from(*number);
+    }
+    total
+}
+
+/// The seats of each list, in order of place.
+pub(crate) fn seats_in<C: Contest>(alloc: Global, contest: &C) -> Result<Vec<u32>, AllotFault>
+    requires sound { AreSound (C.terms contest.now) }
+    ensures allotment { IfOk result (λ seats. IsAllotment (C.terms contest.now).rule (C.terms contest.now).poll (C.terms contest.now).lot (C.terms contest.now).seats seats.items) }
+    ensures lot_taken { OnOk result (IsLotTaken (C.terms contest.now).rule (C.terms contest.now).poll (C.terms contest.now).seats (C.terms contest.now).lot) }
+    ensures eligible { OnOk result (HasEligible (C.terms contest.now).poll) }
+    ensures fault { IfErr result (IsFaultOf (C.terms contest.now).rule (C.terms contest.now).poll (C.terms contest.now).seats (C.terms contest.now).lot) }
+{
+    if !has_eligible(contest) {
+        return Err(AllotFault::NoEligible);
+    }
+    let seats = contested_seats(alloc, contest)?;
+    match verdict_on_lot(contest, &seats) {
+        LotVerdict::Right => Ok(seats),
+        LotVerdict::Missing(need) => Err(AllotFault::LotMissing {
+            group: need.group,
+            seats: need.seats,
+        }),
+        LotVerdict::Wrong => Err(AllotFault::WrongLot),
+    }
+}
+
+/// The seats of each list by the rule and the places of the lot, whether or not it is the lot to
+/// be taken.
+fn contested_seats<C: Contest>(alloc: Global, contest: &C) -> Result<Vec<u32>, AllocError>
+    requires sound { AreSound (C.terms contest.now) }
+    requires eligible { HasEligible (C.terms contest.now).poll }
+    ensures { IfOk result (λ seats. IsFair (placed_race (C.terms contest.now)) (C.terms contest.now).seats seats.items) }
+{
+    let mut seats = certain_seats(alloc, contest)?;
+    let certain = total(&seats);
+    award(contest, &mut seats, contest.seats() - certain);
+    Ok(seats)
+}
+
+/// What each list holds in any case.
+fn certain_seats<C: Contest>(alloc: Global, contest: &C) -> Result<Vec<u32>, AllocError>
+    requires sound { AreSound (C.terms contest.now) }
+    requires eligible { HasEligible (C.terms contest.now).poll }
+    ensures fair { IfOk result (λ seats. IsFair (placed_race (C.terms contest.now)) (sum seats.items) seats.items) }
+    ensures few { IfOk result (λ seats. sum seats.items ≤ (C.terms contest.now).seats) }
+{
+    let mut seats = Vec::with_capacity(alloc, contest.count())?;
+    for list in 0..contest.count() {
+        seats.push(contest.floor(list))?;
+    }
+    Ok(seats)
+}
+
+/// The sum of seats, which is at most 500.
+fn total(seats: &[u32]) -> u32
+    requires { sum seats.now ≤ 500 }
+    ensures { result ≡ sum seats.now }
+{
+    seats.iter().sum()
+}
+
+fn has_eligible<C: Contest>(contest: &C) -> bool
+    requires sound { AreSound (C.terms contest.now) }
+    ensures { IsTrue result ↔ HasEligible (C.terms contest.now).poll }
+{
+    for list in 0..contest.count() {
+        if contest.is_eligible(list) {
+            return true;
+        }
+    }
+    false
+}

@@ -1,0 +1,43 @@
+//! Why seats are not allotted.
+
+ghost use Rattle.std.specs.Prelude.{◌≡◌};
+ghost use Rattle.tally_allot.specs.declared.fault.AllotFault.TheVariants.{Memory};
+
+use crate::list_set::ListSet;
+use std::alloc::{AllocError, AllocFailed};
+
+/// Why the seats of a poll are not allotted, in the order in which it is looked at. Memory may
+/// come at any time.
+#[derive(Clone, Copy, Debug, PartialEq, Eq)]
+pub enum AllotFault {
+    /// No list is eligible.
+    NoEligible,
+    /// A lot is needed and none is given.
+    LotMissing {
+        /// The lists among which the lot decides.
+        group: ListSet,
+        /// The seats that it decides.
+        seats: u32,
+    },
+    /// A lot is given where the votes decide, or one that does not name each list of the group
+    /// once and no other.
+    WrongLot,
+    /// An allocation was refused.
+    Memory,
+}
+
+impl From<AllocError> for AllotFault {
+    ghost from_gives = { λ _ fault. fault ≡ Memory };
+
+    fn from(_refused: AllocError) -> AllotFault {
+        AllotFault::Memory
+    }
+}
+
+impl<T: Drop> From<AllocFailed<T>> for AllotFault {
+    ghost from_gives = { λ _ fault. fault ≡ Memory };
+
+    fn from(_refused: AllocFailed<T>) -> AllotFault {
+        AllotFault::Memory
+    }
+}

@@ -1,0 +1,15 @@
+//! The row of a list under Hare's rule.
+
+/// The quotas of an eligible list under Hare's rule, where the quota is the votes of the eligible
+/// lists over the seats.
+#[derive(Clone, Copy, Debug, PartialEq, Eq)]
+pub struct QuotaRow {
+    /// The place of the list, from 1.
+    pub list: u32,
+    /// Its whole quotas.
+    pub whole: u32,
+    /// What they leave of its votes, times the seats.
+    pub rem: u64,
+    /// Whether it has one seat more.
+    pub extra: bool,
+}

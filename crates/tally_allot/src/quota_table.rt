@@ -1,0 +1,79 @@
+//! Quotas and remainders.
+
+ghost use Rattle.std.specs.Prelude.{◌≡◌, ◌≤◌, ◌<◌, IfOk, IfErr, length};
+ghost use Rattle.tally_rules.specs.declared.profile.Method.TheVariants.{Hare as by_hare};
+ghost use Rattle.tally_allot.specs.Allotment.{hare};
+ghost use Rattle.tally_allot.specs.AllotFault.{IsFaultOf};
+ghost use Rattle.tally_allot.specs.Conditions.{AreLimitsKept};
+ghost use Rattle.tally_allot.specs.HareTerms as terms;
+ghost use Rattle.tally_allot.specs.QuotaRows.{quota_rows, AreQuotaRows};
+ghost use Rattle.tally_allot.specs.Rules.{poll_of};
+ghost use Rattle.tally_allot.specs.Terms.{poll_under};
+
+use crate::allotment::seats_in;
+use crate::fault::AllotFault;
+use crate::hare_contest::HareContest;
+use crate::poll::Poll;
+use crate::quota_row::QuotaRow;
+use std::alloc::{AllocError, Global};
+use tally_rules::Profile;
+
+/// The whole quotas and remainders of the eligible lists, in order of place, for a profile by
+/// Hare's rule. It refuses as `allot` does.
+pub fn quotas(
+    alloc: Global,
+    profile: &Profile,
+    seats: u32,
+    votes: &[u64],
+    blank: u64,
+    lot: &[u32],
+) -> Result<Vec<QuotaRow>, AllotFault>
+    requires limits { AreLimitsKept profile.now seats votes.now blank }
+    requires by_quotas { profile.now.method ≡ by_hare }
+    ensures rows { IfOk result (λ rows. AreQuotaRows (poll_of profile.now votes.now blank) lot.now seats rows.items) }
+    ensures fault { IfErr result (IsFaultOf hare (poll_of profile.now votes.now blank) seats lot.now) }
+{
+    let poll = Poll::new(profile, votes, blank);
+    quotas_in(alloc, &poll, seats, lot)
+}
+
+fn quotas_in(
+    alloc: Global,
+    poll: &Poll,
+    seats: u32,
+    lot: &[u32],
+) -> Result<Vec<QuotaRow>, AllotFault>
+    requires some_seat { 1 ≤ seats }
+    requires few_seats { seats ≤ 500 }
+    ensures rows { IfOk result (λ rows. AreQuotaRows (poll_under poll.now.threshold poll.now.base poll.now.votes.now) lot.now seats rows.items) }
+    ensures fault { IfErr result (IsFaultOf hare (poll_under poll.now.threshold poll.now.base poll.now.votes.now) seats lot.now) }
+{
+    let contest = HareContest {
+        poll: *poll,
+        total: poll.eligible_votes(),
+        lot,
+        seats,
+    };
+    let given = seats_in(alloc, &contest)?;
+    let rows = rows_of(alloc, &contest, &given)?;
+    Ok(rows)
+}
+
+fn rows_of(alloc: Global, contest: &HareContest, given: &[u32]) -> Result<Vec<QuotaRow>, AllocError>
+    requires { length given.now ≡ length contest.now.poll.votes.now }
+    ensures { IfOk result (λ rows. rows.items ≡ quota_rows (terms.poll_of contest.now) contest.now.seats given.now (length given.now)) }
+{
+    let mut rows = Vec::new(alloc);
+    for list in 0..given.len() {
+        if contest.poll.is_eligible(list) {
+            let whole = contest.whole_quotas(list);
+            rows.push(QuotaRow {
+                list: list as u32 + 1,
+                whole,
+                rem: contest.remainder(list),
+                extra: given[list] > whole,
+            })?;
+        }
+    }
+    Ok(rows)
+}

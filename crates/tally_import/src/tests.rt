@@ -1,0 +1,430 @@
+use crate::{CheckFault, Sep, check_csv};
+use std::alloc::{AllocError, Global};
+use std::io::{self, ErrorKind, Read, Write};
+use std::test::*;
+
+const HEADER: &str = "station,slip,blank,spoiled,A,B\n";
+
+const RETURNS: &str = "\
+station,slip,blank,spoiled,A,B
+s1,p1,2,1,50,40
+s2,p2,0,0,30,60
+s1,p1,2,1,50,40
+s2,p2,0,0,31,60
+s3,p3,0,0,x,5
+s4,p4,0,0,900000,200000
+";
+
+const CHECKED: &str = "\
+lodged 2
+same 1
+differs 1
+refused 1
+bad 1
+first 4 7
+blank 2
+spoiled 1
+A 80
+B 100
+";
+
+// Gives its text by pieces of so many bytes, and then ends or fails.
+#[derive(Drop)]
+struct Pieces<'a> {
+    text: &'a [u8],
+    piece: usize,
+    failure: Option<ErrorKind>,
+}
+
+impl Read for Pieces<'_> {
+    fn read(&mut self, buf: &mut [u8]) -> io::Result<usize> {
+        if let (true, Some(kind)) = (self.text.is_empty(), self.failure) {
+            return Err(io::Error::from(kind));
+        }
+        let taken = self.piece.min(buf.len()).min(self.text.len());
+        buf[..taken].copy_from_slice(&self.text[..taken]);
+        self.text = &self.text[taken..];
+        Ok(taken)
+    }
+}
+
+// Takes so many bytes, and then nothing or fails, as its flush does.
+#[derive(Drop)]
+struct Room {
+    taken: Vec<u8>,
+    left: usize,
+    fails: bool,
+}
+
+impl Write for Room {
+    fn write(&mut self, buf: &[u8]) -> io::Result<usize> {
+        if self.left == 0 && self.fails {
+            return Err(io::Error::from(ErrorKind::BrokenPipe));
+        }
+        let taken = self.left.min(buf.len());
+        if self.taken.extend_from_slice(&buf[..taken]).is_err() {
+            return Err(io::Error::from(ErrorKind::OutOfMemory));
+        }
+        self.left -= taken;
+        Ok(taken)
+    }
+
+    fn flush(&mut self) -> io::Result<()> {
+        if self.left == 0 && self.fails {
+            return Err(io::Error::from(ErrorKind::BrokenPipe));
+        }
+        Ok(())
+    }
+}
+
+// What the check of a text answers, and what it writes.
+#[derive(Drop)]
+struct Outcome {
+    answer: Result<(), CheckFault>,
+    output: Vec<u8>,
+}
+
+impl Outcome {
+    fn wrote(&self, text: &[u8]) -> bool {
+        self.answer.is_ok() && self.output.as_slice() == text
+    }
+
+    // With a fault nothing is written.
+    fn has_failed(&self, fault: CheckFault) -> bool {
+        self.answer == Err(fault) && self.output.is_empty()
+    }
+}
+
+fn check_from<R: Read>(alloc: Global, reader: &mut R, sep: Sep) -> Outcome {
+    let mut output = Vec::new(alloc);
+    let answer = check_csv(alloc, reader, &mut output, sep);
+    Outcome { answer, output }
+}
+
+fn check(alloc: Global, text: &[u8], sep: Sep) -> Outcome {
+    let mut reader = text;
+    check_from(alloc, &mut reader, sep)
+}
+
+// A reader of a text that fails where the text would end.
+fn broken(text: &[u8]) -> Pieces<'_> {
+    Pieces {
+        text,
+        piece: 4096,
+        failure: Some(ErrorKind::BrokenPipe),
+    }
+}
+
+// The text for two lists, A and B.
+fn summary(
+    alloc: Global,
+    counts: [u32; 5],
+    first: &str,
+    totals: [u32; 4],
+) -> Result<String, AllocError> {
+    let mut text = String::new(alloc);
+    for (name, n) in ["lodged", "same", "differs", "refused", "bad"]
+        .into_iter()
+        .zip(counts)
+    {
+        writeln!(text, "{name} {n}")?;
+    }
+    writeln!(text, "first {first}")?;
+    for (name, n) in ["blank", "spoiled", "A", "B"].into_iter().zip(totals) {
+        writeln!(text, "{name} {n}")?;
+    }
+    Ok(text)
+}
+
+#[test]
+fn the_worked_example(rt: HostRuntime) {
+    let found = check(rt.alloc(), RETURNS.as_bytes(), Sep::Comma);
+    assert!(rt; found.wrote(CHECKED.as_bytes()));
+}
+
+#[test]
+fn rows_and_what_is_counted_of_them(rt: HostRuntime) -> Result<(), Fail> {
+    let none = [0, 0, 0, 0];
+    let lodged = [1, 0, 0, 0, 0];
+    let refused = [0, 0, 0, 1, 0];
+    let bad = [0, 0, 0, 0, 1];
+    let cases: [(&str, [u32; 5], &str, [u32; 4]); 36] = [
+        ("", [0, 0, 0, 0, 0], "-", none),
+        // numbers
+        ("s,p,0,0,000000001,000000002\n", lodged, "-", [0, 0, 1, 2]),
+        ("s,p,0,0,123456789,2\n", refused, "1 4", none),
+        ("s,p,0,0,1234567890,2\n", bad, "1 0", none),
+        ("s,p,0,0,0000000001,2\n", bad, "1 0", none),
+        ("s,p,0,0,,2\n", bad, "1 0", none),
+        ("s,p,0,0,+1,2\n", bad, "1 0", none),
+        ("s,p,0,0, 1,2\n", bad, "1 0", none),
+        ("s,p,x,0,1,2\n", bad, "1 0", none),
+        ("s,p,0,x,1,2\n", bad, "1 0", none),
+        // codes
+        ("ABCDEFGHIJKLMNOP,p,3,4,1,2\n", lodged, "-", [3, 4, 1, 2]),
+        ("ABCDEFGHIJKLMNOPQ,p,3,4,1,2\n", bad, "1 0", none),
+        ("s,A-Z_a-z_01234567,3,4,1,2\n", lodged, "-", [3, 4, 1, 2]),
+        ("s,A-Z_a-z_012345678,3,4,1,2\n", bad, "1 0", none),
+        (",p,0,0,1,2\n", bad, "1 0", none),
+        ("s,,0,0,1,2\n", bad, "1 0", none),
+        // fields and lines
+        ("s,p,0,0,1\n", bad, "1 0", none),
+        ("s,p,0,0,1,2,3\n", bad, "1 0", none),
+        ("\"\"\n", bad, "1 0", none),
+        ("s;p;0;0;1;2\n", bad, "1 0", none),
+        ("\n\n\r\n\ns,p,0,0,1,2\n\n", lodged, "-", [0, 0, 1, 2]),
+        ("\n\nx\n", bad, "1 0", none),
+        ("s,p,0,0,1,2", lodged, "-", [0, 0, 1, 2]),
+        (
+            "s,p,0,0,1,2\rt,p,0,0,1,2\r\nu,p,0,0,1,2\n",
+            [3, 0, 0, 0, 0],
+            "-",
+            [0, 0, 3, 6],
+        ),
+        (
+            "\"s\",\"p\",\"0\",\"0\",\"1\",\"2\"\n",
+            lodged,
+            "-",
+            [0, 0, 1, 2],
+        ),
+        ("s,p,0,0,1,\"2", lodged, "-", [0, 0, 1, 2]),
+        ("s,p,0,0,1,\"2\n", bad, "1 0", none),
+        // what a Lodge is answered
+        ("s,p,0,0,1000000,0\n", lodged, "-", [0, 0, 1_000_000, 0]),
+        ("s,p,0,0,1000001,0\n", refused, "1 4", none),
+        ("s,p,1000001,0,0,0\n", refused, "1 4", none),
+        ("s,p,0,1000001,0,0\n", refused, "1 4", none),
+        ("s,p,1,0,999999,1\n", refused, "1 6", none),
+        ("s,p,0,1,999999,1\n", refused, "1 6", none),
+        (
+            "s,p,0,0,1000001,0\ns,p,1,0,0,0\ns,p,1,0,0,0\ns,q,1,0,0,0\ns,p,0,1,0,0\n",
+            [1, 1, 2, 1, 0],
+            "1 4",
+            [1, 0, 0, 0],
+        ),
+        (
+            "s,p,0,0,1,2\ns,p,0,0,2,1\nS,p,0,0,1,2\n",
+            [2, 0, 1, 0, 0],
+            "2 7",
+            [0, 0, 2, 4],
+        ),
+        (
+            "s,p,0,0,1,2\ns,p,0,0,1,2\nx\ns,q,0,0,1,2\n",
+            [1, 1, 1, 0, 1],
+            "3 0",
+            [0, 0, 1, 2],
+        ),
+    ];
+    for (rows, counts, first, totals) in cases {
+        let mut text = Vec::new(rt.alloc());
+        text.extend_from_slice(HEADER.as_bytes())?;
+        text.extend_from_slice(rows.as_bytes())?;
+        let expected = summary(rt.alloc(), counts, first, totals)?;
+        let found = check(rt.alloc(), text.as_slice(), Sep::Comma);
+        assert!(rt; found.wrote(expected.as_bytes()), "at {rows}");
+    }
+    Ok(())
+}
+
+#[test]
+fn rows_of_bytes_that_are_no_text_are_bad(rt: HostRuntime) -> Result<(), Fail> {
+    let expected = summary(rt.alloc(), [1, 0, 0, 0, 2], "1 0", [0, 0, 1, 2])?;
+    let mut text = Vec::new(rt.alloc());
+    text.extend_from_slice(HEADER.as_bytes())?;
+    text.extend_from_slice(b"\xFF,p,0,0,1,2\ns,p,0,0,\xC3,2\ns,p,0,0,1,2\n")?;
+    let found = check(rt.alloc(), text.as_slice(), Sep::Comma);
+    assert!(rt; found.wrote(expected.as_bytes()));
+    Ok(())
+}
+
+#[test]
+fn headers(rt: HostRuntime) -> Result<(), Fail> {
+    let row = "s,p,0,0,1,2\n";
+    let cases: [(&str, bool); 20] = [
+        ("station,slip,blank,spoiled,A,B\n", true),
+        ("\n\r\nstation,slip,blank,spoiled,A,B\r", true),
+        (
+            "\"station\",\"slip\",\"blank\",\"spoiled\",\"A\",\"B\"\r\n",
+            true,
+        ),
+        ("\u{feff}station,slip,blank,spoiled,A,B\n", true),
+        ("\u{feff}\u{feff}station,slip,blank,spoiled,A,B\n", false),
+        ("station,slip,blank,spoiled,A,ABCDEFGHIJKLMNOP\n", true),
+        ("station,slip,blank,spoiled,A,ABCDEFGHIJKLMNOPQ\n", false),
+        ("station,slip,blank,spoiled,A,A\n", false),
+        ("station,slip,blank,spoiled,a,A\n", true),
+        ("station,slip,blank,spoiled,A,\n", false),
+        ("station,slip,blank,spoiled,A,B C\n", false),
+        ("station,slip,blank,spoiled\n", false),
+        ("station,slip,blank\n", false),
+        ("station,slip,spoiled,blank,A,B\n", false),
+        ("slip,station,blank,spoiled,A,B\n", false),
+        ("Station,slip,blank,spoiled,A,B\n", false),
+        (" station,slip,blank,spoiled,A,B\n", false),
+        ("station;slip;blank;spoiled;A;B\n", false),
+        ("\"\"\n", false),
+        ("station,slip,blank,spoiled,A,\"B\n", false),
+    ];
+    for (header, good) in cases {
+        let mut text = Vec::new(rt.alloc());
+        text.extend_from_slice(header.as_bytes())?;
+        text.extend_from_slice(row.as_bytes())?;
+        let found = check(rt.alloc(), text.as_slice(), Sep::Comma);
+        if good {
+            assert!(rt; found.answer.is_ok(), "at {header}");
+        } else {
+            assert!(rt; found.has_failed(CheckFault::BadHeader), "at {header}");
+        }
+    }
+    Ok(())
+}
+
+#[test]
+fn a_text_without_a_record_has_no_header(rt: HostRuntime) {
+    for text in ["", "\n", "\r\n\n", "\u{feff}"] {
+        let found = check(rt.alloc(), text.as_bytes(), Sep::Comma);
+        assert!(rt; found.has_failed(CheckFault::BadHeader), "at {text}");
+    }
+}
+
+#[test]
+fn sixty_lists_and_one_more(rt: HostRuntime) -> Result<(), Fail> {
+    let mut text = String::new(rt.alloc());
+    text.push_str("station,slip,blank,spoiled")?;
+    for list in 1..61 {
+        write!(text, ",L{list}")?;
+    }
+    let found = check(rt.alloc(), text.as_bytes(), Sep::Comma);
+    assert!(rt; found.output.ends_with(b"\nL59 0\nL60 0\n"));
+    text.push_str(",L61")?;
+    let found = check(rt.alloc(), text.as_bytes(), Sep::Comma);
+    assert!(rt; found.has_failed(CheckFault::BadHeader));
+    Ok(())
+}
+
+#[test]
+fn semicolons(rt: HostRuntime) -> Result<(), Fail> {
+    let text = "station;slip;blank;spoiled;A;B\ns;p;3;4;1;2\nt,p,3,4,1,2\n";
+    let expected = summary(rt.alloc(), [1, 0, 0, 0, 1], "2 0", [3, 4, 1, 2])?;
+    let found = check(rt.alloc(), text.as_bytes(), Sep::Semicolon);
+    assert!(rt; found.wrote(expected.as_bytes()));
+    let found = check(rt.alloc(), RETURNS.as_bytes(), Sep::Semicolon);
+    assert!(rt; found.has_failed(CheckFault::BadHeader));
+    Ok(())
+}
+
+#[test]
+fn twenty_thousand_rows_and_one_more(rt: HostRuntime) -> Result<(), Fail> {
+    let mut text = Vec::new(rt.alloc());
+    text.extend_from_slice(HEADER.as_bytes())?;
+    for _ in 0..19_999 {
+        text.extend_from_slice(b"x\n")?;
+    }
+    text.extend_from_slice(b"s,p,0,0,1,2\n")?;
+    let expected = summary(rt.alloc(), [1, 0, 0, 0, 19_999], "1 0", [0, 0, 1, 2])?;
+    let found = check(rt.alloc(), text.as_slice(), Sep::Comma);
+    assert!(rt; found.wrote(expected.as_bytes()));
+
+    // a row that a read cuts off is not looked at
+    text.push(b'x')?;
+    let found = check(rt.alloc(), text.as_slice(), Sep::Comma);
+    assert!(rt; found.has_failed(CheckFault::TooLong));
+    let found = check_from(rt.alloc(), &mut broken(text.as_slice()), Sep::Comma);
+    assert!(rt; found.has_failed(CheckFault::Read));
+    text.push(b'\n')?;
+    let found = check_from(rt.alloc(), &mut broken(text.as_slice()), Sep::Comma);
+    assert!(rt; found.has_failed(CheckFault::TooLong));
+    let found = check(rt.alloc(), text.as_slice(), Sep::Semicolon);
+    assert!(rt; found.has_failed(CheckFault::BadHeader));
+    Ok(())
+}
+
+#[test]
+fn sixteen_mebibytes_and_one_more(rt: HostRuntime) -> Result<(), Fail> {
+    let mut text = Vec::new(rt.alloc());
+    text.extend_from_slice(RETURNS.as_bytes())?;
+    text.resize(16_777_216, b'\n')?;
+    let found = check(rt.alloc(), text.as_slice(), Sep::Comma);
+    assert!(rt; found.wrote(CHECKED.as_bytes()));
+    text.push(b'\n')?;
+    let found = check(rt.alloc(), text.as_slice(), Sep::Comma);
+    assert!(rt; found.has_failed(CheckFault::TooLong));
+    let found = check(rt.alloc(), text.as_slice(), Sep::Semicolon);
+    assert!(rt; found.has_failed(CheckFault::BadHeader));
+    Ok(())
+}
+
+#[test]
+fn a_header_that_goes_on_past_the_limit_is_not_looked_at(rt: HostRuntime) -> Result<(), Fail> {
+    let mut text = Vec::new(rt.alloc());
+    text.resize(16_777_217, b'x')?;
+    let found = check(rt.alloc(), text.as_slice(), Sep::Comma);
+    assert!(rt; found.has_failed(CheckFault::TooLong));
+    Ok(())
+}
+
+#[test]
+fn reads_of_few_bytes_give_the_same_text(rt: HostRuntime) {
+    for piece in [1, 2, 7] {
+        let mut reader = Pieces {
+            text: RETURNS.as_bytes(),
+            piece,
+            failure: None,
+        };
+        let found = check_from(rt.alloc(), &mut reader, Sep::Comma);
+        assert!(rt; found.wrote(CHECKED.as_bytes()), "at {piece}");
+    }
+}
+
+#[test]
+fn a_read_that_fails_at_any_byte(rt: HostRuntime) {
+    let text = RETURNS.as_bytes();
+    for came in 0..=text.len() {
+        let found = check_from(rt.alloc(), &mut broken(&text[..came]), Sep::Comma);
+        assert!(rt; found.has_failed(CheckFault::Read), "at {came}");
+        // with semicolons the first line is no header, once its end has come
+        let fault = if came < HEADER.len() {
+            CheckFault::Read
+        } else {
+            CheckFault::BadHeader
+        };
+        let found = check_from(rt.alloc(), &mut broken(&text[..came]), Sep::Semicolon);
+        assert!(rt; found.has_failed(fault), "at {came}");
+    }
+}
+
+#[test]
+fn a_read_that_was_interrupted_has_failed(rt: HostRuntime) {
+    let mut reader = Pieces {
+        text: RETURNS.as_bytes(),
+        piece: 7,
+        failure: Some(ErrorKind::Interrupted),
+    };
+    let found = check_from(rt.alloc(), &mut reader, Sep::Comma);
+    assert!(rt; found.has_failed(CheckFault::Read));
+}
+
+#[test]
+fn a_write_that_fails_or_takes_nothing_at_any_byte(rt: HostRuntime) {
+    let expected = CHECKED.as_bytes();
+    for left in 0..=expected.len() {
+        for fails in [true, false] {
+            let mut reader = RETURNS.as_bytes();
+            let mut writer = Room {
+                taken: Vec::new(rt.alloc()),
+                left,
+                fails,
+            };
+            let found = check_csv(rt.alloc(), &mut reader, &mut writer, Sep::Comma);
+            // a writer that fails once it is full fails to flush too
+            let whole = left == expected.len() && !fails;
+            let wanted = if whole {
+                Ok(())
+            } else {
+                Err(CheckFault::Write)
+            };
+            assert!(rt; found == wanted, "at {left}");
+            assert!(rt; writer.taken.as_slice() == &expected[..left], "at {left}");
+        }
+    }
+}

@@ -1,0 +1,33 @@
+-- Why a text is no setup.
+use Rattle.std.specs.Prelude.{ℕ, ◌≡◌, ⊤, List, Result, Err}
+use Rattle.tally_rules.specs.declared.fault.SetupFault.{SetupFault}
+use Rattle.tally_rules.specs.declared.fault.SetupFault.TheVariants as answer
+
+-- The faults of a text; a key is the key's own name.
+pub data Fault : Type 0 where
+  not_toml : Fault
+  missing : List ℕ → Fault
+  bad_value : List ℕ → Fault
+  over_limit : List ℕ → Fault
+  duplicate : List ℕ → Fault
+  unknown_profile : Fault
+
+-- What is answered is the fault that reading comes to. Want of memory is no fault of the text, and may be answered at any place.
+abbrev pub IsFaultOf : {A : Type 0} → Result A Fault → SetupFault → Type 0
+IsFaultOf reading answer.NotToml = reading ≡ Err not_toml
+IsFaultOf reading (answer.Missing key) = reading ≡ Err (missing key.now)
+IsFaultOf reading (answer.BadValue key) = reading ≡ Err (bad_value key.now)
+IsFaultOf reading (answer.OverLimit key) = reading ≡ Err (over_limit key.now)
+IsFaultOf reading (answer.Duplicate code) = reading ≡ Err (duplicate code)
+IsFaultOf reading answer.UnknownProfile = reading ≡ Err unknown_profile
+IsFaultOf reading answer.Memory = ⊤
+
+-- the number of a fault
+abbrev pub number_of : SetupFault → ℕ
+number_of answer.NotToml = 1
+number_of (answer.Missing key) = 2
+number_of (answer.BadValue key) = 3
+number_of (answer.OverLimit key) = 4
+number_of (answer.Duplicate code) = 5
+number_of answer.UnknownProfile = 6
+number_of answer.Memory = 7

@@ -1,0 +1,46 @@
+-- The limits that a setup keeps.
+use Rattle.std.specs.Prelude.{◌≡◌, ◌≤◌, true, List, length, All}
+use Rattle.tally_rules.specs.Codes.{AreDistinct}
+use Rattle.tally_rules.specs.Constituency.{Constituency, ListEntry, list_codes}
+use Rattle.tally_rules.specs.Setup.{constituency_codes, all_station_codes}
+use Rattle.tally_rules.specs.Text.{is_name}
+use Rattle.tally_rules.specs.declared.constituency.Station.{Station}
+use Rattle.tally_rules.specs.declared.profile.Profile.{Profile}
+
+-- the threshold is at most the whole base
+abbrev pub IsProfile : Profile → Type 0
+IsProfile profile = profile.threshold ≤ 10000
+
+-- The limits of a list.
+pub record IsListEntry (list : ListEntry) : Type 0 where
+  pub name : is_name list.name ≡ true
+  pub some_candidate : 1 ≤ length list.candidates
+  pub candidates : length list.candidates ≤ 1000
+  pub candidate_names : All (λ name. is_name name ≡ true) list.candidates
+
+-- The limits of a station.
+pub record IsStation (station : Station) : Type 0 where
+  pub some_elector : 1 ≤ station.electors
+  pub electors : station.electors ≤ 1000000
+
+-- The limits of a constituency, and that no two of its lists have one code.
+pub record IsConstituency (con : Constituency) : Type 0 where
+  pub name : is_name con.name ≡ true
+  pub some_seat : 1 ≤ con.seats
+  pub seats : con.seats ≤ 500
+  pub profile : IsProfile con.profile
+  pub some_list : 1 ≤ length con.lists
+  pub lists : length con.lists ≤ 60
+  pub each_list : All IsListEntry con.lists
+  pub codes : AreDistinct (list_codes con.lists)
+  pub some_station : 1 ≤ length con.stations
+  pub stations : length con.stations ≤ 5000
+  pub each_station : All IsStation con.stations
+
+-- The limits of a setup, and that no two of its constituencies have one code, and no two of its stations.
+pub record IsSetup (cons : List Constituency) : Type 0 where
+  pub some_constituency : 1 ≤ length cons
+  pub constituencies : length cons ≤ 200
+  pub each_constituency : All IsConstituency cons
+  pub codes : AreDistinct (constituency_codes cons)
+  pub station_codes : AreDistinct (all_station_codes cons)

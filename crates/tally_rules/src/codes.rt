@@ -1,0 +1,63 @@
+//! Codes that differ, in order.
+
+ghost use Rattle.std.specs.Prelude.{◌≡◌, [], ◌∷◌, ◌++◌, not, IfOk, if◌then◌else◌};
+ghost use Rattle.tally_rules.specs.Codes.{is_among, AreDistinct};
+ghost use Rattle.tally_rules.specs.Index.{place_of};
+
+use crate::code::Code;
+use std::alloc::{AllocError, Global};
+use std::collections::BTreeMap;
+use std::marker::Model;
+
+/// Codes in order, no two of them the same, of which each is found in logarithmic time.
+#[derive(Drop)]
+pub(crate) struct Codes {
+    codes: Vec<Code>,
+    places: BTreeMap<Code, usize>,
+}
+
+impl Model for Codes {
+    ghost use Rattle.std.specs.Prelude.{ℕ, List};
+    ghost use Rattle.tally_rules.specs.Index.{IsIndex};
+
+    ghost Value = { List (List ℕ) };
+
+    ghost view = { λ c. c.codes.items };
+
+    ghost invariant = { λ c. IsIndex c.codes.items c.places };
+}
+
+impl Codes {
+    /// No codes.
+    pub fn new(alloc: Global) -> Codes
+        ensures { result ≡ [] }
+    {
+        Codes {
+            codes: Vec::new(alloc),
+            places: BTreeMap::new(alloc),
+        }
+    }
+
+    /// Adds a code at the end, unless it is there already, and says whether it did.
+    pub fn insert(&mut self, code: Code) -> Result<bool, AllocError>
+        ensures added { IfOk result (λ added. added ≡ not (is_among code self.old)) }
+        ensures codes { IfOk result (λ added. self.new ≡ (if added then self.old ++ code ∷ [] else self.old)) }
+        ensures distinct { AreDistinct self.new }
+    {
+        if self.places.contains_key(&code) {
+            return Ok(false);
+        }
+        // Room first, so that no code is in the one and not in the other.
+        self.codes.reserve(1)?;
+        self.places.insert(code, self.codes.len())?;
+        self.codes.push(code)?;
+        Ok(true)
+    }
+
+    /// The place of a code, from 0.
+    pub fn place_of(&self, code: Code) -> Option<usize>
+        ensures { result ≡ place_of code self.now }
+    {
+        self.places.get(&code).copied()
+    }
+}

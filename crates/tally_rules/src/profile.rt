@@ -1,0 +1,33 @@
+//! Profiles: how the seats of a constituency are allotted.
+
+/// How votes become seats.
+#[derive(Clone, Copy, Debug, PartialEq, Eq)]
+pub enum Method {
+    /// Division by 1, 2, 3 and so on: the method of LOREG article 163.1 b) and c).
+    DHondt,
+    /// Division by 1, 3, 5 and so on, also Webster's method.
+    SainteLague,
+    /// Whole quotas and then the greatest remainders, also Hamilton's method.
+    Hare,
+}
+
+/// The votes that a threshold is a part of.
+#[derive(Clone, Copy, Debug, PartialEq, Eq)]
+pub enum Base {
+    /// The valid votes: those of the lists and the blank ones (LOREG article 96.5).
+    Valid,
+    /// The votes of the lists alone.
+    Lists,
+}
+
+/// The rule of allotment of a constituency.
+#[derive(Clone, Copy, Debug, PartialEq, Eq)]
+pub struct Profile {
+    /// How votes become seats.
+    pub method: Method,
+    /// The part of the base that a list has to reach, in ten-thousandths, 0 to 10,000. LOREG
+    /// article 163.1 a) has 300, which is 3 per cent.
+    pub threshold: u32,
+    /// The votes that the threshold is a part of.
+    pub base: Base,
+}

@@ -1,0 +1,93 @@
+//! Reading a setup.
+
+ghost use Rattle.std.specs.Prelude.{◌≡◌, ◌≤◌, Ok, IfOk, IfErr, All, length};
+ghost use Rattle.toml.specs.View.{view};
+ghost use Rattle.tally_rules.specs.Codes.{AreDistinct};
+ghost use Rattle.tally_rules.specs.Limits.{IsConstituency};
+ghost use Rattle.tally_rules.specs.Fault.{IsFaultOf};
+ghost use Rattle.tally_rules.specs.Found.{IsFoundIn};
+ghost use Rattle.tally_rules.specs.Reading.{constituencies_of, document_of, setup_of, setup_of_text};
+
+mod entry;
+mod fault;
+mod key;
+mod profile;
+
+use crate::codes::Codes;
+use crate::fault::SetupFault;
+use crate::setup::Setup;
+use entry::{Kind, array_at, constituency_entry};
+use fault::{Fault, Key};
+use profile::{Profiles, profiles_of};
+use std::alloc::Global;
+use std::str;
+use toml::Value;
+
+/// The most bytes that a setup's text has, 8 MiB.
+const TEXT_LIMIT: usize = 8_388_608;
+
+/// Reads a setup from its text, or answers the text's first fault, in the order of the format:
+/// the length, TOML, the profiles with their keys, and the constituencies with their keys, lists
+/// and stations. Keys that the format has not are passed over.
+pub fn read_setup(alloc: Global, text: &[u8]) -> Result<Setup, SetupFault>
+    ensures setup { IfOk result (λ setup. setup_of_text text.now ≡ Ok setup) }
+    ensures fault { IfErr result (IsFaultOf (setup_of_text text.now)) }
+{
+    match setup_of_text(alloc, text) {
+        Ok(setup) => Ok(setup),
+        Err(fault) => Err(fault.named()),
+    }
+}
+
+#[tactic(auto, unfolding(crate::specs::Reading::setup_of_text))]
+fn setup_of_text(alloc: Global, text: &[u8]) -> Result<Setup, Fault>
+    ensures setup { IfOk result (λ setup. setup_of_text text.now ≡ Ok setup) }
+    ensures fault { IfErr result (IsFoundIn (setup_of_text text.now)) }
+{
+    if text.len() > TEXT_LIMIT {
+        return Err(Fault::OverLimit(Key::Text));
+    }
+    setup_of(alloc, &document_of(alloc, text)?)
+}
+
+/// The table that the text is in TOML.
+#[tactic(auto, unfolding(crate::specs::Reading::document_of))]
+fn document_of(alloc: Global, text: &[u8]) -> Result<Value, Fault>
+    ensures document { IfOk result (λ document. document_of text.now ≡ Ok (view document)) }
+    ensures fault { IfErr result (IsFoundIn (document_of text.now)) }
+{
+    let text = match str::from_utf8(text) {
+        Ok(text) => text,
+        Err(_) => return Err(Fault::NotToml),
+    };
+    match toml::table_from_str(alloc, text) {
+        Ok(table) => Ok(Value::Table(table)),
+        Err(fault) if fault.is_memory() => Err(Fault::Memory),
+        Err(_) => Err(Fault::NotToml),
+    }
+}
+
+#[tactic(auto, unfolding(crate::specs::Reading::setup_of))]
+fn setup_of(alloc: Global, document: &Value) -> Result<Setup, Fault>
+    ensures setup { IfOk result (λ setup. setup_of (view document.now) ≡ Ok setup) }
+    ensures fault { IfErr result (IsFoundIn (setup_of (view document.now))) }
+{
+    let profiles = profiles_of(alloc, document)?;
+    constituencies_of(alloc, document, &profiles)
+}
+
+/// The constituencies of a setup's text.
+#[tactic(auto, unfolding(crate::specs::Reading::constituencies_of))]
+fn constituencies_of(alloc: Global, document: &Value, profiles: &Profiles) -> Result<Setup, Fault>
+    ensures setup { IfOk result (λ setup. constituencies_of profiles.now (view document.now) ≡ Ok setup) }
+    ensures fault { IfErr result (IsFoundIn (constituencies_of profiles.now (view document.now))) }
+{
+    let entries = array_at(document, Key::Constituency, Kind::Table, 200)?;
+    let mut codes = Codes::new(alloc);
+    let mut stations = Codes::new(alloc);
+    let mut cons = Vec::with_capacity(alloc, entries.len())?;
+    for con in entries {
+        cons.push(constituency_entry(alloc, con, profiles, &mut codes, &mut stations)?)?;
+    }
+    Ok(Setup::new(alloc, cons, codes, stations)?)
+}

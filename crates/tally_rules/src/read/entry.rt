@@ -1,0 +1,190 @@
+//! The entries of the arrays of a setup.
+
+ghost use Rattle.std.specs.Prelude.{◌≡◌, ◌≤◌, ◌++◌, ◌∷◌, [], true, All, Ok, IfOk, IfErr, OnOk, length, map, string_bytes};
+ghost use Rattle.std.specs.List.{list_all};
+ghost use Rattle.toml.specs.View.{view};
+ghost use Rattle.tally_rules.specs.Constituency.{list_codes, station_codes};
+ghost use Rattle.tally_rules.specs.Codes.{AreDistinct};
+ghost use Rattle.tally_rules.specs.Limits.{IsConstituency, IsListEntry, IsStation};
+ghost use Rattle.tally_rules.specs.Found.{key_name, IsFoundIn, is_kind};
+ghost use Rattle.tally_rules.specs.Reading.{array_at, candidates_of, constituency_entry, list_entry, lists_of, profile_entry, station_entry, stations_of};
+ghost use Rattle.tally_rules.specs.Text.{is_name};
+
+use crate::codes::Codes;
+use crate::constituency::{Constituency, ListEntry, Station};
+use crate::read::fault::{Fault, Key};
+use crate::read::key::{code_at, name_from, name_of, new_code, number_at, value_at};
+use crate::read::profile::Profiles;
+use std::alloc::Global;
+use toml::Value;
+
+/// What the items of an array have to be.
+#[derive(Clone, Copy)]
+pub(super) enum Kind {
+    Text,
+    Table,
+}
+
+impl Kind {
+    fn is(self, value: &Value) -> bool
+        ensures { result ≡ is_kind self (view value.now) }
+    {
+        match self {
+            Kind::Text => value.is_str(),
+            Kind::Table => value.is_table(),
+        }
+    }
+}
+
+/// The array of a key, of one to `limit` items.
+#[tactic(auto, unfolding(crate::specs::Reading::array_at))]
+pub(super) fn array_at(entry: &Value, key: Key, kind: Kind, limit: usize) -> Result<&[Value], Fault>
+    ensures array { IfOk result (λ items. array_at (is_kind kind) (key_name key) limit (view entry.now) ≡ Ok (map view items.now)) }
+    ensures some { IfOk result (λ items. 1 ≤ length items.now) }
+    ensures limit { IfOk result (λ items. length items.now ≤ limit) }
+    ensures fault { IfErr result (IsFoundIn (array_at (is_kind kind) (key_name key) limit (view entry.now))) }
+{
+    let items = match value_at(entry, key)?.as_array() {
+        Some(items) => items.as_slice(),
+        None => return Err(Fault::BadValue(key)),
+    };
+    if items.is_empty() {
+        Err(Fault::Missing(key))
+    } else if !are(kind, items) {
+        Err(Fault::BadValue(key))
+    } else if items.len() > limit {
+        Err(Fault::OverLimit(key))
+    } else {
+        Ok(items)
+    }
+}
+
+fn are(kind: Kind, items: &[Value]) -> bool
+    ensures { result ≡ list_all (λ item. is_kind kind (view item)) items.now }
+{
+    items.iter().all(|item| kind.is(item))
+}
+
+/// An entry of `station`, whose code is added to those taken.
+#[tactic(auto, unfolding(crate::specs::Reading::station_entry))]
+fn station_entry(entry: &Value, taken: &mut Codes) -> Result<Station, Fault>
+    ensures station { IfOk result (λ station. station_entry taken.old (view entry.now) ≡ Ok station) }
+    ensures taken { IfOk result (λ station. taken.new ≡ taken.old ++ station.code ∷ []) }
+    ensures distinct { OnOk result (AreDistinct taken.new) }
+    ensures limits { IfOk result IsStation }
+    ensures fault { IfErr result (IsFoundIn (station_entry taken.old (view entry.now))) }
+{
+    Ok(Station {
+        code: new_code(entry, taken)?,
+        electors: number_at(entry, Key::Electors, 1, 1_000_000)?,
+    })
+}
+
+/// The stations of a constituency, whose codes are added to those taken.
+#[tactic(auto, unfolding(crate::specs::Reading::stations_of))]
+fn stations_of(alloc: Global, entry: &Value, taken: &mut Codes) -> Result<Vec<Station>, Fault>
+    requires distinct { AreDistinct taken.old }
+    ensures stations { IfOk result (λ stations. stations_of taken.old (view entry.now) ≡ Ok stations.items) }
+    ensures taken { IfOk result (λ stations. taken.new ≡ taken.old ++ station_codes stations.items) }
+    ensures distinct { OnOk result (AreDistinct taken.new) }
+    ensures some { IfOk result (λ stations. 1 ≤ length stations.items) }
+    ensures limit { IfOk result (λ stations. length stations.items ≤ 5000) }
+    ensures each { IfOk result (λ stations. All IsStation stations.items) }
+    ensures fault { IfErr result (IsFoundIn (stations_of taken.old (view entry.now))) }
+{
+    let entries = array_at(entry, Key::Station, Kind::Table, 5000)?;
+    let mut stations = Vec::with_capacity(alloc, entries.len())?;
+    for station in entries {
+        stations.push(station_entry(station, taken)?)?;
+    }
+    Ok(stations)
+}
+
+/// The names of a list's candidates.
+#[tactic(auto, unfolding(crate::specs::Reading::candidates_of))]
+fn candidates_of(alloc: Global, entry: &Value) -> Result<Vec<String>, Fault>
+    ensures candidates { IfOk result (λ names. candidates_of (view entry.now) ≡ Ok (map string_bytes names.items)) }
+    ensures some { IfOk result (λ names. 1 ≤ length names.items) }
+    ensures limit { IfOk result (λ names. length names.items ≤ 1000) }
+    ensures each { IfOk result (λ names. All (λ name. is_name name ≡ true) (map string_bytes names.items)) }
+    ensures fault { IfErr result (IsFoundIn (candidates_of (view entry.now))) }
+{
+    let entries = array_at(entry, Key::Candidates, Kind::Text, 1000)?;
+    let mut names = Vec::with_capacity(alloc, entries.len())?;
+    for name in entries {
+        names.push(name_from(alloc, name, Key::Candidates)?)?;
+    }
+    Ok(names)
+}
+
+/// An entry of `list`, whose code is added to those taken.
+#[tactic(auto, unfolding(crate::specs::Reading::list_entry))]
+fn list_entry(alloc: Global, entry: &Value, taken: &mut Codes) -> Result<ListEntry, Fault>
+    ensures list { IfOk result (λ list. list_entry taken.old (view entry.now) ≡ Ok list) }
+    ensures taken { IfOk result (λ list. taken.new ≡ taken.old ++ list.code ∷ []) }
+    ensures distinct { OnOk result (AreDistinct taken.new) }
+    ensures limits { IfOk result IsListEntry }
+    ensures fault { IfErr result (IsFoundIn (list_entry taken.old (view entry.now))) }
+{
+    Ok(ListEntry {
+        code: new_code(entry, taken)?,
+        name: name_of(alloc, entry)?,
+        candidates: candidates_of(alloc, entry)?,
+    })
+}
+
+/// The lists of a constituency.
+#[tactic(auto, unfolding(crate::specs::Reading::lists_of))]
+fn lists_of(alloc: Global, entry: &Value) -> Result<Vec<ListEntry>, Fault>
+    ensures lists { IfOk result (λ lists. lists_of (view entry.now) ≡ Ok lists.items) }
+    ensures distinct { IfOk result (λ lists. AreDistinct (list_codes lists.items)) }
+    ensures some { IfOk result (λ lists. 1 ≤ length lists.items) }
+    ensures limit { IfOk result (λ lists. length lists.items ≤ 60) }
+    ensures each { IfOk result (λ lists. All IsListEntry lists.items) }
+    ensures fault { IfErr result (IsFoundIn (lists_of (view entry.now))) }
+{
+    let entries = array_at(entry, Key::List, Kind::Table, 60)?;
+    let mut codes = Codes::new(alloc);
+    let mut lists = Vec::with_capacity(alloc, entries.len())?;
+    for list in entries {
+        lists.push(list_entry(alloc, list, &mut codes)?)?;
+    }
+    Ok(lists)
+}
+
+/// An entry of `constituency`, whose code and whose stations' codes are added to those taken.
+#[tactic(auto, unfolding(crate::specs::Reading::constituency_entry))]
+pub(super) fn constituency_entry(
+    alloc: Global,
+    entry: &Value,
+    profiles: &Profiles,
+    taken: &mut Codes,
+    stations: &mut Codes,
+) -> Result<Constituency, Fault>
+    requires distinct { AreDistinct stations.old }
+    ensures constituency { IfOk result (λ con. constituency_entry profiles.now taken.old stations.old (view entry.now) ≡ Ok con) }
+    ensures taken { IfOk result (λ con. taken.new ≡ taken.old ++ con.code ∷ []) }
+    ensures stations { IfOk result (λ con. stations.new ≡ stations.old ++ station_codes con.stations) }
+    ensures distinct { OnOk result (AreDistinct taken.new) }
+    ensures distinct_stations { OnOk result (AreDistinct stations.new) }
+    ensures limits { IfOk result IsConstituency }
+    ensures fault { IfErr result (IsFoundIn (constituency_entry profiles.now taken.old stations.old (view entry.now))) }
+{
+    let code = new_code(entry, taken)?;
+    let name = name_of(alloc, entry)?;
+    let seats = number_at(entry, Key::Seats, 1, 500)?;
+    let profile_code = code_at(entry, Key::Profile)?;
+    let profile = match profiles.find(profile_code) {
+        Some(profile) => profile,
+        None => return Err(Fault::UnknownProfile),
+    };
+    Ok(Constituency {
+        code,
+        name,
+        seats,
+        profile_code,
+        profile,
+        lists: lists_of(alloc, entry)?,
+        stations: stations_of(alloc, entry, stations)?,
+    })
+}

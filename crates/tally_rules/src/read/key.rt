@@ -1,0 +1,138 @@
+//! The keys of an entry.
+
+ghost use Rattle.std.specs.Prelude.{◌≡◌, ◌≤◌, ◌++◌, ◌∷◌, [], true, false, Ok, IfOk, IfErr, OnOk, codes, string_bytes};
+ghost use Rattle.toml.specs.View.{view};
+ghost use Rattle.tally_rules.specs.Codes.{is_among, AreDistinct};
+ghost use Rattle.tally_rules.specs.Found.{key_name, IsFoundIn};
+ghost use Rattle.tally_rules.specs.Reading.{base_named, base_of, code_at, method_named, method_of, name_from, name_of, new_code, number_at, number_in, text_at, value_at};
+ghost use Rattle.tally_rules.specs.Text.{is_name};
+
+use crate::code::Code;
+use crate::codes::Codes;
+use crate::profile::{Base, Method};
+use crate::read::fault::{Fault, Key};
+use crate::text::good_name;
+use std::alloc::Global;
+use toml::Value;
+
+/// The value of a key.
+#[tactic(auto, unfolding(crate::specs::Reading::value_at))]
+pub(super) fn value_at<'a>(entry: &'a Value, key: Key) -> Result<&'a Value, Fault>
+    ensures value { IfOk result (λ value. value_at (key_name key) (view entry.now) ≡ Ok (view value.now)) }
+    ensures fault { IfErr result (IsFoundIn (value_at (key_name key) (view entry.now))) }
+{
+    match entry.get(key.name()) {
+        Some(value) => Ok(value),
+        None => Err(Fault::Missing(key)),
+    }
+}
+
+/// The text of a key.
+#[tactic(auto, unfolding(crate::specs::Reading::text_at))]
+pub(super) fn text_at<'a>(entry: &'a Value, key: Key) -> Result<&'a str, Fault>
+    ensures text { IfOk result (λ text. text_at (key_name key) (view entry.now) ≡ Ok text.now) }
+    ensures fault { IfErr result (IsFoundIn (text_at (key_name key) (view entry.now))) }
+{
+    match value_at(entry, key)?.as_str() {
+        Some(text) => Ok(text),
+        None => Err(Fault::BadValue(key)),
+    }
+}
+
+fn number_in(low: u32, high: u32, number: i64) -> Option<u32>
+    ensures { result ≡ number_in low high number }
+{
+    match u32::try_from(number) {
+        Ok(number) if low <= number && number <= high => Some(number),
+        _ => None,
+    }
+}
+
+/// The number of a key, which is whole and from `low` to `high`.
+#[tactic(auto, unfolding(crate::specs::Reading::number_at))]
+pub(super) fn number_at(entry: &Value, key: Key, low: u32, high: u32) -> Result<u32, Fault>
+    ensures number { IfOk result (λ number. number_at (key_name key) low high (view entry.now) ≡ Ok number) }
+    ensures low { IfOk result (λ number. low ≤ number) }
+    ensures high { IfOk result (λ number. number ≤ high) }
+    ensures fault { IfErr result (IsFoundIn (number_at (key_name key) low high (view entry.now))) }
+{
+    match value_at(entry, key)?.as_integer() {
+        Some(number) => number_in(low, high, number).ok_or(Fault::BadValue(key)),
+        None => Err(Fault::BadValue(key)),
+    }
+}
+
+/// The code of a key.
+#[tactic(auto, unfolding(crate::specs::Reading::code_at))]
+pub(super) fn code_at(entry: &Value, key: Key) -> Result<Code, Fault>
+    ensures code { IfOk result (λ code. code_at (key_name key) (view entry.now) ≡ Ok code) }
+    ensures fault { IfErr result (IsFoundIn (code_at (key_name key) (view entry.now))) }
+{
+    Code::new(text_at(entry, key)?.as_bytes()).ok_or(Fault::BadValue(key))
+}
+
+/// The entry's code, which is added to those taken.
+#[tactic(auto, unfolding(crate::specs::Reading::new_code))]
+pub(super) fn new_code(entry: &Value, taken: &mut Codes) -> Result<Code, Fault>
+    ensures code { IfOk result (λ code. new_code taken.old (view entry.now) ≡ Ok code) }
+    ensures taken { IfOk result (λ code. taken.new ≡ taken.old ++ code ∷ []) }
+    ensures distinct { OnOk result (AreDistinct taken.new) }
+    ensures fault { IfErr result (IsFoundIn (new_code taken.old (view entry.now))) }
+{
+    let code = code_at(entry, Key::Code)?;
+    if taken.insert(code)? {
+        Ok(code)
+    } else {
+        Err(Fault::Duplicate(code))
+    }
+}
+
+/// A name, the value of a key or one of the items of its array.
+#[tactic(auto, unfolding(crate::specs::Reading::name_from))]
+pub(super) fn name_from(alloc: Global, value: &Value, key: Key) -> Result<String, Fault>
+    ensures name { IfOk result (λ name. name_from (key_name key) (view value.now) ≡ Ok (string_bytes name)) }
+    ensures limits { IfOk result (λ name. is_name (string_bytes name) ≡ true) }
+    ensures fault { IfErr result (IsFoundIn (name_from (key_name key) (view value.now))) }
+{
+    match value.as_str() {
+        Some(name) if good_name(name) => Ok(String::from_str(alloc, name)?),
+        _ => Err(Fault::BadValue(key)),
+    }
+}
+
+/// The entry's name.
+#[tactic(auto, unfolding(crate::specs::Reading::name_of))]
+pub(super) fn name_of(alloc: Global, entry: &Value) -> Result<String, Fault>
+    ensures name { IfOk result (λ name. name_of (view entry.now) ≡ Ok (string_bytes name)) }
+    ensures limits { IfOk result (λ name. is_name (string_bytes name) ≡ true) }
+    ensures fault { IfErr result (IsFoundIn (name_of (view entry.now))) }
+{
+    name_from(alloc, value_at(entry, Key::Name)?, Key::Name)
+}
+
+/// The profile's method.
+#[tactic(auto, unfolding(crate::specs::Reading::method_of))]
+pub(super) fn method_of(entry: &Value) -> Result<Method, Fault>
+    ensures method { IfOk result (λ method. method_of (view entry.now) ≡ Ok method) }
+    ensures fault { IfErr result (IsFoundIn (method_of (view entry.now))) }
+{
+    match text_at(entry, Key::Method)? {
+        "dhondt" => Ok(Method::DHondt),
+        "sainte-lague" => Ok(Method::SainteLague),
+        "hare" => Ok(Method::Hare),
+        _ => Err(Fault::BadValue(Key::Method)),
+    }
+}
+
+/// The base of the profile's threshold.
+#[tactic(auto, unfolding(crate::specs::Reading::base_of))]
+pub(super) fn base_of(entry: &Value) -> Result<Base, Fault>
+    ensures base { IfOk result (λ base. base_of (view entry.now) ≡ Ok base) }
+    ensures fault { IfErr result (IsFoundIn (base_of (view entry.now))) }
+{
+    match text_at(entry, Key::Base)? {
+        "valid" => Ok(Base::Valid),
+        "lists" => Ok(Base::Lists),
+        _ => Err(Fault::BadValue(Key::Base)),
+    }
+}

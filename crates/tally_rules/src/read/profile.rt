@@ -1,0 +1,82 @@
+//! The profiles of a setup.
+
+ghost use Rattle.std.specs.Prelude.{◌≡◌, ◌≤◌, ◌++◌, ◌∷◌, [], Ok, IfOk, IfErr, IfSome, OnOk};
+ghost use Rattle.toml.specs.View.{view};
+ghost use Rattle.tally_rules.specs.Codes.{AreDistinct};
+ghost use Rattle.tally_rules.specs.Found.{IsFoundIn};
+ghost use Rattle.tally_rules.specs.Reading.{profile_entry, profile_with, profiles_of};
+
+use crate::code::Code;
+use crate::codes::Codes;
+use crate::profile::Profile;
+use crate::read::entry::{Kind, array_at};
+use crate::read::fault::{Fault, Key};
+use crate::read::key::{base_of, method_of, new_code, number_at};
+use std::alloc::Global;
+use std::marker::Model;
+use toml::Value;
+
+/// The profiles by their codes, in order. Each threshold is at most 10,000.
+#[derive(Drop)]
+pub(super) struct Profiles {
+    codes: Codes,
+    profiles: Vec<(Code, Profile)>,
+}
+
+impl Model for Profiles {
+    ghost use Rattle.std.specs.Prelude.{◌≡◌, ℕ, All, List};
+    ghost use Rattle.tally_rules.specs.Limits.{IsProfile};
+    ghost use Rattle.tally_rules.specs.Reading.{profile_codes};
+    ghost use Rattle.tally_rules.specs.declared.profile.Profile as declared;
+
+    ghost Value = { List (List ℕ × declared.Profile) };
+
+    ghost view = { λ p. p.profiles.items };
+
+    ghost invariant = { λ p. (p.codes ≡ profile_codes p.profiles.items) × All (λ (p : List ℕ × declared.Profile). IsProfile p.1) p.profiles.items };
+}
+
+impl Profiles {
+    /// The profile of a code.
+    pub fn find(&self, code: Code) -> Option<Profile>
+        ensures profile { result ≡ profile_with code self.now }
+        ensures threshold { IfSome result (λ profile. profile.threshold ≤ 10000) }
+    {
+        match self.profiles.get(self.codes.place_of(code)?) {
+            Some((_, profile)) => Some(*profile),
+            None => None,
+        }
+    }
+}
+
+/// An entry of `profile`, whose code is added to those taken.
+#[tactic(auto, unfolding(crate::specs::Reading::profile_entry))]
+fn profile_entry(entry: &Value, taken: &mut Codes) -> Result<(Code, Profile), Fault>
+    ensures profile { IfOk result (λ p. profile_entry taken.old (view entry.now) ≡ Ok p) }
+    ensures taken { IfOk result (λ p. taken.new ≡ taken.old ++ p.0 ∷ []) }
+    ensures threshold { IfOk result (λ p. p.1.threshold ≤ 10000) }
+    ensures fault { IfErr result (IsFoundIn (profile_entry taken.old (view entry.now))) }
+{
+    let code = new_code(entry, taken)?;
+    let profile = Profile {
+        method: method_of(entry)?,
+        threshold: number_at(entry, Key::Threshold, 0, 10_000)?,
+        base: base_of(entry)?,
+    };
+    Ok((code, profile))
+}
+
+/// The profiles of a setup's text.
+#[tactic(auto, unfolding(crate::specs::Reading::profiles_of))]
+pub(super) fn profiles_of(alloc: Global, text: &Value) -> Result<Profiles, Fault>
+    ensures profiles { IfOk result (λ profiles. profiles_of (view text.now) ≡ Ok profiles) }
+    ensures fault { IfErr result (IsFoundIn (profiles_of (view text.now))) }
+{
+    let entries = array_at(text, Key::Profile, Kind::Table, 200)?;
+    let mut codes = Codes::new(alloc);
+    let mut profiles = Vec::with_capacity(alloc, entries.len())?;
+    for profile in entries {
+        profiles.push(profile_entry(profile, &mut codes)?)?;
+    }
+    Ok(Profiles { codes, profiles })
+}

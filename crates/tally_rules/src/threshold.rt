@@ -1,0 +1,41 @@
+//! The threshold.
+
+ghost use Rattle.std.specs.Prelude.{◌≡◌, ◌≤◌, IfOk, sum};
+ghost use Rattle.tally_rules.specs.Threshold.{base_of, eligible_lists, is_eligible, IsWithinVotes};
+
+use crate::profile::{Base, Profile};
+use std::alloc::{AllocError, Global};
+use tally_frac::is_at_least;
+
+/// Which lists take part in the allotment, in their order: those with a vote whose votes reach
+/// the profile's threshold (LOREG articles 163.1 a) and 96.5). `votes` has the votes of each list;
+/// with the blank votes they are at most 5,000,000,000. The threshold is at most 10,000.
+pub fn eligible(
+    alloc: Global,
+    profile: &Profile,
+    votes: &[u64],
+    blank: u64,
+) -> Result<Vec<bool>, AllocError>
+    requires votes { IsWithinVotes votes.now blank }
+    requires threshold { profile.now.threshold ≤ 10000 }
+    ensures { IfOk result (λ lists. lists.items ≡ eligible_lists profile.now votes.now blank) }
+{
+    let base = base_of(profile.base, votes, blank);
+    let mut lists = Vec::with_capacity(alloc, votes.len())?;
+    for list in votes {
+        lists.push(*list > 0 && is_at_least(*list, profile.threshold, base))?;
+    }
+    Ok(lists)
+}
+
+fn base_of(base: Base, votes: &[u64], blank: u64) -> u64
+    requires { IsWithinVotes votes.now blank }
+    ensures value { result ≡ base_of base votes.now blank }
+    ensures limit { result ≤ 5000000000 }
+{
+    let total = votes.iter().sum::<u64>();
+    match base {
+        Base::Valid => total + blank,
+        Base::Lists => total,
+    }
+}
