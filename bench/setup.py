@@ -1,70 +1,177 @@
-"""Writes a setup near 8 MiB: 200 constituencies, 60 lists each, and stations to fill it.
+#!/usr/bin/env python3
+"""Measures the reading of a setup against Python's own `tomllib`.
 
-    python3 bench/setup.py setup.toml          writes the setup
-    python3 bench/setup.py setup.toml --time   and times Python's tomllib on it
+The setup is made in a temporary folder, the same one on every run: 200 constituencies with 60 lists
+each, and as many stations as fit into 8 MiB, each a table of its own or all of them in one array.
+The programs run in turn on one text, and what they find in it is compared once, to the last station.
+A time is the processor's, for the whole process and for the system on its behalf, so that other work
+on the machine disturbs it little. Times are given as medians and as the ratio of the medians. The
+time of `toml` alone shows which part of `read_setup` is the parse that it rests on.
+
+    bench/setup.py [--runs N]
 """
 
+import argparse
+import os
+import statistics
+import subprocess
 import sys
-import time
-import tomllib
+import tempfile
+from pathlib import Path
 
-LIMIT = 8_388_608
+# What is imported from here is not to be left beside it in compiled form.
+sys.dont_write_bytecode = True
+from building import HERE, build_office, processor
+
 CONSTITUENCIES = 200
 LISTS = 60
+CANDIDATES = 3
+MOST_STATIONS = 5_000
+PRIME = 1_000_003
+MOST_BYTES = 8 * 1024 * 1024
+GOAL = 3
+
+PROFILES = """[[profile]]
+code = "loreg"
+method = "dhondt"
+threshold = 300
+base = "valid"
+
+[[profile]]
+code = "shares"
+method = "hare"
+threshold = 0
+base = "lists"
+"""
 
 
-def constituency(number, stations):
-    """The text of one constituency with so many stations."""
-    lines = [
-        "[[constituency]]",
-        f'code = "c{number}"',
-        f'name = "Constituency {number}"',
-        f"seats = {1 + number % 40}",
-        'profile = "loreg"',
-    ]
-    for place in range(LISTS):
-        lines += [
-            "[[constituency.list]]",
-            f'code = "L{place}"',
-            f'name = "List {place}"',
-            'candidates = ["First", "Second", "Third"]',
-        ]
-    for station in range(stations):
-        lines += [
-            "[[constituency.station]]",
-            f'code = "s{number}-{station}"',
-            f"electors = {100 + station}",
-        ]
-    return "\n".join(lines) + "\n"
+def head_of(con):
+    """A constituency without its lists and stations."""
+    profile = ["loreg", "shares"][con % 2]
+    return (
+        f'\n[[constituency]]\ncode = "con-{con:03}"\nname = "Constituency {con}"\n'
+        f'seats = {1 + con % 500}\nprofile = "{profile}"\n'
+    )
 
 
-def setup():
-    """The text of the setup, as long as the limit lets it be."""
-    head = '[[profile]]\ncode = "loreg"\nmethod = "dhondt"\nthreshold = 300\nbase = "valid"\n'
-    low, high = 1, 5_000
-    while low < high:
-        middle = (low + high + 1) // 2
-        size = len(head) + sum(len(constituency(n, middle)) for n in range(CONSTITUENCIES))
-        if size <= LIMIT:
-            low = middle
-        else:
-            high = middle - 1
-    return head + "".join(constituency(n, low) for n in range(CONSTITUENCIES)), low
+def list_of(con, number):
+    names = ", ".join(f'"Candidate {number}.{n}"' for n in range(1, CANDIDATES + 1))
+    code, name = f"list-{number:02}", f"List {number} of {con}"
+    return f'\n[[constituency.list]]\ncode = "{code}"\nname = "{name}"\ncandidates = [{names}]\n'
+
+
+def station_of(con, number):
+    """The code of a station and its electors. The codes are in no order, and no two are the same."""
+    place = con * MOST_STATIONS + number
+    return f"station-{place * 387_420_489 % PRIME:07}", 1 + place * 7919 % 1_000_000
+
+
+def station_table(con, number):
+    code, electors = station_of(con, number)
+    return f'\n[[constituency.station]]\ncode = "{code}"\nelectors = {electors}\n'
+
+
+def inline_station(con, number):
+    code, electors = station_of(con, number)
+    return f'{{code = "{code}", electors = {electors}}},'
+
+
+def tables(con, stations):
+    """A constituency whose lists and stations each have a table of their own."""
+    lists = [list_of(con, number) for number in range(1, LISTS + 1)]
+    return "".join([head_of(con), *lists, *(station_table(con, number) for number in range(stations))])
+
+
+def inline(con, stations):
+    """A constituency whose stations are tables within one array."""
+    entries = "\n".join(inline_station(con, number) for number in range(stations))
+    lists = "".join(list_of(con, number) for number in range(1, LISTS + 1))
+    return f"{head_of(con)}station = [\n{entries}\n]\n{lists}"
+
+
+def setup_of(make, cons, limit):
+    """A setup with as many stations in each constituency as fit: its text and their number."""
+    most, text = 0, ""
+    for step in (1000, 100, 10, 1):
+        while True:
+            longer = PROFILES + "".join(make(con, most + step) for con in range(cons))
+            if len(longer) > limit:
+                break
+            most, text = most + step, longer
+    return text, most
+
+
+def run(command, path):
+    """Runs a command on a file: its processor time in milliseconds, and what it wrote."""
+    with open(path, "rb") as text, tempfile.TemporaryFile() as output:
+        child = subprocess.Popen(command, stdin=text, stdout=output)
+        _, status, usage = os.wait4(child.pid, 0)
+        child.returncode = os.waitstatus_to_exitcode(status)
+        if child.returncode != 0:
+            sys.exit(f"{command} answered the exit status {child.returncode}")
+        output.seek(0)
+        return (usage.ru_utime + usage.ru_stime) * 1000, output.read()
+
+
+def medians(commands, path, runs):
+    """The median time of each command, run in turn on one file."""
+    times = [[] for _ in commands]
+    for _ in range(runs):
+        for command, taken in zip(commands, times):
+            taken.append(run(command, path)[0])
+    return [statistics.median(taken) for taken in times]
+
+
+def agree(office, plain, path):
+    """Stops where the two programs find different setups in a file."""
+    if run([*office, "print"], path)[1] != run([*plain, "print"], path)[1]:
+        sys.exit("the two programs read different setups")
+
+
+def compare(office, plain, folder, runs):
+    """Prints the times on setups at the limit: whether the goal was met on the usual one."""
+    print("setup       stations   MiB   read_setup ms   toml alone ms   tomllib ms   ratio")
+    ratios = {}
+    for name, make in (("tables", tables), ("inline", inline)):
+        text, stations = setup_of(make, CONSTITUENCIES, MOST_BYTES)
+        path = folder / "setup.toml"
+        path.write_text(text)
+        agree(office, plain, path)
+        commands = [[*office, "read"], [*office, "toml"], [*plain, "read"]]
+        read, alone, slow = medians(commands, path, runs)
+        ratios[name] = slow / read
+        print(
+            f"{name:10} {stations * CONSTITUENCIES:9} {len(text) / 2**20:5.2f} {read:15.0f}"
+            f" {alone:15.0f} {slow:12.0f} {slow / read:7.1f}"
+        )
+    return ratios["tables"] >= GOAL
+
+
+def grow(office, folder, runs):
+    """Prints the time by the size of the setup."""
+    print("\n  MiB   read_setup ms   toml alone ms   ns a byte")
+    for part in (8, 4, 2, 1):
+        text, _ = setup_of(tables, CONSTITUENCIES // part, MOST_BYTES // part)
+        path = folder / "setup.toml"
+        path.write_text(text)
+        read, alone = medians([[*office, "read"], [*office, "toml"]], path, runs)
+        print(f"{len(text) / 2**20:5.2f} {read:15.1f} {alone:15.1f} {read * 1e6 / len(text):11.1f}")
 
 
 def main():
-    path = sys.argv[1]
-    text, stations = setup()
-    with open(path, "w") as out:
-        out.write(text)
-    print(f"{len(text)} bytes, {stations} stations per constituency")
-    if "--time" in sys.argv[2:]:
-        runs = []
-        for _ in range(5):
-            start = time.perf_counter()
-            tomllib.loads(text)
-            runs.append(time.perf_counter() - start)
-        print(f"tomllib: {min(runs):.3f} s")
+    parser = argparse.ArgumentParser(description="Measures `read_setup` against `tomllib`.")
+    parser.add_argument("--runs", type=int, default=5, help="how often each program runs on a file")
+    args = parser.parse_args()
+    with tempfile.TemporaryDirectory() as name:
+        folder = Path(name)
+        office = [str(build_office(folder, "setup_office", ["//crates/tally_rules", "@rattle//toml"]))]
+        plain = [sys.executable, str(HERE / "setup_plain.py")]
+        version = sys.version.split()[0]
+        print(f"{os.cpu_count()} processors, {processor()}, Python {version}, {args.runs} runs\n")
+        met = compare(office, plain, folder, args.runs)
+        grow(office, folder, args.runs)
+    if not met:
+        sys.exit(f"\n`read_setup` is not {GOAL} times as fast as `tomllib`")
 
 
 if __name__ == "__main__":

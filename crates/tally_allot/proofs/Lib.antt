@@ -20,3 +20,5 @@ pub mod WonLemmas
 pub mod AwardLemmas
 pub mod OrderOfChoice
 pub mod Reordered
+pub mod HeapLemmas
+pub mod KeyLemmas

@@ -1,4 +1,4 @@
--- Divisor allotment: the min-max inequality of Balinski and Young (Fair Representation, appendix A, proposition 3.3), with the ties of LOREG article 163.1 d).
+-- Divisor allotment: the min-max inequality of Balinski and Young (Fair Representation). Ties go by votes (LOREG article 163.1 d), first half) and then by place, which is this project's own rule.
 use Rattle.std.specs.Prelude.{ℕ, ◌+◌, ◌≤◌, ◌≢◌, List, [], slice_index}
 use Rattle.tally_frac.specs.Rank.{Pair, RanksAbove, RanksAboveByVotes}
 use Rattle.tally_allot.specs.Poll.{Poll, IsEligible, SharesOut, votes_of}

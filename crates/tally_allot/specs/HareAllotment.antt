@@ -1,4 +1,4 @@
--- Hare allotment: whole quotas, and then the largest remainders (Balinski and Young, Fair Representation, chapter 3, the method of Hamilton).
+-- Hare allotment: whole quotas, and then the largest remainders (Balinski and Young, Fair Representation: the method of Hamilton). That equal remainders go by votes and then by place is this project's own rule.
 use Rattle.std.specs.Prelude.{ℕ, ◌≡◌, ◌+◌, ◌*◌, ◌/◌, ◌%◌, ◌<◌, ◌⊎◌, List, [], slice_index}
 use Rattle.tally_allot.specs.Poll.{Poll, IsEligible, SharesOut, votes_of, eligible_votes}
 use Rattle.tally_allot.specs.Lot.{place_of}

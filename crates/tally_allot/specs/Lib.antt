@@ -17,3 +17,4 @@ pub mod QuotaRows
 pub mod Won
 pub mod Awards
 pub mod Reordering
+pub mod NextPairs

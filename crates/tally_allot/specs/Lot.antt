@@ -1,4 +1,4 @@
--- A lot: the places of some lists, in the order in which they were drawn (LOREG article 163.1 d) has the first tie solved by lot).
+-- A lot: the places of some lists, in the order in which they were drawn. LOREG article 163.1 d) has the first tie solved by lot and later ones in turn; that one order decides every tie is this project's own rule.
 use Rattle.std.specs.Prelude.{ℕ, ◌≡◌, ◌+◌, ◌<◌, ◌≢◌, ◌==◌, List, [], ◌∷◌, Bool, true, false, slice_index, slice_index_or, length, if◌then◌else◌}
 use Rattle.tally_allot.specs.ListSet.{has_place}
 

@@ -1,4 +1,4 @@
--- When a lot is needed, which lists take part in it, and for how many seats (LOREG article 163.1 d), second half).
+-- When a lot is needed (LOREG article 163.1 d), second half). Which lists take part in it, and the number of seats in question, are this project's own terms.
 use Rattle.std.specs.Prelude.{ℕ, ◌≡◌, ◌+◌, ◌≤◌, ◌≢◌, ◌↔◌, ◌⊎◌, List, [], Bool, true, false, slice_index, slice_index_or}
 use Rattle.tally_allot.specs.Poll.{Poll, sum_marked}
 use Rattle.tally_allot.specs.Lot.{IsOrderOf}

@@ -15,6 +15,7 @@ use crate::contest::{Contest, award, is_fair};
 use crate::divisor_contest::DivisorContest;
 use crate::fault::AllotFault;
 use crate::hare_contest::HareContest;
+use crate::heap_award::award_under_lot;
 use crate::need::{LotVerdict, Need, need_of, verdict_on_lot};
 use crate::poll::Poll;
 use std::alloc::{AllocError, Global};
@@ -46,7 +47,7 @@ pub fn allot(
     }
 }
 
-fn seats_by_divisors<D: Divisors + Drop>(
+fn seats_by_divisors<D: Divisors + Copy>(
     alloc: Global,
     divisors: D,
     poll: &Poll,
@@ -60,13 +61,8 @@ fn seats_by_divisors<D: Divisors + Drop>(
     ensures eligible { OnOk result (HasEligible (poll_under poll.now.threshold poll.now.base poll.now.votes.now)) }
     ensures fault { IfErr result (IsFaultOf (by_divisors (D.divisor divisors)) (poll_under poll.now.threshold poll.now.base poll.now.votes.now) seats lot.now) }
 {
-    let contest = DivisorContest {
-        divisors,
-        poll: *poll,
-        lot,
-        seats,
-    };
-    seats_in(alloc, &contest)
+    let given = award_under_lot(alloc, divisors, poll, seats, lot)?;
+    Ok(given.seats)
 }
 
 fn seats_by_quotas(
@@ -311,7 +307,7 @@ fn total(seats: &[u32]) -> u32
     seats.iter().sum()
 }
 
-fn has_eligible<C: Contest>(contest: &C) -> bool
+pub(crate) fn has_eligible<C: Contest>(contest: &C) -> bool
     requires sound { AreSound (C.terms contest.now) }
     ensures { IsTrue result ↔ HasEligible (C.terms contest.now).poll }
 {

@@ -12,12 +12,11 @@ ghost use Rattle.tally_allot.specs.Rules.{poll_of, rule_of};
 ghost use Rattle.tally_allot.specs.Terms.{poll_under};
 ghost use Rattle.tally_allot.specs.Won.{IsRow};
 
-use crate::allotment::seats_in;
 use crate::award::Award;
-use crate::divisor_contest::DivisorContest;
 use crate::fault::AllotFault;
+use crate::heap_award::award_under_lot;
 use crate::poll::Poll;
-use crate::won::{Won, seats_won};
+use crate::won::Won;
 use std::alloc::{AllocError, Global};
 use tally_frac::{DHondt, Divisors, SainteLague};
 use tally_rules::{Method, Profile};
@@ -46,7 +45,7 @@ pub fn awards(
     }
 }
 
-fn awards_by<D: Divisors + Drop>(
+fn awards_by<D: Divisors + Copy>(
     alloc: Global,
     divisors: D,
     poll: &Poll,
@@ -58,15 +57,8 @@ fn awards_by<D: Divisors + Drop>(
     ensures awards { IfOk result (λ awards. AreAwards (D.divisor divisors) (D.unit_of divisors) (poll_under poll.now.threshold poll.now.base poll.now.votes.now) lot.now seats awards.items) }
     ensures fault { IfErr result (IsFaultOf (by_divisors (D.divisor divisors)) (poll_under poll.now.threshold poll.now.base poll.now.votes.now) seats lot.now) }
 {
-    let contest = DivisorContest {
-        divisors,
-        poll: *poll,
-        lot,
-        seats,
-    };
-    let _given = seats_in(alloc, &contest)?;
-    let rows = seats_won(alloc, &contest)?;
-    let awards = awards_of(alloc, &contest.divisors, poll, &rows)?;
+    let given = award_under_lot(alloc, divisors, poll, seats, lot)?;
+    let awards = awards_of(alloc, &divisors, poll, &given.rows)?;
     Ok(awards)
 }
 

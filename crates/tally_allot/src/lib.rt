@@ -9,6 +9,7 @@ mod contest;
 mod divisor_contest;
 mod fault;
 mod hare_contest;
+mod heap_award;
 pub mod laws;
 mod list_set;
 mod lot;

@@ -2,7 +2,9 @@
 
 ghost use Rattle.std.specs.Prelude.{◌≡◌, ℕ, ◌<◌, ◌≤◌, MatchOption, length, slice_index, sum};
 ghost use Rattle.tally_allot.specs.LotNeed.{IsDecidedByVotes, IsNeed};
-ghost use Rattle.tally_allot.specs.AllotFault.{IsVerdictOn};
+ghost use Rattle.tally_allot.specs.Allotment.{Rule};
+ghost use Rattle.tally_allot.specs.AllotFault.{IsNeedOrNone, IsVerdictOn};
+ghost use Rattle.tally_allot.specs.Poll.{Poll};
 ghost use Rattle.tally_allot.specs.Race.{IsFair};
 ghost use Rattle.tally_allot.specs.Sums.{sum_before, holds_at};
 ghost use Rattle.tally_allot.specs.Terms.{AreSound, HaveVotes, placed_race};
@@ -62,8 +64,14 @@ pub(crate) fn verdict_on_lot<C: Contest>(contest: &C, seats: &[u32]) -> LotVerdi
     requires fair { IsFair (placed_race (C.terms contest.now)) (C.terms contest.now).seats seats.now }
     ensures { IsVerdictOn (C.terms contest.now).rule (C.terms contest.now).poll (C.terms contest.now).seats (C.terms contest.now).lot result }
 {
-    let lot = contest.lot();
-    match need_of(contest, seats) {
+    verdict_where(need_of(contest, seats), contest.lot())
+}
+
+/// What is to be said of a lot where this one is needed, or none.
+pub(crate) fn verdict_where(need: Option<Need>, lot: &[u32]) -> LotVerdict
+    ensures { (rule : Rule) (poll : Poll) (seats : ℕ) → IsNeedOrNone rule poll seats need → IsVerdictOn rule poll seats lot.now result }
+{
+    match need {
         None => {
             if lot.is_empty() {
                 LotVerdict::Right

@@ -122,6 +122,21 @@ fn general_elections_of_new_zealand(rt: HostRuntime) -> Result<(), Fail> {
     Ok(())
 }
 
+/// The election of the Constituent Assembly of Namibia in 1989, by Hare's quota with the largest
+/// remainders: 670,830 valid votes and 72 seats, as the United Nations certified them.
+#[test]
+fn the_constituent_assembly_of_namibia(rt: HostRuntime) -> Result<(), Fail> {
+    let votes = [
+        384_567, 191_532, 37_874, 23_728, 10_693, 10_452, 5_344, 3_161, 2_495, 984,
+    ];
+    let seats = allot(rt.alloc(), &by(Method::Hare), 72, &votes, 0, &[])?;
+    assert_eq!(rt;
+        seats.as_slice(),
+        [41, 21, 4, 3, 1, 1, 1, 0, 0, 0].as_slice()
+    );
+    Ok(())
+}
+
 #[test]
 fn the_awards_of_the_example_of_the_law(rt: HostRuntime) -> Result<(), Fail> {
     let given = awards(rt.alloc(), &by(Method::DHondt), 8, &LOREG, 0, &[])?;

@@ -1,5 +1,5 @@
 -- What the check on counts says.
-use Rattle.std.proofs.Common.{◌≡◌, ◌<◌, ◌≤◌, ◌+◌, ◌*◌, ◌∷◌, ℕ, List, [], Bool, true, false, length, arith}
+use Rattle.std.proofs.Common.{◌≡◌, ◌≤◌, ◌*◌, ◌∷◌, ℕ, List, [], Bool, true, false, length, arith}
 use Rattle.std.specs.Prelude.{◌==◌, ◌&&◌, sum, nat_le}
 use Rattle.std.specs.List.{list_all}
 use Rattle.std.specs.Cmp.{first_so, second_so}

@@ -1,10 +1,10 @@
 -- The rows of an import, one more.
-use Rattle.std.proofs.Common.{◌≡◌, ◌≤◌, ◌++◌, ◌∷◌, suc, List, [], Some, None, Ok, Err, length, refl, ap, arith}
+use Rattle.std.proofs.Common.{◌≡◌, ◌≤◌, ◌++◌, ◌∷◌, suc, List, [], Some, Ok, length, refl, ap, arith}
 use Rattle.tally_core.specs.Return.{Returns}
 use Rattle.tally_core.specs.Lodge.{Stations}
 use Rattle.tally_core.specs.Import.{Answer, row_answer, after_row, answers, imported, lodged_counts}
 use Rattle.tally_core.specs.declared.ask.Ask.TheVariants.{Lodge}
-use Rattle.tally_core.specs.declared.reply.Reply.TheVariants.{Lodged, Same}
+use Rattle.tally_core.specs.declared.reply.Reply.TheVariants.{Lodged}
 use Rattle.tally_core.specs.declared.import.Row.{Row}
 use Rattle.tally_core.specs.declared.import.Row.TheVariants as row
 
@@ -28,16 +28,10 @@ lodged_counts-push [] [] r a same = refl
 lodged_counts-push [] (b ∷ answered) r a same = absurd (omega arith)
 lodged_counts-push (q ∷ rows) [] r a same = absurd (omega arith)
 lodged_counts-push (row.Lodge (Lodge station slip counts) ∷ rows) (Some (Ok (Lodged rev)) ∷ answered) r a same = ap (λ l. counts ∷ l) (lodged_counts-push rows answered r a (omega arith))
-lodged_counts-push (row.Lodge (Lodge station slip counts) ∷ rows) (Some (Ok (Same rev)) ∷ answered) r a same = lodged_counts-push rows answered r a (omega arith)
-lodged_counts-push (row.Lodge (Lodge station slip counts) ∷ rows) (Some (Err e) ∷ answered) r a same = lodged_counts-push rows answered r a (omega arith)
-lodged_counts-push (row.Lodge (Lodge station slip counts) ∷ rows) (None ∷ answered) r a same = lodged_counts-push rows answered r a (omega arith)
-lodged_counts-push (row.Bad ∷ rows) (b ∷ answered) r a same = lodged_counts-push rows answered r a (omega arith)
+lodged_counts-push (q ∷ rows) (b ∷ answered) r a same = lodged_counts-push rows answered r a (omega arith)
 
 pub length-lodged_counts : (rows : List Row) (answered : List Answer) → length (lodged_counts rows answered) ≤ length rows
 length-lodged_counts [] answered = omega arith
 length-lodged_counts (q ∷ rows) [] = omega arith
 length-lodged_counts (row.Lodge (Lodge station slip counts) ∷ rows) (Some (Ok (Lodged rev)) ∷ answered) = omega (arith, length-lodged_counts rows answered)
-length-lodged_counts (row.Lodge (Lodge station slip counts) ∷ rows) (Some (Ok (Same rev)) ∷ answered) = omega (arith, length-lodged_counts rows answered)
-length-lodged_counts (row.Lodge (Lodge station slip counts) ∷ rows) (Some (Err e) ∷ answered) = omega (arith, length-lodged_counts rows answered)
-length-lodged_counts (row.Lodge (Lodge station slip counts) ∷ rows) (None ∷ answered) = omega (arith, length-lodged_counts rows answered)
-length-lodged_counts (row.Bad ∷ rows) (b ∷ answered) = omega (arith, length-lodged_counts rows answered)
+length-lodged_counts (q ∷ rows) (b ∷ answered) = omega (arith, length-lodged_counts rows answered)

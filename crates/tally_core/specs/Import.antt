@@ -13,18 +13,18 @@ use Rattle.tally_core.specs.declared.import.FirstRow.{FirstRow}
 use Rattle.tally_core.specs.declared.import.Row.{Row}
 use Rattle.tally_core.specs.declared.import.Row.TheVariants as row
 
--- what a row was answered: a bad one nothing
+-- what a row was answered: a bad one nothing, and so one of another command than Lodge
 abbrev pub Answer : Type 0
 Answer = Option (Result Reply Refusal)
 
 abbrev pub row_answer : Stations → Returns → Row → Answer
 row_answer stations returns (row.Lodge (Lodge station slip counts)) = Some (lodge_answer stations returns station slip counts)
-row_answer stations returns row.Bad = None
+row_answer stations returns other = None
 
 -- the returns after a row
 abbrev pub after_row : Stations → Returns → Row → Returns
 after_row stations returns (row.Lodge (Lodge station slip counts)) = lodge stations returns station slip counts
-after_row stations returns row.Bad = returns
+after_row stations returns other = returns
 
 -- what the rows are answered, in order
 abbrev pub answers : Stations → Returns → List Row → List Answer

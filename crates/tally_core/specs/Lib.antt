@@ -4,3 +4,8 @@ pub mod Refusals
 pub mod Checks
 pub mod Lodge
 pub mod Import
+pub mod Moves
+pub mod Lawful
+pub mod Decide
+pub mod State
+pub mod Step

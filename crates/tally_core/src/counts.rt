@@ -1,11 +1,12 @@
 //! The numbers of a return.
 
-ghost use Rattle.std.specs.Prelude.{◌≡◌, ◌^◌, ◌<◌};
+ghost use Rattle.std.specs.Prelude.{◌≡◌, ◌^◌, ◌<◌, IfOk};
 ghost use Rattle.std.specs.Cmp.Rules.{comparing};
 ghost use Rattle.std.specs.List.{list_all};
 ghost use Rattle.std.proofs.Common.{rules};
 ghost use Rattle.tally_core.specs.Counts.{are_counts, all_votes, is_number, same_counts};
 
+use std::alloc::{AllocError, Global};
 use std::marker::Model;
 
 /// The greatest number that a return may hold.
@@ -45,6 +46,17 @@ impl Counts {
     {
         let votes: u64 = self.votes.iter().map(|n| u64::from(*n)).sum();
         votes + u64::from(self.blank) + u64::from(self.spoiled)
+    }
+
+    /// A copy with the same numbers.
+    pub fn try_copy(&self, alloc: Global) -> Result<Counts, AllocError>
+        ensures { IfOk result (λ counts. counts ≡ self.now) }
+    {
+        Ok(Counts {
+            votes: self.votes.as_slice().to_vec(alloc)?,
+            blank: self.blank,
+            spoiled: self.spoiled,
+        })
     }
 }
 

@@ -2,9 +2,13 @@
 #![tactic(auto)]
 
 mod ask;
+mod change;
 mod counts;
+mod decide;
 mod import;
+pub mod laws;
 mod lodge;
+mod moves;
 mod refusal;
 mod reply;
 mod returns;
@@ -12,7 +16,9 @@ mod returns;
 mod tests;
 
 pub use ask::Ask;
+pub use change::Change;
 pub use counts::Counts;
+pub use decide::decide_return;
 pub use import::{FirstRow, ImportCount, Row};
 pub use lodge::decide_lodge;
 pub use refusal::Refusal;

@@ -1,12 +1,14 @@
 //! Returns of polling stations.
 
-ghost use Rattle.std.specs.Prelude.{◌≡◌};
+ghost use Rattle.std.specs.Prelude.{◌≡◌, ◌≤◌, IsTrue};
+ghost use Rattle.tally_core.specs.Lawful.{IsLawful, may_stand};
 ghost use Rattle.tally_core.specs.Return.{first_return};
 
 use crate::counts::Counts;
+use crate::moves::LAST_REVISION;
 use std::alloc::Global;
 use std::marker::Model;
-use tally_rules::Code;
+use tally_rules::{Code, good_note};
 
 /// How far the office has come with a return.
 #[derive(Clone, Copy, Debug, PartialEq, Eq)]
@@ -56,4 +58,25 @@ impl Return {
             counts,
         }
     }
+    /// Whether the return may stand at a station of so many lists (at most 60) and electors: by its
+    /// revision, note and counts.
+    pub fn is_lawful(&self, lists: usize, electors: u32) -> bool
+        requires { lists ≤ 60 }
+        ensures lawful { IsTrue result → IsLawful (record { lists = lists; electors = electors }) self.now }
+        ensures otherwise { IsLawful (record { lists = lists; electors = electors }) self.now → IsTrue result }
+    {
+        if !self.counts.are_for(lists) {
+            return false;
+        }
+        self.rev >= 1
+            && self.rev <= LAST_REVISION
+            && may_stand(self.note.as_str())
+            && self.counts.all_votes() <= u64::from(electors)
+    }
+}
+
+fn may_stand(note: &str) -> bool
+    ensures { result ≡ may_stand note.now }
+{
+    note.is_empty() || good_note(note)
 }

@@ -58,20 +58,24 @@ impl Import {
             return Ok(());
         };
         let answer = self.lodge_row(alloc, ask)?;
-        self.count.add(number, Some(answer));
+        self.count.add(number, answer);
         Ok(())
     }
 
-    // Lodges the return of a row.
-    fn lodge_row(&mut self, alloc: Global, ask: Ask) -> Result<Result<Reply, Refusal>, AllocError>
+    // Lodges the return of a row. A row of another command is passed over, as a bad one is.
+    fn lodge_row(
+        &mut self,
+        alloc: Global,
+        ask: Ask,
+    ) -> Result<Option<Result<Reply, Refusal>>, AllocError>
         ghost held: { Lodgings }
         requires lists { self.old.lists ≤ 60 }
         requires table { Holds self.old.returns held.returns }
         requires totals { AreTotals self.old.lists held.lodged self.old.totals }
         requires few { length held.lodged < 20000 }
-        ensures answer { IfOk result (λ answer. row_answer (every_code self.old.lists) held.returns (Row.Lodge ask) ≡ Some answer) }
+        ensures answer { IfOk result (λ answer. row_answer (every_code self.old.lists) held.returns (Row.Lodge ask) ≡ answer) }
         ensures table { OnOk result (Holds self.new.returns (after_row (every_code self.old.lists) held.returns (Row.Lodge ask))) }
-        ensures totals { IfOk result (λ answer. AreTotals self.old.lists (held.lodged ++ lodged_counts (Row.Lodge ask ∷ []) (Some answer ∷ [])) self.new.totals) }
+        ensures totals { IfOk result (λ answer. AreTotals self.old.lists (held.lodged ++ lodged_counts (Row.Lodge ask ∷ []) (answer ∷ [])) self.new.totals) }
         ensures lists { self.new.lists ≡ self.old.lists }
         ensures count { self.new.count ≡ self.old.count }
     {
@@ -79,8 +83,12 @@ impl Import {
             station,
             slip,
             counts,
-        } = ask;
-        self.lodge(alloc, station, slip, counts)
+        } = ask
+        else {
+            return Ok(None);
+        };
+        let answer = self.lodge(alloc, station, slip, counts)?;
+        Ok(Some(answer))
     }
 
     // Lodges a return: what it is answered, and the table and the totals with it.

@@ -1,9 +1,7 @@
 //! Reading a setup.
 
-ghost use Rattle.std.specs.Prelude.{◌≡◌, ◌≤◌, Ok, IfOk, IfErr, All, length};
+ghost use Rattle.std.specs.Prelude.{◌≡◌, Ok, IfOk, IfErr};
 ghost use Rattle.toml.specs.View.{view};
-ghost use Rattle.tally_rules.specs.Codes.{AreDistinct};
-ghost use Rattle.tally_rules.specs.Limits.{IsConstituency};
 ghost use Rattle.tally_rules.specs.Fault.{IsFaultOf};
 ghost use Rattle.tally_rules.specs.Found.{IsFoundIn};
 ghost use Rattle.tally_rules.specs.Reading.{constituencies_of, document_of, setup_of, setup_of_text};

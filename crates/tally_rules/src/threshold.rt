@@ -1,7 +1,7 @@
 //! The threshold.
 
-ghost use Rattle.std.specs.Prelude.{◌≡◌, ◌≤◌, IfOk, sum};
-ghost use Rattle.tally_rules.specs.Threshold.{base_of, eligible_lists, is_eligible, IsWithinVotes};
+ghost use Rattle.std.specs.Prelude.{◌≡◌, ◌≤◌, IfOk};
+ghost use Rattle.tally_rules.specs.Threshold.{base_of, eligible_lists, IsWithinVotes};
 
 use crate::profile::{Base, Profile};
 use std::alloc::{AllocError, Global};

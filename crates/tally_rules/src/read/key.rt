@@ -1,10 +1,10 @@
 //! The keys of an entry.
 
-ghost use Rattle.std.specs.Prelude.{◌≡◌, ◌≤◌, ◌++◌, ◌∷◌, [], true, false, Ok, IfOk, IfErr, OnOk, codes, string_bytes};
+ghost use Rattle.std.specs.Prelude.{◌≡◌, ◌≤◌, ◌++◌, ◌∷◌, [], true, Ok, IfOk, IfErr, OnOk, string_bytes};
 ghost use Rattle.toml.specs.View.{view};
-ghost use Rattle.tally_rules.specs.Codes.{is_among, AreDistinct};
+ghost use Rattle.tally_rules.specs.Codes.{AreDistinct};
 ghost use Rattle.tally_rules.specs.Found.{key_name, IsFoundIn};
-ghost use Rattle.tally_rules.specs.Reading.{base_named, base_of, code_at, method_named, method_of, name_from, name_of, new_code, number_at, number_in, text_at, value_at};
+ghost use Rattle.tally_rules.specs.Reading.{base_of, code_at, method_of, name_from, name_of, new_code, number_at, number_in, text_at, value_at};
 ghost use Rattle.tally_rules.specs.Text.{is_name};
 
 use crate::code::Code;

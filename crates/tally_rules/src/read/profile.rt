@@ -1,8 +1,7 @@
 //! The profiles of a setup.
 
-ghost use Rattle.std.specs.Prelude.{◌≡◌, ◌≤◌, ◌++◌, ◌∷◌, [], Ok, IfOk, IfErr, IfSome, OnOk};
+ghost use Rattle.std.specs.Prelude.{◌≡◌, ◌≤◌, ◌++◌, ◌∷◌, [], Ok, IfOk, IfErr, IfSome};
 ghost use Rattle.toml.specs.View.{view};
-ghost use Rattle.tally_rules.specs.Codes.{AreDistinct};
 ghost use Rattle.tally_rules.specs.Found.{IsFoundIn};
 ghost use Rattle.tally_rules.specs.Reading.{profile_entry, profile_with, profiles_of};
 

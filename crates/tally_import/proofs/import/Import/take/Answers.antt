@@ -44,9 +44,9 @@ returns g c =
     let s = imported (stations g.taken) empty g.taken.rows in
     let ask = c.in-Lodge.ask in
     let same : every_code c.args.self.now.lists ≡ stations g.taken = ap every_code h.lists in
-    let answer = subst (λ st. row_answer st s (Lodge ask) ≡ Some c.in_ok-answer.answer) same lodged.answer in
+    let answer = subst (λ st. row_answer st s (Lodge ask) ≡ c.in_ok-answer.answer) same lodged.answer in
     let held = subst (λ st. Holds c.lodge_row.new.self.returns (after_row st s (Lodge ask))) same lodged.table in
-    let totals = subst (λ n. AreTotals n (lodged_counts g.taken.rows (answered g.taken) ++ lodged_counts (Lodge ask ∷ []) (Some c.in_ok-answer.answer ∷ [])) c.lodge_row.new.self.totals) h.lists lodged.totals in
+    let totals = subst (λ n. AreTotals n (lodged_counts g.taken.rows (answered g.taken) ++ lodged_counts (Lodge ask ∷ []) (c.in_ok-answer.answer ∷ [])) c.lodge_row.new.self.totals) h.lists lodged.totals in
     let new = record c.lodge_row.new.self { count = c.add-2.new.self } in
     subst (λ r. HasTaken (record g.taken { rows = g.taken.rows ++ r ∷ [] }) new) (sym c.in-Lodge.is)
     (HasTaken-push g.taken c.args.self.now new (Lodge ask) h lodged.lists held

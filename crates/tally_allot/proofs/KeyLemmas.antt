@@ -1,0 +1,82 @@
+-- The pairs of eligible lists have keys, under the setup's places and under the lot that is to be taken.
+use Rattle.std.proofs.Common.{◌≡◌, ℕ, zero, suc, ◌+◌, ◌<◌, ◌≤◌, ◌≢◌, ◌⊎◌, List, ◌∷◌, Bool, true, eqb, length, get_or, AllPairs, sum, sym, ap, ◌∙◌, inl, inr, arith}
+use Rattle.std.proofs.lemmas.Bool.{cases_lt, eqb-true, false≢true}
+use Rattle.std.proofs.lemmas.Bool.Decides.{Decides-eqb}
+use Rattle.std.proofs.lemmas.List.{get_or_default, get_or_past}
+use Rattle.std.proofs.lemmas.List.Folds.{Any-from_list_any}
+use Rattle.std.proofs.lemmas.Map.Made.{IsDistinct-from_AllPairs}
+use Rattle.std.proofs.lemmas.Map.Steps.{length-le_from_distinct_below}
+use Rattle.std.specs.List.{list_any}
+use Rattle.tally_allot.specs.ListSet.{has_place}
+use Rattle.tally_allot.specs.Lot.{place_of}
+use Rattle.tally_allot.specs.LotNeed.{IsInGroup, IsLotTaken, IsNeed}
+use Rattle.tally_allot.specs.NextPairs.{HaveKeys}
+use Rattle.tally_allot.specs.Poll.{Poll}
+use Rattle.tally_allot.specs.Terms.{Terms, AreDivisors, IsSound}
+use Rattle.tally_allot.proofs.LotLaws.{IsPlaced, at_name, at_setup, placed_at}
+use Rattle.tally_allot.proofs.TermsRace.{AreRaces}
+use Rattle.tally_allot.proofs.Vectors.{get_or-le-sum}
+
+-- numbers of which no two are equal, all from 1 to n, are at most n
+few_distinct : (n : ℕ) (lot : List ℕ) → ((i : ℕ) → i < length lot → (1 ≤ get_or lot i 0) × (get_or lot i 0 ≤ n)) → ((i j : ℕ) → i < j → j < length lot → get_or lot i 0 ≢ get_or lot j 0) → length lot ≤ n
+few_distinct n lot range once = omega (arith, length-le_from_distinct_below (0 ∷ lot) (n + 1) (IsDistinct-from_AllPairs Decides-eqb (0 ∷ lot) apart) below)
+  where
+    same : (i : ℕ) (d : ℕ) → i < length lot → get_or lot i d ≡ get_or lot i 0
+    same i d lt = get_or_default lot i d 0 lt
+
+    apart : AllPairs (λ x y. x ≢ y) (0 ∷ lot)
+    apart zero zero d lt end = absurd (omega arith)
+    apart zero (suc j) d lt end = λ e. omega (arith, e, same j d (omega arith), (range j (omega arith)).0)
+    apart (suc i) zero d lt end = absurd (omega arith)
+    apart (suc i) (suc j) d lt end = λ e. once i j (omega arith) (omega arith) (sym (same i d (omega arith)) ∙ e ∙ same j d (omega arith))
+
+    by_place : (q k x : ℕ) → k < length (0 ∷ lot) → get_or (0 ∷ lot) k x ≡ x → eqb q x ≡ true → q < n + 1
+    by_place q zero x lt at p = omega (arith, at, eqb-true q x p)
+    by_place q (suc i) x lt at p = omega (arith, at, same i x (omega arith), (range i (omega arith)).1, eqb-true q x p)
+
+    below : (q : ℕ) → list_any (eqb q) (0 ∷ lot) ≡ true → q < n + 1
+    below q t = let w = Any-from_list_any (eqb q) (0 ∷ lot) t in by_place q w.0 w.1 w.2 w.3 w.4
+
+in_group_listed : (terms : Terms) → AreRaces terms → (l : ℕ) → IsInGroup terms.rule terms.poll terms.seats l → l < length terms.poll.votes
+in_group_listed terms r l w = by_cases (cases_lt l (length terms.poll.votes))
+  where
+    by_cases : (l < length terms.poll.votes) ⊎ (length terms.poll.votes ≤ l) → l < length terms.poll.votes
+    by_cases (inl lt) = lt
+    by_cases (inr ge) =
+        let one = get_or_past w.0 l 0 (omega (arith, (r.to_fair w.0 w.2).one_each, r.count_is)) in
+        let other = get_or_past w.1 l 0 (omega (arith, (r.to_fair w.1 w.3).one_each, r.count_is)) in
+        absurd (w.4 (one ∙ sym other))
+
+place_listed : (terms : Terms) → AreRaces terms → (group : List Bool) (n : ℕ) → IsNeed terms.rule terms.poll terms.seats group n → (place : ℕ) → has_place group place ≡ true → (1 ≤ place) × (place ≤ length terms.poll.votes)
+place_listed terms r group n need zero e = absurd (false≢true e)
+place_listed terms r group n need (suc l) e = let lt = in_group_listed terms r l ((need.group_is l).0 e) in (omega arith, omega (arith, lt))
+
+-- the lot that is to be taken names no more lists than there are
+pub few_in_lot : (terms : Terms) → AreRaces terms → (lot : List ℕ) → IsLotTaken terms.rule terms.poll terms.seats lot → length lot ≤ length terms.poll.votes
+few_in_lot terms r lot (inl w) = omega (arith, ap length w.1)
+few_in_lot terms r lot (inr w) = few_distinct (length terms.poll.votes) lot (λ i lt. place_listed terms r w.0 w.1 w.2 (get_or lot i 0) (w.3.no_other i lt)) w.3.once
+
+place_from_one : (lot : List ℕ) (l : ℕ) → 1 ≤ place_of lot l
+place_from_one lot l = by_cases (placed_at 1 lot l)
+  where
+    by_cases : IsPlaced 1 lot l → 1 ≤ place_of lot l
+    by_cases (at_name i lt at place) = omega (arith, place)
+    by_cases (at_setup none place) = omega (arith, place)
+
+place_up_to : (lot : List ℕ) (l n : ℕ) → length lot ≤ n → l < n → place_of lot l ≤ n
+place_up_to lot l n few listed = by_cases (placed_at 1 lot l)
+  where
+    by_cases : IsPlaced 1 lot l → place_of lot l ≤ n
+    by_cases (at_name i lt at place) = omega (arith, place)
+    by_cases (at_setup none place) = omega (arith, place)
+
+pub have_keys : (nth : ℕ → ℕ) → AreDivisors nth → ((k : ℕ) → 1 ≤ k → k ≤ 501 → nth k ≤ 5005) → (poll : Poll) → IsSound poll → sum poll.votes ≤ 5000000000 → length poll.votes ≤ 60 → (lot : List ℕ) → length lot ≤ length poll.votes → HaveKeys nth poll lot
+have_keys nth d most poll sound few_votes few_lists lot few l k e one last =
+    record {
+      some_votes = sound.with_votes l e;
+      votes_limit = omega (arith, get_or-le-sum poll.votes l, few_votes);
+      some_divisor = d.positive k one;
+      divisor_limit = most k one last;
+      some_place = place_from_one lot l;
+      place_limit = omega (arith, place_up_to lot l (length poll.votes) few (sound.listed l e), few_lists);
+    }
