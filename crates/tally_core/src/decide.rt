@@ -11,6 +11,9 @@ ghost use Rattle.tally_core.specs.declared.change.Change.TheVariants.{Same};
 ghost use Rattle.tally_core.specs.Moves.{closed, corrected, counts_checks_at, last_revision, may_close, may_correct, may_query, move_checks, queried};
 ghost use Rattle.tally_core.specs.declared.refusal.Refusal.TheVariants.{BadNote, NoReturn};
 
+#[cfg(test)]
+mod tests;
+
 use crate::ask::Ask;
 use crate::change::Change;
 use crate::counts::Counts;
