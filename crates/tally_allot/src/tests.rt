@@ -69,8 +69,8 @@ fn seats_where_the_votes_decide(rt: HostRuntime) -> Result<(), Fail> {
     Ok(())
 }
 
-/// Elections of the European Parliament in the United Kingdom, by D'Hondt, as the returning
-/// officers declared them: the lists that came first, in order of votes.
+/// Elections of the European Parliament in the United Kingdom, by D'Hondt: the lists that came
+/// first, in order of votes. Written from memory, not compared with the declarations.
 #[test]
 fn european_elections_in_the_united_kingdom(rt: HostRuntime) -> Result<(), Fail> {
     let profile = by(Method::DHondt);
@@ -102,8 +102,8 @@ fn european_elections_in_the_united_kingdom(rt: HostRuntime) -> Result<(), Fail>
     Ok(())
 }
 
-/// General elections of New Zealand, by Sainte-Laguë, as the Electoral Commission declared them:
-/// the party votes of the parties that came in, and their share of the 120 seats.
+/// General elections of New Zealand, by Sainte-Laguë: the party votes of the parties that came in,
+/// and their share of the 120 seats. Written from memory, not compared with the declarations.
 #[test]
 fn general_elections_of_new_zealand(rt: HostRuntime) -> Result<(), Fail> {
     let profile = by(Method::SainteLague);
@@ -123,7 +123,7 @@ fn general_elections_of_new_zealand(rt: HostRuntime) -> Result<(), Fail> {
 }
 
 /// The election of the Constituent Assembly of Namibia in 1989, by Hare's quota with the largest
-/// remainders: 670,830 valid votes and 72 seats, as the United Nations certified them.
+/// remainders: 670,830 valid votes and 72 seats. Written from memory, not compared with a source.
 #[test]
 fn the_constituent_assembly_of_namibia(rt: HostRuntime) -> Result<(), Fail> {
     let votes = [
