@@ -20,6 +20,7 @@ from pathlib import Path
 # What is imported from here is not to be left beside it in compiled form.
 sys.dont_write_bytecode = True
 from building import build_office, build_plain, processor
+from measuring import Numbers
 
 LISTS = 60
 SEATS = 500
@@ -31,17 +32,6 @@ CALLS = ["allot", "lot_need", "is_allotment"]
 
 # At most so many times the time of the plain program's award.
 GOALS = {"allot": 1.5, "lot_need": 20, "is_allotment": 20}
-
-
-class Numbers:
-    """Numbers that look random and are the same on every run."""
-
-    def __init__(self, seed):
-        self.state = seed
-
-    def below(self, limit):
-        self.state = (self.state * 6364136223846793005 + 1442695040888963407) % 2**64
-        return (self.state >> 33) % limit
 
 
 def votes_apart(numbers):

@@ -19,6 +19,10 @@ import sys
 import tempfile
 from pathlib import Path
 
+# What is imported from here is not to be left beside it in compiled form.
+sys.dont_write_bytecode = True
+from measuring import Numbers, run
+
 HERE = Path(__file__).resolve().parent
 PROGRAM = HERE.parent / "crates" / "tally_office" / "out" / "tally_office"
 PLAIN = HERE / "check_plain.py"
@@ -30,17 +34,6 @@ MOST_BYTES = 16 * 1024 * 1024
 
 # A good row has at most this many votes, the blank and the spoiled ones among them.
 ELECTORS = 1_000_000
-
-
-class Numbers:
-    """Numbers that look random and are the same on every run."""
-
-    def __init__(self, seed):
-        self.state = seed
-
-    def below(self, limit):
-        self.state = (self.state * 6364136223846793005 + 1442695040888963407) % 2**64
-        return (self.state >> 33) % limit
 
 
 def codes(word, count):
@@ -131,18 +124,6 @@ def write(path, rows):
     """Writes the text of these rows, and answers its size in MiB."""
     path.write_bytes(text_of(rows).encode("ascii"))
     return path.stat().st_size / 2**20
-
-
-def run(command, path):
-    """Runs a command on a file: its processor time in milliseconds, and what it wrote."""
-    with open(path, "rb") as text, tempfile.TemporaryFile() as output:
-        child = subprocess.Popen(command, stdin=text, stdout=output)
-        _, status, usage = os.wait4(child.pid, 0)
-        child.returncode = os.waitstatus_to_exitcode(status)
-        if child.returncode != 0:
-            sys.exit(f"{command[0]} answered the exit status {child.returncode}")
-        output.seek(0)
-        return (usage.ru_utime + usage.ru_stime) * 1000, output.read()
 
 
 def peak_of(command, path):

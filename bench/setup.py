@@ -14,7 +14,6 @@ time of `toml` alone shows which part of `read_setup` is the parse that it rests
 import argparse
 import os
 import statistics
-import subprocess
 import sys
 import tempfile
 from pathlib import Path
@@ -22,6 +21,7 @@ from pathlib import Path
 # What is imported from here is not to be left beside it in compiled form.
 sys.dont_write_bytecode = True
 from building import HERE, build_office, processor
+from measuring import run
 
 CONSTITUENCIES = 200
 LISTS = 60
@@ -99,18 +99,6 @@ def setup_of(make, cons, limit):
                 break
             most, text = most + step, longer
     return text, most
-
-
-def run(command, path):
-    """Runs a command on a file: its processor time in milliseconds, and what it wrote."""
-    with open(path, "rb") as text, tempfile.TemporaryFile() as output:
-        child = subprocess.Popen(command, stdin=text, stdout=output)
-        _, status, usage = os.wait4(child.pid, 0)
-        child.returncode = os.waitstatus_to_exitcode(status)
-        if child.returncode != 0:
-            sys.exit(f"{command} answered the exit status {child.returncode}")
-        output.seek(0)
-        return (usage.ru_utime + usage.ru_stime) * 1000, output.read()
 
 
 def medians(commands, path, runs):

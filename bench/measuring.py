@@ -1,0 +1,29 @@
+"""What the benchmarks measure with."""
+
+import os
+import subprocess
+import sys
+import tempfile
+
+
+class Numbers:
+    """Numbers that look random and are the same on every run."""
+
+    def __init__(self, seed):
+        self.state = seed
+
+    def below(self, limit):
+        self.state = (self.state * 6364136223846793005 + 1442695040888963407) % 2**64
+        return (self.state >> 33) % limit
+
+
+def run(command, path):
+    """Runs a command on a file: its processor time in milliseconds, and what it wrote."""
+    with open(path, "rb") as text, tempfile.TemporaryFile() as output:
+        child = subprocess.Popen(command, stdin=text, stdout=output)
+        _, status, usage = os.wait4(child.pid, 0)
+        child.returncode = os.waitstatus_to_exitcode(status)
+        if child.returncode != 0:
+            sys.exit(f"{command[0]} answered the exit status {child.returncode}")
+        output.seek(0)
+        return (usage.ru_utime + usage.ru_stime) * 1000, output.read()
