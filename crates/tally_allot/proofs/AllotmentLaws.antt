@@ -4,23 +4,23 @@ use Rattle.std.specs.List.{range_with_len}
 use Rattle.std.proofs.lemmas.Bool.{cases_lt, cases_eq}
 use Rattle.std.proofs.lemmas.List.{get_or_past, length-map}
 use Rattle.std.proofs.lemmas.List.FromFn.{get_or-map-range_with_len, length-range_with_len}
-use Rattle.tally_allot.specs.Poll.{Poll, IsEligible, votes_of}
-use Rattle.tally_allot.specs.Lot.{place_of, IsOrderOf}
-use Rattle.tally_allot.specs.Allotment.{Rule, divisors, hare, IsAllotment, IsAllotmentByVotes}
-use Rattle.tally_allot.specs.AllotFault.{HasEligible}
-use Rattle.tally_allot.specs.DivisorAllotment.{IsDivisorAllotment}
-use Rattle.tally_allot.specs.HareAllotment.{IsHareAllotment}
-use Rattle.tally_allot.specs.LotNeed.{IsDecidedByVotes, IsLotNeeded, IsLotTaken, IsNeed, IsInGroup}
-use Rattle.tally_allot.specs.Race.{IsFair, IsTie, CanHold}
-use Rattle.tally_allot.specs.Sums.{sum_before}
-use Rattle.tally_allot.specs.Terms.{Terms, IsRule, IsSound, AreDivisors, ArePlacedApart, vote_race, placed_race}
-use Rattle.tally_allot.proofs.Vectors.{equal_or_apart}
-use Rattle.tally_allot.proofs.AwardStep.{further}
-use Rattle.tally_allot.proofs.Sums.{sum-is, sum_before-same}
-use Rattle.tally_allot.proofs.Ties.{IsMoved, loses, gains, moved, tie_alike, class_differs, ties_are_one}
-use Rattle.tally_allot.proofs.DivisorRace.{eligible_or_not}
-use Rattle.tally_allot.proofs.TermsRace.{AreRaces, are_races, one_allotment, fair_by_votes, within_placed}
-use Rattle.tally_allot.proofs.Room.{room_of, floors_of}
+use Rattle.tally_contest.specs.Poll.{Poll, IsEligible, votes_of}
+use Rattle.tally_contest.specs.Lot.{place_of, IsOrderOf}
+use Rattle.tally_contest.specs.Allotment.{Rule, divisors, hare, IsAllotment, IsAllotmentByVotes}
+use Rattle.tally_contest.specs.Poll.{HasEligible}
+use Rattle.tally_contest.specs.DivisorAllotment.{IsDivisorAllotment}
+use Rattle.tally_contest.specs.HareAllotment.{IsHareAllotment}
+use Rattle.tally_contest.specs.LotNeed.{IsDecidedByVotes, IsLotNeeded, IsLotTaken, IsNeed, IsInGroup}
+use Rattle.tally_contest.specs.Race.{IsFair, IsTie, CanHold}
+use Rattle.tally_contest.specs.Sums.{sum_before}
+use Rattle.tally_contest.specs.Terms.{Terms, IsRule, IsSound, AreDivisors, ArePlacedApart, vote_race, placed_race}
+use Rattle.tally_contest.proofs.Vectors.{equal_or_apart}
+use Rattle.tally_contest.proofs.AwardStep.{further}
+use Rattle.tally_contest.proofs.Sums.{sum-is, sum_before-same}
+use Rattle.tally_contest.proofs.Ties.{IsMoved, loses, gains, moved, tie_alike, class_differs, ties_are_one}
+use Rattle.tally_contest.proofs.DivisorRace.{eligible_or_not}
+use Rattle.tally_contest.proofs.TermsRace.{AreRaces, are_races, one_allotment, fair_by_votes, within_placed}
+use Rattle.tally_contest.proofs.Room.{room_of, floors_of}
 use Rattle.tally_allot.proofs.OrderOfChoice.{order_before, in_order, order_of_group, first_placed}
 use Rattle.tally_allot.proofs.LotLaws.{apart_if_taken, decided_not_needed, group_is_class, setup_apart, some_in_group}
 

@@ -2,14 +2,14 @@
 use Rattle.std.proofs.Common.{◌≡◌, ℕ, ◌+◌, ◌-◌, ◌<◌, ◌≤◌, List, length, get_or, map, refl, sym, ap, ◌∙◌, subst, arith}
 use Rattle.std.proofs.lemmas.List.{get_or-map, length-map}
 use Rattle.tally_frac.specs.Rank.{RanksAbove}
-use Rattle.tally_allot.specs.declared.won.Won.{Won}
+use Rattle.tally_contest.specs.declared.won.Won.{Won}
 use Rattle.tally_allot.specs.declared.award.Award.{Award}
-use Rattle.tally_allot.specs.Poll.{Poll}
+use Rattle.tally_contest.specs.Poll.{Poll}
 use Rattle.tally_allot.specs.Awards.{award_of, IsAwardOf, AreAwardsOf, pair_of_award}
-use Rattle.tally_allot.specs.DivisorAllotment.{pair_of}
-use Rattle.tally_allot.specs.Terms.{placed_divisor_race}
-use Rattle.tally_allot.specs.Won.{AreWon}
-use Rattle.tally_allot.proofs.DivisorRace.{runs_if_eligible}
+use Rattle.tally_contest.specs.DivisorAllotment.{pair_of}
+use Rattle.tally_contest.specs.Terms.{placed_divisor_race}
+use Rattle.tally_contest.specs.Won.{AreWon}
+use Rattle.tally_contest.proofs.DivisorRace.{runs_if_eligible}
 
 module _ (nth : ℕ → ℕ) (unit : ℕ) (poll : Poll) (lot : List ℕ) (seats : ℕ) (a : List ℕ) (rows : List Won) (w : AreWon (placed_divisor_race nth poll lot seats) a rows) where
   abbrev awards : List Award

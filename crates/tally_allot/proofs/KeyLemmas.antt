@@ -7,15 +7,15 @@ use Rattle.std.proofs.lemmas.List.Folds.{Any-from_list_any}
 use Rattle.std.proofs.lemmas.Map.Made.{IsDistinct-from_AllPairs}
 use Rattle.std.proofs.lemmas.Map.Steps.{length-le_from_distinct_below}
 use Rattle.std.specs.List.{list_any}
-use Rattle.tally_allot.specs.ListSet.{has_place}
-use Rattle.tally_allot.specs.Lot.{place_of}
-use Rattle.tally_allot.specs.LotNeed.{IsInGroup, IsLotTaken, IsNeed}
-use Rattle.tally_allot.specs.NextPairs.{HaveKeys}
-use Rattle.tally_allot.specs.Poll.{Poll}
-use Rattle.tally_allot.specs.Terms.{Terms, AreDivisors, IsSound}
+use Rattle.tally_contest.specs.ListSet.{has_place}
+use Rattle.tally_contest.specs.Lot.{place_of}
+use Rattle.tally_contest.specs.LotNeed.{IsInGroup, IsLotTaken, IsNeed}
+use Rattle.tally_contest.specs.NextPairs.{HaveKeys}
+use Rattle.tally_contest.specs.Poll.{Poll}
+use Rattle.tally_contest.specs.Terms.{Terms, AreDivisors, IsSound}
 use Rattle.tally_allot.proofs.LotLaws.{IsPlaced, at_name, at_setup, placed_at}
-use Rattle.tally_allot.proofs.TermsRace.{AreRaces}
-use Rattle.tally_allot.proofs.Vectors.{get_or-le-sum}
+use Rattle.tally_contest.proofs.TermsRace.{AreRaces}
+use Rattle.tally_contest.proofs.Vectors.{get_or-le-sum}
 
 -- numbers of which no two are equal, all from 1 to n, are at most n
 few_distinct : (n : ℕ) (lot : List ℕ) → ((i : ℕ) → i < length lot → (1 ≤ get_or lot i 0) × (get_or lot i 0 ≤ n)) → ((i j : ℕ) → i < j → j < length lot → get_or lot i 0 ≢ get_or lot j 0) → length lot ≤ n

@@ -1,16 +1,16 @@
 -- What holds of lots: places, groups, and which lot is to be taken.
 use Rattle.std.proofs.Common.{◌≡◌, ℕ, zero, suc, ◌+◌, ◌<◌, ◌≤◌, ◌≢◌, ◌⊎◌, List, [], ◌∷◌, Bool, true, false, cond, eqb, length, get_or, refl, sym, ap, ◌∙◌, subst, inl, inr, arith}
 use Rattle.std.proofs.lemmas.Bool.{cases_lt, cases_Bool, eqb-true, eqb-false}
-use Rattle.tally_allot.specs.Poll.{IsEligible, votes_of}
-use Rattle.tally_allot.specs.ListSet.{has_place}
-use Rattle.tally_allot.specs.Lot.{place_from, place_of, IsOrderOf}
-use Rattle.tally_allot.specs.Allotment.{IsAllotmentByVotes}
-use Rattle.tally_allot.specs.LotNeed.{IsLotNeeded, IsDecidedByVotes, IsNeed, IsLotTaken, IsLotWrong}
-use Rattle.tally_allot.specs.Race.{IsFair, IsTie}
-use Rattle.tally_allot.specs.Terms.{Terms, ArePlacedApart, vote_race}
-use Rattle.tally_allot.proofs.Vectors.{equal_or_apart}
-use Rattle.tally_allot.proofs.Ties.{IsMoved, loses, gains, moved, tie_alike, class_differs}
-use Rattle.tally_allot.proofs.TermsRace.{AreRaces}
+use Rattle.tally_contest.specs.Poll.{IsEligible, votes_of}
+use Rattle.tally_contest.specs.ListSet.{has_place}
+use Rattle.tally_contest.specs.Lot.{place_from, place_of, IsOrderOf}
+use Rattle.tally_contest.specs.Allotment.{IsAllotmentByVotes}
+use Rattle.tally_contest.specs.LotNeed.{IsLotNeeded, IsDecidedByVotes, IsNeed, IsLotTaken, IsLotWrong}
+use Rattle.tally_contest.specs.Race.{IsFair, IsTie}
+use Rattle.tally_contest.specs.Terms.{Terms, ArePlacedApart, vote_race}
+use Rattle.tally_contest.proofs.Vectors.{equal_or_apart}
+use Rattle.tally_contest.proofs.Ties.{IsMoved, loses, gains, moved, tie_alike, class_differs}
+use Rattle.tally_contest.proofs.TermsRace.{AreRaces}
 
 -- a list is named in the lot and has that place, or is not named and has the setup's
 pub data IsPlaced (n : ℕ) (lot : List ℕ) (l : ℕ) : Type 0 where

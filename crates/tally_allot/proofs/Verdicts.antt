@@ -1,12 +1,13 @@
 -- What the tests of an allotment say.
 use Rattle.std.proofs.Common.{◌≡◌, ℕ, List, [], Bool, length, sum, sym, subst, arith}
-use Rattle.tally_allot.specs.AllotFault.{HasEligible, IsAllotmentUnderLot}
-use Rattle.tally_allot.specs.LotNeed.{IsLotTaken, IsLotWrong, IsNeed}
-use Rattle.tally_allot.specs.Race.{IsFair}
-use Rattle.tally_allot.specs.Terms.{Terms, AreSound, placed_race}
-use Rattle.tally_allot.proofs.TermsRace.{races}
+use Rattle.tally_contest.specs.Poll.{HasEligible}
+use Rattle.tally_allot.specs.AllotFault.{IsAllotmentUnderLot}
+use Rattle.tally_contest.specs.LotNeed.{IsLotTaken, IsLotWrong, IsNeed}
+use Rattle.tally_contest.specs.Race.{IsFair}
+use Rattle.tally_contest.specs.Terms.{Terms, AreSound, placed_race}
+use Rattle.tally_contest.proofs.TermsRace.{races}
 use Rattle.tally_allot.proofs.LotLaws.{apart_if_taken, taken_not_wrong, taken_not_missing}
-use Rattle.tally_allot.proofs.Scan.{count_is}
+use Rattle.tally_contest.proofs.Scan.{count_is}
 
 module _ (terms : Terms) (sound : AreSound terms) (a : List ℕ) where
   pub is_under_lot : HasEligible terms.poll → IsFair (placed_race terms) (sum a) a → sum a ≡ terms.seats → IsLotTaken terms.rule terms.poll terms.seats terms.lot → IsAllotmentUnderLot terms.rule terms.poll terms.lot terms.seats a

@@ -1,17 +1,13 @@
 -- When the seats of a poll are not allotted.
 use Rattle.std.specs.Prelude.{ℕ, ◌≡◌, List, [], Option, MatchOption}
-use Rattle.tally_allot.specs.Poll.{Poll, IsEligible}
-use Rattle.tally_allot.specs.Allotment.{Rule, IsAllotment}
-use Rattle.tally_allot.specs.LotNeed.{IsNeed, IsDecidedByVotes, IsLotTaken, IsLotWrong}
+use Rattle.tally_contest.specs.Poll.{Poll, HasEligible}
+use Rattle.tally_contest.specs.Allotment.{Rule, IsAllotment}
+use Rattle.tally_contest.specs.LotNeed.{IsNeed, IsDecidedByVotes, IsLotTaken, IsLotWrong}
 use Rattle.tally_allot.specs.declared.fault.AllotFault.{AllotFault}
 use Rattle.tally_allot.specs.declared.fault.AllotFault.TheVariants.{NoEligible, LotMissing, WrongLot, Memory}
-use Rattle.tally_allot.specs.declared.need.Need.{Need}
-use Rattle.tally_allot.specs.declared.need.LotVerdict.{LotVerdict}
-use Rattle.tally_allot.specs.declared.need.LotVerdict.TheVariants.{Right, Missing, Wrong}
-
--- some list is eligible
-abbrev pub HasEligible : Poll → Type 0
-HasEligible poll = (l : ℕ) × IsEligible poll l
+use Rattle.tally_contest.specs.declared.need.Need.{Need}
+use Rattle.tally_allot.specs.declared.verdict.LotVerdict.{LotVerdict}
+use Rattle.tally_allot.specs.declared.verdict.LotVerdict.TheVariants.{Right, Missing, Wrong}
 
 -- What each fault says. Memory may come at any time.
 abbrev pub IsFaultOf : Rule → Poll → ℕ → List ℕ → AllotFault → Type 0

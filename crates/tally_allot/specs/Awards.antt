@@ -5,9 +5,9 @@ use Rattle.tally_frac.specs.Divisors.{dhondt_divisor, sainte_lague_divisor}
 use Rattle.tally_rules.specs.declared.profile.Method.{Method}
 use Rattle.tally_rules.specs.declared.profile.Method.TheVariants.{DHondt, SainteLague, Hare}
 use Rattle.tally_allot.specs.declared.award.Award.{Award}
-use Rattle.tally_allot.specs.declared.won.Won.{Won}
-use Rattle.tally_allot.specs.Poll.{Poll, IsEligible, votes_of}
-use Rattle.tally_allot.specs.DivisorAllotment.{pair_of, IsDivisorAllotment}
+use Rattle.tally_contest.specs.declared.won.Won.{Won}
+use Rattle.tally_contest.specs.Poll.{Poll, IsEligible, votes_of}
+use Rattle.tally_contest.specs.DivisorAllotment.{pair_of, IsDivisorAllotment}
 
 -- the award of a seat that was won: the place of its list, and the quotient
 abbrev pub award_of : (ℕ → ℕ) → ℕ → Poll → Won → Award

@@ -1,7 +1,7 @@
 -- The lists of a poll in another order.
 use Rattle.std.specs.Prelude.{ℕ, List, false, map, length, slice_index, slice_index_or, IsPermutation}
 use Rattle.std.specs.List.{range_with_len}
-use Rattle.tally_allot.specs.Poll.{Poll, votes_of}
+use Rattle.tally_contest.specs.Poll.{Poll, votes_of}
 
 -- The order has the number of each list once.
 abbrev pub IsReordering : Poll → List ℕ → Type 0

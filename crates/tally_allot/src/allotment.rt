@@ -2,23 +2,24 @@
 
 ghost use Rattle.std.specs.Prelude.{◌≡◌, ℕ, ◌≤◌, ◌<◌, ◌↔◌, IsTrue, IfOk, IfErr, OnOk, length, slice_index, sum};
 ghost use Rattle.tally_rules.specs.Threshold.{IsWithinVotes};
-ghost use Rattle.tally_allot.specs.Poll.{IsEligible};
-ghost use Rattle.tally_allot.specs.Allotment.{IsAllotment, divisors as by_divisors, hare};
+ghost use Rattle.tally_contest.specs.Poll.{IsEligible};
+ghost use Rattle.tally_contest.specs.Allotment.{IsAllotment, divisors as by_divisors, hare};
 ghost use Rattle.tally_allot.specs.Conditions.{AreLimitsKept};
-ghost use Rattle.tally_allot.specs.AllotFault.{HasEligible, IsAllotmentUnderLot, IsFaultOf, IsNeedFaultOf, IsNeedOrNone};
-ghost use Rattle.tally_allot.specs.LotNeed.{IsDecidedByVotes, IsNeed, IsLotTaken};
-ghost use Rattle.tally_allot.specs.Rules.{rule_of, poll_of};
-ghost use Rattle.tally_allot.specs.Race.{IsFair};
-ghost use Rattle.tally_allot.specs.Terms.{AreSound, placed_race, poll_under};
+ghost use Rattle.tally_contest.specs.Poll.{HasEligible};
+ghost use Rattle.tally_allot.specs.AllotFault.{IsAllotmentUnderLot, IsFaultOf, IsNeedFaultOf, IsNeedOrNone};
+ghost use Rattle.tally_contest.specs.LotNeed.{IsDecidedByVotes, IsNeed, IsLotTaken};
+ghost use Rattle.tally_contest.specs.Rules.{rule_of, poll_of};
+ghost use Rattle.tally_contest.specs.Race.{IsFair};
+ghost use Rattle.tally_contest.specs.Terms.{AreSound, placed_race, poll_under};
 
-use crate::contest::{Contest, award, is_fair};
-use crate::divisor_contest::DivisorContest;
 use crate::fault::AllotFault;
-use crate::hare_contest::HareContest;
-use crate::heap_award::award_under_lot;
-use crate::need::{LotVerdict, Need, need_of, verdict_on_lot};
-use crate::poll::Poll;
-use std::alloc::{AllocError, Global};
+use crate::under_lot::{award_under_lot, seats_by_remainders};
+use crate::verdict::{LotVerdict, verdict_on_lot};
+use std::alloc::Global;
+use tally_contest::{
+    Contest, DivisorContest, HareContest, Need, Poll, contested_seats, has_eligible, is_fair,
+    need_of, places_under, quotas_of,
+};
 use tally_frac::{DHondt, Divisors, SainteLague};
 use tally_rules::{Method, Profile};
 
@@ -80,11 +81,12 @@ fn seats_by_quotas(
 {
     let contest = HareContest {
         poll: *poll,
-        total: poll.eligible_votes(),
         lot,
         seats,
+        quotas: quotas_of(poll, seats),
+        places: places_under(lot),
     };
-    seats_in(alloc, &contest)
+    seats_by_remainders(alloc, &contest)
 }
 
 /// The lot that is needed, or `None` where the votes decide (LOREG article 163.1 d)). Of the faults
@@ -126,6 +128,7 @@ fn need_by_divisors<D: Divisors + Drop>(
         poll: *poll,
         lot: &[],
         seats,
+        places: places_under(&[]),
     };
     need_in(alloc, &contest)
 }
@@ -139,9 +142,10 @@ fn need_by_quotas(alloc: Global, poll: &Poll, seats: u32) -> Result<Option<Need>
 {
     let contest = HareContest {
         poll: *poll,
-        total: poll.eligible_votes(),
         lot: &[],
         seats,
+        quotas: quotas_of(poll, seats),
+        places: places_under(&[]),
     };
     need_in(alloc, &contest)
 }
@@ -197,6 +201,7 @@ fn is_allotment_by_divisors<D: Divisors + Drop>(
         poll: *poll,
         lot,
         seats,
+        places: places_under(lot),
     };
     is_allotment_in(&contest, given)
 }
@@ -208,9 +213,10 @@ fn is_allotment_by_quotas(poll: &Poll, seats: u32, lot: &[u32], given: &[u32]) -
 {
     let contest = HareContest {
         poll: *poll,
-        total: poll.eligible_votes(),
         lot,
         seats,
+        quotas: quotas_of(poll, seats),
+        places: places_under(lot),
     };
     is_allotment_in(&contest, given)
 }
@@ -248,73 +254,4 @@ fn sum_of(numbers: &[u32]) -> u64
         total += u64::from(*number);
     }
     total
-}
-
-/// The seats of each list, in order of place.
-pub(crate) fn seats_in<C: Contest>(alloc: Global, contest: &C) -> Result<Vec<u32>, AllotFault>
-    requires sound { AreSound (C.terms contest.now) }
-    ensures allotment { IfOk result (λ seats. IsAllotment (C.terms contest.now).rule (C.terms contest.now).poll (C.terms contest.now).lot (C.terms contest.now).seats seats.items) }
-    ensures lot_taken { OnOk result (IsLotTaken (C.terms contest.now).rule (C.terms contest.now).poll (C.terms contest.now).seats (C.terms contest.now).lot) }
-    ensures eligible { OnOk result (HasEligible (C.terms contest.now).poll) }
-    ensures fault { IfErr result (IsFaultOf (C.terms contest.now).rule (C.terms contest.now).poll (C.terms contest.now).seats (C.terms contest.now).lot) }
-{
-    if !has_eligible(contest) {
-        return Err(AllotFault::NoEligible);
-    }
-    let seats = contested_seats(alloc, contest)?;
-    match verdict_on_lot(contest, &seats) {
-        LotVerdict::Right => Ok(seats),
-        LotVerdict::Missing(need) => Err(AllotFault::LotMissing {
-            group: need.group,
-            seats: need.seats,
-        }),
-        LotVerdict::Wrong => Err(AllotFault::WrongLot),
-    }
-}
-
-/// The seats of each list by the rule and the places of the lot, whether or not it is the lot to
-/// be taken.
-fn contested_seats<C: Contest>(alloc: Global, contest: &C) -> Result<Vec<u32>, AllocError>
-    requires sound { AreSound (C.terms contest.now) }
-    requires eligible { HasEligible (C.terms contest.now).poll }
-    ensures { IfOk result (λ seats. IsFair (placed_race (C.terms contest.now)) (C.terms contest.now).seats seats.items) }
-{
-    let mut seats = certain_seats(alloc, contest)?;
-    let certain = total(&seats);
-    award(contest, &mut seats, contest.seats() - certain);
-    Ok(seats)
-}
-
-/// What each list holds in any case.
-fn certain_seats<C: Contest>(alloc: Global, contest: &C) -> Result<Vec<u32>, AllocError>
-    requires sound { AreSound (C.terms contest.now) }
-    requires eligible { HasEligible (C.terms contest.now).poll }
-    ensures fair { IfOk result (λ seats. IsFair (placed_race (C.terms contest.now)) (sum seats.items) seats.items) }
-    ensures few { IfOk result (λ seats. sum seats.items ≤ (C.terms contest.now).seats) }
-{
-    let mut seats = Vec::with_capacity(alloc, contest.count())?;
-    for list in 0..contest.count() {
-        seats.push(contest.floor(list))?;
-    }
-    Ok(seats)
-}
-
-/// The sum of seats, which is at most 500.
-fn total(seats: &[u32]) -> u32
-    requires { sum seats.now ≤ 500 }
-    ensures { result ≡ sum seats.now }
-{
-    seats.iter().sum()
-}
-
-pub(crate) fn has_eligible<C: Contest>(contest: &C) -> bool
-    requires sound { AreSound (C.terms contest.now) }
-    ensures { IsTrue result ↔ HasEligible (C.terms contest.now).poll }
-{
-    for list in 0..contest.count() {
-        if contest.is_eligible(list) {
-            return true;
-        }
-    }
-    false
 }

@@ -2,22 +2,21 @@
 
 ghost use Rattle.std.specs.Prelude.{◌≡◌, ◌≢◌, ℕ, ◌≤◌, ◌<◌, IfOk, IfErr, length, map, slice_index_or};
 ghost use Rattle.tally_rules.specs.declared.profile.Method.TheVariants.{Hare as by_hare};
-ghost use Rattle.tally_allot.specs.Allotment.{divisors as by_divisors};
+ghost use Rattle.tally_contest.specs.Allotment.{divisors as by_divisors};
 ghost use Rattle.tally_allot.specs.AllotFault.{IsFaultOf};
 ghost use Rattle.tally_allot.specs.Awards as spec;
 ghost use Rattle.tally_allot.specs.Awards.{AreAwards, AreAwardsBy};
-ghost use Rattle.tally_allot.specs.declared.won.Won.{Won as row_type};
+ghost use Rattle.tally_contest.specs.declared.won.Won.{Won as row_type};
 ghost use Rattle.tally_allot.specs.Conditions.{AreLimitsKept};
-ghost use Rattle.tally_allot.specs.Rules.{poll_of, rule_of};
-ghost use Rattle.tally_allot.specs.Terms.{poll_under};
-ghost use Rattle.tally_allot.specs.Won.{IsRow};
+ghost use Rattle.tally_contest.specs.Rules.{poll_of, rule_of};
+ghost use Rattle.tally_contest.specs.Terms.{poll_under};
+ghost use Rattle.tally_contest.specs.Won.{IsRow};
 
 use crate::award::Award;
 use crate::fault::AllotFault;
-use crate::heap_award::award_under_lot;
-use crate::poll::Poll;
-use crate::won::Won;
+use crate::under_lot::award_under_lot;
 use std::alloc::{AllocError, Global};
+use tally_contest::{Poll, Won};
 use tally_frac::{DHondt, Divisors, SainteLague};
 use tally_rules::{Method, Profile};
 

@@ -3,8 +3,8 @@
 ghost use Rattle.std.specs.Prelude.{◌≡◌};
 ghost use Rattle.tally_allot.specs.declared.fault.AllotFault.TheVariants.{Memory};
 
-use crate::list_set::ListSet;
 use std::alloc::{AllocError, AllocFailed};
+use tally_contest::ListSet;
 
 /// Why the seats of a poll are not allotted, in the order in which it is looked at. Memory may
 /// come at any time.

@@ -1,15 +1,15 @@
 //! The laws of the allotment. The functions do nothing: each contract is a law.
 
 ghost use Rattle.std.specs.Prelude.{◌≡◌, ℕ, ◌≤◌, ◌↔◌, List, Bool, true, false, slice_index_or, []};
-ghost use Rattle.tally_allot.specs.Poll.{Poll, IsEligible, votes_of};
-ghost use Rattle.tally_allot.specs.Allotment.{Rule, IsAllotment, IsAllotmentByVotes, divisors as by_divisors};
-ghost use Rattle.tally_allot.specs.AllotFault.{HasEligible};
-ghost use Rattle.tally_allot.specs.DivisorAllotment.{IsDivisorAllotment};
-ghost use Rattle.tally_allot.specs.HareAllotment.{IsHareAllotment};
-ghost use Rattle.tally_allot.specs.Lot.{IsOrderOf};
-ghost use Rattle.tally_allot.specs.LotNeed.{IsDecidedByVotes, IsLotNeeded, IsLotTaken, IsNeed};
+ghost use Rattle.tally_contest.specs.Poll.{Poll, IsEligible, votes_of};
+ghost use Rattle.tally_contest.specs.Allotment.{Rule, IsAllotment, IsAllotmentByVotes, divisors as by_divisors};
+ghost use Rattle.tally_contest.specs.Poll.{HasEligible};
+ghost use Rattle.tally_contest.specs.DivisorAllotment.{IsDivisorAllotment};
+ghost use Rattle.tally_contest.specs.HareAllotment.{IsHareAllotment};
+ghost use Rattle.tally_contest.specs.Lot.{IsOrderOf};
+ghost use Rattle.tally_contest.specs.LotNeed.{IsDecidedByVotes, IsLotNeeded, IsLotTaken, IsNeed};
 ghost use Rattle.tally_allot.specs.Reordering.{IsReordering, reordered_poll, reordered};
-ghost use Rattle.tally_allot.specs.Premises.{AreDivisors, IsRule, IsSound, ArePlacedApart};
+ghost use Rattle.tally_contest.specs.Premises.{AreDivisors, IsRule, IsSound, ArePlacedApart};
 
 /// At most one vector of seats is the allotment, under each kind of rule, as long as eligible lists
 /// of equal votes have different places. They have under the lot that is to be taken, and so under

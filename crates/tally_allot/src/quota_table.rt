@@ -2,20 +2,19 @@
 
 ghost use Rattle.std.specs.Prelude.{◌≡◌, ◌≤◌, ◌<◌, IfOk, IfErr, length};
 ghost use Rattle.tally_rules.specs.declared.profile.Method.TheVariants.{Hare as by_hare};
-ghost use Rattle.tally_allot.specs.Allotment.{hare};
+ghost use Rattle.tally_contest.specs.Allotment.{hare};
 ghost use Rattle.tally_allot.specs.AllotFault.{IsFaultOf};
 ghost use Rattle.tally_allot.specs.Conditions.{AreLimitsKept};
-ghost use Rattle.tally_allot.specs.HareTerms as terms;
+ghost use Rattle.tally_contest.specs.HareTerms as terms;
 ghost use Rattle.tally_allot.specs.QuotaRows.{quota_rows, AreQuotaRows};
-ghost use Rattle.tally_allot.specs.Rules.{poll_of};
-ghost use Rattle.tally_allot.specs.Terms.{poll_under};
+ghost use Rattle.tally_contest.specs.Rules.{poll_of};
+ghost use Rattle.tally_contest.specs.Terms.{poll_under};
 
-use crate::allotment::seats_in;
 use crate::fault::AllotFault;
-use crate::hare_contest::HareContest;
-use crate::poll::Poll;
 use crate::quota_row::QuotaRow;
+use crate::under_lot::seats_by_remainders;
 use std::alloc::{AllocError, Global};
+use tally_contest::{HareContest, Poll, places_under, quotas_of};
 use tally_rules::Profile;
 
 /// The whole quotas and remainders of the eligible lists, in order of place, for a profile by
@@ -50,11 +49,12 @@ fn quotas_in(
 {
     let contest = HareContest {
         poll: *poll,
-        total: poll.eligible_votes(),
         lot,
         seats,
+        quotas: quotas_of(poll, seats),
+        places: places_under(lot),
     };
-    let given = seats_in(alloc, &contest)?;
+    let given = seats_by_remainders(alloc, &contest)?;
     let rows = rows_of(alloc, &contest, &given)?;
     Ok(rows)
 }

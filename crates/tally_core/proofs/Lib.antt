@@ -1,5 +1,10 @@
-pub mod CountsLemmas
-pub mod DecideLemmas
+pub mod AgainLemmas
 pub mod ImportLemmas
-pub mod LifeLemmas
+pub mod KeeperLemmas
+pub mod LodgeLemmas
 pub mod RowsLemmas
+pub mod RunLemmas
+pub mod StationsLemmas
+pub mod StepLemmas
+pub mod TakenLemmas
+pub mod TreeLemmas

@@ -1,21 +1,23 @@
 -- An import: the Lodge commands of its rows one by one, bad rows passed over, and the count of what they were answered.
-use Rattle.std.specs.Prelude.{if◌then◌else◌, ◌+◌, ◌==◌, not, ℕ, Bool, true, false, List, [], ◌∷◌, Option, Some, None, Result, Ok, Err, count_by}
-use Rattle.tally_core.specs.Counts.{VoteCounts}
-use Rattle.tally_core.specs.Return.{Returns}
-use Rattle.tally_core.specs.Refusals.{number}
-use Rattle.tally_core.specs.Lodge.{Stations, lodge, lodge_answer}
-use Rattle.tally_core.specs.declared.ask.Ask.TheVariants.{Lodge}
-use Rattle.tally_core.specs.declared.refusal.Refusal.{Refusal}
-use Rattle.tally_core.specs.declared.reply.Reply.{Reply}
-use Rattle.tally_core.specs.declared.reply.Reply.TheVariants.{Lodged, Same}
+use Rattle.std.specs.Prelude.{if◌then◌else◌, ◌+◌, ◌<◌, ◌==◌, not, ℕ, Bool, true, false, List, [], ◌∷◌, Option, Some, None, Result, Ok, Err, count_by}
+use Rattle.tally_machine.specs.Counts.{VoteCounts}
+use Rattle.tally_machine.specs.Return.{Returns}
+use Rattle.tally_machine.specs.Refusals.{number}
+use Rattle.tally_machine.specs.Lodge.{Stations, lodge, lodge_answer}
+use Rattle.tally_machine.specs.declared.ask.Ask.TheVariants.{Lodge}
+use Rattle.tally_machine.specs.declared.refusal.Refusal.{Refusal}
+use Rattle.tally_machine.specs.declared.reply.LodgeReply.{LodgeReply}
+use Rattle.tally_machine.specs.declared.reply.LodgeReply.TheVariants.{Lodged, Same}
 use Rattle.tally_core.specs.declared.import.ImportCount.{ImportCount}
 use Rattle.tally_core.specs.declared.import.FirstRow.{FirstRow}
 use Rattle.tally_core.specs.declared.import.Row.{Row}
 use Rattle.tally_core.specs.declared.import.Row.TheVariants as row
+use Rattle.tally_core.specs.declared.source.ImportFault.{ImportFault}
+use Rattle.tally_core.specs.declared.source.ImportFault.TheVariants as fault
 
 -- what a row was answered: a bad one nothing, and so one of another command than Lodge
 abbrev pub Answer : Type 0
-Answer = Option (Result Reply Refusal)
+Answer = Option (Result LodgeReply Refusal)
 
 abbrev pub row_answer : Stations → Returns → Row → Answer
 row_answer stations returns (row.Lodge (Lodge station slip counts)) = Some (lodge_answer stations returns station slip counts)
@@ -86,6 +88,25 @@ with_refusal c row n = record c {
   first = or_else c.first (note_at row (Some n));
 }
 
+-- the count with one row more
+abbrev pub counted : ImportCount → ℕ → Answer → ImportCount
+counted c row a = record {
+  lodged = c.lodged + (if is_lodged a then 1 else 0);
+  same = c.same + (if is_same a then 1 else 0);
+  differs = c.differs + (if is_differing a then 1 else 0);
+  refused = c.refused + (if is_refused a then 1 else 0);
+  bad = c.bad + (if is_bad a then 1 else 0);
+  first = or_else c.first (note_at row (noted a));
+}
+
+-- none of its numbers is as high as that of the row that comes
+pub record IsBelow (c : ImportCount) (row : ℕ) : Type 0 where
+  pub lodged : c.lodged < row
+  pub same : c.same < row
+  pub differs : c.differs < row
+  pub refused : c.refused < row
+  pub bad : c.bad < row
+
 -- how many rows were answered what
 abbrev pub count_of : List Answer → ImportCount
 count_of answered = record {
@@ -103,3 +124,11 @@ lodged_counts (row.Lodge (Lodge station slip counts) ∷ rows) (Some (Ok (Lodged
 lodged_counts (r ∷ rows) (a ∷ answered) = lodged_counts rows answered
 lodged_counts [] answered = []
 lodged_counts (r ∷ rows) [] = []
+
+-- the number of a fault
+abbrev pub import_fault_number : ImportFault → ℕ
+import_fault_number fault.BadHeader = 1
+import_fault_number fault.TooLong = 2
+import_fault_number fault.Read = 3
+import_fault_number fault.Memory = 4
+import_fault_number fault.Store = 5

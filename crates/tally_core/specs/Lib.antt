@@ -1,11 +1,5 @@
-pub mod Counts
-pub mod Return
-pub mod Refusals
-pub mod Checks
-pub mod Lodge
+pub mod Events
+pub mod Held
 pub mod Import
-pub mod Moves
-pub mod Lawful
-pub mod Decide
-pub mod State
-pub mod Step
+pub mod Keeper
+pub mod Stations

@@ -2,9 +2,7 @@
 
 ghost use Rattle.std.specs.Prelude.{◌≡◌, ◌+◌, ◌<◌, ◌^◌, ◌++◌, List, [], ◌∷◌, length, Some};
 
-use crate::ask::Ask;
-use crate::refusal::Refusal;
-use crate::reply::Reply;
+use tally_machine::{Ask, LodgeReply, Refusal};
 
 /// The number of the refusal of a return that differs from the one that stands.
 const DIFFERS: u32 = 7;
@@ -42,7 +40,7 @@ pub struct ImportCount {
 }
 
 impl ImportCount {
-    ghost use Rattle.tally_core.specs.Import.{Answer, count_of, or_else, with_refusal};
+    ghost use Rattle.tally_core.specs.Import.{Answer, IsBelow, count_of, counted, or_else, with_refusal};
 
     /// The count of no row.
     pub fn new() -> ImportCount
@@ -59,15 +57,23 @@ impl ImportCount {
     }
 
     /// Counts one more row, by its number and what it was answered; a bad row was answered nothing.
-    pub fn add(&mut self, row: u32, answer: Option<Result<Reply, Refusal>>)
+    pub fn add(&mut self, row: u32, answer: Option<Result<LodgeReply, Refusal>>)
         ghost answered: { List Answer }
         requires count { self.old ≡ count_of answered }
         requires row { row ≡ length answered + 1 }
         ensures { self.new ≡ count_of (answered ++ answer ∷ []) }
     {
+        self.add_row(row, answer);
+    }
+
+    /// The same, for a caller who does not know the answers so far.
+    pub(crate) fn add_row(&mut self, row: u32, answer: Option<Result<LodgeReply, Refusal>>)
+        requires below { IsBelow self.old row }
+        ensures { self.new ≡ counted self.old row answer }
+    {
         match answer {
-            Some(Ok(Reply::Lodged { .. })) => self.lodged += 1,
-            Some(Ok(Reply::Same { .. })) => self.same += 1,
+            Some(Ok(LodgeReply::Lodged { .. })) => self.lodged += 1,
+            Some(Ok(LodgeReply::Same { .. })) => self.same += 1,
             Some(Err(refusal)) => self.add_refused(row, refusal.number()),
             None => {
                 self.bad += 1;

@@ -1,26 +1,20 @@
-//! The returns of polling stations, and what an electoral office decides about them.
+//! Keepers of an electoral office's state, and what an import of returns is answered. The commands
+//! and what is decided of them are those of `tally_machine`.
 #![tactic(auto)]
 
-mod ask;
-mod change;
-mod counts;
-mod decide;
+mod book;
 mod import;
+mod keeper;
 pub mod laws;
-mod lodge;
-mod moves;
-mod refusal;
-mod reply;
-mod returns;
+mod source;
 #[cfg(test)]
 mod tests;
 
-pub use ask::Ask;
-pub use change::Change;
-pub use counts::Counts;
-pub use decide::decide_return;
+pub use book::Book;
 pub use import::{FirstRow, ImportCount, Row};
-pub use lodge::decide_lodge;
-pub use refusal::Refusal;
-pub use reply::Reply;
-pub use returns::{Return, Status};
+pub use keeper::{Keeper, run};
+pub use source::{ImportFault, RowSource};
+pub use tally_machine::{
+    Ask, Change, Counts, LodgeReply, ProgressRow, Refusal, Reply, Return, Status, decide_at,
+    decide_lodge, decide_return,
+};

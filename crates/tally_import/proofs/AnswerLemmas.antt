@@ -1,10 +1,10 @@
 -- What a check answers, by what was found.
-use Rattle.std.proofs.Common.{◌≡◌, ◌∷◌, ℕ, List, [], Bool, true, false, Option, Some, None, Ok, Err, length, refl, sym, subst, inl, inr}
-use Rattle.std.specs.Prelude.{◌⊎◌, IfSome, if◌then◌else◌, nat_lt}
-use Rattle.std.specs.Io.KnownBytes.{Keeps}
+use Rattle.std.proofs.Common.{◌≡◌, ◌∷◌, ℕ, List, [], Bool, true, false, Option, Some, None, Result, Ok, Err, length, refl, sym, subst, inl, inr}
+use Rattle.std.specs.Prelude.{◌⊎◌, IfSome, OnOk, if◌then◌else◌, nat_lt}
+use Rattle.std.specs.Io.KnownBytes.{Appends, Keeps}
 use Rattle.tally_import.specs.Header.{header_lists}
 use Rattle.tally_import.specs.Input.{Gave, complete_records}
-use Rattle.tally_import.specs.Check.{Checks, checked, examined, under_header, ended, row_limit}
+use Rattle.tally_import.specs.Check.{Checks, Found, checked, examined, under_header, ended, row_limit}
 use Rattle.tally_import.specs.declared.check.CheckFault.{CheckFault}
 use Rattle.tally_import.specs.declared.check.CheckFault.TheVariants.{BadHeader, TooLong, Read, Memory, Write}
 use Rattle.tally_import.specs.declared.separator.Sep.{Sep}
@@ -50,18 +50,31 @@ not-write : (sep : Sep) (text : List ℕ) (left : Option (List ℕ)) (bytes : Li
 not-write sep text left bytes stop gave e = subst (Gave text left bytes) (found-write (complete_records sep bytes stop) stop e) gave
 
 -- the first fault, with nothing written
-pub Checks-fault : (sep : Sep) (text : Option (List ℕ)) (left old new : Option (List ℕ)) (bytes : List ℕ) (stop : Option CheckFault) (fault : CheckFault)
-    → IfSome text (λ t. Gave t left bytes stop) → Keeps old new → (fault ≡ Memory) ⊎ (checked sep bytes stop ≡ Err fault)
+pub Checks-fault : (sep : Sep) (text : Option (List ℕ)) (left old new : Option (List ℕ)) (fault : CheckFault)
+    → IfSome text (λ t. (fault ≡ Memory) ⊎ Found sep t left (λ f. f ≡ Err fault)) → Keeps old new
     → IfSome text (λ t. Checks sep t left old new (Err fault))
-Checks-fault sep None left old new bytes stop fault gave keeps found = tt
-Checks-fault sep (Some t) left old new bytes stop fault gave keeps (inl memory) =
-    subst (λ f. Checks sep t left old new (Err f)) (sym memory) keeps
-Checks-fault sep (Some t) left old new bytes stop BadHeader gave keeps (inr found) = ((bytes, stop, gave, found), keeps)
-Checks-fault sep (Some t) left old new bytes stop TooLong gave keeps (inr found) = ((bytes, stop, gave, found), keeps)
-Checks-fault sep (Some t) left old new bytes stop Read gave keeps (inr found) = ((bytes, stop, gave, found), keeps)
-Checks-fault sep (Some t) left old new bytes stop Memory gave keeps (inr found) = keeps
-Checks-fault sep (Some t) left old new bytes stop Write gave keeps (inr found) = absurd (not-write sep t left bytes stop gave found)
+Checks-fault sep None left old new fault found keeps = tt
+Checks-fault sep (Some t) left old new fault (inl memory) keeps = subst (λ f. Checks sep t left old new (Err f)) (sym memory) keeps
+Checks-fault sep (Some t) left old new BadHeader (inr found) keeps = (found, keeps)
+Checks-fault sep (Some t) left old new TooLong (inr found) keeps = (found, keeps)
+Checks-fault sep (Some t) left old new Read (inr found) keeps = (found, keeps)
+Checks-fault sep (Some t) left old new Memory (inr found) keeps = keeps
+Checks-fault sep (Some t) left old new Write (inr found) keeps = absurd (not-write sep t left found.0 found.1 found.2 found.3)
 
 pub Keeps-same : (known : Option (List ℕ)) → Keeps known known
 Keeps-same None = tt
 Keeps-same (Some bytes) = refl
+
+-- the check text that was found is that of the whole text
+pub written-text : (sep : Sep) (text left old new : Option (List ℕ)) (found : List ℕ)
+    → IfSome text (λ t. Found sep t left (λ f. f ≡ Ok found)) → Appends old new found
+    → IfSome text (λ t. (u : List ℕ) × (checked sep t None ≡ Ok u) × Appends old new u)
+written-text sep None left old new found is appends = tt
+written-text sep (Some t) left old new found is appends =
+    let none = found-text (complete_records sep is.0 is.1) is.1 found is.3 in
+    let whole = subst (Gave t left is.0) none is.2 in
+    (found, subst (λ b. checked sep b None ≡ Ok found) whole.0 (subst (λ stop. checked sep is.0 stop ≡ Ok found) none is.3), appends)
+
+pub OnOk-then : {T E : Type 0} {P Q : Type 0} (r : Result T E) → OnOk r P → (P → Q) → OnOk r Q
+OnOk-then (Ok x) p more = more p
+OnOk-then (Err e) p more = tt

@@ -64,7 +64,7 @@ begins-cons r all [] h = (r ∷ all, refl)
 begins-cons r all (q ∷ front) h = (h.0, ap (λ l. r ∷ l) h.1)
 
 -- between two records an empty text has none
-records_from-nothing : (cfg : Config) (n : ℕ) (s : State) → ends_at_end s ≡ false → records_from cfg n s [] ≡ []
+pub records_from-nothing : (cfg : Config) (n : ℕ) (s : State) → ends_at_end s ≡ false → records_from cfg n s [] ≡ []
 unfolding records_from next_record
 records_from-nothing cfg zero s between = refl
 records_from-nothing cfg (suc n) s between = go (ends_at_end s) between
@@ -119,7 +119,7 @@ pub records-front : (cfg : Config) (xs rest : List ℕ) (d : ℕ) → BeginsWith
 records-front cfg xs rest d = records_from-front cfg _ _ st.StartRecord xs rest d refl (omega arith)
 
 -- no byte order mark ends with a separator
-no-mark : (sep : Sep) (a b : ℕ) → is_bom a b (separator sep) ≡ false
+pub no-mark : (sep : Sep) (a b : ℕ) → is_bom a b (separator sep) ≡ false
 no-mark Comma a b = go (a == 0xEF) (b == 0xBB)
   where
     go : (x y : Bool) → (x && y && false) ≡ false

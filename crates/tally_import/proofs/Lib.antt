@@ -2,6 +2,11 @@ pub mod FieldLemmas
 pub mod HeaderLemmas
 pub mod NumberLemmas
 pub mod InputLemmas
+pub mod PieceLemmas
+pub mod ComingLemmas
+pub mod WorkLemmas
+pub mod CountLemmas
+pub mod FoundLemmas
 pub mod RecordLemmas
 pub mod FrontLemmas
 pub mod TotalsLemmas

@@ -8,15 +8,15 @@ use Rattle.std.specs.FinMap as map
 use Rattle.std.specs.HashMap as table
 use Rattle.std.specs.Map.{lookup}
 use Rattle.tally_rules.specs.Code.{code_cmp}
-use Rattle.tally_core.specs.Return.{StationReturn, Returns}
-use Rattle.tally_core.specs.Counts.{VoteCounts}
-use Rattle.tally_core.specs.Return.{first_return}
-use Rattle.tally_core.specs.Lodge.{Stations, lodge, lodge_answer, after_lodge, decided_at}
+use Rattle.tally_machine.specs.Return.{StationReturn, Returns}
+use Rattle.tally_machine.specs.Counts.{VoteCounts}
+use Rattle.tally_machine.specs.Return.{first_return}
+use Rattle.tally_machine.specs.Lodge.{Stations, lodge, lodge_answer, after_lodge, decided_at}
 use Rattle.tally_core.specs.Import.{row_answer, after_row, imported, count_of, lodged_counts}
 use Rattle.tally_core.specs.declared.import.Row.{Row}
-use Rattle.tally_core.specs.declared.refusal.Refusal.{Refusal}
-use Rattle.tally_core.specs.declared.reply.Reply.{Reply}
-use Rattle.tally_core.specs.declared.reply.Reply.TheVariants.{Lodged}
+use Rattle.tally_machine.specs.declared.refusal.Refusal.{Refusal}
+use Rattle.tally_machine.specs.declared.reply.LodgeReply.{LodgeReply}
+use Rattle.tally_machine.specs.declared.reply.LodgeReply.TheVariants.{Lodged}
 use Rattle.tally_core.proofs.RowsLemmas.{imported-push, answers-push, length-answers, lodged_counts-push, length-lodged_counts}
 use Rattle.tally_import.specs.Check.{every_code}
 use Rattle.tally_import.specs.Totals.{AreTotals}
@@ -45,7 +45,7 @@ pub lodge-lodged : (stations : Stations) (s : Returns) (station slip : List ℕ)
 lodge-lodged stations s station slip counts rev is = ap (after_lodge s station slip counts) is
 
 -- what is answered at every code, by what the table holds
-pub answer-held : (lists : ℕ) (held : Table) (s : Returns) (station slip : List ℕ) (counts : VoteCounts) (found : Option StationReturn) (result : Result Reply Refusal)
+pub answer-held : (lists : ℕ) (held : Table) (s : Returns) (station slip : List ℕ) (counts : VoteCounts) (found : Option StationReturn) (result : Result LodgeReply Refusal)
     → Holds held s → found ≡ table.get (pointwise nat_eq) held station
     → result ≡ decided_at (record { lists = lists; electors = 1000000 }) found slip counts
     → lodge_answer (every_code lists) s station slip counts ≡ result

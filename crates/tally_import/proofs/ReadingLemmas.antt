@@ -2,7 +2,7 @@
 use Rattle.std.proofs.Common.{◌≡◌, ◌+◌, ◌∷◌, ◌∙◌, ℕ, List, [], Bool, true, false, Option, Some, None, length, refl, sym, ap, subst, arith, add-one}
 use Rattle.std.specs.Prelude.{if◌then◌else◌, IsSome}
 use Rattle.std.proofs.Common.{inl}
-use Rattle.std.specs.Borrow.{Bor}
+use Rattle.tally_import.specs.Reading.{Text, text_left}
 use Rattle.csv.specs.Machine.{Read, ends_at_end, next_record}
 use Rattle.csv.specs.Reading.{ReadRecord, ReadsNext, NextIs, pending_of, records_from, records_next}
 use Rattle.csv.specs.declared.parser.Config.{Config}
@@ -37,11 +37,7 @@ rows-next cfg s s2 xs (Some ys) found fields between reads = rw (add-one (length
         ap (λ rest. p.0 ∷ rest) (records_from-enough cfg (length xs) (length p.2 + 1) p.1 p.2 after.1 less (omega arith))
         ∙ same p is
 
--- the bytes that a text in memory has left
-abbrev pub known : Bor (List ℕ) → Option (List ℕ)
-known text = Some text.now
-
-source-after : (new : Reader (Bor (List ℕ))) → new.bom_checked ≡ true → unread new ≡ pending_of (known new.rdr) new
+source-after : (new : Reader Text) → new.bom_checked ≡ true → unread new ≡ pending_of (text_left new.rdr) new
 source-after new checked = rw checked refl
 
 -- the state after a record is between two
@@ -65,12 +61,12 @@ between-next : (cfg : Config) (s s2 : State) (before after : Option (List ℕ)) 
 between-next cfg s s2 None after fields some reads = cc
 between-next cfg s s2 (Some xs) after fields some reads = between-after cfg s s2 xs after fields reads
 
-rows-same : (cfg : Config) (new : Reader (Bor (List ℕ))) (left : Option (List ℕ)) → new.config ≡ cfg → Rows cfg new.state left ≡ rows_in new left
+rows-same : (cfg : Config) (new : Reader Text) (left : Option (List ℕ)) → new.config ≡ cfg → Rows cfg new.state left ≡ rows_in new left
 unfolding Rows
 rows-same cfg new None same = refl
 rows-same cfg new (Some ys) same = ap (λ c. records_from c (length ys + 1) new.state ys) (sym same)
 
-left-next : (old new : Reader (Bor (List ℕ))) (before : Option (List ℕ)) (found : Bool) (fields : List (List ℕ))
+left-next : (old new : Reader Text) (before : Option (List ℕ)) (found : Bool) (fields : List (List ℕ))
     → IsSome before → ends_at_end old.state ≡ false → new.config ≡ old.config
     → ReadsNext old.config old.state before (unread new) found fields new.state
     → rows_in old before ≡ (if found then fields ∷ rows_left new else [])
@@ -79,21 +75,21 @@ left-next old new (Some xs) found fields some between same reads =
     rows-next old.config old.state new.state xs (unread new) found fields between reads
     ∙ ap (λ rows. if found then fields ∷ rows else []) (rows-same old.config new (unread new) same)
 
-reads-unread : (old new : Reader (Bor (List ℕ))) (found : Bool) (fields : List (List ℕ))
-    → ReadRecord known old new found fields → ReadsNext old.config old.state (unread old) (unread new) found fields new.state
+reads-unread : (old new : Reader Text) (found : Bool) (fields : List (List ℕ))
+    → ReadRecord text_left old new found fields → ReadsNext old.config old.state (unread old) (unread new) found fields new.state
 reads-unread old new found fields reads =
     subst (λ left. ReadsNext old.config old.state (unread old) left found fields new.state) (sym (source-after new reads.1)) reads.0
 
 -- what a reader of a text in memory has left after a read of a record
-pub rows_left-next : (old new : Reader (Bor (List ℕ))) (found : Bool) (fields : List (List ℕ))
-    → IsReading old → ReadRecord known old new found fields
+pub rows_left-next : (old new : Reader Text) (found : Bool) (fields : List (List ℕ))
+    → IsReading old → ReadRecord text_left old new found fields
     → rows_left old ≡ (if found then fields ∷ rows_left new else [])
 rows_left-next old new found fields h reads =
     left-next old new (unread old) found fields h.source h.between reads.2 (reads-unread old new found fields reads)
 
 -- and it can read the next one
-pub IsReading-next : (old new : Reader (Bor (List ℕ))) (fields : List (List ℕ))
-    → IsReading old → new.first ≡ true → new.flexible ≡ old.flexible → ReadRecord known old new true fields → IsReading new
+pub IsReading-next : (old new : Reader Text) (fields : List (List ℕ))
+    → IsReading old → new.first ≡ true → new.flexible ≡ old.flexible → ReadRecord text_left old new true fields → IsReading new
 IsReading-next old new fields h first flexible reads =
     let next = reads-unread old new true fields reads in
     record {

@@ -3,8 +3,8 @@ use Rattle.std.specs.Prelude.{◌≡◌, ◌+◌, ◌++◌, if◌then◌else◌,
 use Rattle.std.specs.Fmt.{decimal}
 use Rattle.std.specs.FinMap.{empty}
 use Rattle.std.specs.Io.KnownBytes.{Appends, Keeps}
-use Rattle.tally_core.specs.Counts.{VoteCounts}
-use Rattle.tally_core.specs.Lodge.{Stations}
+use Rattle.tally_machine.specs.Counts.{VoteCounts}
+use Rattle.tally_machine.specs.Lodge.{Stations}
 use Rattle.tally_core.specs.Import.{answers, count_of, lodged_counts}
 use Rattle.tally_core.specs.declared.import.ImportCount.{ImportCount}
 use Rattle.tally_core.specs.declared.import.FirstRow.{FirstRow}

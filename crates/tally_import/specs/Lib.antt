@@ -7,7 +7,9 @@ pub mod Check
 pub mod Totals
 pub mod Progress
 pub mod Rounds
-pub use Rattle.tally_core.specs.Counts
-pub use Rattle.tally_core.specs.Return
-pub use Rattle.tally_core.specs.Lodge
+pub mod Pieces
+pub mod Notes
+pub use Rattle.tally_machine.specs.Counts
+pub use Rattle.tally_machine.specs.Return
+pub use Rattle.tally_machine.specs.Lodge
 pub use Rattle.tally_core.specs.Import

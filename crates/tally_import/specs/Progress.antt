@@ -5,14 +5,14 @@ use Rattle.std.specs.FinMap as map
 use Rattle.std.specs.HashMap as table
 use Rattle.std.specs.declared.hash.BuildHasherDefault.{BuildHasherDefault}
 use Rattle.std.specs.declared.hash.FoldHasher.{FoldHasher}
-use Rattle.tally_core.specs.Counts.{VoteCounts}
-use Rattle.tally_core.specs.Return.{StationReturn, Returns}
-use Rattle.tally_core.specs.Lodge.{Stations}
+use Rattle.tally_machine.specs.Counts.{VoteCounts}
+use Rattle.tally_machine.specs.Return.{StationReturn, Returns}
+use Rattle.tally_machine.specs.Lodge.{Stations}
 use Rattle.tally_core.specs.Import.{Answer, answers, imported, count_of, lodged_counts}
 use Rattle.tally_core.specs.declared.import.Row.{Row}
-use Rattle.tally_core.specs.declared.refusal.Refusal.{Refusal}
-use Rattle.tally_core.specs.declared.reply.Reply.{Reply}
-use Rattle.tally_core.specs.declared.reply.Reply.TheVariants.{Lodged, Same}
+use Rattle.tally_machine.specs.declared.refusal.Refusal.{Refusal}
+use Rattle.tally_machine.specs.declared.reply.LodgeReply.{LodgeReply}
+use Rattle.tally_machine.specs.declared.reply.LodgeReply.TheVariants.{Lodged, Same}
 use Rattle.tally_import.specs.Check.{every_code}
 use Rattle.tally_import.specs.Totals.{AreTotals}
 use Rattle.tally_import.specs.declared.import.Import.{Import}
@@ -25,13 +25,8 @@ Table = table.HashMap (List ℕ) StationReturn (BuildHasherDefault FoldHasher)
 abbrev pub Holds : Table → Returns → Type 0
 Holds held returns = (code : List ℕ) → table.get (pointwise nat_eq) held code ≡ map.get returns code
 
--- returns that stand, and the counts of those that were lodged
-pub record Lodgings : Type 0 where
-  pub returns : Returns
-  pub lodged : List VoteCounts
-
 -- the counts that an answer adds to those that were lodged
-abbrev pub lodged_of : VoteCounts → Result Reply Refusal → List VoteCounts
+abbrev pub lodged_of : VoteCounts → Result LodgeReply Refusal → List VoteCounts
 lodged_of counts (Ok (Lodged rev)) = counts ∷ []
 lodged_of counts (Ok (Same rev)) = []
 lodged_of counts (Err refusal) = []

@@ -1,25 +1,35 @@
 -- What a reader of a text in memory still gives.
-use Rattle.std.specs.Prelude.{◌≡◌, ◌+◌, ℕ, true, false, List, [], length, Option, Some, None, IsSome}
-use Rattle.std.specs.Borrow.{Bor}
+use Rattle.std.specs.Prelude.{◌≡◌, ◌+◌, ℕ, true, false, List, [], length, Option, Some, None, IsSome, Vec}
+use Rattle.std.specs.Io.Cursor.{cursor_remaining}
+use Rattle.std.specs.declared.alloc.Global.{Global}
+use Rattle.std.specs.declared.io.Cursor.{Cursor}
 use Rattle.csv.specs.Machine.{ends_at_end}
 use Rattle.csv.specs.Reading.{Ready, source_of, is_flexible, reader_config, reader_state, reader_trim, records_from}
 use Rattle.csv.specs.declared.reader.Reader.{Reader}
 use Rattle.csv.specs.declared.reader.Trim.TheVariants as trim
 
--- the bytes that it reads from
-abbrev pub unread : Reader (Bor (List ℕ)) → Option (List ℕ)
-unread reader = source_of (λ (text : Bor (List ℕ)). Some text.now) reader
+-- a text in memory
+abbrev pub Text : Type 0
+Text = Cursor (Vec ℕ Global)
 
-abbrev pub rows_in : Reader (Bor (List ℕ)) → Option (List ℕ) → List (List (List ℕ))
+-- the bytes that a text in memory has left
+abbrev pub text_left : Text → Option (List ℕ)
+text_left = cursor_remaining (λ (bytes : Vec ℕ Global). Some bytes.items)
+
+-- the bytes that it reads from
+abbrev pub unread : Reader Text → Option (List ℕ)
+unread reader = source_of text_left reader
+
+abbrev pub rows_in : Reader Text → Option (List ℕ) → List (List (List ℕ))
 rows_in reader None = []
 rows_in reader (Some text) = records_from (reader_config reader) (length text + 1) (reader_state reader) text
 
 -- the records that it still gives
-abbrev pub rows_left : Reader (Bor (List ℕ)) → List (List (List ℕ))
+abbrev pub rows_left : Reader Text → List (List (List ℕ))
 rows_left reader = rows_in reader (unread reader)
 
 -- it stands between two records, and reads the next one of any length, as it stands, with no header row of its own
-pub record IsReading (reader : Reader (Bor (List ℕ))) : Type 0 where
+pub record IsReading (reader : Reader Text) : Type 0 where
   pub as_it_stands : reader_trim reader ≡ trim.None
   pub ready : Ready reader
   pub any_length : is_flexible reader ≡ true

@@ -1,20 +1,20 @@
 //! The check of a text of returns.
 
-ghost use Rattle.std.specs.Prelude.{◌≡◌, ◌≤◌, min, List, ℕ, length, Some, None, Ok, Err, IfOk, IfSome, OnOk};
+ghost use Rattle.std.specs.Prelude.{◌≡◌, ◌≤◌, List, ℕ, None, Ok, Err, IfSome, OnOk};
 ghost use Rattle.std.specs.Io.KnownBytes.{Appends};
-ghost use Rattle.tally_import.specs.Check.{Checks, IsSilent, checked};
-ghost use Rattle.tally_import.specs.Reading.{IsReading, rows_left};
-ghost use Rattle.tally_import.specs.Rounds.{Finds, Imports, stopped_fault};
+ghost use Rattle.tally_import.specs.Check.{Checks, IsSilent, checked, no_header};
+ghost use Rattle.tally_import.specs.Pieces.{AreBehind, IsReadingOn};
+ghost use Rattle.tally_import.specs.Rounds.{Finds, Imports, ended_import};
 
 use crate::header::lists_of;
+use crate::held::End;
 use crate::import::Import;
-use crate::input::{Input, read_input};
 use crate::output::write_text;
-use crate::records::{next_record, records_in};
+use crate::records::Records;
 use crate::row::row_of;
 use crate::separator::Sep;
-use crate::summary::check_text;
-use csv::{ByteRecord, Reader};
+use crate::summary::import_text;
+use csv::ByteRecord;
 use std::alloc::{AllocError, Global};
 use std::io::{Read, Write};
 
@@ -83,118 +83,72 @@ pub fn check_csv<R: Read, W: Write>(
         Checks sep text (R.remaining reader.new) (W.contents writer.old) (W.contents writer.new) result) }
     ensures silent { IsSilent (W.contents writer.old) (W.contents writer.new) result }
 {
-    let input = read_input(alloc, reader)?;
-    match check_input(alloc, input, sep) {
+    match checked_text(alloc, reader, sep) {
         Ok(text) => write_text(writer, text.as_bytes()),
         Err(fault) => Err(fault),
     }
 }
 
-/// The check text of an input, or the fault that comes first.
-fn check_input(alloc: Global, input: Input, sep: Sep) -> Result<String, CheckFault>
-    ensures { Finds (checked sep input.bytes.items input.stop) result }
+/// The check text of a reader's text, or the fault that comes first.
+fn checked_text<R: Read>(alloc: Global, reader: &mut R, sep: Sep) -> Result<String, CheckFault>
+    ensures { IfSome (R.remaining reader.old) (λ text. Finds sep text (R.remaining reader.new) result) }
 {
-    let Input { bytes, stop } = input;
-    match stop {
-        None => check_whole(alloc, bytes.as_slice(), sep),
-        Some(stop) => Err(first_fault(alloc, bytes, sep, stop)?),
-    }
-}
-
-/// The check text of a text that came to its end, or the fault that comes first.
-fn check_whole(alloc: Global, text: &[u8], sep: Sep) -> Result<String, CheckFault>
-    ensures { Finds (checked sep text.now None) result }
-{
-    let mut reader = records_in(alloc, text, sep);
+    let mut records = Records::new(alloc, reader, sep)?;
     let mut header = ByteRecord::new(alloc);
-    if !next_record(&mut reader, &mut header)? {
-        return Err(CheckFault::BadHeader);
+    if let Some(end) = records.next(alloc, reader, &mut header)? {
+        return Err(no_header(end));
     }
     let Some(lists) = lists_of(alloc, &header)? else {
         return Err(CheckFault::BadHeader);
     };
-    let import = import_rows(alloc, &mut reader, lists.len())?;
-    Ok(check_text(alloc, lists.as_slice(), &import)?)
+    match import_rows(alloc, reader, &mut records, lists.len()) {
+        Ok(import) => import_text(alloc, lists.as_slice(), &import),
+        Err(fault) => Err(fault),
+    }
+}
+
+/// The fault of a text that ended before its header did.
+fn no_header(end: End) -> CheckFault
+    ensures { no_header end.stop ≡ Err result }
+{
+    match end.stop {
+        None => CheckFault::BadHeader,
+        Some(stop) => stop,
+    }
 }
 
 /// Imports the records that are left, under a header of so many lists.
-fn import_rows(
+fn import_rows<R: Read>(
     alloc: Global,
-    reader: &mut Reader<&[u8]>,
+    reader: &mut R,
+    records: &mut Records,
     lists: usize,
 ) -> Result<Import, CheckFault>
-    ghost records: { List (List (List ℕ)) }
-    requires reading { IsReading reader.old }
-    requires records { rows_left reader.old ≡ records }
+    requires reading { IsReadingOn records.old }
     requires lists { lists ≤ 60 }
-    ensures { Imports lists records result }
+    ensures { Imports lists (AreBehind (R.remaining reader.old) (R.remaining reader.new) records.old) result }
 {
     let mut import = Import::new(alloc, lists)?;
     let mut record = ByteRecord::new(alloc);
     for taken in 0..ROW_LIMIT {
-        if !next_record(reader, &mut record)? {
-            return Ok(import);
+        if let Some(end) = records.next(alloc, reader, &mut record)? {
+            return ended(import, end);
         }
         let row = row_of(alloc, lists, &record)?;
         import.take(alloc, taken + 1, row)?;
     }
-    if next_record(reader, &mut record)? {
-        return Err(CheckFault::TooLong);
+    match records.next(alloc, reader, &mut record)? {
+        Some(end) => ended(import, end),
+        None => Err(CheckFault::TooLong),
     }
-    Ok(import)
 }
 
-/// The fault that comes first in the bytes of a text that was stopped by one. A field is begun
-/// behind the bytes, so that the last record is the one that was stopped.
-fn first_fault(
-    alloc: Global,
-    bytes: Vec<u8>,
-    sep: Sep,
-    stop: CheckFault,
-) -> Result<CheckFault, AllocError>
-    ensures { IfOk result (λ fault. checked sep bytes.items (Some stop) ≡ Err fault) }
+/// An import whose text came to its end, or the fault that stopped it.
+fn ended(import: Import, end: End) -> Result<Import, CheckFault>
+    ensures { result ≡ ended_import end.stop import }
 {
-    let mut text = bytes;
-    text.push(sep.byte())?;
-    let mut reader = records_in(alloc, text.as_slice(), sep);
-    let mut record = ByteRecord::new(alloc);
-    if !next_record(&mut reader, &mut record)? {
-        return Ok(stop);
-    }
-    let has_header = lists_of(alloc, &record)?.is_some();
-    let behind = count_records(&mut reader, &mut record, ROW_LIMIT + 2)?;
-    Ok(stopped_fault(has_header, behind, stop))
-}
-
-/// How many records are left, up to so many.
-fn count_records(
-    reader: &mut Reader<&[u8]>,
-    record: &mut ByteRecord,
-    most: u32,
-) -> Result<u32, AllocError>
-    requires { IsReading reader.old }
-    ensures { IfOk result (λ n. n ≡ min (length (rows_left reader.old)) most) }
-{
-    for counted in 0..most {
-        if !next_record(reader, record)? {
-            return Ok(counted);
-        }
-    }
-    Ok(most)
-}
-
-/// The fault of a stopped text, by whether its first record is a header and how many records
-/// begin behind that: all but the last of them are complete.
-fn stopped_fault(has_header: bool, behind: u32, stop: CheckFault) -> CheckFault
-    ensures { result ≡ stopped_fault has_header behind stop }
-{
-    if behind == 0 {
-        stop
-    } else if !has_header {
-        CheckFault::BadHeader
-    } else if behind > ROW_LIMIT + 1 {
-        CheckFault::TooLong
-    } else {
-        stop
+    match end.stop {
+        None => Ok(import),
+        Some(stop) => Err(stop),
     }
 }

@@ -1,15 +1,21 @@
 //! An import into the empty map, in which every code is a station.
 
-ghost use Rattle.std.specs.Prelude.{◌≡◌, ◌+◌, ◌<◌, ◌≤◌, ◌++◌, [], ◌∷◌, length, Some, IfOk, OnOk};
+ghost use Rattle.std.specs.Prelude.{◌≡◌, ◌+◌, ◌<◌, ◌≤◌, ◌++◌, List, [], ◌∷◌, length, Some, IfOk, OnOk};
 ghost use Rattle.tally_core.specs.Import.{row_answer, after_row, lodged_counts};
-ghost use Rattle.tally_core.specs.Lodge.{lodge, lodge_answer};
+ghost use Rattle.tally_machine.specs.Counts.{VoteCounts};
+ghost use Rattle.tally_core.specs.Import.{Answer, count_of, or_else};
+ghost use Rattle.tally_machine.specs.Lodge.{lodge, lodge_answer};
+ghost use Rattle.tally_machine.specs.Return.{Returns};
 ghost use Rattle.tally_core.specs.declared.import.Row.{Row};
 ghost use Rattle.tally_import.specs.Check.{every_code};
+ghost use Rattle.tally_import.specs.Notes.{with_row};
 
 use crate::totals::{Totals, add_return, no_totals};
 use std::alloc::{AllocError, Global};
 use std::collections::HashMap;
-use tally_core::{Ask, Counts, ImportCount, Refusal, Reply, Return, Row, decide_lodge};
+use tally_core::{
+    Ask, Counts, FirstRow, ImportCount, LodgeReply, Refusal, Return, Row, decide_lodge,
+};
 use tally_rules::Code;
 
 /// How many electors a station is taken to have.
@@ -29,7 +35,7 @@ pub(crate) struct Import {
 }
 
 impl Import {
-    ghost use Rattle.tally_import.specs.Progress.{HasTaken, Holds, Lodgings, Taken, lodged_of};
+    ghost use Rattle.tally_import.specs.Progress.{HasTaken, Holds, Taken, lodged_of};
     ghost use Rattle.tally_import.specs.Totals.{AreTotals};
 
     /// An import that has taken no row, of so many lists.
@@ -47,18 +53,17 @@ impl Import {
 
     /// Takes the next row, by its number. After want of memory the import is of no further use.
     pub(crate) fn take(&mut self, alloc: Global, number: u32, row: Row) -> Result<(), AllocError>
-        ghost taken: { Taken }
-        requires so_far { HasTaken taken self.old }
-        requires next { number ≡ length taken.rows + 1 }
+        requires so_far { (taken : Taken) × HasTaken taken self.old × (number ≡ length taken.rows + 1) }
         requires few { number ≤ 20000 }
-        ensures { OnOk result (HasTaken (record taken { rows = taken.rows ++ row ∷ [] }) self.new) }
+        ensures { OnOk result ((taken : Taken) → HasTaken taken self.old → number ≡ length taken.rows + 1
+            → HasTaken (record taken { rows = taken.rows ++ row ∷ [] }) self.new) }
     {
         let Row::Lodge(ask) = row else {
-            self.count.add(number, None);
+            count_row(&mut self.count, number, None);
             return Ok(());
         };
         let answer = self.lodge_row(alloc, ask)?;
-        self.count.add(number, answer);
+        count_row(&mut self.count, number, answer);
         Ok(())
     }
 
@@ -67,15 +72,15 @@ impl Import {
         &mut self,
         alloc: Global,
         ask: Ask,
-    ) -> Result<Option<Result<Reply, Refusal>>, AllocError>
-        ghost held: { Lodgings }
+    ) -> Result<Option<Result<LodgeReply, Refusal>>, AllocError>
         requires lists { self.old.lists ≤ 60 }
-        requires table { Holds self.old.returns held.returns }
-        requires totals { AreTotals self.old.lists held.lodged self.old.totals }
-        requires few { length held.lodged < 20000 }
-        ensures answer { IfOk result (λ answer. row_answer (every_code self.old.lists) held.returns (Row.Lodge ask) ≡ answer) }
-        ensures table { OnOk result (Holds self.new.returns (after_row (every_code self.old.lists) held.returns (Row.Lodge ask))) }
-        ensures totals { IfOk result (λ answer. AreTotals self.old.lists (held.lodged ++ lodged_counts (Row.Lodge ask ∷ []) (answer ∷ [])) self.new.totals) }
+        requires totals { (lodged : List VoteCounts) × AreTotals self.old.lists lodged self.old.totals × (length lodged < 20000) }
+        ensures answer { IfOk result (λ answer. (returns : Returns) → Holds self.old.returns returns
+            → row_answer (every_code self.old.lists) returns (Row.Lodge ask) ≡ answer) }
+        ensures table { OnOk result ((returns : Returns) → Holds self.old.returns returns
+            → Holds self.new.returns (after_row (every_code self.old.lists) returns (Row.Lodge ask))) }
+        ensures totals { IfOk result (λ answer. (lodged : List VoteCounts) → AreTotals self.old.lists lodged self.old.totals
+            → AreTotals self.old.lists (lodged ++ lodged_counts (Row.Lodge ask ∷ []) (answer ∷ [])) self.new.totals) }
         ensures lists { self.new.lists ≡ self.old.lists }
         ensures count { self.new.count ≡ self.old.count }
     {
@@ -98,21 +103,21 @@ impl Import {
         station: Code,
         slip: Code,
         counts: Counts,
-    ) -> Result<Result<Reply, Refusal>, AllocError>
-        ghost held: { Lodgings }
+    ) -> Result<Result<LodgeReply, Refusal>, AllocError>
         requires lists { self.old.lists ≤ 60 }
-        requires table { Holds self.old.returns held.returns }
-        requires totals { AreTotals self.old.lists held.lodged self.old.totals }
-        requires few { length held.lodged < 20000 }
-        ensures answer { IfOk result (λ answer. answer ≡ lodge_answer (every_code self.old.lists) held.returns station slip counts) }
-        ensures table { OnOk result (Holds self.new.returns (lodge (every_code self.old.lists) held.returns station slip counts)) }
-        ensures totals { IfOk result (λ answer. AreTotals self.old.lists (held.lodged ++ lodged_of counts answer) self.new.totals) }
+        requires totals { (lodged : List VoteCounts) × AreTotals self.old.lists lodged self.old.totals × (length lodged < 20000) }
+        ensures answer { IfOk result (λ answer. (returns : Returns) → Holds self.old.returns returns
+            → answer ≡ lodge_answer (every_code self.old.lists) returns station slip counts) }
+        ensures table { OnOk result ((returns : Returns) → Holds self.old.returns returns
+            → Holds self.new.returns (lodge (every_code self.old.lists) returns station slip counts)) }
+        ensures totals { IfOk result (λ answer. (lodged : List VoteCounts) → AreTotals self.old.lists lodged self.old.totals
+            → AreTotals self.old.lists (lodged ++ lodged_of counts answer) self.new.totals) }
         ensures lists { self.new.lists ≡ self.old.lists }
         ensures count { self.new.count ≡ self.old.count }
     {
         let found = self.returns.get(&station);
         let answer = decide_lodge(self.lists, ELECTORS, found, slip, &counts);
-        let Ok(Reply::Lodged { .. }) = answer else {
+        let Ok(LodgeReply::Lodged { .. }) = answer else {
             return Ok(answer);
         };
         add_return(&mut self.totals, &counts);
@@ -120,4 +125,35 @@ impl Import {
         self.returns.insert(station, lodged)?;
         Ok(answer)
     }
+}
+
+// Counts one more row, by its number and what it was answered. A count of this row alone tells what
+// it adds.
+fn count_row(count: &mut ImportCount, number: u32, answer: Option<Result<LodgeReply, Refusal>>)
+    requires before { (answered : List Answer) × (count.old ≡ count_of answered) × (number ≡ length answered + 1) }
+    requires few { number ≤ 20000 }
+    ensures { (answered : List Answer) → count.old ≡ count_of answered → number ≡ length answered + 1 → count.new ≡ count_of (answered ++ answer ∷ []) }
+{
+    let mut one = ImportCount::new();
+    one.add(1, answer);
+    count.lodged += one.lodged;
+    count.same += one.same;
+    count.differs += one.differs;
+    count.refused += one.refused;
+    count.bad += one.bad;
+    count.first = first_note(count.first, one.first, number);
+}
+
+// What was noted first: a row in front, or the row with this number.
+fn first_note(front: Option<FirstRow>, one: Option<FirstRow>, row: u32) -> Option<FirstRow>
+    ensures { result ≡ or_else front (with_row row one) }
+{
+    if front.is_some() {
+        return front;
+    }
+    let first = one?;
+    Some(FirstRow {
+        row,
+        number: first.number,
+    })
 }

@@ -2,12 +2,15 @@
 #![tactic(auto)]
 
 mod check;
+mod cut;
 mod field;
 mod header;
+mod held;
 mod import;
-mod input;
 pub mod laws;
 mod output;
+mod piece;
+mod reading;
 mod records;
 mod row;
 mod separator;

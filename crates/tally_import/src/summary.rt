@@ -1,23 +1,36 @@
 //! The text of a check.
 
-ghost use Rattle.std.specs.Prelude.{◌≡◌, ◌++◌, List, length, string_bytes, IfOk, OnOk};
-ghost use Rattle.tally_core.specs.Counts.{VoteCounts};
+ghost use Rattle.std.specs.Prelude.{◌≡◌, ◌++◌, List, length, string_bytes, IfOk, IfErr, OnOk};
+ghost use Rattle.tally_machine.specs.Counts.{VoteCounts};
 ghost use Rattle.tally_import.specs.Check.{check_text, count_text, named_number, totals_text};
 ghost use Rattle.tally_import.specs.Progress.{HasTaken, Taken};
 ghost use Rattle.tally_import.specs.Totals.{AreTotals};
 
+use crate::check::CheckFault;
 use crate::import::Import;
 use crate::totals::Totals;
 use std::alloc::{AllocError, Global};
 use tally_core::ImportCount;
 use tally_rules::Code;
 
-/// The check text of an import under a header of these lists.
-pub(crate) fn check_text(
+/// The check text of an import under a header of these lists, or the fault Memory.
+pub(crate) fn import_text(
     alloc: Global,
     lists: &[Code],
     import: &Import,
-) -> Result<String, AllocError>
+) -> Result<String, CheckFault>
+    requires lists { import.now.lists ≡ length lists.now }
+    requires totals { length import.now.totals.votes.items ≡ length lists.now }
+    ensures text { IfOk result (λ text. (taken : Taken) → HasTaken taken import.now → string_bytes text ≡ check_text lists.now taken.rows) }
+    ensures fault { IfErr result (λ fault. fault ≡ CheckFault.Memory) }
+{
+    match check_text(alloc, lists, import) {
+        Ok(text) => Ok(text),
+        Err(AllocError) => Err(CheckFault::Memory),
+    }
+}
+
+fn check_text(alloc: Global, lists: &[Code], import: &Import) -> Result<String, AllocError>
     requires lists { import.now.lists ≡ length lists.now }
     requires totals { length import.now.totals.votes.items ≡ length lists.now }
     ensures { IfOk result (λ text. (taken : Taken) → HasTaken taken import.now → string_bytes text ≡ check_text lists.now taken.rows) }

@@ -377,6 +377,50 @@ fn reads_of_few_bytes_give_the_same_text(rt: HostRuntime) {
 }
 
 #[test]
+fn small_reads_of_three_returns(rt: HostRuntime) -> Result<(), Fail> {
+    let text =
+        b"station,slip,blank,spoiled,A,B\ns1,p1,0,0,10,20\ns2,p2,1,0,30,40\ns3,p3,0,2,50,60\n";
+    let expected = summary(rt.alloc(), [3, 0, 0, 0, 0], "-", [1, 2, 90, 120])?;
+    for piece in [1, 2, 7] {
+        let mut reader = Pieces {
+            text: text.as_slice(),
+            piece,
+            failure: None,
+        };
+        let found = check_from(rt.alloc(), &mut reader, Sep::Comma);
+        assert!(rt; found.wrote(expected.as_bytes()), "at {piece}");
+        let mut reader = Pieces {
+            text: &text[..60],
+            piece,
+            failure: Some(ErrorKind::BrokenPipe),
+        };
+        let found = check_from(rt.alloc(), &mut reader, Sep::Comma);
+        assert!(rt; found.has_failed(CheckFault::Read), "at {piece}");
+    }
+    Ok(())
+}
+
+#[test]
+fn lines_within_quotes_where_the_input_is_cut(rt: HostRuntime) -> Result<(), Fail> {
+    let expected = summary(rt.alloc(), [1, 0, 0, 0, 10_001], "1 0", [0, 0, 1, 2])?;
+    for lines in 0..9 {
+        let mut text = Vec::new(rt.alloc());
+        text.extend_from_slice(HEADER.as_bytes())?;
+        text.resize(HEADER.len() + lines, b'\n')?;
+        for _ in 0..10_000 {
+            text.extend_from_slice(b"\"x\n\nx\"\r")?;
+        }
+        // a record that is longer than a piece
+        let size = text.len();
+        text.resize(size + 200_000, b'x')?;
+        text.extend_from_slice(b"\ns,p,0,0,1,2\n")?;
+        let found = check(rt.alloc(), text.as_slice(), Sep::Comma);
+        assert!(rt; found.wrote(expected.as_bytes()), "at {lines}");
+    }
+    Ok(())
+}
+
+#[test]
 fn a_read_that_fails_at_any_byte(rt: HostRuntime) {
     let text = RETURNS.as_bytes();
     for came in 0..=text.len() {

@@ -1,7 +1,7 @@
 //! The totals of returns.
 
 ghost use Rattle.std.specs.Prelude.{◌≡◌, ◌+◌, ◌<◌, ◌≤◌, ◌^◌, ◌++◌, ℕ, true, List, [], ◌∷◌, length, slice_index, IfOk};
-ghost use Rattle.tally_core.specs.Counts.{VoteCounts, are_counts};
+ghost use Rattle.tally_machine.specs.Counts.{VoteCounts, are_counts};
 ghost use Rattle.tally_import.specs.Totals.{AreTotals};
 
 use std::alloc::{AllocError, Global};
@@ -28,11 +28,10 @@ pub(crate) fn no_totals(alloc: Global, lists: usize) -> Result<Totals, AllocErro
 
 /// Adds a return to the totals of others.
 pub(crate) fn add_return(totals: &mut Totals, counts: &Counts)
-    ghost returns: { List VoteCounts }
-    requires totals { AreTotals (length counts.now.votes) returns totals.old }
+    requires totals { (returns : List VoteCounts) × AreTotals (length counts.now.votes) returns totals.old × (length returns < 20000) }
     requires counts { are_counts (length counts.now.votes) counts.now ≡ true }
-    requires few { length returns < 20000 }
-    ensures { AreTotals (length counts.now.votes) (returns ++ counts.now ∷ []) totals.new }
+    ensures { (returns : List VoteCounts) → AreTotals (length counts.now.votes) returns totals.old
+        → AreTotals (length counts.now.votes) (returns ++ counts.now ∷ []) totals.new }
 {
     add_votes(totals.votes.as_mut_slice(), counts.votes.as_slice());
     totals.blank += u64::from(counts.blank);

@@ -1,9 +1,10 @@
 use Rattle.std.proofs.Common.{IfOk, OnOk, IfErr, sym, ap}
-use Rattle.tally_allot.specs.Allotment.{IsAllotment}
-use Rattle.tally_allot.specs.AllotFault.{HasEligible, IsFaultOf}
-use Rattle.tally_allot.specs.LotNeed.{IsLotTaken}
-use Rattle.tally_allot.specs.Rules.{rule_of}
-use Rattle.tally_allot.proofs.PollLemmas.{carried}
+use Rattle.tally_contest.specs.Allotment.{IsAllotment}
+use Rattle.tally_contest.specs.Poll.{HasEligible}
+use Rattle.tally_allot.specs.AllotFault.{IsFaultOf}
+use Rattle.tally_contest.specs.LotNeed.{IsLotTaken}
+use Rattle.tally_contest.specs.Rules.{rule_of}
+use Rattle.tally_contest.proofs.PollLemmas.{carried}
 use Rattle.tally_allot.proofs.allotment.allot.Goals as goal
 
 pub returns-in-DHondt-clause-lot_taken : goal.returns-in-DHondt-clause-lot_taken

@@ -1,8 +1,8 @@
 use Rattle.std.proofs.Common.{◌↔◌, sym, ap}
 use Rattle.std.specs.Bool.{IsTrue}
 use Rattle.tally_allot.specs.AllotFault.{IsAllotmentUnderLot}
-use Rattle.tally_allot.specs.Rules.{rule_of}
-use Rattle.tally_allot.proofs.PollLemmas.{carried}
+use Rattle.tally_contest.specs.Rules.{rule_of}
+use Rattle.tally_contest.proofs.PollLemmas.{carried}
 use Rattle.tally_allot.proofs.allotment.is_allotment.Goals as goal
 
 pub returns-in-DHondt : goal.returns-in-DHondt

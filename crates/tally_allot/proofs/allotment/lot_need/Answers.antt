@@ -1,7 +1,8 @@
 use Rattle.std.proofs.Common.{IfOk, OnOk, IfErr, sym, ap}
-use Rattle.tally_allot.specs.AllotFault.{HasEligible, IsNeedOrNone, IsNeedFaultOf}
-use Rattle.tally_allot.specs.Rules.{rule_of}
-use Rattle.tally_allot.proofs.PollLemmas.{carried}
+use Rattle.tally_contest.specs.Poll.{HasEligible}
+use Rattle.tally_allot.specs.AllotFault.{IsNeedOrNone, IsNeedFaultOf}
+use Rattle.tally_contest.specs.Rules.{rule_of}
+use Rattle.tally_contest.proofs.PollLemmas.{carried}
 use Rattle.tally_allot.proofs.allotment.lot_need.Goals as goal
 
 pub returns-in-DHondt-clause-need : goal.returns-in-DHondt-clause-need

@@ -1,8 +1,8 @@
-use Rattle.tally_allot.specs.Allotment.{divisors}
-use Rattle.tally_allot.specs.Terms.{Terms, AreSound, AreDivisors, poll_under}
+use Rattle.tally_contest.specs.Allotment.{divisors}
+use Rattle.tally_contest.specs.Terms.{Terms, AreSound, AreDivisors, poll_under}
 use Rattle.tally_allot.proofs.LotLaws.{apart_if_taken}
-use Rattle.tally_allot.proofs.PollLemmas.{sound_by_divisors}
-use Rattle.tally_allot.proofs.TermsRace.{races}
+use Rattle.tally_contest.proofs.PollLemmas.{sound_by_divisors}
+use Rattle.tally_contest.proofs.TermsRace.{races}
 use Rattle.tally_allot.proofs.allotment.seats_by_divisors.Goals as goal
 
 pub returns-clause-allotment : goal.returns-clause-allotment

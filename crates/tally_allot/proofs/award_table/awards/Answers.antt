@@ -1,8 +1,8 @@
 use Rattle.std.proofs.Common.{IfOk, IfErr, sym, ap}
 use Rattle.tally_allot.specs.AllotFault.{IsFaultOf}
 use Rattle.tally_allot.specs.Awards.{AreAwardsBy}
-use Rattle.tally_allot.specs.Rules.{rule_of}
-use Rattle.tally_allot.proofs.PollLemmas.{carried, carried_by_method}
+use Rattle.tally_contest.specs.Rules.{rule_of}
+use Rattle.tally_contest.proofs.PollLemmas.{carried, carried_by_method}
 use Rattle.tally_allot.proofs.award_table.awards.Goals as goal
 
 pub returns-in-DHondt-clause-awards : goal.returns-in-DHondt-clause-awards

@@ -1,15 +1,15 @@
 use Rattle.std.proofs.Common.{◌≡◌, ℕ, ◌<◌, List, length, get_or, map, sym, ap, ◌∙◌, subst, arith}
 use Rattle.tally_allot.specs.declared.award.Award.{Award}
-use Rattle.tally_allot.specs.declared.won.Won.{Won}
-use Rattle.tally_allot.specs.Won.{IsRow}
-use Rattle.tally_allot.specs.Allotment.{divisors}
+use Rattle.tally_contest.specs.declared.won.Won.{Won}
+use Rattle.tally_contest.specs.Won.{IsRow}
+use Rattle.tally_contest.specs.Allotment.{divisors}
 use Rattle.tally_allot.specs.Awards.{award_of, AreAwardsOf}
-use Rattle.tally_allot.specs.Terms.{Terms, AreSound, AreDivisors, ArePlacedApart, poll_under}
+use Rattle.tally_contest.specs.Terms.{Terms, AreSound, AreDivisors, ArePlacedApart, poll_under}
 use Rattle.tally_allot.proofs.AwardLemmas.{awards_of_won}
-use Rattle.tally_allot.proofs.DivisorRace.{allotment_from_fair, runs_if_eligible, seats_for-le}
+use Rattle.tally_contest.proofs.DivisorRace.{allotment_from_fair, runs_if_eligible, seats_for-le}
 use Rattle.tally_allot.proofs.LotLaws.{apart_if_taken}
-use Rattle.tally_allot.proofs.PollLemmas.{sound_under, sound_by_divisors}
-use Rattle.tally_allot.proofs.TermsRace.{races}
+use Rattle.tally_contest.proofs.PollLemmas.{sound_under, sound_by_divisors}
+use Rattle.tally_contest.proofs.TermsRace.{races}
 use Rattle.tally_allot.proofs.award_table.awards_by.Goals as goal
 
 pub awards_of-requires : goal.awards_of-requires

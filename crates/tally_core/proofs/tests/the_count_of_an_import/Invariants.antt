@@ -1,6 +1,6 @@
 use Rattle.std.specs.Prelude.{◌-◌, [], ◌∷◌, take, Some, None, Ok, Err}
-use Rattle.tally_core.specs.declared.refusal.Refusal.TheVariants.{Differs}
-use Rattle.tally_core.specs.declared.reply.Reply.TheVariants.{Lodged, Same}
+use Rattle.tally_machine.specs.declared.refusal.Refusal.TheVariants.{Differs}
+use Rattle.tally_machine.specs.declared.reply.LodgeReply.TheVariants.{Lodged, Same}
 use Rattle.tally_core.proofs.tests.the_count_of_an_import.Given as goal
 
 -- the rows before this one

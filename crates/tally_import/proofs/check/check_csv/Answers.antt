@@ -1,6 +1,16 @@
-use Rattle.tally_import.proofs.AnswerLemmas.{Checks-fault, Keeps-same}
+use Rattle.std.proofs.Common.{subst}
+use Rattle.std.specs.Io.KnownBytes.{Appends}
+use Rattle.tally_import.proofs.AnswerLemmas.{Checks-fault, Keeps-same, OnOk-then, written-text}
 use Rattle.tally_import.proofs.check.check_csv.Goals as goal
+
+pub returns-in-Ok-clause-written : goal.returns-in-Ok-clause-written
+returns-in-Ok-clause-written g c =
+    let old = g.W.Write.contents c.args.writer.now in
+    let new = g.W.Write.contents c.write_text.new.writer in
+    OnOk-then c.write_text.result c.write_text.ensures.ok (λ appends.
+    written-text c.args.sep (g.R.Read.remaining c.args.reader.now) (g.R.Read.remaining c.checked_text.new.reader) old new _ c.in-Ok.ensures
+    (subst (Appends old new) c.as_bytes.ensures.value appends))
 
 pub returns-in-Err-clause-answered : goal.returns-in-Err-clause-answered
 returns-in-Err-clause-answered g c =
-    Checks-fault c.args.sep _ (g.R.Read.remaining c.read_input.new.reader) _ _ _ _ c.in-Err.fault c.in_ok-input.ensures (Keeps-same _) c.in-Err.ensures
+    Checks-fault c.args.sep _ (g.R.Read.remaining c.checked_text.new.reader) _ _ c.in-Err.fault c.in-Err.ensures (Keeps-same _)

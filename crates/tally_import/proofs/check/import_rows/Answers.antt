@@ -1,46 +1,81 @@
-use Rattle.std.proofs.Common.{◌≡◌, ◌≤◌, ◌+◌, ◌-◌, ◌∙◌, sym, ap, subst, take, length, arith}
-use Rattle.tally_import.specs.Check.{rows_of_records}
-use Rattle.tally_import.specs.Progress.{HasTaken}
-use Rattle.tally_import.proofs.RoundsLemmas.{left-more, left-none, all-taken, more-taken, length-rows}
+use Rattle.std.proofs.Common.{rules, ◌≡◌, ◌<◌, ◌≤◌, ◌+◌, ◌++◌, ◌∷◌, ◌∙◌, [], List, ℕ, Option, Some, None, Ok, Err, length, refl, sym, ap, subst, arith, length-append, append_assoc, inl, inr}
+use Rattle.std.proofs.lemmas.List.{append-nil}
+use Rattle.csv.specs.Records.{fields_of}
+use Rattle.tally_import.specs.Check.{rows_of_records, row_limit}
+use Rattle.tally_import.specs.Pieces.{AreAll, AreBehind, HasGiven, sep_of}
+use Rattle.tally_import.specs.Rounds.{Imports}
+use Rattle.tally_import.specs.declared.held.End.{End}
+use Rattle.tally_import.proofs.FoundLemmas.{Imports-ended}
+use Rattle.tally_import.proofs.RoundsLemmas.{more-taken, length-rows}
+use Rattle.tally_import.proofs.WorkLemmas.{HasGiven-partly}
 use Rattle.tally_import.proofs.check.import_rows.Goals as goal
 
-pub returns-then-not-branch : goal.returns-then-not-branch
-returns-then-not-branch g c =
-    let inv = c.loop-taken.invariant in
-    let none = rw c.if-not-branch.true at c.in_ok-next_record.ensures.record in
-    let all = left-none g.records _ c.loop-taken.taken inv.left none in
-    all-taken c.args.lists c.loop-taken.taken g.records c.loop-taken.import inv.rows inv.lists all (omega arith)
+pub loop-taken-init : goal.loop-taken-init
+loop-taken-init g c = record {
+  reading = c.requires.reading;
+  sep = refl;
+  given = ([], refl, c.in_ok-import.ensures, λ text before has. subst (λ l. HasGiven text (g.R.Read.remaining c.args.reader.now) l c.args.records.now) (sym (append-nil before)) has);
+}
 
-pub take-requires : goal.take-requires
-take-requires g c =
+pub returns-in-Some : goal.returns-in-Some
+returns-in-Some g c =
     let inv = c.loop-taken.invariant in
-    let n = c.loop-taken.taken in
-    let lists = c.loop-taken.import.lists in
-    let one_less : n + 1 - 1 ≡ n = omega arith in
-    let within : n ≤ length g.records = inv.within in (
-      subst (λ k. HasTaken (record { lists = lists; rows = rows_of_records lists (take k g.records) }) c.loop-taken.import) (sym one_less) inv.rows,
-      (ap (λ k. k + 1) (sym (ap (λ k. length (rows_of_records lists (take k g.records))) one_less ∙ length-rows lists n g.records within)), omega arith),
-    )
+    let given = inv.given in
+    let AreRows = AreBehind (g.R.Read.remaining c.args.reader.now) (g.R.Read.remaining c.next.new.input) c.args.records.now in
+    subst (Imports c.args.lists AreRows) (sym c.ended.ensures)
+    (Imports-ended c.args.lists AreRows c.loop-taken.import given.0 c.in-Some.end.stop
+    (λ text before has. subst (λ s. AreAll s text (g.R.Read.remaining c.next.new.input) (before ++ given.0) c.in-Some.end.stop) inv.sep
+    (c.in_ok-end.ensures.all c.in-Some.end c.in-Some.is text (before ++ given.0) (given.3 text before has)))
+    given.2 (omega (arith, given.1, c.loop-taken-test.true)))
 
 pub loop-taken-preserved : goal.loop-taken-preserved
 loop-taken-preserved g c =
     let inv = c.loop-taken.invariant in
-    let n = c.loop-taken.taken in
-    let read = rw c.if-not-branch.false at c.in_ok-next_record.ensures.record in
-    let more = left-more g.records _ _ n _ inv.left read in
-    let one_less : n + 1 - 1 ≡ n = omega arith in
-    let taken = c.in_ok-take.ensures in
+    let given = inv.given in
+    let none : c.in_ok-end.field-0 ≡ None = search rules in
+    let fields = fields_of c.next.new.into in
+    let lists = c.args.lists in
+    let left = g.R.Read.remaining c.next.new.input in
+    let number : c.loop-taken.taken + 1 ≡ length (rows_of_records lists given.0) + 1 = omega (arith, length-rows lists given.0, given.1) in
     record {
-      reading = c.in_ok-next_record.ensures.reading c.if-not-branch.false;
-      within = omega (arith, more.0);
-      left = more.2;
-      lists = taken.lists ∙ inv.lists;
-      rows = more-taken c.args.lists n (n + 1 - 1) g.records c.loop-taken.import c.take.new.self _ c.in_ok-row.row one_less more.0 inv.lists more.1 c.in_ok-row.ensures taken;
+      reading = c.in_ok-end.ensures.reading none;
+      sep = c.next.ensures.sep ∙ inv.sep;
+      given = (
+        given.0 ++ fields ∷ [],
+        omega (arith, length-append given.0 (fields ∷ []), given.1),
+        more-taken lists given.0 c.take.new.self fields c.in_ok-row.row c.in_ok-row.ensures
+            (c.in_ok-take.ensures (record { lists = lists; rows = rows_of_records lists given.0 }) given.2 number),
+        (λ text before has. subst (λ l. HasGiven text left l c.next.new.self) (append_assoc before given.0 (fields ∷ []))
+            (c.in_ok-end.ensures.record none text (before ++ given.0) (given.3 text before has))),
+      );
     }
 
-pub returns : goal.returns
-returns g c =
+pub returns-in-Some-2 : goal.returns-in-Some-2
+returns-in-Some-2 g c =
     let inv = c.loop-taken.invariant in
-    let none = rw c.if-branch.false at c.in_ok-next_record-2.ensures.record in
-    let all = left-none g.records _ c.loop-taken.taken inv.left none in
-    all-taken c.args.lists c.loop-taken.taken g.records c.loop-taken.import inv.rows inv.lists all (omega arith)
+    let given = inv.given in
+    let AreRows = AreBehind (g.R.Read.remaining c.args.reader.now) (g.R.Read.remaining c.next-2.new.input) c.args.records.now in
+    subst (Imports c.args.lists AreRows) (sym c.ended-in-Some-2.ensures)
+    (Imports-ended c.args.lists AreRows c.loop-taken.import given.0 c.in-Some-2.end.stop
+    (λ text before has. subst (λ s. AreAll s text (g.R.Read.remaining c.next-2.new.input) (before ++ given.0) c.in-Some-2.end.stop) inv.sep
+    (c.in_ok-end-2.ensures.all c.in-Some-2.end c.in-Some-2.is text (before ++ given.0) (given.3 text before has)))
+    given.2 (omega (arith, given.1, c.loop-taken.auto.taken-end)))
+
+pub returns-in-None : goal.returns-in-None
+returns-in-None g c =
+    let inv = c.loop-taken.invariant in
+    let given = inv.given in
+    let fields = fields_of c.next-2.new.into in
+    let partly = HasGiven-partly c.next-2.new.self in
+    let left = g.R.Read.remaining c.next-2.new.input in
+    let rows = given.0 ++ (fields ∷ partly.0) in
+    inr (
+      rows,
+      partly.1,
+      (λ text before has.
+          subst (λ s. AreAll s text left (before ++ rows) partly.1) (c.next-2.ensures.sep ∙ inv.sep)
+          (subst (λ l. AreAll (sep_of c.next-2.new.self) text left l partly.1)
+          (append_assoc (before ++ given.0) (fields ∷ []) partly.0 ∙ append_assoc before given.0 (fields ∷ partly.0))
+          (partly.2 text left ((before ++ given.0) ++ fields ∷ []) (c.in_ok-end-2.ensures.record c.in-None.is text (before ++ given.0) (given.3 text before has))))),
+      inl (refl, omega (arith, given.1, c.loop-taken-test.false, length-append given.0 (fields ∷ partly.0))),
+    )

@@ -1,18 +1,14 @@
-use Rattle.std.proofs.Common.{◌≡◌, ◌≤◌, ◌-◌, take, drop, length}
+use Rattle.std.proofs.Common.{◌≡◌, ◌++◌, List, ℕ, Option, length}
 use Rattle.tally_import.specs.Check.{rows_of_records}
+use Rattle.tally_import.specs.Pieces.{HasGiven, IsReadingOn, sep_of}
 use Rattle.tally_import.specs.Progress.{HasTaken}
-use Rattle.tally_import.specs.Reading.{IsReading, rows_left}
 use Rattle.tally_import.proofs.check.import_rows.Given as goal
 
 abbrev pub invariant-loop-taken : goal.invariant-loop-taken
 invariant-loop-taken g l = record {
-  reading : IsReading l.reader;
-  within : l.taken ≤ length g.records;
-  left : rows_left l.reader ≡ drop l.taken g.records;
-  lists : l.import.lists ≡ l.lists;
-  rows : HasTaken (record { lists = l.import.lists; rows = rows_of_records l.import.lists (take l.taken g.records) }) l.import;
+  reading : IsReadingOn l.records;
+  sep : sep_of l.records ≡ sep_of l.fn.records;
+  given : (rows : List (List (List ℕ))) × (length rows ≡ l.taken) × HasTaken (record { lists = l.lists; rows = rows_of_records l.lists rows }) l.import
+      × ((text : Option (List ℕ)) (before : List (List (List ℕ))) → HasGiven text (g.R.Read.remaining l.fn.reader) before l.fn.records
+      → HasGiven text (g.R.Read.remaining l.reader) (before ++ rows) l.records);
 }
-
-abbrev pub ghost-take : goal.ghost-take
-ghost-take g a =
-    record { lists = a.self.now.lists; rows = rows_of_records a.self.now.lists (take (a.number - 1) g.records) }

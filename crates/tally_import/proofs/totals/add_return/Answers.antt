@@ -5,34 +5,34 @@ use Rattle.tally_import.proofs.TotalsLemmas.{blank-small, spoiled-small, vote-sm
 use Rattle.tally_import.proofs.totals.add_return.Goals as goal
 
 pub add_votes-requires-clause-room : goal.add_votes-requires-clause-room
-add_votes-requires-clause-room g c place =
+add_votes-requires-clause-room c place =
     let lists = length c.args.counts.now.votes in
-    let total = total-small lists g.returns c.args.totals.now c.requires.0 c.requires.1.1 place in
-    let one = vote-small lists place c.args.counts.now c.requires.1.0 in
+    let total = total-small lists c.requires.totals.0 c.args.totals.now c.requires.totals.1 c.requires.totals.2 place in
+    let one = vote-small lists place c.args.counts.now c.requires.counts in
     let votes = ap (λ v. v.votes) c.counts.view_is in
     rw (c.as_mut_slice.ensures.value, c.as_slice.ensures.value, votes) (omega (arith, total, one))
 
 pub overflow_add-totals : goal.overflow_add-totals
-overflow_add-totals g c =
+overflow_add-totals c =
     let lists = length c.args.counts.now.votes in
-    let sum : sum_by (λ c. c.blank) g.returns ≤ length g.returns * 1000000 = sum-small lists (λ c. c.blank) (blank-small lists) g.returns c.requires.0.each in
-    let one = blank-small lists c.args.counts.now c.requires.1.0 in
-    omega (arith, c.requires.0.blank, c.from.ensures, sum, one, ap (λ v. v.blank) c.counts.view_is)
+    let sum : sum_by (λ c. c.blank) c.requires.totals.0 ≤ length c.requires.totals.0 * 1000000 = sum-small lists (λ c. c.blank) (blank-small lists) c.requires.totals.0 c.requires.totals.1.each in
+    let one = blank-small lists c.args.counts.now c.requires.counts in
+    omega (arith, c.requires.totals.1.blank, c.from.ensures, sum, one, ap (λ v. v.blank) c.counts.view_is)
 
 pub overflow_add-totals-2 : goal.overflow_add-totals-2
-overflow_add-totals-2 g c =
+overflow_add-totals-2 c =
     let lists = length c.args.counts.now.votes in
-    let sum : sum_by (λ c. c.spoiled) g.returns ≤ length g.returns * 1000000 = sum-small lists (λ c. c.spoiled) (spoiled-small lists) g.returns c.requires.0.each in
-    let one = spoiled-small lists c.args.counts.now c.requires.1.0 in
-    omega (arith, c.requires.0.spoiled, c.from-2.ensures, sum, one, ap (λ v. v.spoiled) c.counts.view_is)
+    let sum : sum_by (λ c. c.spoiled) c.requires.totals.0 ≤ length c.requires.totals.0 * 1000000 = sum-small lists (λ c. c.spoiled) (spoiled-small lists) c.requires.totals.0 c.requires.totals.1.each in
+    let one = spoiled-small lists c.args.counts.now c.requires.counts in
+    omega (arith, c.requires.totals.1.spoiled, c.from-2.ensures, sum, one, ap (λ v. v.spoiled) c.counts.view_is)
 
 pub returns : goal.returns
-returns g c =
+returns c lodged h =
     let lists = length c.args.counts.now.votes in
     let same : length c.add_votes.new.totals ≡ length c.as_mut_slice.result.now = c.add_votes.auto.totals in
     let is = with_items_is c.args.totals.now.votes c.add_votes.new.totals (same ∙ c.as_mut_slice.ensures.len) in
-    AreTotals-push lists g.returns c.args.counts.now c.args.totals.now _ c.requires.0 c.requires.1.0
-    (ap length is ∙ same ∙ ap length c.as_mut_slice.ensures.value ∙ c.requires.0.count)
+    AreTotals-push lists lodged c.args.counts.now c.args.totals.now _ h c.requires.counts
+    (ap length is ∙ same ∙ ap length c.as_mut_slice.ensures.value ∙ h.count)
     (λ place. ap (λ ws. get_or ws place 0) is ∙ c.add_votes.ensures place
     ∙ ap (λ ws. get_or ws place 0 + get_or c.as_slice.result.now place 0) c.as_mut_slice.ensures.value
     ∙ ap (λ ws. get_or c.args.totals.now.votes.items place 0 + get_or ws place 0) (c.as_slice.ensures.value ∙ ap (λ v. v.votes) c.counts.view_is))

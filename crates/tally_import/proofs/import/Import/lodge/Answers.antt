@@ -1,8 +1,8 @@
 use Rattle.std.proofs.Common.{◌≡◌, ◌∙◌, ◌++◌, ◌∷◌, [], sym, ap, subst, Ok}
 use Rattle.std.specs.FinMap.{insert}
 use Rattle.std.specs.Option.{option_copied}
-use Rattle.tally_core.proofs.CountsLemmas.{are_counts-lodged, length-counts}
-use Rattle.tally_core.specs.declared.reply.Reply.TheVariants.{Lodged}
+use Rattle.tally_machine.proofs.CountsLemmas.{are_counts-lodged, length-counts}
+use Rattle.tally_machine.specs.declared.reply.LodgeReply.TheVariants.{Lodged}
 use Rattle.tally_import.specs.Check.{every_code}
 use Rattle.tally_import.specs.Progress.{Holds, lodged_of}
 use Rattle.tally_import.specs.Totals.{AreTotals}
@@ -10,25 +10,24 @@ use Rattle.tally_import.proofs.ProgressLemmas.{Holds-insert, lodge-lodged, answe
 use Rattle.tally_import.proofs.import.Import.lodge.Goals as goal
 
 pub returns-clause-table : goal.returns-clause-table
-returns-clause-table g c =
+returns-clause-table c s holds =
     let old = c.args.self.now in
     let new = c.insert.new.self in
     let station = c.args.station in
-    let s = g.held.returns in
     let answer = answer-held old.lists old.returns s station c.args.slip c.args.counts _ c.decide_lodge-answer.result
-    c.requires.1.0 c.get-found.ensures.value c.decide_lodge-answer.ensures in
+    holds c.get-found.ensures.value c.decide_lodge-answer.ensures in
     let way = c.in-Ok-Lodged in
     let lodged : c.decide_lodge-answer.result ≡ Ok (Lodged way.field-0-0) = way.is ∙ ap Ok (rw way.is at way.field-0-is) in
     let is = lodge-lodged (every_code old.lists) s station c.args.slip c.args.counts way.field-0-0 (answer ∙ lodged) in
-    let held = Holds-insert old.returns new s station c.lodged-lodged.result c.requires.1.0 c.in_ok-insert.ensures.updates in
+    let held = Holds-insert old.returns new s station c.lodged-lodged.result holds c.in_ok-insert.ensures.updates in
     subst (Holds new) (sym is) (subst (λ r. Holds new (insert s station r)) c.lodged-lodged.ensures held)
 
 pub returns-clause-totals : goal.returns-clause-totals
-returns-clause-totals g c =
+returns-clause-totals c before totals =
     let lists = c.args.self.now.lists in
     let counts = c.args.counts in
     let way = c.in-Ok-Lodged in
     let lodged : c.decide_lodge-answer.result ≡ Ok (Lodged way.field-0-0) = way.is ∙ ap Ok (rw way.is at way.field-0-is) in
     let good = are_counts-lodged (record { lists = lists; electors = 1000000 }) (option_copied c.get-found.result) c.args.slip counts way.field-0-0 (sym c.decide_lodge-answer.ensures ∙ lodged) in
-    subst (λ answer. AreTotals lists (g.held.lodged ++ lodged_of counts answer) c.add_return.new.totals) (sym lodged)
-    (subst (λ n. AreTotals n (g.held.lodged ++ counts ∷ []) c.add_return.new.totals) (length-counts lists counts good) c.add_return.ensures)
+    subst (λ answer. AreTotals lists (before ++ lodged_of counts answer) c.add_return.new.totals) (sym lodged)
+    (subst (λ n. AreTotals n (before ++ counts ∷ []) c.add_return.new.totals) (length-counts lists counts good) (c.add_return.ensures before (subst (λ n. AreTotals n before c.args.self.now.totals) (sym (length-counts lists counts good)) totals)))

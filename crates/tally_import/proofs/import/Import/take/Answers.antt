@@ -1,4 +1,4 @@
-use Rattle.std.proofs.Common.{◌≡◌, ◌≤◌, ◌+◌, ◌++◌, ◌∷◌, [], ◌∙◌, Some, sym, ap, subst, refl, length, arith}
+use Rattle.std.proofs.Common.{◌≡◌, ◌≤◌, ◌+◌, ◌++◌, ◌∷◌, [], ◌∙◌, sym, ap, subst, refl, length, arith}
 use Rattle.std.specs.FinMap.{empty}
 use Rattle.std.proofs.lemmas.List.{append-nil}
 use Rattle.tally_core.specs.Import.{row_answer, after_row, imported, count_of, lodged_counts}
@@ -9,46 +9,51 @@ use Rattle.tally_import.specs.Totals.{AreTotals}
 use Rattle.tally_import.proofs.ProgressLemmas.{HasTaken-push, lodged-few, length-answered}
 use Rattle.tally_import.proofs.import.Import.take.Goals as goal
 
-pub add-requires : goal.add-requires
-add-requires g c = (c.requires.0.count, c.requires.1.0 ∙ ap (λ n. n + 1) (sym (length-answered g.taken)))
+pub count_row-requires-clause-before : goal.count_row-requires-clause-before
+count_row-requires-clause-before c =
+    let taken = c.requires.so_far.0 in
+    (answered taken, c.requires.so_far.1.count, c.requires.so_far.2 ∙ ap (λ n. n + 1) (sym (length-answered taken)))
 
 pub returns-in_default : goal.returns-in_default
-returns-in_default g c =
-    let h = c.requires.0 in
-    let new = record c.args.self.now { count = c.add.new.self } in
-    subst (λ r. HasTaken (record g.taken { rows = g.taken.rows ++ r ∷ [] }) new) (sym c.in_default.is)
-    (HasTaken-push g.taken c.args.self.now new Bad h refl h.table c.add.ensures (rw append-nil h.totals))
+returns-in_default c taken h next =
+    let new = record c.args.self.now { count = c.count_row.new.count } in
+    subst (λ r. HasTaken (record taken { rows = taken.rows ++ r ∷ [] }) new) (sym c.in_default.is)
+    (HasTaken-push taken c.args.self.now new Bad h refl h.table (c.count_row.ensures (answered taken) h.count (next ∙ ap (λ n. n + 1) (sym (length-answered taken)))) (rw append-nil h.totals))
 
 pub lodge_row-requires : goal.lodge_row-requires
-lodge_row-requires g c =
-    let h = c.requires.0 in
-    let lodged : length (lodged_counts g.taken.rows (answered g.taken)) ≤ length g.taken.rows = lodged-few g.taken in
-    let lists : c.args.self.now.lists ≡ g.taken.lists = h.lists in (
-      subst (λ n. n ≤ 60) (sym lists) h.few,
-      (
-        h.table,
-        (
-          subst (λ n. AreTotals n (lodged_counts g.taken.rows (answered g.taken)) c.args.self.now.totals) (sym lists) h.totals,
-          omega (arith, lodged, c.requires.1.0, c.requires.1.1),
-        ),
-      ),
-    )
+lodge_row-requires c =
+    let taken = c.requires.so_far.0 in
+    let h = c.requires.so_far.1 in
+    let lodged : length (lodged_counts taken.rows (answered taken)) ≤ length taken.rows = lodged-few taken in
+    let lists : c.args.self.now.lists ≡ taken.lists = h.lists in
+    record {
+      lists = subst (λ n. n ≤ 60) (sym lists) h.few;
+      totals = (
+        lodged_counts taken.rows (answered taken),
+        subst (λ n. AreTotals n (lodged_counts taken.rows (answered taken)) c.args.self.now.totals) (sym lists) h.totals,
+        omega (arith, lodged, c.requires.so_far.2, c.requires.few),
+      );
+    }
 
-pub add-requires-2 : goal.add-requires-2
-add-requires-2 g c = (c.in_ok-answer.ensures.count ∙ c.requires.0.count, c.requires.1.0 ∙ ap (λ n. n + 1) (sym (length-answered g.taken)))
+pub count_row-requires-2-clause-before : goal.count_row-requires-2-clause-before
+count_row-requires-2-clause-before c =
+    let taken = c.requires.so_far.0 in
+    (answered taken, c.in_ok-answer.ensures.count ∙ c.requires.so_far.1.count, c.requires.so_far.2 ∙ ap (λ n. n + 1) (sym (length-answered taken)))
 
 pub returns : goal.returns
-returns g c =
-    let h = c.requires.0 in
+returns c taken h next =
     let lodged = c.in_ok-answer.ensures in
-    let s = imported (stations g.taken) empty g.taken.rows in
+    let s = imported (stations taken) empty taken.rows in
     let ask = c.in-Lodge.ask in
-    let same : every_code c.args.self.now.lists ≡ stations g.taken = ap every_code h.lists in
-    let answer = subst (λ st. row_answer st s (Lodge ask) ≡ c.in_ok-answer.answer) same lodged.answer in
-    let held = subst (λ st. Holds c.lodge_row.new.self.returns (after_row st s (Lodge ask))) same lodged.table in
-    let totals = subst (λ n. AreTotals n (lodged_counts g.taken.rows (answered g.taken) ++ lodged_counts (Lodge ask ∷ []) (c.in_ok-answer.answer ∷ [])) c.lodge_row.new.self.totals) h.lists lodged.totals in
-    let new = record c.lodge_row.new.self { count = c.add-2.new.self } in
-    subst (λ r. HasTaken (record g.taken { rows = g.taken.rows ++ r ∷ [] }) new) (sym c.in-Lodge.is)
-    (HasTaken-push g.taken c.args.self.now new (Lodge ask) h lodged.lists held
-    (c.add-2.ensures ∙ ap (λ a. count_of (answered g.taken ++ a ∷ [])) (sym answer))
-    (subst (λ a. AreTotals g.taken.lists (lodged_counts g.taken.rows (answered g.taken) ++ lodged_counts (Lodge ask ∷ []) (a ∷ [])) c.lodge_row.new.self.totals) (sym answer) totals))
+    let same : every_code c.args.self.now.lists ≡ stations taken = ap every_code h.lists in
+    let answer = subst (λ st. row_answer st s (Lodge ask) ≡ c.in_ok-answer.answer) same (lodged.answer s h.table) in
+    let held = subst (λ st. Holds c.lodge_row.new.self.returns (after_row st s (Lodge ask))) same (lodged.table s h.table) in
+    let before = lodged_counts taken.rows (answered taken) in
+    let totals = subst (λ n. AreTotals n (before ++ lodged_counts (Lodge ask ∷ []) (c.in_ok-answer.answer ∷ [])) c.lodge_row.new.self.totals) h.lists
+    (lodged.totals before (subst (λ n. AreTotals n before c.args.self.now.totals) (sym h.lists) h.totals)) in
+    let new = record c.lodge_row.new.self { count = c.count_row-2.new.count } in
+    let counted = c.count_row-2.ensures (answered taken) (lodged.count ∙ h.count) (next ∙ ap (λ n. n + 1) (sym (length-answered taken))) in
+    subst (λ r. HasTaken (record taken { rows = taken.rows ++ r ∷ [] }) new) (sym c.in-Lodge.is)
+    (HasTaken-push taken c.args.self.now new (Lodge ask) h lodged.lists held
+    (counted ∙ ap (λ a. count_of (answered taken ++ a ∷ [])) (sym answer))
+    (subst (λ a. AreTotals taken.lists (before ++ lodged_counts (Lodge ask ∷ []) (a ∷ [])) c.lodge_row.new.self.totals) (sym answer) totals))

@@ -1,0 +1,137 @@
+#!/usr/bin/env python3
+"""Refuses a check its memory, once at each place where it asks for some.
+
+A library of a few lines of C stands before the allocator of the C library. It refuses the first
+request for memory, then in another run the second, and so on until a run makes fewer requests than
+that; and again so that every request from the chosen one on is refused. Each run of `office check`
+has to end with status 3 and `failed: memory`, with nothing on standard output, or to do without
+what was refused and answer as it does with ample memory.
+
+    bench/refused_memory.py [--program PATH]
+
+A C compiler is needed, as `cc`.
+"""
+
+import argparse
+import os
+import subprocess
+import sys
+import tempfile
+from pathlib import Path
+
+HERE = Path(__file__).resolve().parent
+PROGRAM = HERE.parent / "crates" / "tally_office" / "out" / "tally_office"
+
+# Counts the requests, and tells at the end how many there were.
+LIBRARY = r"""
+#define _GNU_SOURCE
+#include <dlfcn.h>
+#include <stdio.h>
+#include <stdlib.h>
+
+static long asked, first, last;
+
+static int is_refused(void)
+{
+    asked++;
+    return first <= asked && asked <= last;
+}
+
+__attribute__((constructor)) static void begin(void)
+{
+    first = atol(getenv("REFUSE_FIRST"));
+    last = atol(getenv("REFUSE_LAST"));
+    asked = 0;
+}
+
+__attribute__((destructor)) static void end(void)
+{
+    dprintf(atoi(getenv("REFUSE_TOLD")), "%ld", asked);
+}
+
+void *malloc(size_t size)
+{
+    static void *(*real)(size_t);
+    if (!real)
+        real = dlsym(RTLD_NEXT, "malloc");
+    return is_refused() ? NULL : real(size);
+}
+
+void *realloc(void *old, size_t size)
+{
+    static void *(*real)(void *, size_t);
+    if (!real)
+        real = dlsym(RTLD_NEXT, "realloc");
+    return is_refused() ? NULL : real(old, size);
+}
+"""
+
+WHOLE = 2**62
+
+
+def texts():
+    """Short texts, and one that makes every container grow."""
+    header = "station,slip,blank,spoiled,A,B\n"
+    rows = [f"s{n},p{n},0,0,{n},{2 * n}\n" for n in range(2_000)]
+    quoted = [f'"s{n}","p\n{n}",0,0,"{n}",x\r\n' for n in range(100)]
+    return {
+        "a header": header,
+        "one row of each kind": header + "s1,p1,0,0,1,2\ns1,p1,0,0,1,2\ns1,p2,0,0,1,2\ns2,p1,0,0,1,1000001\nx\n",
+        "2,000 stations": header + "".join(rows),
+        "fields in quotes": header + "".join(quoted),
+    }
+
+
+class Checks:
+    """Runs of a check under the library."""
+
+    def __init__(self, program, library):
+        self.program = program
+        self.library = library
+
+    def run(self, text, first, last):
+        """Refuses these requests: how many there were, and what the run wrote and answered."""
+        reader, writer = os.pipe()
+        names = {"LD_PRELOAD": self.library, "REFUSE_FIRST": str(first), "REFUSE_LAST": str(last), "REFUSE_TOLD": str(writer)}
+        done = subprocess.run([self.program, "check"], input=text.encode(), capture_output=True, env=names, pass_fds=[writer])
+        os.close(writer)
+        with os.fdopen(reader) as told:
+            asked = int(told.read())
+        return asked, (done.returncode, done.stdout, done.stderr)
+
+    def refuse_each(self, name, text):
+        asked, ample = self.run(text, WHOLE, WHOLE)
+        if ample[0] != 0:
+            sys.exit(f"{name}: with ample memory the status is {ample[0]}")
+        did_without = 0
+        for one_alone in (True, False):
+            at = 1
+            while True:
+                count, answer = self.run(text, at, at if one_alone else WHOLE)
+                if count < at:
+                    break
+                if answer == ample:
+                    did_without += 1
+                elif answer != (3, b"", b"failed: memory\n"):
+                    sys.exit(f"{name}: with request {at} refused the answer is {answer}")
+                at += 1
+            if at != asked + 1:
+                sys.exit(f"{name}: {asked} requests with ample memory, and {at - 1} of them were refused")
+        print(f"{name}: each of {asked} requests refused, alone and with all behind it; {did_without} times the check did without")
+
+
+def main():
+    words = argparse.ArgumentParser(description=__doc__.splitlines()[0])
+    words.add_argument("--program", type=Path, default=PROGRAM)
+    given = words.parse_args()
+    with tempfile.TemporaryDirectory() as folder:
+        source = Path(folder) / "refuse.c"
+        library = Path(folder) / "refuse.so"
+        source.write_text(LIBRARY)
+        subprocess.run(["cc", "-O1", "-shared", "-fPIC", "-o", library, source, "-ldl"], check=True)
+        checks = Checks(given.program.resolve(), str(library))
+        for name, text in texts().items():
+            checks.refuse_each(name, text)
+
+
+main()

@@ -1,0 +1,7 @@
+use Rattle.tally_contest.specs.Race.{IsLowestBefore}
+use Rattle.tally_contest.specs.Terms.{placed_race}
+use Rattle.tally_contest.proofs.contest.lowest_last.Given as goal
+
+-- the lowest among the lists so far
+abbrev pub invariant-loop-list : goal.invariant-loop-list
+invariant-loop-list g l = IsLowestBefore (placed_race (g.C.Contest.terms l.contest)) l.seats l.list l.lowest

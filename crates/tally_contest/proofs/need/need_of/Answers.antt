@@ -1,0 +1,28 @@
+use Rattle.std.proofs.Common.{ℕ, subst, sym, ◌∙◌}
+use Rattle.std.proofs.lemmas.Bool.{false≢true}
+use Rattle.tally_contest.specs.LotNeed.{IsNeed}
+use Rattle.tally_contest.specs.Terms.{HaveVotes, IsClassOf}
+use Rattle.tally_contest.proofs.NeedInPlaces.{decided_without_last, decided_without_next, decided_if_above, need_unless_above, few_lists_of}
+use Rattle.tally_contest.proofs.need.need_of.Goals as goal
+
+pub returns-in_default : goal.returns-in_default
+returns-in_default g c = decided_without_last (g.C.Contest.terms c.args.contest.now) c.requires.sound c.args.seats.now c.requires.fair c.in_default.ensures
+
+pub returns-in_default-highest_next : goal.returns-in_default-highest_next
+returns-in_default-highest_next g c = decided_without_next (g.C.Contest.terms c.args.contest.now) c.requires.sound c.args.seats.now c.requires.fair c.in_default-highest_next.ensures
+
+pub returns-then-is_above_by_votes : goal.returns-then-is_above_by_votes
+returns-then-is_above_by_votes g c =
+    decided_if_above (g.C.Contest.terms c.args.contest.now) c.requires.sound c.args.seats.now c.requires.fair c.in-Some.last c.in-Some-highest_next.next c.in-Some.ensures c.in-Some-highest_next.ensures (c.is_above_by_votes.ensures.0 c.if-is_above_by_votes.true)
+
+pub holders_of-requires : goal.holders_of-requires
+holders_of-requires g c = few_lists_of (g.C.Contest.terms c.args.contest.now) c.requires.sound c.args.seats.now c.requires.fair
+
+pub returns : goal.returns
+returns g c =
+    let terms = g.C.Contest.terms c.args.contest.now in
+    let P : ℕ → Type 0 = λ votes. HaveVotes terms.poll votes c.lists_with-group.result in
+    let class : IsClassOf terms.poll c.in-Some.last c.lists_with-group.result = subst P c.votes-tied_votes.ensures c.lists_with-group.ensures in
+    let need = need_unless_above terms c.requires.sound c.args.seats.now c.requires.fair c.in-Some.last c.in-Some-highest_next.next c.in-Some.ensures c.in-Some-highest_next.ensures (λ above. false≢true (sym c.if-is_above_by_votes.false ∙ c.is_above_by_votes.ensures.1 above)) c.lists_with-group.result class in
+    let Q : ℕ → Type 0 = λ n. IsNeed terms.rule terms.poll terms.seats c.lists_with-group.result n in
+    subst Q (sym c.holders_of.ensures) need

@@ -1,0 +1,17 @@
+pub mod Poll
+pub mod Lot
+pub mod ListSet
+pub mod DivisorAllotment
+pub mod HareAllotment
+pub mod Allotment
+pub mod Rules
+pub mod LotNeed
+pub mod Premises
+pub mod Sums
+pub mod Race
+pub mod Terms
+pub mod HareTerms
+pub mod Quotas
+pub mod Claims
+pub mod Won
+pub mod NextPairs

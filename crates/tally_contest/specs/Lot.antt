@@ -1,0 +1,18 @@
+-- A lot: the places of some lists, in the order in which they were drawn. LOREG article 163.1 d) has the first tie solved by lot and later ones in turn; that one order decides every tie is this project's own rule.
+use Rattle.std.specs.Prelude.{ℕ, ◌≡◌, ◌+◌, ◌<◌, ◌≢◌, ◌==◌, List, [], ◌∷◌, Bool, true, false, slice_index, slice_index_or, length, if◌then◌else◌}
+use Rattle.tally_contest.specs.ListSet.{has_place}
+
+-- the place of list l in a lot whose first has this number, and its place in the setup where the lot does not name it
+abbrev pub place_from : ℕ → List ℕ → ℕ → ℕ
+place_from number [] l = l + 1
+place_from number (place ∷ rest) l = if place == l + 1 then number else place_from (number + 1) rest l
+
+-- The place of list l under a lot.
+abbrev pub place_of : List ℕ → ℕ → ℕ
+place_of lot l = place_from 1 lot l
+
+-- The lot names each list of a group once, and no other.
+pub record IsOrderOf (group : List Bool) (lot : List ℕ) : Type 0 where
+  pub all : (l : ℕ) → slice_index_or group l false ≡ true → (i : ℕ) × (i < length lot) × (slice_index lot i ≡ l + 1)
+  pub no_other : (i : ℕ) → i < length lot → has_place group (slice_index lot i) ≡ true
+  pub once : (i j : ℕ) → i < j → j < length lot → slice_index lot i ≢ slice_index lot j

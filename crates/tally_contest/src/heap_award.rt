@@ -1,0 +1,119 @@
+//! The award of the seats under a divisor rule, from a heap of keys.
+
+ghost use Rattle.std.specs.Prelude.{◌≡◌, ℕ, ◌+◌, ◌<◌, ◌≤◌, IfOk, IfErr, OnOk, length, slice_index, slice_set, sum};
+ghost use Rattle.std.specs.BinaryHeap.{IsHeap, heap_items};
+ghost use Rattle.tally_contest.specs.Allotment.{divisors as by_divisors};
+ghost use Rattle.tally_contest.specs.Poll.{HasEligible};
+ghost use Rattle.tally_contest.specs.LotNeed.{IsLotTaken};
+ghost use Rattle.tally_contest.specs.NextPairs.{AreNext, HaveKeys, keyed, keyed_cmp, poll_of, terms_of};
+ghost use Rattle.tally_contest.specs.Poll.{IsEligible};
+ghost use Rattle.tally_contest.specs.Race.{IsFair, IsHighestNext};
+ghost use Rattle.tally_contest.specs.Terms.{AreSound, ArePlacedApart, placed_divisor_race, placed_race, poll_under};
+ghost use Rattle.tally_contest.specs.Won.{AreWon, none_held};
+
+use crate::contest::Contest;
+use crate::divisor_contest::DivisorContest;
+use crate::won::{Won, no_seats};
+use std::alloc::{AllocError, Global};
+use std::collections::BinaryHeap;
+use tally_frac::{Divisors, RankKey};
+
+/// The seats of each list, and the pairs that won them, from the highest rank to the lowest.
+#[derive(Drop)]
+pub struct Given {
+    /// The seats of each list, in order of place.
+    pub seats: Vec<u32>,
+    /// One pair for each seat.
+    pub rows: Vec<Won>,
+}
+
+/// Gives all the seats, each to the list whose next pair has the greatest key (LOREG article 163.1
+/// c) and d)).
+pub fn award_from_heap<D: Divisors>(
+    alloc: Global,
+    contest: &DivisorContest<D>,
+) -> Result<Given, AllocError>
+    requires sound { AreSound (terms_of D.divisor contest.now) }
+    requires apart { ArePlacedApart (poll_of contest.now) contest.now.lot.now }
+    requires keys { HaveKeys (D.divisor contest.now.divisors) (poll_of contest.now) contest.now.lot.now }
+    requires eligible { HasEligible (poll_of contest.now) }
+    ensures fair { IfOk result (λ given. IsFair (placed_race (terms_of D.divisor contest.now)) contest.now.seats given.seats.items) }
+    ensures won { IfOk result (λ given. AreWon (placed_race (terms_of D.divisor contest.now)) given.seats.items given.rows.items) }
+{
+    let mut next = first_pairs(alloc, contest)?;
+    let mut seats = no_seats(alloc, contest.count())?;
+    let mut rows = Vec::with_capacity(alloc, contest.seats() as usize)?;
+    for _seat in 0..contest.seats() {
+        rows.push(award_next(contest, &mut next, &mut seats)?)?;
+    }
+    Ok(Given { seats, rows })
+}
+
+/// Gives one seat to the list of the greatest pair, and puts that list's next one into the heap.
+fn award_next<D: Divisors>(
+    contest: &DivisorContest<D>,
+    next: &mut BinaryHeap<(RankKey, usize, u32)>,
+    seats: &mut [u32],
+) -> Result<Won, AllocError>
+    requires sound { AreSound (terms_of D.divisor contest.now) }
+    requires keys { HaveKeys (D.divisor contest.now.divisors) (poll_of contest.now) contest.now.lot.now }
+    requires eligible { HasEligible (poll_of contest.now) }
+    requires fair { IsFair (placed_race (terms_of D.divisor contest.now)) (sum seats.old) seats.old }
+    requires room { sum seats.old < contest.now.seats }
+    requires order { IsHeap keyed_cmp (heap_items next.old) }
+    requires next { AreNext (D.divisor contest.now.divisors) (poll_of contest.now) contest.now.lot.now (length contest.now.poll.votes.now) seats.old (heap_items next.old) }
+    ensures highest { IfOk result (λ won. IsHighestNext (placed_race (terms_of D.divisor contest.now)) seats.old won.list) }
+    ensures seat { IfOk result (λ won. won.seat ≡ slice_index seats.old won.list + 1) }
+    ensures seats { IfOk result (λ won. seats.new ≡ slice_set seats.old won.list won.seat) }
+    ensures order { OnOk result (IsHeap keyed_cmp (heap_items next.new)) }
+    ensures next { OnOk result (AreNext (D.divisor contest.now.divisors) (poll_of contest.now) contest.now.lot.now (length contest.now.poll.votes.now) seats.new (heap_items next.new)) }
+{
+    let (list, seat) = match next.pop() {
+        Some((_key, list, seat)) => (list, seat),
+        None => unreachable!(),
+    };
+    // Even a list that holds all seats now has a next pair: it is its 501st at most, and never wins.
+    next.push(keyed_pair(contest, list, seat + 1))?;
+    seats[list] = seat;
+    Ok(Won { list, seat })
+}
+
+/// The first pair of each eligible list.
+fn first_pairs<D: Divisors>(
+    alloc: Global,
+    contest: &DivisorContest<D>,
+) -> Result<BinaryHeap<(RankKey, usize, u32)>, AllocError>
+    requires sound { AreSound (terms_of D.divisor contest.now) }
+    requires keys { HaveKeys (D.divisor contest.now.divisors) (poll_of contest.now) contest.now.lot.now }
+    ensures order { IfOk result (λ next. IsHeap keyed_cmp (heap_items next)) }
+    ensures next { IfOk result (λ next. AreNext (D.divisor contest.now.divisors) (poll_of contest.now) contest.now.lot.now (length contest.now.poll.votes.now) (none_held (length contest.now.poll.votes.now)) (heap_items next)) }
+{
+    let mut next = BinaryHeap::with_capacity(alloc, contest.count())?;
+    for list in 0..contest.count() {
+        if contest.is_eligible(list) {
+            next.push(keyed_pair(contest, list, 1))?;
+        }
+    }
+    Ok(next)
+}
+
+/// A pair of an eligible list and one of its seats, with its key first: such tuples compare by key.
+fn keyed_pair<D: Divisors>(
+    contest: &DivisorContest<D>,
+    list: usize,
+    seat: u32,
+) -> (RankKey, usize, u32)
+    requires listed { list < length contest.now.poll.votes.now }
+    requires few { length contest.now.poll.votes.now ≤ 60 }
+    requires eligible { IsEligible (poll_of contest.now) list }
+    requires first { 1 ≤ seat }
+    requires last { seat ≤ 501 }
+    requires keys { HaveKeys (D.divisor contest.now.divisors) (poll_of contest.now) contest.now.lot.now }
+    ensures { result ≡ keyed (D.divisor contest.now.divisors) (poll_of contest.now) contest.now.lot.now list seat }
+{
+    let place = contest.places[list] as u32;
+    match RankKey::new(contest.votes(list), contest.divisors.nth(seat), place) {
+        Some(key) => (key, list, seat),
+        None => unreachable!(),
+    }
+}

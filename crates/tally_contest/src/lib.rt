@@ -1,0 +1,30 @@
+//! The contest of lists for the seats of a poll: who has which pairs of a list and a seat, which of two
+//! ranks above, the award of the seats by each rule, and the lot that is needed. `tally_allot` stands
+//! on it and has the calls for programs.
+#![tactic(auto)]
+
+mod contest;
+mod divisor_contest;
+mod hare_contest;
+mod heap_award;
+mod list_set;
+mod lot;
+mod need;
+mod poll;
+mod quota;
+mod remainder_award;
+mod scan_award;
+mod won;
+
+pub use contest::{Contest, has_eligible, is_fair};
+pub use divisor_contest::DivisorContest;
+pub use hare_contest::HareContest;
+pub use heap_award::{Given, award_from_heap};
+pub use list_set::ListSet;
+pub use lot::{is_order_of, places_under};
+pub use need::{Need, need_of};
+pub use poll::Poll;
+pub use quota::{Quota, quotas_of};
+pub use remainder_award::award_remainders;
+pub use scan_award::contested_seats;
+pub use won::Won;

@@ -1,0 +1,74 @@
+//! Whether a lot is needed.
+
+ghost use Rattle.std.specs.Prelude.{◌≡◌, ℕ, ◌<◌, ◌≤◌, MatchOption, length, slice_index, sum};
+ghost use Rattle.tally_contest.specs.LotNeed.{IsDecidedByVotes, IsNeed};
+ghost use Rattle.tally_contest.specs.Race.{IsFair};
+ghost use Rattle.tally_contest.specs.Sums.{sum_before, holds_at};
+ghost use Rattle.tally_contest.specs.Terms.{AreSound, HaveVotes, placed_race};
+
+use crate::contest::{Contest, highest_next, lowest_last};
+use crate::list_set::ListSet;
+
+/// The lot that is needed where the votes leave a choice (LOREG article 163.1 d)): the lists among
+/// which it decides, and the seats in question.
+#[derive(Clone, Copy, Debug, PartialEq, Eq)]
+pub struct Need {
+    /// The lists among which the lot decides: all the eligible lists of one number of votes.
+    pub group: ListSet,
+    /// The seats in question, 1 or more.
+    pub seats: u32,
+}
+
+/// The lot that is needed, seen from seats that the votes allow: the pair that won last and the
+/// highest that did not win tie.
+pub fn need_of<C: Contest>(contest: &C, seats: &[u32]) -> Option<Need>
+    requires sound { AreSound (C.terms contest.now) }
+    requires fair { IsFair (placed_race (C.terms contest.now)) (C.terms contest.now).seats seats.now }
+    ensures { MatchOption result (IsDecidedByVotes (C.terms contest.now).rule (C.terms contest.now).poll (C.terms contest.now).seats) (λ need. IsNeed (C.terms contest.now).rule (C.terms contest.now).poll (C.terms contest.now).seats need.group need.seats) }
+{
+    let Some(last) = lowest_last(contest, seats) else {
+        return None;
+    };
+    let Some(next) = highest_next(contest, seats) else {
+        return None;
+    };
+    let last_held = seats[last];
+    let next_held = seats[next];
+    if contest.is_above_by_votes(last, last_held, next, next_held + 1) {
+        return None;
+    }
+    let tied_votes = contest.votes(last);
+    let group = lists_with(contest, tied_votes);
+    Some(Need {
+        group,
+        seats: holders_of(&group, seats, last_held),
+    })
+}
+
+/// The eligible lists with so many votes.
+fn lists_with<C: Contest>(contest: &C, votes: u64) -> ListSet
+    requires sound { AreSound (C.terms contest.now) }
+    ensures { HaveVotes (C.terms contest.now).poll votes result }
+{
+    let mut lists = ListSet::empty();
+    for list in 0..contest.count() {
+        if contest.is_eligible(list) && contest.votes(list) == votes {
+            lists.insert(list);
+        }
+    }
+    lists
+}
+
+/// How many lists of a group hold so many seats.
+fn holders_of(group: &ListSet, seats: &[u32], held: u32) -> u32
+    requires { length seats.now ≤ 60 }
+    ensures { result ≡ sum_before (holds_at group.now seats.now held) (length seats.now) }
+{
+    let mut holders = 0;
+    for list in 0..seats.len() {
+        if group.has_list(list) && seats[list] == held {
+            holders += 1;
+        }
+    }
+    holders
+}

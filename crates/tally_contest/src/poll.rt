@@ -1,0 +1,78 @@
+//! The votes of a poll, and which lists are eligible.
+
+ghost use Rattle.std.specs.Prelude.{◌≡◌, ◌<◌, ◌≤◌, length, sum, slice_index, slice_index_or, false};
+ghost use Rattle.tally_rules.specs.Threshold.{IsWithinVotes};
+ghost use Rattle.tally_contest.specs.Poll.{eligible_votes};
+ghost use Rattle.tally_contest.specs.Rules.{poll_of};
+ghost use Rattle.tally_contest.specs.Terms.{poll_under};
+
+use tally_frac::is_at_least;
+use tally_rules::{Base, Profile};
+
+/// The votes of each list, and what a list needs to be eligible.
+#[derive(Clone, Copy)]
+pub struct Poll<'a> {
+    /// The votes of each list, up to 60 lists and 5,000,000,000 votes together.
+    pub votes: &'a [u64],
+    /// What a list needs, in ten-thousandths of the base.
+    pub threshold: u32,
+    /// The votes that the threshold is taken of, up to 5,000,000,000.
+    pub base: u64,
+    ghost few_lists: { length votes.now ≤ 60 },
+    ghost few_votes: { sum votes.now ≤ 5000000000 },
+    ghost whole_at_most: { threshold ≤ 10000 },
+    ghost few_in_base: { base ≤ 5000000000 },
+}
+
+impl<'a> Poll<'a> {
+    /// The poll of these votes under a profile's threshold.
+    pub fn new(profile: &Profile, votes: &'a [u64], blank: u64) -> Poll<'a>
+        requires lists { length votes.now ≤ 60 }
+        requires votes { IsWithinVotes votes.now blank }
+        requires threshold { profile.now.threshold ≤ 10000 }
+        ensures votes { result.votes.now ≡ votes.now }
+        ensures poll { poll_under result.threshold result.base result.votes.now ≡ poll_of profile.now votes.now blank }
+    {
+        let total = votes.iter().sum::<u64>();
+        let base = match profile.base {
+            Base::Valid => total + blank,
+            Base::Lists => total,
+        };
+        Poll {
+            votes,
+            threshold: profile.threshold,
+            base,
+        }
+    }
+
+    /// The votes of a list, by its number from 0.
+    pub fn votes_of(&self, list: usize) -> u64
+        requires { list < length self.now.votes.now }
+        ensures votes { result ≡ slice_index self.now.votes.now list }
+        ensures few { result ≤ 5000000000 }
+    {
+        self.votes[list]
+    }
+
+    /// Whether a list, by its number from 0, takes part in the allotment (LOREG article 163.1 a)).
+    pub fn is_eligible(&self, list: usize) -> bool
+        requires { list < length self.now.votes.now }
+        ensures { result ≡ slice_index_or (poll_under self.now.threshold self.now.base self.now.votes.now).eligible list false }
+    {
+        let votes = self.votes[list];
+        votes > 0 && is_at_least(votes, self.threshold, self.base)
+    }
+
+    /// The votes of the eligible lists together.
+    pub(crate) fn eligible_votes(&self) -> u64
+        ensures { result ≡ eligible_votes (poll_under self.now.threshold self.now.base self.now.votes.now) }
+    {
+        let mut total = 0;
+        for list in 0..self.votes.len() {
+            if self.is_eligible(list) {
+                total += self.votes[list];
+            }
+        }
+        total
+    }
+}

@@ -1,0 +1,62 @@
+//! What lists hold under Hare's rule by their quotas.
+
+ghost use Rattle.std.specs.Prelude.{◌≡◌, ℕ, ◌<◌, ◌≤◌, length, slice_index_or};
+ghost use Rattle.tally_contest.specs.Poll.{eligible_votes};
+ghost use Rattle.tally_contest.specs.Quotas as spec;
+ghost use Rattle.tally_contest.specs.Terms.{poll_under};
+ghost use Rattle.tally_contest.specs.declared.quota.Quota.{Quota as row_type};
+
+use crate::list_set::LIMIT;
+use crate::poll::Poll;
+
+/// What a list holds by its quotas. All are 0 for a list that is not eligible.
+#[derive(Clone, Copy)]
+pub struct Quota {
+    /// The seats that it holds in any case: its whole quotas.
+    pub floor: u32,
+    /// The most seats that it may hold.
+    pub cap: u32,
+    /// What the whole quotas leave of its votes, times the seats.
+    pub remainder: u64,
+}
+
+/// The quotas of the lists of a poll, each worked out once.
+pub fn quotas_of(poll: &Poll, seats: u32) -> [Quota; LIMIT]
+    requires { seats ≤ 500 }
+    ensures { (l : ℕ) (d : row_type) → l < length poll.now.votes.now → slice_index_or result l d ≡ spec.quota_of (poll_under poll.now.threshold poll.now.base poll.now.votes.now) seats l }
+{
+    let total = poll.eligible_votes();
+    let mut quotas = [Quota {
+        floor: 0,
+        cap: 0,
+        remainder: 0,
+    }; LIMIT];
+    for list in 0..poll.votes.len() {
+        quotas[list] = quota_of(poll, seats, total, list);
+    }
+    quotas
+}
+
+/// The quota of a list, where the eligible lists have so many votes together: at most
+/// 5,000,000,000 * 500 is divided.
+fn quota_of(poll: &Poll, seats: u32, total: u64, list: usize) -> Quota
+    requires seats { seats ≤ 500 }
+    requires total { total ≡ eligible_votes (poll_under poll.now.threshold poll.now.base poll.now.votes.now) }
+    requires list { list < length poll.now.votes.now }
+    ensures { result ≡ spec.quota_of (poll_under poll.now.threshold poll.now.base poll.now.votes.now) seats list }
+{
+    if !poll.is_eligible(list) {
+        return Quota {
+            floor: 0,
+            cap: 0,
+            remainder: 0,
+        };
+    }
+    let product = poll.votes_of(list) * u64::from(seats);
+    let floor = (product / total) as u32;
+    Quota {
+        floor,
+        cap: floor + 1,
+        remainder: product % total,
+    }
+}

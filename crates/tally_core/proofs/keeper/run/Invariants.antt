@@ -1,0 +1,16 @@
+use Rattle.std.proofs.Common.{◌≡◌, ◌≤◌, take, length}
+use Rattle.std.specs.Vec.{vec_len, vec_capacity}
+use Rattle.tally_core.specs.Keeper.{Runs}
+use Rattle.tally_core.proofs.keeper.run.Given as goal
+
+-- the answers so far are a run of the requests so far
+abbrev pub invariant-loop-ask : goal.invariant-loop-ask
+invariant-loop-ask g l =
+    let k = g.K.Keeper in
+    record {
+      room : length l.asks ≤ vec_capacity l.answers;
+      count : vec_len l.answers ≡ l.ask-index;
+      setup : k.constituencies l.keeper ≡ k.constituencies l.fn.keeper;
+      trusted : k.IsTrusted l.keeper → k.IsTrusted l.fn.keeper;
+      runs : k.IsTrusted l.keeper → Runs (k.constituencies l.fn.keeper) (k.content l.fn.keeper) (take l.ask-index l.asks) l.answers.items (k.content l.keeper);
+    }

@@ -1,0 +1,5 @@
+use Rattle.tally_core.proofs.AgainLemmas.{import-run}
+use Rattle.tally_core.proofs.laws.an_import_is_a_run.Goals as goal
+
+pub returns : goal.returns
+returns c = import-run

@@ -1,0 +1,63 @@
+//! Keepers of the office's state.
+
+ghost use Rattle.std.specs.Prelude.{◌≡◌, List, Option, IfOk, OnErr};
+ghost use Rattle.tally_rules.specs.Constituency.{Constituency};
+ghost use Rattle.tally_machine.specs.State.{State};
+ghost use Rattle.tally_core.specs.Keeper.{Steps, Runs, Imports};
+
+use crate::import::ImportCount;
+use crate::source::{ImportFault, RowSource};
+use std::alloc::{AllocError, Global};
+use tally_machine::{Ask, Refusal, Reply};
+use tally_rules::Setup;
+
+/// Keeps the office's state, in memory or in a database.
+pub trait Keeper {
+    /// The constituencies of its setup.
+    ghost constituencies: { Self → List Constituency };
+
+    /// The state, or `None` where a disk that failed has shut the keeper.
+    ghost content: { Self → Option State };
+
+    /// No wrong answer of a disk has been taken as true. It may cease to hold at any call.
+    ghost IsTrusted: { Self → Type 0 };
+
+    /// The setup, which never changes.
+    fn setup(&self) -> &Setup
+        ensures { result.now ≡ constituencies self.now };
+
+    /// Answers a request. One that is refused has changed nothing.
+    fn answer(&mut self, ask: &Ask) -> Result<Reply, Refusal>
+        ensures setup { constituencies self.new ≡ constituencies self.old }
+        ensures trusted { IsTrusted self.new → IsTrusted self.old }
+        ensures step { IsTrusted self.new → Steps (constituencies self.old) (content self.old) ask.now result (content self.new) };
+
+    /// Lodges the rows of a source one by one; refused and bad ones are passed over. With a fault
+    /// nothing has changed.
+    fn lodge_from<R: RowSource>(&mut self, rows: &mut R) -> Result<ImportCount, ImportFault>
+        ensures setup { constituencies self.new ≡ constituencies self.old }
+        ensures trusted { IsTrusted self.new → IsTrusted self.old }
+        ensures imported { IsTrusted self.new → Imports (constituencies self.old) (content self.old) (R.coming rows.old) result (content self.new) };
+}
+
+/// Answers requests in order. Where the list of answers finds no room, none was asked.
+pub fn run<K: Keeper>(
+    alloc: Global,
+    keeper: &mut K,
+    asks: &[Ask],
+) -> Result<Vec<Result<Reply, Refusal>>, AllocError>
+    ensures setup { K.constituencies keeper.new ≡ K.constituencies keeper.old }
+    ensures trusted { K.IsTrusted keeper.new → K.IsTrusted keeper.old }
+    ensures runs { K.IsTrusted keeper.new → IfOk result (λ answers. Runs (K.constituencies keeper.old) (K.content keeper.old) asks.now answers.items (K.content keeper.new)) }
+    ensures kept { OnErr result (keeper.new ≡ keeper.old) }
+{
+    let mut answers = Vec::with_capacity(alloc, asks.len())?;
+    for ask in asks {
+        let answer = keeper.answer(ask);
+        match answers.push(answer) {
+            Ok(()) => {}
+            Err(_) => unreachable!(),
+        }
+    }
+    Ok(answers)
+}

@@ -1,0 +1,151 @@
+-- What votes and a lot come to, and what is decided by it.
+use Rattle.std.proofs.Common.{◌≡◌, ◌≢◌, ◌≤◌, ◌<◌, ◌⊎◌, ◌∙◌, ℕ, List, [], ◌∷◌, Bool, true, false, Option, Some, None, Result, Ok, Err, IfOk, IfErr, OnOk, length, get_or, refl, sym, ap, subst, inl, inr, arith}
+use Rattle.std.proofs.lemmas.Bool.{false_from_ne_true}
+use Rattle.std.proofs.lemmas.List.{get_or_past}
+use Rattle.tally_rules.specs.Constituency.{Constituency}
+use Rattle.tally_contest.specs.Allotment.{Rule, divisors, hare, IsAllotmentByVotes}
+use Rattle.tally_contest.specs.Poll.{HasEligible}
+use Rattle.tally_allot.specs.AllotFault.{IsFaultOf}
+use Rattle.tally_contest.specs.Lot.{IsOrderOf}
+use Rattle.tally_contest.specs.LotNeed.{IsDecidedByVotes, IsInGroup, IsLotNeeded, IsLotTaken, IsLotWrong, IsNeed}
+use Rattle.tally_contest.specs.Poll.{Poll}
+use Rattle.tally_allot.specs.declared.fault.AllotFault.{AllotFault}
+use Rattle.tally_allot.specs.declared.fault.AllotFault.TheVariants.{WrongLot}
+use Rattle.tally_allot.specs.declared.fault.AllotFault.TheVariants as fault
+use Rattle.tally_machine.specs.Certification.{Certifies, Draws, RefusedOr, certified_by, count_checks, drawn_places, drawn_where, list_places}
+use Rattle.tally_machine.specs.Checks.{first_refusal}
+use Rattle.tally_machine.specs.Outcome.{Outcome, HasSeats, IsLawfulView, IsOutcome, MayStand, allotted, lot_missing, nobody, poll_in, rule_in}
+use Rattle.tally_machine.specs.View.{View}
+use Rattle.tally_machine.specs.declared.refusal.Refusal.{Refusal}
+use Rattle.tally_machine.specs.declared.refusal.Refusal.TheVariants.{LotMissing, LotNotNeeded, LotStands, NoEligible}
+use Rattle.tally_machine.proofs.LotLemmas.{order-from, order-same}
+
+-- ---- the lot
+
+-- where the votes decide no lot is needed
+decided-needs_none : (rule : Rule) (poll : Poll) (seats : ℕ) → IsDecidedByVotes rule poll seats → IsLotNeeded rule poll seats → ⊥
+decided-needs_none rule poll seats decided needed = needed.4 (decided.2 needed.0 needed.2 ∙ sym (decided.2 needed.1 needed.3))
+
+-- two needs of one poll are of the same lists
+pub need-same : (rule : Rule) (poll : Poll) (seats : ℕ) (group other : List Bool) (m n : ℕ) → IsNeed rule poll seats group m → IsNeed rule poll seats other n
+    → (l : ℕ) → get_or group l false ≡ true → get_or other l false ≡ true
+need-same rule poll seats group other m n need again l marked = (again.group_is l).1 ((need.group_is l).0 marked)
+
+-- a lot that is to be taken is not wrong
+taken-right : (rule : Rule) (poll : Poll) (seats : ℕ) (lot : List ℕ) → IsLotTaken rule poll seats lot → IsLotWrong rule poll seats lot → ⊥
+taken-right rule poll seats lot (inl taken) (inl wrong) = wrong.1 taken.1
+taken-right rule poll seats lot (inl taken) (inr wrong) = wrong.3 taken.1
+taken-right rule poll seats lot (inr taken) (inl wrong) = decided-needs_none rule poll seats wrong.0 taken.2.needed
+taken-right rule poll seats lot (inr taken) (inr wrong) =
+    wrong.4 (
+    order-same taken.0 wrong.0 lot
+    (need-same rule poll seats taken.0 wrong.0 taken.1 wrong.1 taken.2 wrong.2)
+    (need-same rule poll seats wrong.0 taken.0 wrong.1 taken.1 wrong.2 taken.2)
+    taken.3
+    )
+
+some_lot-wrong : (rule : Rule) (poll : Poll) (seats : ℕ) (lot : List ℕ) → lot ≡ [] → IsLotWrong rule poll seats lot → ⊥
+some_lot-wrong rule poll seats lot none (inl wrong) = wrong.1 none
+some_lot-wrong rule poll seats lot none (inr wrong) = wrong.3 none
+
+-- the lot that stands in a lawful view is not wrong
+pub lot-right : (con : Constituency) (view : View) → (view.lot ≡ []) ⊎ MayStand con view → (f : AllotFault)
+    → IsFaultOf (rule_in con) (poll_in con view) con.seats view.lot f → f ≢ WrongLot
+lot-right con view (inl none) f says is =
+    let wrong = subst (λ (f : AllotFault). IsFaultOf (rule_in con) (poll_in con view) con.seats view.lot f) is says in
+    some_lot-wrong (rule_in con) (poll_in con view) con.seats view.lot none wrong.1
+lot-right con view (inr may) f says is =
+    let wrong = subst (λ (f : AllotFault). IsFaultOf (rule_in con) (poll_in con view) con.seats view.lot f) is says in
+    taken-right (rule_in con) (poll_in con view) con.seats view.lot may.2 wrong.1
+
+allotted-length : (rule : Rule) (poll : Poll) (seats : ℕ) (a : List ℕ) → IsAllotmentByVotes rule poll seats a → length a ≡ length poll.votes
+allotted-length (divisors nth) poll seats a is = is.shares.one_each
+allotted-length hare poll seats a is = is.shares.one_each
+
+-- the lists of a group stand in the poll
+pub group-within : (rule : Rule) (poll : Poll) (seats : ℕ) (group : List Bool) (n : ℕ) → IsNeed rule poll seats group n → (l : ℕ) → length poll.votes ≤ l → get_or group l false ≡ false
+group-within rule poll seats group n need l past =
+    false_from_ne_true (get_or group l false) (λ marked.
+    let g = (need.group_is l).0 marked in
+    let a : length g.0 ≤ l = omega (arith, allotted-length rule poll seats g.0 g.2) in
+    let b : length g.1 ≤ l = omega (arith, allotted-length rule poll seats g.1 g.3) in
+    g.4 (get_or_past g.0 l 0 a ∙ sym (get_or_past g.1 l 0 b)))
+
+-- ---- seats
+
+-- what is said of the parts that an allotment is made of, said of equal ones
+pub carried : {A B C D E : Type 0} (P : A → B → C → D → E → Type 0) → {a a' : A} → a ≡ a' → {b b' : B} → b ≡ b' → {c c' : C} → c ≡ c' → {d d' : D} → d ≡ d' → {e e' : E} → e ≡ e' → P a b c d e → P a' b' c' d' e'
+carried P {a = a} {a' = a'} ea {b = b} {b' = b'} eb {c = c} {c' = c'} ec {d = d} {d' = d'} ed {e = e} {e' = e'} ee h =
+    subst (P a' b' c' d') ee (subst (λ x. P a' b' c' x e) ed (subst (λ x. P a' b' x d e) ec (subst (λ x. P a' x c d e) eb (subst (λ x. P x b c d e) ea h))))
+
+pub all_three : {X E : Type 0} (r : Result X E) (P Q : Type 0) (R : X → Type 0) → OnOk r P → OnOk r Q → IfOk r R → IfOk r (λ x. P × Q × R x)
+all_three (Ok x) P Q R p q s = (p, q, s)
+all_three (Err e) P Q R p q s = tt
+
+pub on_fault : {X E : Type 0} (r : Result X E) (P Q : E → Type 0) → ((e : E) → P e → Q e) → IfErr r P → IfErr r Q
+on_fault (Ok x) P Q to p = tt
+on_fault (Err e) P Q to p = to e p
+
+pub on_ok : {X E : Type 0} (r : Result X E) (P Q : X → Type 0) → ((x : X) → P x → Q x) → IfOk r P → IfOk r Q
+on_ok (Ok x) P Q to p = to x p
+on_ok (Err e) P Q to p = tt
+
+pub none_long : (xs : List ℕ) → length xs ≡ 0 → xs ≡ []
+none_long [] e = refl
+none_long (x ∷ xs) e = absurd (omega arith)
+
+-- ---- what is decided
+
+-- where no check fails
+pub not_refused : {X : Type 0} (refusal : Option Refusal) (P : Result X Refusal → Type 0) (result : Result X Refusal) → refusal ≡ None → P result → RefusedOr refusal P result
+not_refused None P result none h = h
+not_refused (Some e) P result none h = cc
+
+-- where a check fails
+pub refused : {X : Type 0} (refusal : Option Refusal) (e : Refusal) (P : Result X Refusal → Type 0) → refusal ≡ Some e → RefusedOr refusal P (Err e)
+refused None e P some = cc
+refused (Some f) e P some = cc
+
+pub certifies : (con : Constituency) (view : View) (edition : ℕ) (seats : List ℕ) → first_refusal (count_checks view edition) ≡ None → IsOutcome con view (allotted seats)
+    → Certifies con view edition (Ok seats)
+certifies con view edition seats none is =
+    not_refused (first_refusal (count_checks view edition)) (λ result. (outcome : Outcome) × IsOutcome con view outcome × (result ≡ certified_by outcome)) (Ok seats) none (allotted seats, is, refl)
+
+pub certifies-missing : (con : Constituency) (view : View) (edition : ℕ) (group : List Bool) (n : ℕ) → first_refusal (count_checks view edition) ≡ None → IsOutcome con view (lot_missing group n)
+    → Certifies con view edition (Err (LotMissing group n))
+certifies-missing con view edition group n none is =
+    not_refused (first_refusal (count_checks view edition)) (λ result. (outcome : Outcome) × IsOutcome con view outcome × (result ≡ certified_by outcome)) (Err (LotMissing group n)) none
+    (lot_missing group n, is, refl)
+
+drawn-decided : (lot : List ℕ) (seats : List ℕ) (places : Option (List ℕ)) → lot ≡ [] → Err LotNotNeeded ≡ drawn_where lot (allotted seats) places
+drawn-decided [] seats places none = refl
+drawn-decided (place ∷ lot) seats places none = cc
+
+drawn-stands : (lot : List ℕ) (seats : List ℕ) (places : Option (List ℕ)) → lot ≢ [] → Err LotStands ≡ drawn_where lot (allotted seats) places
+drawn-stands [] seats places some = absurd (some refl)
+drawn-stands (place ∷ lot) seats places some = refl
+
+drawn-missing : (lot : List ℕ) (group : List Bool) (n : ℕ) (places : Option (List ℕ)) → lot ≡ [] → drawn_places group places ≡ drawn_where lot (lot_missing group n) places
+drawn-missing [] group n places none = refl
+drawn-missing (place ∷ lot) group n places none = cc
+
+draws : (con : Constituency) (view : View) (edition : ℕ) (order : List (List ℕ)) (result : Result (List ℕ) Refusal) (outcome : Outcome)
+    → first_refusal (count_checks view edition) ≡ None → IsOutcome con view outcome → result ≡ drawn_where view.lot outcome (list_places con order) → Draws con view edition order result
+draws con view edition order result outcome none is gives =
+    not_refused (first_refusal (count_checks view edition)) (λ result. (outcome : Outcome) × IsOutcome con view outcome × (result ≡ drawn_where view.lot outcome (list_places con order))) result none
+    (outcome, is, gives)
+
+pub draws-decided : (con : Constituency) (view : View) (edition : ℕ) (order : List (List ℕ)) (seats : List ℕ) → first_refusal (count_checks view edition) ≡ None
+    → IsOutcome con view (allotted seats) → view.lot ≡ [] → Draws con view edition order (Err LotNotNeeded)
+draws-decided con view edition order seats none is lot =
+    draws con view edition order (Err LotNotNeeded) (allotted seats) none is (drawn-decided view.lot seats (list_places con order) lot)
+
+pub draws-stands : (con : Constituency) (view : View) (edition : ℕ) (order : List (List ℕ)) (seats : List ℕ) → first_refusal (count_checks view edition) ≡ None
+    → IsOutcome con view (allotted seats) → view.lot ≢ [] → Draws con view edition order (Err LotStands)
+draws-stands con view edition order seats none is lot =
+    draws con view edition order (Err LotStands) (allotted seats) none is (drawn-stands view.lot seats (list_places con order) lot)
+
+pub draws-missing : (con : Constituency) (view : View) (edition : ℕ) (order : List (List ℕ)) (group : List Bool) (n : ℕ) (result : Result (List ℕ) Refusal)
+    → first_refusal (count_checks view edition) ≡ None → IsOutcome con view (lot_missing group n) → drawn_places group (list_places con order) ≡ result → Draws con view edition order result
+draws-missing con view edition order group n result none is gives =
+    draws con view edition order result (lot_missing group n) none is (sym gives ∙ drawn-missing view.lot group n (list_places con order) is.2)

@@ -1,0 +1,11 @@
+pub mod CountsLemmas
+pub mod DecideLemmas
+pub mod LifeLemmas
+pub mod RunLemmas
+pub mod StateLemmas
+pub mod StayLemmas
+pub mod HolderLemmas
+pub mod LotLemmas
+pub mod CertificationLemmas
+pub mod LawfulViewLemmas
+pub mod VacancyLemmas

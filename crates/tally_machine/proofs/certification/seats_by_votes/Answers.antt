@@ -1,0 +1,47 @@
+use Rattle.std.proofs.Common.{◌≡◌, ◌≢◌, ◌∙◌, ℕ, List, IfOk, IfErr, OnOk, ap}
+use Rattle.tally_rules.specs.Constituency.{Constituency}
+use Rattle.tally_rules.specs.declared.profile.Profile.{Profile}
+use Rattle.tally_contest.specs.Allotment.{IsAllotment}
+use Rattle.tally_contest.specs.Poll.{HasEligible}
+use Rattle.tally_allot.specs.AllotFault.{IsFaultOf}
+use Rattle.tally_contest.specs.LotNeed.{IsLotTaken}
+use Rattle.tally_contest.specs.Rules.{rule_of, poll_of}
+use Rattle.tally_allot.specs.declared.fault.AllotFault.{AllotFault}
+use Rattle.tally_allot.specs.declared.fault.AllotFault.TheVariants.{WrongLot}
+use Rattle.tally_machine.specs.Outcome.{poll_in, rule_in}
+use Rattle.tally_machine.specs.View.{View}
+use Rattle.tally_machine.proofs.CertificationLemmas.{all_three, carried, lot-right, on_fault}
+use Rattle.tally_machine.proofs.certification.seats_by_votes.Goals as goal
+
+pub returns-clause-seats : goal.returns-clause-seats
+returns-clause-seats c =
+    let con = c.args.con.now in
+    let view = c.args.view.now in
+    let profile = ap (λ (k : Constituency). k.profile) c.con.view_is in
+    let seats = ap (λ (k : Constituency). k.seats) c.con.view_is in
+    let votes = c.deref.ensures.value ∙ ap (λ (v : View). v.votes) c.view.view_is in
+    let blank = ap (λ (v : View). v.blank) c.view.view_is in
+    let lot = c.deref-2.ensures.value ∙ ap (λ (v : View). v.lot) c.view.view_is in
+    let Eligible : Profile → ℕ → List ℕ → ℕ → List ℕ → Type 0 = λ profile seats votes blank lot. OnOk c.allot.result (HasEligible (poll_of profile votes blank)) in
+    let Taken : Profile → ℕ → List ℕ → ℕ → List ℕ → Type 0 = λ profile seats votes blank lot. OnOk c.allot.result (IsLotTaken (rule_of profile.method) (poll_of profile votes blank) seats lot) in
+    let Allotted : Profile → ℕ → List ℕ → ℕ → List ℕ → Type 0 = λ profile seats votes blank lot. IfOk c.allot.result (λ given. IsAllotment (rule_of profile.method) (poll_of profile votes blank) lot seats given.items) in
+    all_three c.allot.result (HasEligible (poll_in con view)) (IsLotTaken (rule_in con) (poll_in con view) con.seats view.lot) (λ given. IsAllotment (rule_in con) (poll_in con view) view.lot con.seats given.items)
+    (carried Eligible profile seats votes blank lot c.allot.ensures.eligible)
+    (carried Taken profile seats votes blank lot c.allot.ensures.lot_taken)
+    (carried Allotted profile seats votes blank lot c.allot.ensures.allotment)
+
+pub returns-clause-fault : goal.returns-clause-fault
+returns-clause-fault c =
+    let profile = ap (λ (k : Constituency). k.profile) c.con.view_is in
+    let seats = ap (λ (k : Constituency). k.seats) c.con.view_is in
+    let votes = c.deref.ensures.value ∙ ap (λ (v : View). v.votes) c.view.view_is in
+    let blank = ap (λ (v : View). v.blank) c.view.view_is in
+    let lot = c.deref-2.ensures.value ∙ ap (λ (v : View). v.lot) c.view.view_is in
+    let Fault : Profile → ℕ → List ℕ → ℕ → List ℕ → Type 0 = λ profile seats votes blank lot. IfErr c.allot.result (IsFaultOf (rule_of profile.method) (poll_of profile votes blank) seats lot) in
+    carried Fault profile seats votes blank lot c.allot.ensures.fault
+
+pub returns-clause-right_lot : goal.returns-clause-right_lot
+returns-clause-right_lot c =
+    let con = c.args.con.now in
+    let view = c.args.view.now in
+    on_fault c.allot.result (IsFaultOf (rule_in con) (poll_in con view) con.seats view.lot) (λ f. f ≢ WrongLot) (λ f says. lot-right con view c.requires.lot f says) (returns-clause-fault c)

@@ -1,0 +1,169 @@
+-- Draw, Certify, Reopen and Vacate: the checks of each in their order, and what it then sets.
+use Rattle.std.specs.Prelude.{◌≡◌, if◌then◌else◌, ◌+◌, ◌-◌, ◌==◌, ◌&&◌, not, ℕ, nat_le, Bool, true, false, List, [], ◌∷◌, length, map, slice_index, Option, Some, None, Result, Ok, Err, is_some}
+use Rattle.std.specs.List.{list_all, filter}
+use Rattle.std.specs.Str.{bytes_eq}
+use Rattle.tally_rules.specs.Constituency.{Constituency, ListEntry}
+use Rattle.tally_rules.specs.Text.{is_note}
+use Rattle.tally_contest.specs.ListSet.{has_place}
+use Rattle.tally_machine.specs.Checks.{check, check_found, first_refusal, refused_or}
+use Rattle.tally_machine.specs.Holders.{is_among, holders, newcomer}
+use Rattle.tally_machine.specs.View.{View, GoneCandidate}
+use Rattle.tally_machine.specs.Outcome.{Outcome, nobody, lot_missing, allotted, IsOutcome}
+use Rattle.tally_machine.specs.declared.refusal.Refusal.{Refusal}
+use Rattle.tally_machine.specs.declared.refusal.Refusal.TheVariants.{NoCandidate, BadNote, Certified, NotCertified, Stale, Exhausted, NotAllClosed, NoEligible, LotStands, LotNotNeeded, LotWrongGroup, LotMissing, AlreadyGone, NotHolder}
+
+-- the last edition that a constituency can have
+abbrev pub last_edition : ℕ
+last_edition = 9999
+
+-- the checks on the edition that a command names
+abbrev pub edition_checks : View → ℕ → List (Option Refusal)
+edition_checks view edition =
+    check (view.edition == edition) (Stale view.edition)
+    ∷ check (not (view.edition == last_edition)) Exhausted
+    ∷ []
+
+-- the checks of Draw and of Certify before the votes are looked at
+abbrev pub count_checks : View → ℕ → List (Option Refusal)
+count_checks view edition =
+    check (not view.certified) Certified
+    ∷ check (view.edition == edition) (Stale view.edition)
+    ∷ check (not (view.edition == last_edition)) Exhausted
+    ∷ check (view.closed == view.stations) (NotAllClosed (view.stations - view.closed))
+    ∷ []
+
+-- Refused by a check, or else this.
+abbrev pub RefusedOr : {X : Type 0} → Option Refusal → (Result X Refusal → Type 0) → Result X Refusal → Type 0
+RefusedOr (Some refusal) Otherwise result = result ≡ Err refusal
+RefusedOr None Otherwise result = Otherwise result
+
+-- ---- Certify
+
+-- what Certify gives where the votes come to this: the seats of the lists
+abbrev pub certified_by : Outcome → Result (List ℕ) Refusal
+certified_by nobody = Err NoEligible
+certified_by (lot_missing group in_question) = Err (LotMissing group in_question)
+certified_by (allotted seats) = Ok seats
+
+abbrev pub Certifies : Constituency → View → ℕ → Result (List ℕ) Refusal → Type 0
+Certifies con view edition = RefusedOr (first_refusal (count_checks view edition)) (λ result. (outcome : Outcome) × IsOutcome con view outcome × (result ≡ certified_by outcome))
+
+-- ---- Draw
+
+-- the place of the list of a code, from 1
+abbrev pub place_from : ℕ → List ℕ → List ListEntry → Option ℕ
+place_from place code [] = None
+place_from place code (list ∷ lists) = if bytes_eq code list.code then Some place else place_from (place + 1) code lists
+
+abbrev pub list_place : Constituency → List ℕ → Option ℕ
+list_place con code = place_from 1 code con.lists
+
+-- the places of the lists that an order names, where each is one
+abbrev pub with_place : Option ℕ → Option (List ℕ) → Option (List ℕ)
+with_place (Some place) (Some places) = Some (place ∷ places)
+with_place (Some place) None = None
+with_place None places = None
+
+abbrev pub list_places : Constituency → List (List ℕ) → Option (List ℕ)
+list_places con [] = Some []
+list_places con (code ∷ order) = with_place (list_place con code) (list_places con order)
+
+-- places that differ
+abbrev pub are_distinct : List ℕ → Bool
+are_distinct [] = true
+are_distinct (place ∷ places) = not (is_among place places) && are_distinct places
+
+-- the marks of a group, from its first place
+abbrev pub marked_from : ℕ → List Bool → List ℕ
+marked_from place [] = []
+marked_from place (true ∷ marks) = place ∷ marked_from (place + 1) marks
+marked_from place (false ∷ marks) = marked_from (place + 1) marks
+
+-- the order names each list of the group once and no other
+abbrev pub names_group : List Bool → List ℕ → Bool
+names_group group places = list_all (has_place group) places && are_distinct places && list_all (λ place. is_among place places) (marked_from 1 group)
+
+abbrev pub drawn_places : List Bool → Option (List ℕ) → Result (List ℕ) Refusal
+drawn_places group None = Err (LotWrongGroup group)
+drawn_places group (Some places) = if names_group group places then Ok places else Err (LotWrongGroup group)
+
+-- what Draw gives where the votes come to this and no lot stands: the places of the lists in the order drawn
+abbrev pub drawn_by : Outcome → Option (List ℕ) → Result (List ℕ) Refusal
+drawn_by nobody places = Err NoEligible
+drawn_by (lot_missing group in_question) places = drawn_places group places
+drawn_by (allotted seats) places = Err LotNotNeeded
+
+-- and where a lot stands, which is looked at after the votes
+abbrev pub drawn_where : List ℕ → Outcome → Option (List ℕ) → Result (List ℕ) Refusal
+drawn_where [] outcome places = drawn_by outcome places
+drawn_where (place ∷ lot) nobody places = Err NoEligible
+drawn_where (place ∷ lot) (lot_missing group in_question) places = Err LotStands
+drawn_where (place ∷ lot) (allotted seats) places = Err LotStands
+
+abbrev pub Draws : Constituency → View → ℕ → List (List ℕ) → Result (List ℕ) Refusal → Type 0
+Draws con view edition order =
+    RefusedOr (first_refusal (count_checks view edition)) (λ result. (outcome : Outcome) × IsOutcome con view outcome × (result ≡ drawn_where view.lot outcome (list_places con order)))
+
+-- ---- Reopen
+
+abbrev pub reopen_checks : View → ℕ → List ℕ → List (Option Refusal)
+reopen_checks view edition note =
+    check (is_note note) BadNote
+    ∷ check view.certified NotCertified
+    ∷ check (view.edition == edition) (Stale view.edition)
+    ∷ check (not (view.edition == last_edition)) Exhausted
+    ∷ []
+
+-- Reopen gives its note.
+abbrev pub reopened : View → ℕ → List ℕ → Result (List ℕ) Refusal
+reopened view edition note = refused_or (first_refusal (reopen_checks view edition note)) (Ok note)
+
+-- ---- Vacate
+
+-- how many candidates the list of a code has, and its place
+pub record ListFound : Type 0 where
+  pub place : ℕ
+  pub candidates : ℕ
+
+abbrev pub found_from : ℕ → List ℕ → List ListEntry → Option ListFound
+found_from place code [] = None
+found_from place code (list ∷ lists) = if bytes_eq code list.code then Some (record { place = place; candidates = length list.candidates }) else found_from (place + 1) code lists
+
+abbrev pub list_found : Constituency → List ℕ → Option ListFound
+list_found con code = found_from 1 code con.lists
+
+-- the list has a candidate at this place, from 1
+abbrev pub has_candidate : ℕ → ListFound → Bool
+has_candidate place list = nat_le 1 place && nat_le place list.candidates
+
+-- the places of a list's candidates who are gone
+abbrev pub gone_of : View → ℕ → List ℕ
+gone_of view list = map (λ (g : GoneCandidate). g.place) (filter (λ (g : GoneCandidate). g.list == list) view.gone)
+
+-- who holds the seats of the list
+abbrev pub holders_of : View → ListFound → List ℕ → List ℕ
+holders_of view list gone = holders list.candidates (slice_index view.seats (list.place - 1)) gone
+
+abbrev pub vacate_checks : View → Option ListFound → ℕ → List ℕ → List (Option Refusal)
+vacate_checks view found place note =
+    check (is_some found) NoCandidate
+    ∷ check_found found (has_candidate place) (λ list. NoCandidate)
+    ∷ check (is_note note) BadNote
+    ∷ check view.certified NotCertified
+    ∷ check_found found (λ list. not (is_among place (gone_of view list.place))) (λ list. AlreadyGone)
+    ∷ check_found found (λ list. is_among place (holders_of view list (gone_of view list.place))) (λ list. NotHolder)
+    ∷ []
+
+-- the candidate is gone, and this is the one who now moves in
+abbrev pub vacated : View → Option ListFound → ℕ → List ℕ → Result (GoneCandidate × Option ℕ) Refusal
+vacated view None place note = Err NoCandidate
+vacated view (Some list) place note = Ok (
+  record { list = list.place; place = place; note = note },
+  newcomer (holders_of view list (gone_of view list.place)) (holders_of view list (place ∷ gone_of view list.place)),
+)
+
+-- Vacate gives the candidate who is gone, and the next.
+abbrev pub vacates : Constituency → View → List ℕ → ℕ → List ℕ → Result (GoneCandidate × Option ℕ) Refusal
+vacates con view code place note =
+    let found = list_found con code in
+    refused_or (first_refusal (vacate_checks view found place note)) (vacated view found place note)

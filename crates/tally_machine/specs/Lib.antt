@@ -1,0 +1,17 @@
+pub mod Counts
+pub mod Return
+pub mod Refusals
+pub mod Checks
+pub mod Lodge
+pub mod Moves
+pub mod Lawful
+pub mod Decide
+pub mod State
+pub mod Step
+pub mod Progress
+pub mod Replies
+pub mod Runs
+pub mod Holders
+pub mod View
+pub mod Outcome
+pub mod Certification

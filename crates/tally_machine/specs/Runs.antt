@@ -1,0 +1,23 @@
+-- Equal commands of a run, and what is left of it where some requests are left out.
+use Rattle.std.specs.Prelude.{◌≡◌, if◌then◌else◌, ◌+◌, ℕ, Bool, List, [], ◌∷◌, Result, string_bytes}
+use Rattle.tally_machine.specs.Replies.{is_act}
+use Rattle.tally_machine.specs.declared.ask.Ask.{Ask}
+use Rattle.tally_machine.specs.declared.ask.Ask.TheVariants.{Query}
+use Rattle.tally_machine.specs.declared.refusal.Refusal.{Refusal}
+use Rattle.tally_machine.specs.declared.reply.Reply.{Reply}
+
+-- The same command: all its parts are equal. Of a note the text counts, not how a program keeps it.
+abbrev pub IsSameCommand : Ask → Ask → Type 0
+IsSameCommand (Query station rev note) (Query other_station other_rev other_note) = (station ≡ other_station) × (rev ≡ other_rev) × (string_bytes note ≡ string_bytes other_note)
+IsSameCommand ask other = ask ≡ other
+
+-- the requests that acted, by what they were answered
+abbrev pub acting_asks : List Ask → List (Result Reply Refusal) → List Ask
+acting_asks (ask ∷ asks) (r ∷ rs) = if is_act r then ask ∷ acting_asks asks rs else acting_asks asks rs
+acting_asks [] rs = []
+acting_asks (ask ∷ asks) [] = []
+
+-- the elements whose places, from 0, are kept
+abbrev pub kept : {X : Type 0} → (ℕ → Bool) → List X → List X
+kept keep [] = []
+kept keep (x ∷ xs) = if keep 0 then x ∷ kept (λ i. keep (i + 1)) xs else kept (λ i. keep (i + 1)) xs

@@ -1,0 +1,152 @@
+//! What is decided of a command on a constituency.
+
+ghost use Rattle.std.specs.Prelude.{◌≡◌, ◌≢◌, ◌≤◌, ℕ, false, Ok, Err, IfOk, IfErr, OnOk, Some, None, length, slice_index_or, string_bytes};
+ghost use Rattle.tally_allot.specs.AllotFault.{IsFaultOf};
+ghost use Rattle.tally_allot.specs.declared.fault.AllotFault.TheVariants.{WrongLot};
+ghost use Rattle.tally_machine.specs.Certification.{Certifies, Draws, count_checks, drawn_places, list_places, reopened};
+ghost use Rattle.tally_machine.specs.Checks.{first_refusal};
+ghost use Rattle.tally_machine.specs.Outcome.{IsLawfulView, IsOutcome, allotted, rule_in, poll_in};
+ghost use Rattle.tally_machine.specs.declared.refusal.Refusal.TheVariants.{Memory};
+
+use crate::list_order::{list_places, names_group};
+use crate::refusal::Refusal;
+use crate::view::ConView;
+use std::alloc::Global;
+use tally_allot::{AllotFault, ListSet, allot};
+use tally_rules::{Code, Constituency, good_note};
+
+/// The last edition that a constituency can have.
+const LAST_EDITION: u32 = 9_999;
+
+/// The seats that certifying gives each list, in the setup's order (LOREG article 163.1), or why
+/// it is refused.
+pub fn certify(
+    alloc: Global,
+    con: &Constituency,
+    view: &ConView,
+    edition: u32,
+) -> Result<Vec<u32>, Refusal>
+    requires { IsLawfulView con.now view.now }
+    ensures seats { IfOk result (λ seats. Certifies con.now view.now edition (Ok seats.items)) }
+    ensures refused { IfErr result (λ refusal. refusal ≢ Memory → Certifies con.now view.now edition (Err refusal)) }
+{
+    check_count(view, edition)?;
+    let fault = match seats_by_votes(alloc, con, view) {
+        Ok(seats) => return Ok(seats),
+        Err(fault) => fault,
+    };
+    match fault {
+        AllotFault::NoEligible => Err(Refusal::NoEligible),
+        AllotFault::LotMissing { group, seats } => Err(Refusal::LotMissing { group, seats }),
+        AllotFault::WrongLot => unreachable!(),
+        AllotFault::Memory => Err(Refusal::Memory),
+    }
+}
+
+/// The places of the lists in the order of a lot that was drawn, or why it is refused. Lists are
+/// named by their codes.
+pub fn draw(
+    alloc: Global,
+    con: &Constituency,
+    view: &ConView,
+    edition: u32,
+    order: &[Code],
+) -> Result<Vec<u32>, Refusal>
+    requires { IsLawfulView con.now view.now }
+    ensures places { IfOk result (λ places. Draws con.now view.now edition order.now (Ok places.items)) }
+    ensures refused { IfErr result (λ refusal. refusal ≢ Memory → Draws con.now view.now edition order.now (Err refusal)) }
+{
+    check_count(view, edition)?;
+    let fault = match seats_by_votes(alloc, con, view) {
+        Ok(_) if view.lot.is_empty() => return Err(Refusal::LotNotNeeded),
+        Ok(_) => return Err(Refusal::LotStands),
+        Err(fault) => fault,
+    };
+    match fault {
+        AllotFault::NoEligible => Err(Refusal::NoEligible),
+        AllotFault::LotMissing { group, .. } => drawn_places(alloc, con, &group, order),
+        AllotFault::WrongLot => unreachable!(),
+        AllotFault::Memory => Err(Refusal::Memory),
+    }
+}
+
+/// The note of a reopening of this view, or why it is refused.
+pub fn reopen(alloc: Global, view: &ConView, edition: u32, note: &str) -> Result<String, Refusal>
+    ensures note { IfOk result (λ kept. reopened view.now edition note.now ≡ Ok (string_bytes kept)) }
+    ensures refused { IfErr result (λ refusal. refusal ≢ Memory → reopened view.now edition note.now ≡ Err refusal) }
+{
+    if !good_note(note) {
+        return Err(Refusal::BadNote);
+    }
+    if !view.certified {
+        return Err(Refusal::NotCertified);
+    }
+    if view.edition != edition {
+        return Err(Refusal::Stale { now: view.edition });
+    }
+    if view.edition == LAST_EDITION {
+        return Err(Refusal::Exhausted);
+    }
+    Ok(String::from_str(alloc, note)?)
+}
+
+/// The checks of Draw and of Certify before the votes are looked at.
+fn check_count(view: &ConView, edition: u32) -> Result<(), Refusal>
+    requires { view.now.closed ≤ view.now.stations }
+    ensures passed { OnOk result (first_refusal (count_checks view.now edition) ≡ None) }
+    ensures refused { IfErr result (λ refusal. first_refusal (count_checks view.now edition) ≡ Some refusal) }
+{
+    if view.certified {
+        return Err(Refusal::Certified);
+    }
+    if view.edition != edition {
+        return Err(Refusal::Stale { now: view.edition });
+    }
+    if view.edition == LAST_EDITION {
+        return Err(Refusal::Exhausted);
+    }
+    if view.closed != view.stations {
+        return Err(Refusal::NotAllClosed {
+            left: view.stations - view.closed,
+        });
+    }
+    Ok(())
+}
+
+/// The seats of each list by the closed votes and the lot that stands.
+fn seats_by_votes(alloc: Global, con: &Constituency, view: &ConView) -> Result<Vec<u32>, AllotFault>
+    requires { IsLawfulView con.now view.now }
+    ensures seats { IfOk result (λ seats. IsOutcome con.now view.now (allotted seats.items)) }
+    ensures fault { IfErr result (IsFaultOf (rule_in con.now) (poll_in con.now view.now) con.now.seats view.now.lot) }
+    ensures right_lot { IfErr result (λ fault. fault ≢ WrongLot) }
+{
+    allot(
+        alloc,
+        &con.profile,
+        con.seats,
+        &view.votes,
+        view.blank,
+        &view.lot,
+    )
+}
+
+/// The places of the lists that an order names, where it names each list of the group once and no
+/// other.
+fn drawn_places(
+    alloc: Global,
+    con: &Constituency,
+    group: &ListSet,
+    order: &[Code],
+) -> Result<Vec<u32>, Refusal>
+    requires { (l : ℕ) → length con.now.lists ≤ l → slice_index_or group.now l false ≡ false }
+    ensures places { IfOk result (λ places. drawn_places group.now (list_places con.now order.now) ≡ Ok places.items) }
+    ensures refused { IfErr result (λ refusal. refusal ≢ Memory → drawn_places group.now (list_places con.now order.now) ≡ Err refusal) }
+{
+    let Some(places) = list_places(alloc, con, order)? else {
+        return Err(Refusal::LotWrongGroup { group: *group });
+    };
+    if !names_group(con.lists.len() as u32, group, &places) {
+        return Err(Refusal::LotWrongGroup { group: *group });
+    }
+    Ok(places)
+}
