@@ -1,14 +1,10 @@
 -- The same import again, and an import as a run.
-use Rattle.std.proofs.Common.{◌≡◌, ◌∙◌, ◌+◌, ℕ, inl, List, [], ◌∷◌, false, cond, Some, Result, Ok, Err, refl, sym, ap, subst, arith, count_by}
+use Rattle.std.proofs.Common.{◌≡◌, ◌∙◌, ◌+◌, ◌++◌, inl, List, [], ◌∷◌, false, cond, Some, Result, Ok, Err, refl, sym, ap, subst, arith, count_by}
 use Rattle.std.proofs.lemmas.List.Sums.{sum_by-cons}
-use Rattle.std.specs.FinMap.{get}
 use Rattle.tally_rules.specs.Constituency.{Constituency}
-use Rattle.tally_machine.specs.Counts.{VoteCounts}
 use Rattle.tally_machine.specs.Return.{Returns}
-use Rattle.tally_machine.specs.Lodge.{Stations, decided, lodge_answer, after_lodge, lodge}
-use Rattle.tally_machine.specs.Decide.{lodge_change}
+use Rattle.tally_machine.specs.Lodge.{Stations, lodge_answer, lodge}
 use Rattle.tally_machine.specs.State.{State, stations_of}
-use Rattle.tally_machine.specs.Step.{after, step}
 use Rattle.tally_machine.specs.Replies.{IsRun, seen, lodge_reply}
 use Rattle.tally_machine.specs.declared.ask.Ask.{Ask}
 use Rattle.tally_machine.specs.declared.ask.Ask.TheVariants.{Lodge}
@@ -17,9 +13,10 @@ use Rattle.tally_machine.specs.declared.reply.LodgeReply.{LodgeReply}
 use Rattle.tally_machine.specs.declared.reply.LodgeReply.TheVariants.{Lodged, Same}
 use Rattle.tally_machine.specs.declared.reply.Reply.{Reply}
 use Rattle.tally_machine.proofs.StayLemmas.{Stay, answered-stays, run-stays, lodge-stays, not_lodged-again}
+use Rattle.tally_core.proofs.HeldLemmas.{lodge-step}
 use Rattle.tally_core.specs.Import.{row_answer, after_row, answers, imported, is_lodged, count_of}
 use Rattle.tally_core.specs.Keeper.{Coming, IsImport}
-use Rattle.tally_core.specs.Events.{lodges, as_answer, lodge_answers, Event, request, whole_import, AreEvents}
+use Rattle.tally_core.specs.Events.{lodges, as_answer, lodge_answers, Event, request, whole_import, failed_import, AreEvents, asks_of}
 use Rattle.tally_core.specs.declared.import.ImportCount.{ImportCount}
 use Rattle.tally_core.specs.declared.import.Row.{Row}
 use Rattle.tally_core.specs.declared.import.Row.TheVariants as row
@@ -82,6 +79,7 @@ events-stay : (setup : List Constituency) (s t : State) (events : List Event) �
 events-stay setup s t [] is = subst (λ (x : State). Stay s.returns x.returns) (sym is) (λ q there. there)
 events-stay setup s t (request ask r ∷ events) is = λ q there. events-stay setup is.0 t events is.2 q (answered-stays setup s ask r is.0 is.1 q there)
 events-stay setup s t (whole_import coming count ∷ events) is = λ q there. events-stay setup is.0 t events is.2 q (import-stays setup s is.0 coming count is.1 q there)
+events-stay setup s t (failed_import ∷ events) is = events-stay setup s t events is
 
 -- and after any requests and imports
 pub again-none_after_events : (setup : List Constituency) (coming : Coming) (s mid old t : State) (count again : ImportCount) (events : List Event)
@@ -94,22 +92,13 @@ seen-lodge (Ok (Lodged rev)) = refl
 seen-lodge (Ok (Same rev)) = refl
 seen-lodge (Err refusal) = refl
 
--- a Lodge is a step that leaves the returns of its definition
-lodge-step : (setup : List Constituency) (s : State) (station slip : List ℕ) (counts : VoteCounts)
-    → record s { returns = lodge (stations_of setup) s.returns station slip counts } ≡ step setup s (Lodge station slip counts)
-lodge-step setup s station slip counts = go (decided (stations_of setup station) (get s.returns station) slip counts)
-  where
-    go : (a : Result LodgeReply Refusal) → record s { returns = after_lodge s.returns station slip counts a } ≡ after setup s (Lodge station slip counts) (lodge_change slip counts a)
-    go (Ok (Lodged rev)) = refl
-    go (Ok (Same rev)) = refl
-    go (Err refusal) = refl
-
+-- rows are the run of their Lodge commands
 rows-run : (setup : List Constituency) (s : State) (rows : List Row)
     → IsRun setup s (lodges rows) (lodge_answers (answers (stations_of setup) s.returns rows)) (record s { returns = imported (stations_of setup) s.returns rows })
 rows-run setup s [] = refl
 rows-run setup s (row.Lodge (Lodge station slip counts) ∷ rows) =
     let next = record s { returns = lodge (stations_of setup) s.returns station slip counts } in
-    (next, inl (seen-lodge (lodge_answer (stations_of setup) s.returns station slip counts), lodge-step setup s station slip counts), rows-run setup next rows)
+    (next, inl (seen-lodge (lodge_answer (stations_of setup) s.returns station slip counts), sym (lodge-step setup s station slip counts)), rows-run setup next rows)
 rows-run setup s (other ∷ rows) = rows-run setup s rows
 
 -- an import is the run of its Lodge commands
@@ -120,3 +109,22 @@ import-run setup coming s t count is = (
   subst (IsRun setup s (lodges coming.rows) (lodge_answers (answers (stations_of setup) s.returns coming.rows)))
       (sym (is.4 ∙ ap (λ known. record s { returns = imported (stations_of setup) s.returns known }) (sym is.1.0))) (rows-run setup s coming.rows),
 )
+
+-- a run that goes on from where another ended
+run-append : (setup : List Constituency) (s mid t : State) (asks more : List Ask) (rs others : List (Result Reply Refusal))
+    → IsRun setup s asks rs mid → IsRun setup mid more others t → IsRun setup s (asks ++ more) (rs ++ others) t
+run-append setup s mid t [] more [] others is rest = subst (λ (x : State). IsRun setup x more others t) is rest
+run-append setup s mid t [] more (r ∷ rs) others is rest = absurd is
+run-append setup s mid t (ask ∷ asks) more [] others is rest = absurd is
+run-append setup s mid t (ask ∷ asks) more (r ∷ rs) others is rest = (is.0, is.1, run-append setup is.0 mid t asks more rs others is.2 rest)
+
+-- requests and imports are a run
+pub events-run : (setup : List Constituency) (s t : State) (events : List Event) → AreEvents setup s events t → (rs : List (Result Reply Refusal)) × IsRun setup s (asks_of events) rs t
+events-run setup s t [] is = ([], is)
+events-run setup s t (request ask r ∷ events) is =
+    let later = events-run setup is.0 t events is.2 in (r ∷ later.0, (is.0, is.1, later.1))
+events-run setup s t (whole_import coming count ∷ events) is =
+    let later = events-run setup is.0 t events is.2 in
+    let lodged = lodge_answers (answers (stations_of setup) s.returns coming.rows) in
+    (lodged ++ later.0, run-append setup s is.0 t (lodges coming.rows) (asks_of events) lodged later.0 (import-run setup coming s is.0 count is.1).1 later.1)
+events-run setup s t (failed_import ∷ events) is = events-run setup s t events is

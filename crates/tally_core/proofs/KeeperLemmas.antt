@@ -1,5 +1,5 @@
--- The run of a keeper that stays open is a run of the machine.
-use Rattle.std.proofs.Common.{◌↔◌, List, [], ◌∷◌, Option, Some, None, Result, ap}
+-- The run of a keeper is a run of the machine.
+use Rattle.std.proofs.Common.{◌↔◌, List, [], ◌∷◌, Option, Some, None, Result, refl, ap, inr}
 use Rattle.tally_rules.specs.Constituency.{Constituency}
 use Rattle.tally_machine.specs.State.{State}
 use Rattle.tally_machine.specs.Replies.{IsAnswered, IsRun}
@@ -38,3 +38,28 @@ run-open setup (ask ∷ asks) (r ∷ rs) s t is = (Some is.0, is.1, run-open set
 
 pub open-runs : (setup : List Constituency) (s t : State) (asks : List Ask) (rs : List (Result Reply Refusal)) → Runs setup (Some s) asks rs (Some t) ↔ IsRun setup s asks rs t
 open-runs setup s t asks rs = (open-run setup asks rs s t, run-open setup asks rs s t)
+
+-- a keeper that was shut accepts nothing: the state stays
+shut-idle : (setup : List Constituency) (asks : List Ask) (rs : List (Result Reply Refusal)) (s : State) → Runs setup None asks rs None → IsRun setup s asks rs s
+shut-idle setup [] [] s is = refl
+shut-idle setup [] (r ∷ rs) s is = is
+shut-idle setup (ask ∷ asks) [] s is = is
+shut-idle setup (ask ∷ asks) (r ∷ rs) s is = go is.0 is.1 is.2 (shut-idle setup asks rs s)
+  where
+    go : (mid : Option State) → Steps setup None ask r mid → Runs setup mid asks rs None → (Runs setup None asks rs None → IsRun setup s asks rs s)
+        → (next : State) × IsAnswered setup s ask r next × IsRun setup next asks rs s
+    go (Some next) step rest later = absurd step
+    go None step rest later = (s, inr (step, refl), later rest)
+
+-- the run of a keeper that a failed disk shut: the request that met the failure has left the state
+pub shut-run : (setup : List Constituency) (s : State) (asks : List Ask) (rs : List (Result Reply Refusal)) → Runs setup (Some s) asks rs None → (t : State) × IsRun setup s asks rs t
+shut-run setup s [] [] is = cc
+shut-run setup s [] (r ∷ rs) is = absurd is
+shut-run setup s (ask ∷ asks) [] is = absurd is
+shut-run setup s (ask ∷ asks) (r ∷ rs) is = go is.0 is.1 is.2 (λ next rest. shut-run setup next asks rs rest)
+  where
+    go : (mid : Option State) → Steps setup (Some s) ask r mid → Runs setup mid asks rs None
+        → ((next : State) → Runs setup (Some next) asks rs None → (t : State) × IsRun setup next asks rs t)
+        → (t : State) × IsRun setup s (ask ∷ asks) (r ∷ rs) t
+    go (Some next) step rest later = let end = later next rest in (end.0, (next, step, end.1))
+    go None step rest later = (s, (s, step.0, shut-idle setup asks rs s rest))

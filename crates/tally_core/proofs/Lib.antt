@@ -1,10 +1,12 @@
 pub mod AgainLemmas
+pub mod CarryLemmas
+pub mod HeldLemmas
 pub mod ImportLemmas
 pub mod KeeperLemmas
 pub mod LodgeLemmas
 pub mod RowsLemmas
 pub mod RunLemmas
-pub mod StationsLemmas
 pub mod StepLemmas
+pub mod StoreLemmas
 pub mod TakenLemmas
-pub mod TreeLemmas
+pub mod WithoutLemmas

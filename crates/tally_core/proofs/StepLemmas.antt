@@ -1,24 +1,27 @@
--- Steps of a state whose constituencies are as they open.
-use Rattle.std.proofs.Common.{◌≡◌, ◌≢◌, ◌⊎◌, ◌∷◌, ◌∙◌, ℕ, List, [], Bool, true, false, cond, map, Option, Some, None, Result, Ok, Err, refl, sym, ap, subst, inl, inr, Bor}
-use Rattle.std.specs.Prelude.{unwrap_or, option_map}
-use Rattle.std.specs.Option.{ForSome, option_map_or}
+-- What is decided of a command on a return, as a keeper in memory looks it up.
+use Rattle.std.proofs.Common.{◌≡◌, ◌≢◌, ◌⊎◌, ◌∷◌, ◌∙◌, ℕ, List, [], Bool, true, false, Option, Some, None, Result, Ok, Err, refl, sym, ap, subst, inl, inr, arith, Bor, Global, String}
+use Rattle.std.specs.Prelude.{◌&&◌, nat_eq, nat_le, option_map, unwrap_or, if◌then◌else◌}
+use Rattle.std.specs.Cmp.Lexicographic.{pointwise}
+use Rattle.std.specs.Option.{ForSome, option_copied}
 use Rattle.std.specs.FinMap as fin
-use Rattle.std.specs.Cmp.Lexicographic.{nat_list_cmp_total}
-use Rattle.std.specs.Ordering.{eq_by_cmp}
-use Rattle.tally_rules.specs.Code.{code_cmp}
+use Rattle.std.proofs.lemmas.Bool.{leb-true}
 use Rattle.tally_rules.specs.Constituency.{Constituency}
-use Rattle.tally_rules.specs.Setup.{station_with}
+use Rattle.tally_rules.specs.Setup.{constituency_with, station_with}
 use Rattle.tally_rules.specs.declared.constituency.Station.{Station}
-use Rattle.tally_machine.specs.Counts.{VoteCounts}
-use Rattle.tally_machine.specs.Decide.{IsUnlessMemory, decided_return, limits_of, lodge_change, station_named}
-use Rattle.tally_machine.specs.Lawful.{IsLawful, PutsLawful}
-use Rattle.tally_machine.specs.Lodge.{StationLimits, lodge, lodge_answer, after_lodge}
-use Rattle.tally_machine.specs.Replies.{IsAnswered, move_reply}
-use Rattle.tally_machine.specs.Return.{StationReturn, Returns}
-use Rattle.tally_machine.specs.State.{State, ConState, IsLawfulState, opening_con, opening_cons, con_state, stations_of}
-use Rattle.tally_machine.specs.Step.{con_of, is_certified, decided_at_station, decided_in, after_put, with_return, after, step}
+use Rattle.tally_machine.specs.Checks.{check, first_refusal}
+use Rattle.tally_machine.specs.Counts.{VoteCounts, all_votes, are_counts, same_counts}
+use Rattle.tally_machine.specs.Decide.{IsUnlessMemory, decided_return, limits_of}
+use Rattle.tally_machine.specs.Lawful.{IsLawful}
+use Rattle.tally_machine.specs.LawfulState.{IsLawfulState}
+use Rattle.tally_machine.specs.Lodge.{StationLimits, Stations, admitted, counts_checks, decided, lodge, lodge_answer, unless_refused}
+use Rattle.tally_machine.specs.Named.{station_named}
+use Rattle.tally_machine.specs.Replies.{move_reply}
+use Rattle.tally_machine.specs.Return.{StationReturn, Returns, first_return}
+use Rattle.tally_machine.specs.State.{State, con_state, stations_of}
+use Rattle.tally_machine.specs.Step.{after, after_put, con_of, decided_at_station, decided_in, is_certified, with_return, without_lot}
+use Rattle.tally_machine.specs.View.{View}
 use Rattle.tally_machine.specs.declared.ask.Ask.{Ask}
-use Rattle.tally_machine.specs.declared.ask.Ask.TheVariants.{Lodge, Query, Correct, Close, ShowReturn, ShowProgress}
+use Rattle.tally_machine.specs.declared.ask.Ask.TheVariants.{Lodge, Query, Correct, Close, ShowReturn, Draw, Certify, Reopen, Vacate, ShowCon, ShowProgress}
 use Rattle.tally_machine.specs.declared.change.Change.{Change}
 use Rattle.tally_machine.specs.declared.change.Change.TheVariants as change
 use Rattle.tally_machine.specs.declared.refusal.Refusal.{Refusal}
@@ -27,52 +30,32 @@ use Rattle.tally_machine.specs.declared.reply.LodgeReply.{LodgeReply}
 use Rattle.tally_machine.specs.declared.reply.LodgeReply.TheVariants as reply
 use Rattle.tally_machine.specs.declared.reply.Reply.{Reply}
 use Rattle.tally_machine.specs.declared.reply.Reply.TheVariants.{Moved}
-use Rattle.tally_machine.proofs.DecideLemmas.{decided-lawful}
-use Rattle.tally_machine.proofs.StateLemmas.{put-lawful, without_lot-same}
-use Rattle.tally_core.specs.Held.{IsLodged, IsMoved, state_with}
-use Rattle.tally_core.specs.Import.{after_row, imported}
-use Rattle.tally_core.specs.declared.import.Row.{Row}
-use Rattle.tally_core.specs.declared.import.Row.TheVariants as row
+use Rattle.tally_machine.proofs.ClosedLemmas.{station_with-con}
+use Rattle.tally_machine.proofs.DecideLemmas.{passed-first, passed-rest}
+use Rattle.tally_ledger.specs.Kept.{Kept, state_in, view_in, with_no_lot}
+use Rattle.tally_core.specs.Held.{IsAnsweredInMemory, IsHeld, IsLodged, IsMoved, with_state}
+use Rattle.tally_core.proofs.HeldLemmas.{certified-found, con_of-found, lodge-step}
 
-opening-found : (setup : List Constituency) (code : List ℕ)
-    → unwrap_or (fin.find code_cmp code (map (λ (con : Constituency). (con.code, opening_con)) setup)) opening_con ≡ opening_con
-opening-found [] code = refl
-opening-found (c ∷ setup) code = go (eq_by_cmp code_cmp code c.code) (opening-found setup code)
-  where
-    go : (b : Bool) → unwrap_or (fin.find code_cmp code (map (λ (con : Constituency). (con.code, opening_con)) setup)) opening_con ≡ opening_con
-        → unwrap_or (cond b (Some opening_con) (fin.find code_cmp code (map (λ (con : Constituency). (con.code, opening_con)) setup))) opening_con ≡ opening_con
-    go true later = refl
-    go false later = later
-
--- each constituency is as it opens
-pub con_state-opening : (setup : List Constituency) (s : State) (code : List ℕ) → s.cons ≡ opening_cons setup → con_state s code ≡ opening_con
-con_state-opening setup s code is =
-    ap (λ c. unwrap_or (fin.get c code) opening_con) is
-    ∙ ap (λ found. unwrap_or found opening_con) (fin.get-from_entries nat_list_cmp_total (map (λ (con : Constituency). (con.code, opening_con)) setup) code)
-    ∙ opening-found setup code
-
--- none is certified
-certified-opening : (setup : List Constituency) (s : State) (station : List ℕ) → s.cons ≡ opening_cons setup → is_certified setup s station ≡ false
-certified-opening setup s station is = go (con_of setup station)
-  where
-    go : (code : Option (List ℕ)) → option_map_or (λ code. (con_state s code).certified) code false ≡ false
-    go None = refl
-    go (Some code) = ap (λ (c : ConState). c.certified) (con_state-opening setup s code is)
+-- ---- what is decided at a station
 
 -- what is decided at the station that a command names
-pub decided-named : (setup : List Constituency) (s : State) (ask : Ask) (station : List ℕ) → s.cons ≡ opening_cons setup → station_named ask ≡ Some station
-    → decided_in setup s ask ≡ decided_return (stations_of setup station) false (fin.get s.returns station) ask
-decided-named setup s ask station is named =
-    ap (decided_at_station setup s ask) named ∙ ap (λ b. decided_return (stations_of setup station) b (fin.get s.returns station) ask) (certified-opening setup s station is)
+pub decided-named : (setup : List Constituency) (s : State) (ask : Ask) (station : List ℕ) → station_named ask ≡ Some station
+    → decided_in setup s ask ≡ decided_return (stations_of setup station) (is_certified setup s station) (fin.get s.returns station) ask
+decided-named setup s ask station named = ap (decided_at_station setup s ask) named
 
 -- a command at a code that is no station
-decided-none : (certified : Bool) (found : Option StationReturn) (ask : Ask) (station : List ℕ) → station_named ask ≡ Some station
+pub decided-none : (certified : Bool) (found : Option StationReturn) (ask : Ask) (station : List ℕ) → station_named ask ≡ Some station
     → decided_return None certified found ask ≡ Err NoStation
 decided-none certified found (Lodge code slip counts) station named = refl
 decided-none certified found (Query code rev note) station named = refl
 decided-none certified found (Correct code rev slip counts) station named = refl
 decided-none certified found (Close code rev) station named = refl
 decided-none certified found (ShowReturn code) station named = refl
+decided-none certified found (Draw con edition order) station named = cc
+decided-none certified found (Certify con edition) station named = cc
+decided-none certified found (Reopen con edition note) station named = cc
+decided-none certified found (Vacate con list place note) station named = cc
+decided-none certified found (ShowCon con) station named = cc
 decided-none certified found ShowProgress station named = cc
 
 -- a lawful state has a lawful return or none at a station
@@ -83,80 +66,23 @@ lawful-at setup s station limits lawful known = λ standing some.
     let same : at.0 ≡ limits = let e : Some at.0 ≡ Some limits = sym at.1 ∙ known in cc in
     subst (λ l. IsLawful l standing) same at.2
 
--- what is put takes no lot with it, where none stands
-after_put-same : (setup : List Constituency) (s : State) (ask : Ask) → IsLawfulState setup s → after_put setup s ask ≡ s
-after_put-same setup s (Lodge station slip counts) lawful = refl
-after_put-same setup s (Query station rev note) lawful = without_lot-same setup s station lawful
-after_put-same setup s (Correct station rev slip counts) lawful = refl
-after_put-same setup s (Close station rev) lawful = refl
-after_put-same setup s (ShowReturn station) lawful = refl
-after_put-same setup s ShowProgress lawful = refl
+-- a station that was looked up, and what the setup says of it
+pub station-known : (setup : List Constituency) (station : List ℕ) (found : Option (Bor Constituency × Bor Station)) (con : Bor Constituency) (place : Bor Station)
+    → option_map (λ (p : Bor Constituency × Bor Station). (p.0.now, p.1.now)) found ≡ station_with station setup → found ≡ Some (con, place)
+    → station_with station setup ≡ Some (con.now, place.now)
+station-known setup station found con place look is = sym look ∙ ap (option_map (λ (p : Bor Constituency × Bor Station). (p.0.now, p.1.now))) is
 
--- a step that puts a return
-step-put : (setup : List Constituency) (s : State) (ask : Ask) (station : List ℕ) (r : StationReturn) → IsLawfulState setup s → station_named ask ≡ Some station
-    → decided_in setup s ask ≡ Ok (change.PutReturn r) → step setup s ask ≡ record s { returns = fin.insert s.returns station r }
-step-put setup s ask station r lawful named is =
-    ap (after setup s ask) is ∙ ap (λ t. with_return t (station_named ask) r) (after_put-same setup s ask lawful) ∙ ap (λ n. with_return s n r) named
+pub limits-known : (setup : List Constituency) (station : List ℕ) (con : Constituency) (place : Station) → station_with station setup ≡ Some (con, place)
+    → stations_of setup station ≡ Some (limits_of con place)
+limits-known setup station con place is = ap (option_map (λ (p : Constituency × Station). limits_of p.0 p.1)) is
 
--- a step keeps a lawful state lawful
-pub step-lawful : (setup : List Constituency) (s : State) (ask : Ask) → IsLawfulState setup s → IsLawfulState setup (step setup s ask)
-step-lawful setup s ask lawful = go (decided_in setup s ask) refl
-  where
-    at : (station : List ℕ) (limits : Option StationLimits) (r : StationReturn) → station_named ask ≡ Some station → stations_of setup station ≡ limits
-        → decided_in setup s ask ≡ Ok (change.PutReturn r) → IsLawfulState setup (step setup s ask)
-    at station None r named known is =
-        let none : Err NoStation ≡ Ok (change.PutReturn r) =
-        sym (decided-none false (fin.get s.returns station) ask station named)
-        ∙ ap (λ l. decided_return l false (fin.get s.returns station) ask) (sym known)
-        ∙ sym (decided-named setup s ask station lawful.cons named) ∙ is in cc
-    at station (Some limits) r named known is =
-        let put : decided_return (Some limits) false (fin.get s.returns station) ask ≡ Ok (change.PutReturn r) =
-        ap (λ l. decided_return l false (fin.get s.returns station) ask) (sym known)
-        ∙ sym (decided-named setup s ask station lawful.cons named) ∙ is in
-        let good : PutsLawful limits (change.PutReturn r) = decided-lawful limits false (fin.get s.returns station) ask (change.PutReturn r) (lawful-at setup s station limits lawful known) put in
-        subst (IsLawfulState setup) (sym (step-put setup s ask station r lawful named is)) (put-lawful setup s station limits r lawful known good)
-
-    named : (code : Option (List ℕ)) (r : StationReturn) → station_named ask ≡ code → decided_in setup s ask ≡ Ok (change.PutReturn r) → IsLawfulState setup (step setup s ask)
-    named None r none is =
-        let same : Ok change.Same ≡ Ok (change.PutReturn r) = ap (decided_at_station setup s ask) (sym none) ∙ is in cc
-    named (Some station) r some is = at station (stations_of setup station) r some refl is
-
-    go : (d : Result Change Refusal) → decided_in setup s ask ≡ d → IsLawfulState setup (step setup s ask)
-    go (Ok change.Same) is = subst (λ d. IsLawfulState setup (after setup s ask d)) (sym is) lawful
-    go (Ok (change.PutReturn r)) is = named (station_named ask) r refl is
-    go (Err e) is = subst (λ d. IsLawfulState setup (after setup s ask d)) (sym is) lawful
-
--- the step of a Lodge
-pub lodge-step : (setup : List Constituency) (m : Returns) (station slip : List ℕ) (counts : VoteCounts)
-    → step setup (state_with setup m) (Lodge station slip counts) ≡ state_with setup (lodge (stations_of setup) m station slip counts)
-lodge-step setup m station slip counts = go (lodge_answer (stations_of setup) m station slip counts)
-  where
-    go : (d : Result LodgeReply Refusal)
-        → after setup (state_with setup m) (Lodge station slip counts) (lodge_change slip counts d) ≡ state_with setup (after_lodge m station slip counts d)
-    go (Ok (reply.Lodged rev)) = refl
-    go (Ok (reply.Same rev)) = refl
-    go (Err e) = refl
-
-row-lawful : (setup : List Constituency) (m : Returns) (r : Row) → IsLawfulState setup (state_with setup m) → IsLawfulState setup (state_with setup (after_row (stations_of setup) m r))
-row-lawful setup m (row.Lodge (Lodge station slip counts)) lawful =
-    subst (IsLawfulState setup) (lodge-step setup m station slip counts) (step-lawful setup (state_with setup m) (Lodge station slip counts) lawful)
-row-lawful setup m (row.Lodge (Query station rev note)) lawful = lawful
-row-lawful setup m (row.Lodge (Correct station rev slip counts)) lawful = lawful
-row-lawful setup m (row.Lodge (Close station rev)) lawful = lawful
-row-lawful setup m (row.Lodge (ShowReturn station)) lawful = lawful
-row-lawful setup m (row.Lodge ShowProgress) lawful = lawful
-row-lawful setup m row.Bad lawful = lawful
-
--- an import keeps a lawful state lawful
-pub imported-lawful : (setup : List Constituency) (m : Returns) (rows : List Row) → IsLawfulState setup (state_with setup m)
-    → IsLawfulState setup (state_with setup (imported (stations_of setup) m rows))
-imported-lawful setup m [] lawful = lawful
-imported-lawful setup m (r ∷ rows) lawful = imported-lawful setup (after_row (stations_of setup) m r) rows (row-lawful setup m r lawful)
-
--- an answer keeps a lawful state lawful
-pub answered-lawful : (setup : List Constituency) (s : State) (ask : Ask) (r : Result Reply Refusal) (t : State) → IsLawfulState setup s → IsAnswered setup s ask r t → IsLawfulState setup t
-answered-lawful setup s ask r t lawful (inl is) = subst (IsLawfulState setup) (sym is.1) (step-lawful setup s ask lawful)
-answered-lawful setup s ask r t lawful (inr is) = subst (IsLawfulState setup) (sym is.1) lawful
+-- what is decided at the station that was looked up
+pub decided-found : (setup : List Constituency) (s : State) (ask : Ask) (station : List ℕ) (con : Constituency) (place : Station) → station_named ask ≡ Some station
+    → station_with station setup ≡ Some (con, place) → decided_in setup s ask ≡ decided_return (Some (limits_of con place)) (con_state s con.code).certified (fin.get s.returns station) ask
+decided-found setup s ask station con place named is =
+    decided-named setup s ask station named
+    ∙ ap (λ limits. decided_return limits (is_certified setup s station) (fin.get s.returns station) ask) (limits-known setup station con place is)
+    ∙ ap (λ b. decided_return (Some (limits_of con place)) b (fin.get s.returns station) ask) (certified-found setup s station con place is)
 
 -- a refusal is want of memory or another
 pub memory-or : (e : Refusal) → (e ≡ Memory) ⊎ (e ≢ Memory)
@@ -184,56 +110,186 @@ memory-or NotHolder = inr (λ (same : NotHolder ≡ Memory). cc)
 memory-or Memory = inl refl
 memory-or Store = inr (λ (same : Store ≡ Memory). cc)
 
+-- ---- commands that move a return
+
+-- What a keeper looked up of the station that a command names: where it stands, whether its constituency is certified, and its return.
+pub record IsLookedUp (k : Kept) (station : List ℕ) (con : Constituency) (place : Station) (certified : Bool) (found : Option StationReturn) : Type 0 where
+  pub place_is : station_with station k.setup ≡ Some (con, place)
+  pub certified_is : certified ≡ (con_state (state_in k) con.code).certified
+  pub found_is : found ≡ fin.get k.returns station
+
+-- the constituency of a station is kept
+pub station-own : (k : Kept) (station : List ℕ) (con : Constituency) (place : Station) → IsHeld k → station_with station k.setup ≡ Some (con, place) → constituency_with con.code k.setup ≡ Some con
+station-own k station con place held is = station_with-con k.setup station con place held.limits is
+
+-- and something is seen of it
+pub view-found : (k : Kept) (code : List ℕ) (con : Constituency) (found : Option (Bor View)) (view : Bor View) → constituency_with code k.setup ≡ Some con
+    → option_copied found ≡ option_map (view_in k) (constituency_with code k.setup) → found ≡ Some view → view.now ≡ view_in k con
+view-found k code con found view is seen some =
+    let both : Some view.now ≡ Some (view_in k con) = sym (ap option_copied some) ∙ seen ∙ ap (option_map (view_in k)) is in cc
+
+pub view-none : (k : Kept) (code : List ℕ) (con : Constituency) (found : Option (Bor View)) → constituency_with code k.setup ≡ Some con
+    → option_copied found ≡ option_map (view_in k) (constituency_with code k.setup) → found ≡ None → ⊥
+view-none k code con found is seen none =
+    let both : None ≡ Some (view_in k con) = sym (ap option_copied none) ∙ seen ∙ ap (option_map (view_in k)) is in cc
+
+pub looked-up : (k : Kept) (station : List ℕ) (con : Constituency) (place : Station) (code : List ℕ) (found : Option (Bor View)) (view : Bor View) (certified : Bool) (returns : Option StationReturn)
+    → IsHeld k → station_with station k.setup ≡ Some (con, place) → code ≡ con.code → option_copied found ≡ option_map (view_in k) (constituency_with code k.setup) → found ≡ Some view
+    → certified ≡ view.now.certified → returns ≡ fin.get k.returns station → IsLookedUp k station con place certified returns
+looked-up k station con place code found view certified returns held is code_is seen some flag stands =
+    let own = ap (λ q. constituency_with q k.setup) code_is ∙ station-own k station con place held is in record {
+      place_is = is;
+      certified_is = flag ∙ ap (λ (v : View). v.certified) (view-found k code con found view own seen some);
+      found_is = stands;
+    }
+
+-- what is decided by what was looked up
+looked_up-decided : (k : Kept) (ask : Ask) (station : List ℕ) (con : Constituency) (place : Station) (certified : Bool) (found : Option StationReturn) → IsLookedUp k station con place certified found
+    → station_named ask ≡ Some station → decided_in k.setup (state_in k) ask ≡ decided_return (Some (limits_of con place)) certified found ask
+looked_up-decided k ask station con place certified found is named =
+    decided-found k.setup (state_in k) ask station con place named is.place_is
+    ∙ ap (λ b. decided_return (Some (limits_of con place)) b (fin.get k.returns station) ask) (sym is.certified_is)
+    ∙ ap (λ f. decided_return (Some (limits_of con place)) certified f ask) (sym is.found_is)
+
+-- the return that was looked up is lawful
+pub looked_up-lawful : (k : Kept) (station : List ℕ) (con : Constituency) (place : Station) (found : Option StationReturn) → IsHeld k → station_with station k.setup ≡ Some (con, place)
+    → found ≡ fin.get k.returns station → ForSome found (IsLawful (limits_of con place))
+looked_up-lawful k station con place found held is stands =
+    subst (λ f. ForSome f (IsLawful (limits_of con place))) (sym stands)
+    (lawful-at k.setup (state_in k) station (limits_of con place) held.lawful (limits-known k.setup station con place is))
+
 -- a command on a return that was refused
-moved-err : (setup : List Constituency) (m : Returns) (ask : Ask) (e : Refusal) → decided_in setup (state_with setup m) ask ≡ Err e → IsMoved setup m ask (Err e) m
-moved-err setup m ask e is = inl (sym (ap move_reply is), sym (ap (after setup (state_with setup m) ask) is))
+moved-err : (k : Kept) (ask : Ask) (e : Refusal) → decided_in k.setup (state_in k) ask ≡ Err e → IsMoved k ask (Err e) k
+moved-err k ask e is = inl (sym (ap move_reply is), ap (λ d. with_state k (after k.setup (state_in k) ask d)) (sym is))
 
-pub moved-no_station : (setup : List Constituency) (m : Returns) (ask : Ask) (station : List ℕ) → station_named ask ≡ Some station → stations_of setup station ≡ None
-    → IsMoved setup m ask (Err NoStation) m
-moved-no_station setup m ask station named none =
-    moved-err setup m ask NoStation (decided-named setup (state_with setup m) ask station refl named
-    ∙ ap (λ l. decided_return l false (fin.get m station) ask) none ∙ decided-none false (fin.get m station) ask station named)
+pub moved-no_station : (k : Kept) (ask : Ask) (station : List ℕ) → station_named ask ≡ Some station → station_with station k.setup ≡ None → IsMoved k ask (Err NoStation) k
+moved-no_station k ask station named none =
+    let s = state_in k in
+    let certified = is_certified k.setup s station in
+    moved-err k ask NoStation (decided-named k.setup s ask station named
+    ∙ ap (λ found. decided_return (option_map (λ (p : Constituency × Station). limits_of p.0 p.1) found) certified (fin.get k.returns station) ask) none
+    ∙ decided-none certified (fin.get k.returns station) ask station named)
 
--- what is decided at the station that was looked up
-decided-found : (setup : List Constituency) (m : Returns) (ask : Ask) (station : List ℕ) (limits : StationLimits) → station_named ask ≡ Some station
-    → stations_of setup station ≡ Some limits → decided_in setup (state_with setup m) ask ≡ decided_return (Some limits) false (fin.get m station) ask
-decided-found setup m ask station limits named known =
-    decided-named setup (state_with setup m) ask station refl named ∙ ap (λ l. decided_return l false (fin.get m station) ask) known
-
-pub moved-refused : (setup : List Constituency) (m : Returns) (ask : Ask) (station : List ℕ) (limits : StationLimits) (e : Refusal) → station_named ask ≡ Some station
-    → stations_of setup station ≡ Some limits → IsUnlessMemory (Err e) (decided_return (Some limits) false (fin.get m station) ask) → IsMoved setup m ask (Err e) m
-moved-refused setup m ask station limits e named known is = go (memory-or e)
+pub moved-refused : (k : Kept) (ask : Ask) (station : List ℕ) (con : Constituency) (place : Station) (certified : Bool) (found : Option StationReturn) (e : Refusal)
+    → IsLookedUp k station con place certified found → station_named ask ≡ Some station → IsUnlessMemory (Err e) (decided_return (Some (limits_of con place)) certified found ask) → IsMoved k ask (Err e) k
+moved-refused k ask station con place certified found e looked named is = go (memory-or e)
   where
-    go : (e ≡ Memory) ⊎ (e ≢ Memory) → IsMoved setup m ask (Err e) m
-    go (inl memory) = inr (inl (ap Err memory), refl)
-    go (inr other) = moved-err setup m ask e (decided-found setup m ask station limits named known ∙ is other)
+    go : (e ≡ Memory) ⊎ (e ≢ Memory) → IsMoved k ask (Err e) k
+    go (inl memory) = inr (ap Err memory, refl)
+    go (inr other) = moved-err k ask e (looked_up-decided k ask station con place certified found looked named ∙ is other)
 
 -- one that moved nothing, which does not come about
-pub moved-same : (setup : List Constituency) (m : Returns) (ask : Ask) (station : List ℕ) (limits : StationLimits) → station_named ask ≡ Some station
-    → stations_of setup station ≡ Some limits → decided_return (Some limits) false (fin.get m station) ask ≡ Ok change.Same → IsMoved setup m ask (Err NoReturn) m
-moved-same setup m ask station limits named known is =
-    let same = decided-found setup m ask station limits named known ∙ is in
-    inl (sym (ap move_reply same), sym (ap (after setup (state_with setup m) ask) same))
+pub moved-other : (k : Kept) (ask : Ask) (station : List ℕ) (con : Constituency) (place : Station) (certified : Bool) (found : Option StationReturn) (other : Change)
+    → IsLookedUp k station con place certified found → station_named ask ≡ Some station → decided_return (Some (limits_of con place)) certified found ask ≡ Ok other
+    → ((r : StationReturn) → other ≢ change.PutReturn r) → IsMoved k ask (Err NoReturn) k
+moved-other k ask station con place certified found other looked named is not_put = go other (looked_up-decided k ask station con place certified found looked named ∙ is) not_put
+  where
+    go : (d : Change) → decided_in k.setup (state_in k) ask ≡ Ok d → ((r : StationReturn) → d ≢ change.PutReturn r) → IsMoved k ask (Err NoReturn) k
+    go change.Same same never = inl (sym (ap move_reply same), ap (λ x. with_state k (after k.setup (state_in k) ask x)) (sym same))
+    go (change.PutReturn standing) same never = absurd (never standing refl)
+    go (change.SetLot places) same never = inl (sym (ap move_reply same), ap (λ x. with_state k (after k.setup (state_in k) ask x)) (sym same))
+    go (change.SetCertified seats) same never = inl (sym (ap move_reply same), ap (λ x. with_state k (after k.setup (state_in k) ask x)) (sym same))
+    go (change.SetReopened note) same never = inl (sym (ap move_reply same), ap (λ x. with_state k (after k.setup (state_in k) ask x)) (sym same))
+    go (change.SetGone candidate next) same never = inl (sym (ap move_reply same), ap (λ x. with_state k (after k.setup (state_in k) ask x)) (sym same))
 
-pub moved-put : (setup : List Constituency) (m n : Returns) (ask : Ask) (station : List ℕ) (limits : StationLimits) (r : StationReturn)
-    → IsLawfulState setup (state_with setup m) → station_named ask ≡ Some station → stations_of setup station ≡ Some limits
-    → decided_return (Some limits) false (fin.get m station) ask ≡ Ok (change.PutReturn r) → n ≡ fin.insert m station r → IsMoved setup m ask (Ok (Moved r.rev)) n
-moved-put setup m n ask station limits r lawful named known is new =
-    let put = decided-found setup m ask station limits named known ∙ is in
-    inl (sym (ap move_reply put), ap (state_with setup) new ∙ sym (step-put setup (state_with setup m) ask station r lawful named put))
+-- a return that is put
+abbrev pub with_put : Kept → List ℕ → StationReturn → Kept
+with_put k station r = record k { returns = fin.insert k.returns station r }
 
--- a station that was looked up
-pub station-known : (setup : List Constituency) (station : List ℕ) (found : Option (Bor Constituency × Bor Station)) (con : Bor Constituency) (place : Bor Station)
-    → option_map (λ (p : Bor Constituency × Bor Station). (p.0.now, p.1.now)) found ≡ station_with station setup → found ≡ Some (con, place)
-    → stations_of setup station ≡ Some (limits_of con.now place.now)
-station-known setup station found con place look is =
-    ap (option_map (λ (p : Constituency × Station). limits_of p.0 p.1)) (sym look ∙ ap (option_map (λ (p : Bor Constituency × Bor Station). (p.0.now, p.1.now))) is)
+moved-put : (k new : Kept) (ask : Ask) (station : List ℕ) (con : Constituency) (place : Station) (certified : Bool) (found : Option StationReturn) (r : StationReturn)
+    → IsLookedUp k station con place certified found → station_named ask ≡ Some station → decided_return (Some (limits_of con place)) certified found ask ≡ Ok (change.PutReturn r)
+    → new ≡ with_state k (with_return (after_put k.setup (state_in k) ask) (Some station) r) → IsMoved k ask (Ok (Moved r.rev)) new
+moved-put k new ask station con place certified found r looked named is now =
+    let put = looked_up-decided k ask station con place certified found looked named ∙ is in
+    inl (
+      sym (ap move_reply put),
+      now
+          ∙ ap (λ n. with_state k (with_return (after_put k.setup (state_in k) ask) n r)) (sym named)
+          ∙ ap (λ d. with_state k (after k.setup (state_in k) ask d)) (sym put),
+    )
+
+abbrev pub is_query : Ask → Bool
+is_query (Query station rev note) = true
+is_query other = false
+
+pub not_query : (ask : Ask) → ((code : List ℕ) (rev : ℕ) (note : String Global) → ask ≢ Query code rev note) → is_query ask ≡ false
+not_query (Query code rev note) never = absurd (never code rev note refl)
+not_query other never = refl
+
+-- a query takes the lot with it
+query-put : (k : Kept) (ask : Ask) (station : List ℕ) (con : Constituency) (place : Station) → station_named ask ≡ Some station → station_with station k.setup ≡ Some (con, place) → is_query ask ≡ true
+    → after_put k.setup (state_in k) ask ≡ without_lot (state_in k) (Some con.code)
+query-put k (Query code rev note) station con place named is query =
+    let same : code ≡ station = cc in
+    ap (without_lot (state_in k)) (ap (con_of k.setup) same ∙ con_of-found k.setup station con place is)
+query-put k (Lodge code slip counts) station con place named is query = cc
+query-put k (Correct code rev slip counts) station con place named is query = cc
+query-put k (Close code rev) station con place named is query = cc
+query-put k (ShowReturn code) station con place named is query = cc
+query-put k (Draw code edition order) station con place named is query = cc
+query-put k (Certify code edition) station con place named is query = cc
+query-put k (Reopen code edition note) station con place named is query = cc
+query-put k (Vacate code list number note) station con place named is query = cc
+query-put k (ShowCon code) station con place named is query = cc
+query-put k ShowProgress station con place named is query = cc
+
+other-put : (k : Kept) (ask : Ask) → is_query ask ≡ false → after_put k.setup (state_in k) ask ≡ state_in k
+other-put k (Query code rev note) query = cc
+other-put k other query = refl
+
+-- a query that moved a return, with which the lot went
+pub moved-query : (k new : Kept) (ask : Ask) (station : List ℕ) (con : Constituency) (place : Station) (certified : Bool) (found : Option StationReturn) (r : StationReturn)
+    → IsLookedUp k station con place certified found → station_named ask ≡ Some station → decided_return (Some (limits_of con place)) certified found ask ≡ Ok (change.PutReturn r)
+    → is_query ask ≡ true → new ≡ with_no_lot (with_put k station r) con.code → IsMoved k ask (Ok (Moved r.rev)) new
+moved-query k new ask station con place certified found r looked named is query now =
+    moved-put k new ask station con place certified found r looked named is
+    (now ∙ ap (λ s. with_state k (with_return s (Some station) r)) (sym (query-put k ask station con place named looked.place_is query)))
+
+-- another command that moved a return
+pub moved-kept : (k new : Kept) (ask : Ask) (station : List ℕ) (con : Constituency) (place : Station) (certified : Bool) (found : Option StationReturn) (r : StationReturn)
+    → IsLookedUp k station con place certified found → station_named ask ≡ Some station → decided_return (Some (limits_of con place)) certified found ask ≡ Ok (change.PutReturn r)
+    → is_query ask ≡ false → new ≡ with_put k station r → IsMoved k ask (Ok (Moved r.rev)) new
+moved-kept k new ask station con place certified found r looked named is query now =
+    moved-put k new ask station con place certified found r looked named is (now ∙ ap (λ s. with_state k (with_return s (Some station) r)) (sym (other-put k ask query)))
+
+-- ---- a Lodge
+
+-- a return that is lodged is lawful
+pub first-lawful : (stations : Stations) (m : Returns) (station slip : List ℕ) (counts : VoteCounts) (rev : ℕ) → lodge_answer stations m station slip counts ≡ Ok (reply.Lodged rev)
+    → (limits : StationLimits) × (stations station ≡ Some limits) × IsLawful limits (first_return slip counts)
+first-lawful stations m station slip counts rev is = go (stations station) refl is
+  where
+    again : (same : Bool) (now : ℕ) (e : Refusal) → (if same then Ok (reply.Same now) else Err e) ≢ Ok (reply.Lodged rev)
+    again true now e ok = cc
+    again false now e ok = cc
+
+    at : (limits : StationLimits) (refused : Option Refusal) (found : Option StationReturn) → first_refusal (counts_checks limits counts) ≡ refused
+        → unless_refused refused (admitted found slip counts) ≡ Ok (reply.Lodged rev) → IsLawful limits (first_return slip counts)
+    at limits (Some e) found none ok = cc
+    at limits None (Some standing) none ok = absurd (again (pointwise nat_eq standing.slip slip && same_counts standing.counts counts) standing.rev (Differs standing.rev) ok)
+    at limits None None none ok =
+        let votes = check (nat_le (all_votes counts) limits.electors) TooManyVotes ∷ [] in record {
+          first = omega arith;
+          last = omega arith;
+          note = refl;
+          counts = passed-first (are_counts limits.lists counts) BadCounts votes none;
+          votes = leb-true (all_votes counts) limits.electors (passed-first (nat_le (all_votes counts) limits.electors) TooManyVotes [] (passed-rest (are_counts limits.lists counts) BadCounts votes none));
+        }
+
+    go : (known : Option StationLimits) → stations station ≡ known → decided known (fin.get m station) slip counts ≡ Ok (reply.Lodged rev)
+        → (limits : StationLimits) × (stations station ≡ Some limits) × IsLawful limits (first_return slip counts)
+    go None there ok = cc
+    go (Some limits) there ok = (limits, there, at limits (first_refusal (counts_checks limits counts)) (fin.get m station) refl ok)
+
+pub lodged-setup : (k new : Kept) (station slip : List ℕ) (counts : VoteCounts) (r : Result Reply Refusal) → IsLodged k station slip counts r new → new.setup ≡ k.setup
+lodged-setup k new station slip counts r (inl done) = ap (λ (x : Kept). x.setup) done.1
+lodged-setup k new station slip counts r (inr not_accepted) = ap (λ (x : Kept). x.setup) not_accepted.1
 
 -- a Lodge is answered as the office answers it
-pub lodged-answered : (setup : List Constituency) (m n : Returns) (ask : Ask) (station slip : List ℕ) (counts : VoteCounts) (r : Result Reply Refusal)
-    → ask ≡ Lodge station slip counts → IsLodged setup m station slip counts r n → IsAnswered setup (state_with setup m) ask r (state_with setup n)
-lodged-answered setup m n ask station slip counts r is h = subst (λ a. IsAnswered setup (state_with setup m) a r (state_with setup n)) (sym is) (go h)
+pub lodged-answered : (k new : Kept) (ask : Ask) (station slip : List ℕ) (counts : VoteCounts) (r : Result Reply Refusal)
+    → ask ≡ Lodge station slip counts → IsLodged k station slip counts r new → IsAnsweredInMemory k.setup (state_in k) ask r (state_in new)
+lodged-answered k new ask station slip counts r is h = subst (λ a. IsAnsweredInMemory k.setup (state_in k) a r (state_in new)) (sym is) (go h)
   where
-    go : IsLodged setup m station slip counts r n → IsAnswered setup (state_with setup m) (Lodge station slip counts) r (state_with setup n)
-    go (inl done) = inl (done.0, ap (state_with setup) done.1 ∙ sym (lodge-step setup m station slip counts))
-    go (inr not_accepted) = inr (not_accepted.0, ap (state_with setup) not_accepted.1)
+    go : IsLodged k station slip counts r new → IsAnsweredInMemory k.setup (state_in k) (Lodge station slip counts) r (state_in new)
+    go (inl done) = inl (done.0, ap state_in done.1 ∙ sym (lodge-step k.setup (state_in k) station slip counts))
+    go (inr not_accepted) = inr (not_accepted.0, ap state_in not_accepted.1)

@@ -1,18 +1,20 @@
 -- An import, so far.
 use Rattle.std.proofs.Common.{◌≡◌, ◌≤◌, ◌<◌, ◌⊎◌, inl, inr, ◌+◌, ◌++◌, ◌∷◌, ◌∙◌, ℕ, List, [], Option, Some, None, Ok, Err, length, refl, sym, ap, subst, arith, append-nil, append_assoc, length-append}
 use Rattle.std.specs.Prelude.{IfSome}
-use Rattle.tally_rules.specs.Constituency.{Constituency}
-use Rattle.tally_machine.specs.Lodge.{Stations}
+use Rattle.tally_ledger.specs.Kept.{Kept, state_in}
+use Rattle.tally_machine.specs.Lodge.{Stations, lodge}
 use Rattle.tally_machine.specs.Return.{Returns}
-use Rattle.tally_machine.specs.State.{State, IsLawfulState, stations_of}
-use Rattle.tally_core.specs.Held.{state_with}
+use Rattle.tally_machine.specs.State.{State, stations_of}
+use Rattle.tally_machine.specs.declared.ask.Ask.TheVariants.{Lodge}
+use Rattle.tally_core.specs.Held.{IsHeld}
 use Rattle.tally_core.specs.Import.{Answer, IsBelow, row_answer, after_row, answers, imported, count_of, counted}
 use Rattle.tally_core.specs.Keeper.{Coming, IsFault, IsImport, IsSudden, IsWithin, GivesNext, row_limit}
 use Rattle.tally_core.specs.declared.import.ImportCount.{ImportCount}
 use Rattle.tally_core.specs.declared.import.Row.{Row}
+use Rattle.tally_core.specs.declared.import.Row.TheVariants as row
 use Rattle.tally_core.specs.declared.source.ImportFault.{ImportFault}
+use Rattle.tally_core.proofs.HeldLemmas.{held-lodge}
 use Rattle.tally_core.proofs.ImportLemmas.{count_of-below, count_of-push}
-use Rattle.tally_core.proofs.StepLemmas.{imported-lawful}
 use Rattle.tally_core.proofs.RowsLemmas.{imported-push, answers-push, length-answers}
 
 -- these rows came of all that are known, and this is left
@@ -70,12 +72,26 @@ all-taken (Some known) left rows taken ended =
     let none = subst (λ l. IfSome l (λ (coming : Coming). (coming.rows ≡ []) × (coming.fault ≡ None))) taken.1 ended in
     (taken.2 ∙ ap (λ l. rows ++ l) none.0 ∙ append-nil rows, none.1)
 
+-- the same of a keeper that has changed its returns alone
+pub SoFar-taken : (old mid : Kept) (new : Returns) (all left next : Option Coming) (count more : ImportCount) (many : ℕ) (r : Row) (answer : Answer)
+    → SoFar (stations_of old.setup) old.returns mid.returns all left count many → mid ≡ record old { returns = mid.returns } → GivesNext left (Ok (Some r)) next
+    → row_answer (stations_of mid.setup) mid.returns r ≡ answer → new ≡ after_row (stations_of mid.setup) mid.returns r → more ≡ counted count (many + 1) answer
+    → SoFar (stations_of old.setup) old.returns new all next more (many + 1)
+SoFar-taken old mid new all left next count more many r answer h kept given answered changed counted_is =
+    let same = ap (λ (k : Kept). stations_of k.setup) (sym kept) in
+    SoFar-next (stations_of old.setup) old.returns mid.returns new all left next count more many r answer h given
+    (ap (λ stations. row_answer stations mid.returns r) same ∙ answered) (changed ∙ ap (λ stations. after_row stations mid.returns r) (sym same)) counted_is
+
+-- a keeper that has changed its returns alone, and does so again
+pub kept-next : (old mid new : Kept) → mid ≡ record old { returns = mid.returns } → new ≡ record mid { returns = new.returns } → new ≡ record old { returns = new.returns }
+kept-next old mid new was is = is ∙ ap (λ (k : Kept). record k { returns = new.returns }) was
+
 -- the import is done where its source ends
-pub SoFar-end : (setup : List Constituency) (old now : Returns) (all left next : Option Coming) (count : ImportCount) (many : ℕ)
-    → SoFar (stations_of setup) old now all left count many → many ≤ row_limit → GivesNext left (Ok None) next
-    → IsImport setup (state_with setup old) all count (state_with setup now)
-SoFar-end setup old now all left next count many h few given =
-    (h.rows, all-taken all left h.rows h.taken given.0, omega (arith, h.many_are), h.count_is, ap (state_with setup) h.now_is)
+pub SoFar-end : (old now : Kept) (all left next : Option Coming) (count : ImportCount) (many : ℕ)
+    → SoFar (stations_of old.setup) old.returns now.returns all left count many → now ≡ record old { returns = now.returns } → many ≤ row_limit
+    → GivesNext left (Ok None) next → IsImport old.setup (state_in old) all count (state_in now)
+SoFar-end old now all left next count many h kept few given =
+    (h.rows, all-taken all left h.rows h.taken given.0, omega (arith, h.many_are), h.count_is, ap state_in kept ∙ ap (λ m. state_in (record old { returns = m })) h.now_is)
 
 -- a fault of the source is one of the import
 pub SoFar-fault : (stations : Stations) (old now : Returns) (all left next : Option Coming) (count : ImportCount) (many : ℕ) (fault : ImportFault)
@@ -95,7 +111,14 @@ SoFar-many stations old now None left count many fault h over within = inr (inr 
 SoFar-many stations old now (Some known) left count many fault h over within =
     absurd (omega (arith, over, within.0, h.many_are, ap length h.taken.2, length-append h.rows h.taken.0))
 
--- an import keeps a lawful state lawful
-pub import-lawful : (setup : List Constituency) (m : Returns) (known : Option Coming) (count : ImportCount) (t : State) → IsLawfulState setup (state_with setup m)
-    → IsImport setup (state_with setup m) known count t → IsLawfulState setup t
-import-lawful setup m known count t lawful h = subst (IsLawfulState setup) (sym h.4) (imported-lawful setup m h.0 lawful)
+-- an import leaves what a keeper in memory holds as it has to be
+imported-held : (k : Kept) (rows : List Row) → IsHeld k → IsHeld (record k { returns = imported (stations_of k.setup) k.returns rows })
+imported-held k [] held = held
+imported-held k (row.Lodge (Lodge station slip counts) ∷ rows) held =
+    imported-held (record k { returns = lodge (stations_of k.setup) k.returns station slip counts }) rows (held-lodge k station slip counts held)
+imported-held k (other ∷ rows) held = imported-held k rows held
+
+pub import-held : (old new : Kept) (known : Option Coming) (count : ImportCount) → IsHeld old → new ≡ record old { returns = new.returns }
+    → IsImport old.setup (state_in old) known count (state_in new) → IsHeld new
+import-held old new known count held kept is =
+    subst IsHeld (sym (kept ∙ ap (λ (s : State). record old { returns = s.returns }) is.4)) (imported-held old is.0 held)

@@ -1,5 +1,5 @@
 -- What comes to a keeper: requests and whole imports in any order, and an import as a run.
-use Rattle.std.specs.Prelude.{◌≡◌, List, [], ◌∷◌, Some, None, Result, Ok, Err}
+use Rattle.std.specs.Prelude.{◌≡◌, List, [], ◌∷◌, ◌++◌, Some, None, Result, Ok, Err}
 use Rattle.tally_rules.specs.Constituency.{Constituency}
 use Rattle.tally_machine.specs.State.{State}
 use Rattle.tally_machine.specs.Replies.{IsAnswered, as_reply}
@@ -31,13 +31,22 @@ lodge_answers [] = []
 lodge_answers (Some answer ∷ answered) = as_answer answer ∷ lodge_answers answered
 lodge_answers (None ∷ answered) = lodge_answers answered
 
--- a request with its answer, or an import of what came with its count
+-- a request with its answer, an import of what came with its count, or one that a fault ended
 pub data Event : Type 0 where
   request : Ask → Result Reply Refusal → Event
   whole_import : Coming → ImportCount → Event
+  failed_import : Event
 
 -- What came one after the other, and the last state.
 abbrev pub AreEvents : List Constituency → State → List Event → State → Type 0
 AreEvents setup s [] t = t ≡ s
 AreEvents setup s (request ask r ∷ events) t = (mid : State) × IsAnswered setup s ask r mid × AreEvents setup mid events t
 AreEvents setup s (whole_import coming count ∷ events) t = (mid : State) × IsImport setup s (Some coming) count mid × AreEvents setup mid events t
+AreEvents setup s (failed_import ∷ events) t = AreEvents setup s events t
+
+-- the requests of events, those of an import being the Lodge commands of its rows
+abbrev pub asks_of : List Event → List Ask
+asks_of [] = []
+asks_of (request ask r ∷ events) = ask ∷ asks_of events
+asks_of (whole_import coming count ∷ events) = lodges coming.rows ++ asks_of events
+asks_of (failed_import ∷ events) = asks_of events

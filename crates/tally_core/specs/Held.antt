@@ -1,20 +1,27 @@
 -- What a keeper in memory holds. Public contracts speak of `Held` alone.
-use Rattle.std.specs.Prelude.{◌≡◌, ◌⊎◌, ℕ, List, [], ◌∷◌, Bool, Result, refl}
-use Rattle.std.specs.BTreeMap.{BTreeMap}
-use Rattle.std.specs.Coded.{Coded, code_by, coded×, coded_list, coded_bool, coded_ℕ}
-use Rattle.std.specs.FinMap.{FinMap, from_entries, remove, code}
-use Rattle.tally_rules.specs.Code.{code_cmp}
+use Rattle.std.specs.Prelude.{◌≡◌, ◌⊎◌, ◌+◌, ◌<◌, ◌^◌, ℕ, Bool, true, false, List, [], ◌∷◌, Some, None, IsSome, Result, Ok, Err, refl}
+use Rattle.std.specs.Coded.{Coded, code_by, coded×}
+use Rattle.std.specs.FinMap.{get, remove}
+use Rattle.std.specs.Option.{ForSome}
+use Rattle.tally_ledger.specs.Kept.{Kept, state_in, view_in, with_change}
+use Rattle.tally_ledger.specs.KeptCode.{state_code}
 use Rattle.tally_rules.specs.Constituency.{Constituency}
+use Rattle.tally_rules.specs.Limits.{IsSetup}
+use Rattle.tally_rules.specs.Setup.{constituency_with}
 use Rattle.tally_rules.specs.contracts.setup.Setup.{the_row as setup_row}
+use Rattle.tally_machine.specs.ConStep.{ConChange, IsView, con_change, gone_for_good}
 use Rattle.tally_machine.specs.Counts.{VoteCounts}
+use Rattle.tally_machine.specs.LawfulState.{IsLawfulState}
 use Rattle.tally_machine.specs.Lodge.{lodge, lodge_answer}
-use Rattle.tally_machine.specs.Replies.{IsNotAccepted, seen, lodge_reply, move_reply}
-use Rattle.tally_machine.specs.Return.{StationReturn, Returns}
-use Rattle.tally_machine.specs.State.{State, ConState, GoneCandidates, opening_cons, stations_of}
-use Rattle.tally_machine.specs.Step.{decided_in, step}
-use Rattle.tally_machine.specs.contracts.returns.Return.{the_row as return_row}
+use Rattle.tally_machine.specs.Replies.{Answer, edition_now, vacated, IsConStep, IsStep, seen, lodge_reply, move_reply}
+use Rattle.tally_machine.specs.Return.{Returns}
+use Rattle.tally_machine.specs.State.{State, con_state, stations_of}
+use Rattle.tally_machine.specs.Step.{after_return, decided_in}
 use Rattle.tally_machine.specs.declared.ask.Ask.{Ask}
+use Rattle.tally_machine.specs.declared.change.Change.{Change}
+use Rattle.tally_machine.specs.declared.change.Change.TheVariants.{SetLot, SetCertified, SetReopened, SetGone}
 use Rattle.tally_machine.specs.declared.refusal.Refusal.{Refusal}
+use Rattle.tally_machine.specs.declared.refusal.Refusal.TheVariants.{Memory}
 use Rattle.tally_machine.specs.declared.reply.Reply.{Reply}
 
 -- a setup, and the state of its election
@@ -22,42 +29,66 @@ pub record Held : Type 0 where
   pub setup : List Constituency
   pub state : State
 
--- how the parts are stored
-abbrev gone_code : Coded GoneCandidates
-gone_code = code (coded_list coded_ℕ) (coded_list coded_ℕ)
-
-abbrev con_code : Coded ConState
-con_code =
-    code_by (ℕ × (Bool × (List ℕ × (List ℕ × GoneCandidates)))) (coded× coded_ℕ (coded× coded_bool (coded× (coded_list coded_ℕ) (coded× (coded_list coded_ℕ) gone_code))))
-    (λ c. (c.edition, (c.certified, (c.note, (c.lot, c.gone))))) (λ p. record { edition = p.0; certified = p.1.0; note = p.1.1.0; lot = p.1.1.1.0; gone = p.1.1.1.1 }) (λ _. refl)
-
-abbrev state_code : Coded State
-state_code =
-    code_by (Returns × FinMap code_cmp ConState) (coded× (code (coded_list coded_ℕ) return_row.coded) (code (coded_list coded_ℕ) con_code))
-    (λ s. (s.returns, s.cons)) (λ p. record { returns = p.0; cons = p.1 }) (λ _. refl)
-
 abbrev pub held_code : Coded Held
 held_code = code_by (List Constituency × State) (coded× setup_row.coded state_code) (λ h. (h.setup, h.state)) (λ p. record { setup = p.0; state = p.1 }) (λ _. refl)
 
--- the returns that a tree holds
-abbrev pub returns_of : BTreeMap (List ℕ) StationReturn → Returns
-returns_of tree = from_entries tree.entries
+-- What is kept is lawful, and the seats that are kept of a certified constituency are those of the one allotment.
+pub record IsHeld (k : Kept) : Type 0 where
+  pub limits : IsSetup k.setup
+  pub lawful : IsLawfulState k.setup (state_in k)
+  pub seats : (code : List ℕ) → ForSome (constituency_with code k.setup) (λ con. IsView con (state_in k) (view_in k con))
 
--- the state with these returns. Its constituencies are as they open.
-abbrev pub state_with : List Constituency → Returns → State
-state_with setup returns = record { returns = returns; cons = opening_cons setup }
+-- A keeper in memory answers a request by a step, or refuses it for want of memory and has changed nothing.
+abbrev pub IsAnsweredInMemory : List Constituency → State → Ask → Result Reply Refusal → State → Type 0
+IsAnsweredInMemory setup s ask r t = IsStep setup s ask r t ⊎ ((r ≡ Err Memory) × (t ≡ s))
 
--- a Lodge was answered and carried out, or was not accepted and changed nothing
-abbrev pub IsLodged : List Constituency → Returns → List ℕ → List ℕ → VoteCounts → Result Reply Refusal → Returns → Type 0
-IsLodged setup returns station slip counts r new =
-    ((seen r ≡ lodge_reply (lodge_answer (stations_of setup) returns station slip counts)) × (new ≡ lodge (stations_of setup) returns station slip counts))
-    ⊎ (IsNotAccepted r × (new ≡ returns))
+-- a Lodge was answered and carried out, or memory was wanting and nothing has changed
+abbrev pub IsLodged : Kept → List ℕ → List ℕ → VoteCounts → Result Reply Refusal → Kept → Type 0
+IsLodged k station slip counts r new =
+    ((seen r ≡ lodge_reply (lodge_answer (stations_of k.setup) k.returns station slip counts))
+    × (new ≡ record k { returns = lodge (stations_of k.setup) k.returns station slip counts }))
+    ⊎ ((r ≡ Err Memory) × (new ≡ k))
+
+-- what is kept after a state: the seats stay
+abbrev pub with_state : Kept → State → Kept
+with_state k s = record k { returns = s.returns; cons = s.cons }
 
 -- the same of a command that moves a return
-abbrev pub IsMoved : List Constituency → Returns → Ask → Result Reply Refusal → Returns → Type 0
-IsMoved setup returns ask r new =
-    ((seen r ≡ move_reply (decided_in setup (state_with setup returns) ask)) × (state_with setup new ≡ step setup (state_with setup returns) ask))
-    ⊎ (IsNotAccepted r × (new ≡ returns))
+abbrev pub IsMoved : Kept → Ask → Result Reply Refusal → Kept → Type 0
+IsMoved k ask r new =
+    ((seen r ≡ move_reply (decided_in k.setup (state_in k) ask)) × (new ≡ with_state k (after_return k.setup (state_in k) ask)))
+    ⊎ ((r ≡ Err Memory) × (new ≡ k))
+
+-- a command on the constituency of a code was answered by a step, or memory was wanting and nothing has changed
+abbrev pub IsAnsweredOn : List ℕ → Kept → Ask → Result Reply Refusal → Kept → Type 0
+IsAnsweredOn code k ask r new =
+    IsConStep (constituency_with code k.setup) (state_in k) ask r (state_in new) ⊎ ((r ≡ Err Memory) × (state_in new ≡ state_in k))
+
+-- whether a change makes the edition rise
+abbrev pub is_edition_change : Change → Bool
+is_edition_change (SetLot places) = true
+is_edition_change (SetCertified seats) = true
+is_edition_change (SetReopened note) = true
+is_edition_change other = false
+
+-- A change can be carried out: of a constituency of the setup at this edition, which is not the last; and a candidate who goes is
+-- not gone.
+abbrev pub CanCarryOut : Kept → List ℕ → ℕ → Change → Type 0
+CanCarryOut k code edition (SetGone candidate next) =
+    IsSome (constituency_with code k.setup) × (get (con_state (state_in k) code).gone (candidate.list ∷ candidate.place ∷ []) ≡ None)
+CanCarryOut k code edition change =
+    IsSome (constituency_with code k.setup) × (is_edition_change change ≡ true) × ((con_state (state_in k) code).edition ≡ edition) × (edition + 1 < 2 ^ 32)
+
+-- what is answered where a change was carried out
+abbrev pub carried_reply : ℕ → ConChange → Answer
+carried_reply edition (gone_for_good candidate next) = vacated next
+carried_reply edition other = edition_now (edition + 1)
+
+-- It was carried out, or memory was wanting and nothing has changed.
+abbrev pub IsCarriedOut : Kept → List ℕ → ℕ → Change → Result Reply Refusal → Kept → Type 0
+IsCarriedOut k code edition change r new =
+    ((decided : ConChange) × (con_change change ≡ Some decided) × (seen r ≡ Ok (carried_reply edition decided)) × (new ≡ with_change k code decided))
+    ⊎ ((r ≡ Err Memory) × (new ≡ k))
 
 -- the returns but for those of these stations
 abbrev pub without : List (List ℕ) → Returns → Returns

@@ -2,7 +2,7 @@
 use Rattle.std.specs.Prelude.{◌≡◌, ◌≢◌, ◌≤◌, ◌⊎◌, ℕ, List, [], ◌∷◌, length, Option, Some, None, Result, Ok, Err, IsErr, IfSome}
 use Rattle.tally_rules.specs.Constituency.{Constituency}
 use Rattle.tally_machine.specs.State.{State, stations_of}
-use Rattle.tally_machine.specs.Replies.{IsAnswered, answer, seen, IsNotAccepted}
+use Rattle.tally_machine.specs.Replies.{IsAnswered, IsNotAccepted}
 use Rattle.tally_machine.specs.declared.ask.Ask.{Ask}
 use Rattle.tally_machine.specs.declared.refusal.Refusal.{Refusal}
 use Rattle.tally_machine.specs.declared.reply.Reply.{Reply}
@@ -13,10 +13,10 @@ use Rattle.tally_core.specs.declared.source.ImportFault.{ImportFault}
 use Rattle.tally_core.specs.declared.source.ImportFault.TheVariants.{BadHeader, TooLong, Read, Memory, Store}
 
 -- What a keeper answers, and the state that it then has. It has none where a disk that failed has shut it; the request that met
--- that failure did not act, and a keeper that was shut stays so and accepts nothing.
+-- that failure was refused as in the state that stood, or not accepted, and a keeper that was shut stays so and accepts nothing.
 abbrev pub Steps : List Constituency → Option State → Ask → Result Reply Refusal → Option State → Type 0
 Steps setup (Some s) ask r (Some t) = IsAnswered setup s ask r t
-Steps setup (Some s) ask r None = ((seen r ≡ answer setup s ask) ⊎ IsNotAccepted r) × IsErr r
+Steps setup (Some s) ask r None = IsAnswered setup s ask r s × IsErr r
 Steps setup None ask r (Some t) = ⊥
 Steps setup None ask r None = IsNotAccepted r
 

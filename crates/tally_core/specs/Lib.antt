@@ -2,4 +2,3 @@ pub mod Events
 pub mod Held
 pub mod Import
 pub mod Keeper
-pub mod Stations

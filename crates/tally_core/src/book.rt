@@ -4,8 +4,7 @@ ghost use Rattle.std.specs.Prelude.{◌≡◌, IfOk};
 ghost use Rattle.tally_machine.specs.State.{opening};
 
 mod answers;
-mod progress;
-mod returns;
+mod constituencies;
 mod rows;
 #[cfg(test)]
 mod tests;
@@ -16,42 +15,38 @@ use crate::source::{ImportFault, RowSource};
 use answers::answer_in;
 use rows::{take_out, take_rows};
 use std::alloc::{AllocError, Global};
-use std::collections::BTreeMap;
 use std::marker::Model;
-use tally_machine::{Ask, Refusal, Reply, Return};
-use tally_rules::{Code, Setup};
+use tally_ledger::Ledger;
+use tally_machine::{Ask, Refusal, Reply};
+use tally_rules::Setup;
 
 /// Keeps the office's state in memory. Nothing of it outlasts the program.
 #[derive(Drop)]
 pub struct Book {
-    setup: Setup,
-    returns: BTreeMap<Code, Return>,
+    ledger: Ledger,
     alloc: Global,
 }
 
 impl Model for Book {
-    ghost use Rattle.tally_machine.specs.State.{IsLawfulState};
-    ghost use Rattle.tally_core.specs.Held.{Held, held_code, returns_of, state_with};
+    ghost use Rattle.tally_core.specs.Held.{Held, IsHeld, held_code};
+    ghost use Rattle.tally_ledger.specs.Kept.{state_in};
 
     ghost Value = { Held };
 
     ghost coded = { held_code };
 
-    ghost view = { λ b. record { setup = b.setup; state = state_with b.setup (returns_of b.returns) } };
+    ghost view = { λ b. record { setup = b.ledger.setup; state = state_in b.ledger } };
 
-    ghost invariant = { λ b. IsLawfulState b.setup (state_with b.setup (returns_of b.returns)) };
+    ghost invariant = { λ b. IsHeld b.ledger };
 }
 
 impl Book {
-    /// A keeper of this setup in which no return stands.
+    /// A keeper of this setup in which no return stands and each constituency is as it opens.
     pub fn new(alloc: Global, setup: Setup) -> Result<Book, AllocError>
         ensures { IfOk result (λ book. book ≡ record { setup = setup; state = opening setup }) }
     {
-        Ok(Book {
-            setup,
-            returns: BTreeMap::new(alloc),
-            alloc,
-        })
+        let ledger = Ledger::new(alloc, setup)?;
+        Ok(Book { ledger, alloc })
     }
 }
 
@@ -64,26 +59,22 @@ impl Keeper for Book {
 
     ghost IsTrusted = { λ _. Unit {0} };
 
+    ghost HasDatabase = { λ _. ⊥ };
+
     fn setup(&self) -> &Setup {
-        &self.setup
+        self.ledger.setup()
     }
 
     fn answer(&mut self, ask: &Ask) -> Result<Reply, Refusal> {
-        answer_in(self.alloc, &self.setup, &mut self.returns, ask)
+        answer_in(self.alloc, &mut self.ledger, ask)
     }
 
     fn lodge_from<R: RowSource>(&mut self, rows: &mut R) -> Result<ImportCount, ImportFault> {
         let mut lodged = Vec::new(self.alloc);
-        match take_rows(
-            self.alloc,
-            &self.setup,
-            &mut self.returns,
-            &mut lodged,
-            rows,
-        ) {
+        match take_rows(self.alloc, &mut self.ledger, &mut lodged, rows) {
             Ok(count) => Ok(count),
             Err(fault) => {
-                take_out(&mut self.returns, &lodged);
+                take_out(&mut self.ledger, &lodged);
                 Err(fault)
             }
         }

@@ -1,9 +1,11 @@
 //! Keepers of the office's state.
 
-ghost use Rattle.std.specs.Prelude.{◌≡◌, List, Option, IfOk, OnErr};
+ghost use Rattle.std.specs.Prelude.{◌≡◌, List, Option, IfErr, IfOk, OnErr};
 ghost use Rattle.tally_rules.specs.Constituency.{Constituency};
 ghost use Rattle.tally_machine.specs.State.{State};
 ghost use Rattle.tally_core.specs.Keeper.{Steps, Runs, Imports};
+ghost use Rattle.tally_core.specs.declared.source.ImportFault.TheVariants as fault;
+ghost use Rattle.tally_machine.specs.declared.refusal.Refusal.TheVariants as refusal;
 
 use crate::import::ImportCount;
 use crate::source::{ImportFault, RowSource};
@@ -22,6 +24,9 @@ pub trait Keeper {
     /// No wrong answer of a disk has been taken as true. It may cease to hold at any call.
     ghost IsTrusted: { Self → Type 0 };
 
+    /// It stands on a database, which may fail.
+    ghost HasDatabase: { Self → Type 0 };
+
     /// The setup, which never changes.
     fn setup(&self) -> &Setup
         ensures { result.now ≡ constituencies self.now };
@@ -30,14 +35,16 @@ pub trait Keeper {
     fn answer(&mut self, ask: &Ask) -> Result<Reply, Refusal>
         ensures setup { constituencies self.new ≡ constituencies self.old }
         ensures trusted { IsTrusted self.new → IsTrusted self.old }
-        ensures step { IsTrusted self.new → Steps (constituencies self.old) (content self.old) ask.now result (content self.new) };
+        ensures step { IsTrusted self.new → Steps (constituencies self.old) (content self.old) ask.now result (content self.new) }
+        ensures store { IfErr result (λ e. e ≡ refusal.Store → HasDatabase self.old) };
 
     /// Lodges the rows of a source one by one; refused and bad ones are passed over. With a fault
     /// nothing has changed.
     fn lodge_from<R: RowSource>(&mut self, rows: &mut R) -> Result<ImportCount, ImportFault>
         ensures setup { constituencies self.new ≡ constituencies self.old }
         ensures trusted { IsTrusted self.new → IsTrusted self.old }
-        ensures imported { IsTrusted self.new → Imports (constituencies self.old) (content self.old) (R.coming rows.old) result (content self.new) };
+        ensures imported { IsTrusted self.new → Imports (constituencies self.old) (content self.old) (R.coming rows.old) result (content self.new) }
+        ensures store { IfErr result (λ e. e ≡ fault.Store → HasDatabase self.old) };
 }
 
 /// Answers requests in order. Where the list of answers finds no room, none was asked.

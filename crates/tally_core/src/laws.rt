@@ -1,7 +1,7 @@
 //! The laws of runs and imports. The functions do nothing: each contract is a law.
 
-ghost use Rattle.std.specs.Prelude.{◌≡◌, ◌↔◌, List, Some, Result};
-ghost use Rattle.tally_core.specs.Events.{Event, AreEvents, lodges, lodge_answers};
+ghost use Rattle.std.specs.Prelude.{◌≡◌, ◌↔◌, List, Some, None, Result};
+ghost use Rattle.tally_core.specs.Events.{Event, AreEvents, asks_of, lodges, lodge_answers};
 ghost use Rattle.tally_core.specs.Import.{answers, count_of};
 ghost use Rattle.tally_core.specs.Keeper.{Coming, IsImport, Runs};
 ghost use Rattle.tally_machine.specs.Replies.{IsRun};
@@ -12,15 +12,23 @@ use crate::import::ImportCount;
 use tally_machine::{Ask, Refusal, Reply};
 
 /// What a keeper does from one state to another is a run of the machine, so that the laws of the
-/// machine hold of it. A keeper that a failed disk has shut has no state.
-pub fn the_run_of_an_open_keeper_is_a_run()
-    ensures { (setup : List Constituency) (s t : State) (asks : List Ask) (rs : List (Result Reply Refusal)) → Runs setup (Some s) asks rs (Some t) ↔ IsRun setup s asks rs t }
+/// machine hold of it. A keeper that a failed disk has shut has no state, and its answers are those
+/// of a run up to then.
+pub fn the_run_of_a_keeper_is_a_run()
+    ensures shut { (setup : List Constituency) (s : State) (asks : List Ask) (rs : List (Result Reply Refusal)) → Runs setup (Some s) asks rs None → (t : State) × IsRun setup s asks rs t }
+    ensures open { (setup : List Constituency) (s t : State) (asks : List Ask) (rs : List (Result Reply Refusal)) → Runs setup (Some s) asks rs (Some t) ↔ IsRun setup s asks rs t }
 {}
 
 /// An import is the run of its Lodge commands, one by one, bad rows passed over, and its count is
 /// that of the answers.
 pub fn an_import_is_a_run()
     ensures { (setup : List Constituency) (coming : Coming) (s t : State) (count : ImportCount) → IsImport setup s (Some coming) count t → (count ≡ count_of (answers (stations_of setup) s.returns coming.rows)) × IsRun setup s (lodges coming.rows) (lodge_answers (answers (stations_of setup) s.returns coming.rows)) t }
+{}
+
+/// Requests and imports in any order are a run of the machine, so that the laws of the machine hold
+/// of them.
+pub fn requests_and_imports_are_a_run()
+    ensures { (setup : List Constituency) (s t : State) (events : List Event) → AreEvents setup s events t → (rs : List (Result Reply Refusal)) × IsRun setup s (asks_of events) rs t }
 {}
 
 /// An import lodges nothing when the same rows come again, whatever came between: a run of

@@ -14,7 +14,8 @@ pub use book::Book;
 pub use import::{FirstRow, ImportCount, Row};
 pub use keeper::{Keeper, run};
 pub use source::{ImportFault, RowSource};
+pub use tally_ledger::moved;
 pub use tally_machine::{
-    Ask, Change, Counts, LodgeReply, ProgressRow, Refusal, Reply, Return, Status, decide_at,
-    decide_lodge, decide_return,
+    Ask, Change, ConView, Counts, Gone, ListSet, LodgeReply, ProgressRow, Refusal, Reply, Return,
+    Status, decide_at, decide_con, decide_lodge, decide_return, holders,
 };

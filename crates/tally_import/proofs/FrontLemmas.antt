@@ -134,22 +134,22 @@ no-mark Semicolon a b = go (a == 0xEF) (b == 0xBB)
     go false y = refl
 
 -- what has come of a byte order mark, and no more, has no complete record
-none-of-nothing : (sep : Sep) → without_last (records (config sep) (separator sep ∷ [])) ≡ []
+pub none-of-nothing : (sep : Sep) → without_last (records (config sep) (separator sep ∷ [])) ≡ []
 unfolding records_from next_record
 none-of-nothing Comma = refl
 none-of-nothing Semicolon = refl
 
-none-of-one : (sep : Sep) → without_last (records (config sep) (0xEF ∷ separator sep ∷ [])) ≡ []
+pub none-of-one : (sep : Sep) → without_last (records (config sep) (0xEF ∷ separator sep ∷ [])) ≡ []
 unfolding records_from next_record
 none-of-one Comma = refl
 none-of-one Semicolon = refl
 
-none-of-two : (sep : Sep) → without_last (records (config sep) (0xEF ∷ 0xBB ∷ separator sep ∷ [])) ≡ []
+pub none-of-two : (sep : Sep) → without_last (records (config sep) (0xEF ∷ 0xBB ∷ separator sep ∷ [])) ≡ []
 unfolding records_from next_record
 none-of-two Comma = refl
 none-of-two Semicolon = refl
 
-begins-nothing : (all front : List (List (List ℕ))) → front ≡ [] → BeginsWith all front
+pub begins-nothing : (all front : List (List (List ℕ))) → front ≡ [] → BeginsWith all front
 begins-nothing all front none = (all, sym (ap (λ l. l ++ all) none))
 
 pub complete_records-front : (sep : Sep) (bytes rest : List ℕ) (stop : CheckFault)

@@ -19,7 +19,7 @@ Gave-too_long (Some t) (Some rest) last bytes cut given more is =
     let h = past size_limit t bytes rest given more in
     (is ∙ h.0, h.1)
 
-take-behind : (xs ys : List ℕ) (k : ℕ) → take (length xs + k) (xs ++ ys) ≡ xs ++ take k ys
+pub take-behind : (xs ys : List ℕ) (k : ℕ) → take (length xs + k) (xs ++ ys) ≡ xs ++ take k ys
 take-behind [] ys k = let same : 0 + k ≡ k = omega arith in ap (λ n. take n ys) same
 take-behind (x ∷ xs) ys k =
     let more : length (x ∷ xs) + k ≡ suc (length xs + k) = omega arith in

@@ -14,3 +14,6 @@ pub mod ProgressLemmas
 pub mod RoundsLemmas
 pub mod ReadingLemmas
 pub mod AnswerLemmas
+pub mod ConstituencyLemmas
+pub mod ReturnRowsLemmas
+pub mod StoppedLemmas

@@ -13,3 +13,6 @@ pub use Rattle.tally_machine.specs.Counts
 pub use Rattle.tally_machine.specs.Return
 pub use Rattle.tally_machine.specs.Lodge
 pub use Rattle.tally_core.specs.Import
+pub mod ReturnRows
+pub mod ReturnRowsValue
+pub mod ReturnRowsWithin

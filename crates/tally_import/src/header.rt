@@ -39,7 +39,7 @@ pub(crate) fn lists_of(alloc: Global, fields: &ByteRecord) -> Result<Option<Vec<
 }
 
 /// Whether a record begins with the names that every header begins with.
-fn has_fixed_names(fields: &ByteRecord) -> bool
+pub(crate) fn has_fixed_names(fields: &ByteRecord) -> bool
     requires { 4 ≤ length (fields_of fields.now) }
     ensures { result ≡ (same_text (slice_index_or (fields_of fields.now) 0 []) (codes "station")
         && same_text (slice_index_or (fields_of fields.now) 1 []) (codes "slip")

@@ -12,6 +12,7 @@ mod output;
 mod piece;
 mod reading;
 mod records;
+mod return_rows;
 mod row;
 mod separator;
 mod summary;
@@ -20,4 +21,5 @@ mod tests;
 mod totals;
 
 pub use check::{CheckFault, check_csv};
+pub use return_rows::ReturnRows;
 pub use separator::Sep;

@@ -13,10 +13,11 @@ use Rattle.tally_machine.specs.Return.{StationReturn, first_return}
 use Rattle.tally_machine.specs.Lodge.{StationLimits, counts_checks, unless_refused, admitted}
 use Rattle.tally_machine.specs.Moves.{last_revision, may_query, may_correct, may_close, move_checks, counts_checks_at, query_checks, correct_checks, close_checks, queried, corrected, closed}
 use Rattle.tally_machine.specs.Lawful.{IsLawful, PutsLawful, may_stand}
-use Rattle.tally_machine.specs.Decide.{IsUnlessMemory, decided_return, limits_named, limits_of, lodge_change, moved, put_next, station_in, station_named}
+use Rattle.tally_machine.specs.Decide.{IsUnlessMemory, decided_return, limits_named, limits_of, lodge_change, moved, put_next, station_in}
+use Rattle.tally_machine.specs.Named.{station_named}
 use Rattle.tally_machine.specs.declared.returns.Status.{Status}
 use Rattle.tally_machine.specs.declared.ask.Ask.{Ask}
-use Rattle.tally_machine.specs.declared.ask.Ask.TheVariants.{Lodge, Query, Correct, Close, ShowReturn, ShowProgress}
+use Rattle.tally_machine.specs.declared.ask.Ask.TheVariants.{Lodge, Query, Correct, Close, ShowReturn, Draw, Certify, Reopen, Vacate, ShowCon, ShowProgress}
 use Rattle.tally_machine.specs.declared.change.Change.{Change}
 use Rattle.tally_machine.specs.declared.change.Change.TheVariants.{Same, PutReturn}
 use Rattle.tally_machine.specs.declared.refusal.Refusal.{Refusal}
@@ -160,6 +161,11 @@ decided-lawful station certified found (ShowReturn code) change lawful is = show
     shown : (b : Bool) → refused_or (first_refusal (check b NoReturn ∷ [])) (Ok Same) ≡ Ok change → PutsLawful station change
     shown true ok = let same : Same ≡ change = cc in subst (PutsLawful station) same tt
     shown false ok = cc
+decided-lawful station certified found (Draw con edition order) change lawful is = let same : Same ≡ change = cc in subst (PutsLawful station) same tt
+decided-lawful station certified found (Certify con edition) change lawful is = let same : Same ≡ change = cc in subst (PutsLawful station) same tt
+decided-lawful station certified found (Reopen con edition note) change lawful is = let same : Same ≡ change = cc in subst (PutsLawful station) same tt
+decided-lawful station certified found (Vacate con list place note) change lawful is = let same : Same ≡ change = cc in subst (PutsLawful station) same tt
+decided-lawful station certified found (ShowCon con) change lawful is = let same : Same ≡ change = cc in subst (PutsLawful station) same tt
 decided-lawful station certified found ShowProgress change lawful is = let same : Same ≡ change = cc in subst (PutsLawful station) same tt
 
 -- the same of an answer

@@ -1,12 +1,12 @@
 -- What Draw and Certify leave is lawful.
-use Rattle.std.proofs.Common.{◌≡◌, ◌≤◌, ◌<◌, ◌+◌, ◌-◌, ◌==◌, ◌∙◌, ◌∷◌, ◌⊎◌, ℕ, List, [], Bool, true, false, Option, Some, None, Result, Ok, Err, refl, sym, ap, subst, inl, inr, arith}
+use Rattle.std.proofs.Common.{◌≡◌, ◌+◌, ◌-◌, ◌==◌, ◌∷◌, ℕ, List, [], Bool, true, false, Option, Some, None, Result, Ok, Err, refl, sym, subst, inr, arith}
 use Rattle.std.specs.Prelude.{not, if◌then◌else◌}
 use Rattle.std.proofs.lemmas.Bool.{eqb-true, eqb-false, not-true}
 use Rattle.tally_rules.specs.Constituency.{Constituency}
 use Rattle.tally_contest.specs.Lot.{IsOrderOf}
 use Rattle.tally_machine.specs.Certification.{Certifies, Draws, RefusedOr, certified_by, count_checks, drawn_places, drawn_where, last_edition, list_places, names_group}
 use Rattle.tally_machine.specs.Checks.{check, first_refusal}
-use Rattle.tally_machine.specs.Outcome.{Outcome, HasSeats, IsLawfulView, IsOutcome, MayStand, allotted, lot_missing, nobody, poll_in, rule_in}
+use Rattle.tally_machine.specs.Outcome.{Outcome, HasSeats, IsLawfulView, IsOutcome, allotted, lot_missing, nobody}
 use Rattle.tally_machine.specs.View.{View}
 use Rattle.tally_machine.specs.declared.refusal.Refusal.{Refusal}
 use Rattle.tally_machine.specs.declared.refusal.Refusal.TheVariants.{Certified, Exhausted, LotWrongGroup, NotAllClosed, Stale}
@@ -15,17 +15,17 @@ use Rattle.tally_machine.proofs.LotLemmas.{order-from}
 
 -- ---- where something is given, no check failed
 
-given : {X : Type 0} (refusal : Option Refusal) (P : Result X Refusal → Type 0) (x : X) → RefusedOr refusal P (Ok x) → (refusal ≡ None) × P (Ok x)
+pub given : {X : Type 0} (refusal : Option Refusal) (P : Result X Refusal → Type 0) (x : X) → RefusedOr refusal P (Ok x) → (refusal ≡ None) × P (Ok x)
 given None P x h = (refl, h)
 given (Some e) P x h = cc
 
 -- what the checks before the votes say where none fails
-record ArePassed (view : View) : Type 0 where
-  not_certified : view.certified ≡ false
-  not_last : view.edition ≡ last_edition → ⊥
-  all_closed : view.closed ≡ view.stations
+pub record ArePassed (view : View) : Type 0 where
+  pub not_certified : view.certified ≡ false
+  pub not_last : view.edition ≡ last_edition → ⊥
+  pub all_closed : view.closed ≡ view.stations
 
-passed : (view : View) (edition : ℕ) → first_refusal (count_checks view edition) ≡ None → ArePassed view
+pub passed : (view : View) (edition : ℕ) → first_refusal (count_checks view edition) ≡ None → ArePassed view
 passed view edition none =
     let left = view.stations - view.closed in
     let fourth = check (view.closed == view.stations) (NotAllClosed left) ∷ [] in
@@ -109,6 +109,12 @@ pub drawn-order : (con : Constituency) (view : View) (edition : ℕ) (order : Li
 drawn-order con view edition order places draws =
     let d = drawn-group con view edition order places draws in
     order-from d.group places d.named
+
+-- and the constituency is not certified
+pub drawn-open : (con : Constituency) (view : View) (edition : ℕ) (order : List (List ℕ)) (places : List ℕ) → Draws con view edition order (Ok places) → view.certified ≡ false
+drawn-open con view edition order places draws =
+    let g = given (first_refusal (count_checks view edition)) (λ result. (outcome : Outcome) × IsOutcome con view outcome × (result ≡ drawn_where view.lot outcome (list_places con order))) places draws in
+    (passed view edition g.0).not_certified
 
 -- a lawful view is lawful once the lot stands that Draw gives
 pub drawn-lawful : (con : Constituency) (view : View) (edition : ℕ) (order : List (List ℕ)) (places : List ℕ) → IsLawfulView con view → Draws con view edition order (Ok places)

@@ -1,6 +1,10 @@
 pub mod CountsLemmas
 pub mod DecideLemmas
+pub mod ConStateLemmas
 pub mod LifeLemmas
+pub mod ActLemmas
+pub mod OnwardLemmas
+pub mod SpentLemmas
 pub mod RunLemmas
 pub mod StateLemmas
 pub mod StayLemmas
@@ -9,3 +13,9 @@ pub mod LotLemmas
 pub mod CertificationLemmas
 pub mod LawfulViewLemmas
 pub mod VacancyLemmas
+pub mod ClosedLemmas
+pub mod ReturnStepLemmas
+pub mod ViewLemmas
+pub mod ConStepLemmas
+pub mod LawLemmas
+pub mod DecidedLemmas

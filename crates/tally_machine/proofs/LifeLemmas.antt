@@ -14,12 +14,13 @@ use Rattle.tally_machine.specs.Counts.{VoteCounts, same_counts}
 use Rattle.tally_machine.specs.Return.{StationReturn, Returns, first_return}
 use Rattle.tally_machine.specs.Lodge.{StationLimits, counts_checks, unless_refused, admitted}
 use Rattle.tally_machine.specs.Moves.{last_revision, may_query, may_correct, may_close, move_checks, counts_checks_at, query_checks, correct_checks, close_checks, queried, corrected, closed}
-use Rattle.tally_machine.specs.Decide.{decided_return, lodge_change, moved, put_next, station_named}
+use Rattle.tally_machine.specs.Decide.{decided_return, lodge_change, moved, put_next}
+use Rattle.tally_machine.specs.Named.{station_named}
 use Rattle.tally_machine.specs.State.{State, stations_of}
-use Rattle.tally_machine.specs.Step.{con_of, is_certified, decided_at_station, decided_in, without_lot, after_put, with_return, after, step, run, puts, acts}
+use Rattle.tally_machine.specs.Step.{con_of, is_certified, decided_at_station, decided_in, without_lot, after_put, with_return, after, after_return}
 use Rattle.tally_machine.specs.declared.returns.Status.{Status}
 use Rattle.tally_machine.specs.declared.ask.Ask.{Ask}
-use Rattle.tally_machine.specs.declared.ask.Ask.TheVariants.{Lodge, Query, Correct, Close, ShowReturn, ShowProgress}
+use Rattle.tally_machine.specs.declared.ask.Ask.TheVariants.{Lodge, Query, Correct, Close, ShowReturn}
 use Rattle.tally_machine.specs.declared.change.Change.{Change}
 use Rattle.tally_machine.specs.declared.change.Change.TheVariants.{Same, PutReturn}
 use Rattle.tally_machine.specs.declared.refusal.Refusal.{Refusal}
@@ -41,8 +42,7 @@ named_rev (Lodge station slip counts) = 0
 named_rev (Query station rev note) = rev
 named_rev (Correct station rev slip counts) = rev
 named_rev (Close station rev) = rev
-named_rev (ShowReturn station) = 0
-named_rev ShowProgress = 0
+named_rev other = 0
 
 -- a return that is put is the next one of that which stands
 pub record IsMove (checks : List (Option Refusal)) (found : Option StationReturn) (next : StationReturn → StationReturn) (r : StationReturn) : Type 0 where
@@ -125,9 +125,9 @@ decided-rise station certified found (ShowReturn code) r is = shown (first_refus
     shown : (refused : Option Refusal) → refused_or refused (Ok Same) ≡ Ok (PutReturn r) → IsRise found 0 r
     shown None ok = cc
     shown (Some e) ok = cc
-decided-rise station certified found ShowProgress r is = cc
+decided-rise station certified found other r is = cc
 
-insert-rises : (m : Returns) (station q : List ℕ) (r : StationReturn) → rev_of (map.get m station) ≤ r.rev → rev_of (map.get m q) ≤ rev_of (map.get (map.insert m station r) q)
+pub insert-rises : (m : Returns) (station q : List ℕ) (r : StationReturn) → rev_of (map.get m station) ≤ r.rev → rev_of (map.get m q) ≤ rev_of (map.get (map.insert m station r) q)
 insert-rises m station q r few =
     subst (λ (f : Option StationReturn). rev_of (map.get m q) ≤ rev_of f) (sym (map.get-insert nat_list_cmp_total m station r q)) (go (eq_by_cmp code_cmp q station) refl)
   where
@@ -135,26 +135,40 @@ insert-rises m station q r few =
     go true tied = subst (λ (f : Option StationReturn). rev_of f ≤ r.rev) (map.get_tied nat_list_cmp_total m q station ((Equal-is (code_cmp q station)).0 tied)) few
     go false apart = omega arith
 
-insert-self : (m : Returns) (station : List ℕ) (r : StationReturn) → rev_of (map.get (map.insert m station r) station) ≡ r.rev
+pub insert-self : (m : Returns) (station : List ℕ) (r : StationReturn) → rev_of (map.get (map.insert m station r) station) ≡ r.rev
 insert-self m station r =
     ap rev_of (map.get-insert nat_list_cmp_total m station r station)
     ∙ ap (λ b. rev_of (cond b (Some r) (map.get m station))) ((eq_by_cmp_equiv nat_list_cmp_total).refl station)
 
-without_lot-returns : (s : State) (code : Option (List ℕ)) → (without_lot s code).returns ≡ s.returns
+pub without_lot-returns : (s : State) (code : Option (List ℕ)) → (without_lot s code).returns ≡ s.returns
 without_lot-returns s None = refl
 without_lot-returns s (Some code) = refl
 
-after_put-returns : (setup : List Constituency) (s : State) (ask : Ask) → (after_put setup s ask).returns ≡ s.returns
-after_put-returns setup s (Lodge station slip counts) = refl
+pub after_put-returns : (setup : List Constituency) (s : State) (ask : Ask) → (after_put setup s ask).returns ≡ s.returns
 after_put-returns setup s (Query station rev note) = without_lot-returns s (con_of setup station)
-after_put-returns setup s (Correct station rev slip counts) = refl
-after_put-returns setup s (Close station rev) = refl
-after_put-returns setup s (ShowReturn station) = refl
-after_put-returns setup s ShowProgress = refl
+after_put-returns setup s other = refl
 
--- no step lowers the revision of a station
-step-rises : (setup : List Constituency) (s : State) (ask : Ask) (q : List ℕ) → rev_at s q ≤ rev_at (step setup s ask) q
-step-rises setup s ask q = go (decided_in setup s ask) refl
+-- whether a return is put
+abbrev pub puts : Result Change Refusal → Bool
+puts (Ok (PutReturn standing)) = true
+puts other = false
+
+-- whether a command on a return acts
+abbrev pub acts : List Constituency → State → Ask → Bool
+acts setup s ask = puts (decided_in setup s ask)
+
+-- what is decided where a return is put
+pub record IsPut (d : Result Change Refusal) : Type 0 where
+  pub put : StationReturn
+  pub is : d ≡ Ok (PutReturn put)
+
+puts-is : (d : Result Change Refusal) → puts d ≡ true → IsPut d
+puts-is (Ok (PutReturn r)) e = record { put = r; is = refl }
+puts-is other e = cc
+
+-- no command on a return lowers the revision of a station
+pub after_return-rises : (setup : List Constituency) (s : State) (ask : Ask) (q : List ℕ) → rev_at s q ≤ rev_at (after_return setup s ask) q
+after_return-rises setup s ask q = go (decided_in setup s ask) refl
   where
     put : (named : Option (List ℕ)) (r : StationReturn) → decided_at_station setup s ask named ≡ Ok (PutReturn r) → rev_at s q ≤ rev_at (with_return (after_put setup s ask) named r) q
     put None r is = cc
@@ -164,23 +178,8 @@ step-rises setup s ask q = go (decided_in setup s ask) refl
         (insert-rises s.returns station q r (omega (arith, rise.stood, rise.rises)))
 
     go : (d : Result Change Refusal) → decided_in setup s ask ≡ d → rev_at s q ≤ rev_at (after setup s ask d) q
-    go (Ok Same) is = omega arith
     go (Ok (PutReturn r)) is = put (station_named ask) r is
-    go (Err e) is = omega arith
-
-run-rises : (setup : List Constituency) (asks : List Ask) (s : State) (q : List ℕ) → rev_at s q ≤ rev_at (run setup s asks) q
-run-rises setup [] s q = omega arith
-run-rises setup (ask ∷ asks) s q = omega (arith, step-rises setup s ask q, run-rises setup asks (step setup s ask) q)
-
--- what is decided where a return is put
-pub record IsPut (d : Result Change Refusal) : Type 0 where
-  pub put : StationReturn
-  pub is : d ≡ Ok (PutReturn put)
-
-puts-is : (d : Result Change Refusal) → puts d ≡ true → IsPut d
-puts-is (Ok Same) e = cc
-puts-is (Ok (PutReturn r)) e = record { put = r; is = refl }
-puts-is (Err refusal) e = cc
+    go other is = omega arith
 
 acts-put : (setup : List Constituency) (s : State) (ask : Ask) (station : List ℕ) → station_named ask ≡ Some station → acts setup s ask ≡ true
     → IsPut (decided_at_station setup s ask (Some station))
@@ -188,15 +187,15 @@ acts-put setup s ask station named acted =
     puts-is (decided_at_station setup s ask (Some station)) (subst (λ n. puts (decided_at_station setup s ask n) ≡ true) named acted)
 
 -- a command that acts names the revision that stands
-acts-stood : (setup : List Constituency) (s : State) (ask : Ask) (station : List ℕ) → station_named ask ≡ Some station → acts setup s ask ≡ true
+pub acts-stood : (setup : List Constituency) (s : State) (ask : Ask) (station : List ℕ) → station_named ask ≡ Some station → acts setup s ask ≡ true
     → rev_at s station ≡ named_rev ask
 acts-stood setup s ask station named acted =
     let put = acts-put setup s ask station named acted in
     (decided-rise (stations_of setup station) (is_certified setup s station) (map.get s.returns station) ask put.put put.is).stood
 
 -- and leaves the next
-acts-rises : (setup : List Constituency) (s : State) (ask : Ask) (station : List ℕ) → station_named ask ≡ Some station → acts setup s ask ≡ true
-    → rev_at (step setup s ask) station ≡ named_rev ask + 1
+pub acts-rises : (setup : List Constituency) (s : State) (ask : Ask) (station : List ℕ) → station_named ask ≡ Some station → acts setup s ask ≡ true
+    → rev_at (after_return setup s ask) station ≡ named_rev ask + 1
 acts-rises setup s ask station named acted =
     let put = acts-put setup s ask station named acted in
     let decision : decided_in setup s ask ≡ Ok (PutReturn put.put) = ap (decided_at_station setup s ask) named ∙ put.is in
@@ -204,19 +203,3 @@ acts-rises setup s ask station named acted =
     ∙ ap (λ n. rev_at (with_return (after_put setup s ask) n put.put) station) named
     ∙ insert-self (after_put setup s ask).returns station put.put
     ∙ (decided-rise (stations_of setup station) (is_certified setup s station) (map.get s.returns station) ask put.put put.is).rises
-
--- a command that acted does not act again
-pub acts-once : (setup : List Constituency) (s : State) (ask : Ask) (asks : List Ask) → acts setup s ask ≡ true → acts setup (run setup (step setup s ask) asks) ask ≡ false
-acts-once setup s ask asks acted = go (station_named ask) refl (acts setup (run setup (step setup s ask) asks) ask) refl
-  where
-    go : (named : Option (List ℕ)) → station_named ask ≡ named → (b : Bool) → acts setup (run setup (step setup s ask) asks) ask ≡ b → b ≡ false
-    go named is false again = refl
-    go None is true again =
-        let nothing : false ≡ true = subst (λ n. puts (decided_at_station setup s ask n) ≡ true) is acted in cc
-    go (Some station) is true again =
-        absurd (omega (
-          arith,
-          acts-rises setup s ask station is acted,
-          run-rises setup asks (step setup s ask) station,
-          acts-stood setup (run setup (step setup s ask) asks) ask station is again,
-        ))

@@ -7,14 +7,15 @@ use Rattle.std.specs.Cmp.Lexicographic.{pointwise, nat_list_cmp_total}
 use Rattle.std.specs.Ordering.{eq_by_cmp}
 use Rattle.tally_rules.specs.Code.{code_cmp}
 use Rattle.tally_rules.specs.Constituency.{Constituency}
+use Rattle.tally_rules.specs.Setup.{constituency_with}
 use Rattle.tally_machine.specs.Checks.{first_refusal}
 use Rattle.tally_machine.specs.Counts.{VoteCounts, same_counts}
 use Rattle.tally_machine.specs.Return.{StationReturn, Returns, first_return}
 use Rattle.tally_machine.specs.Lodge.{StationLimits, Stations, counts_checks, unless_refused, admitted, decided, lodge_answer, after_lodge, lodge}
-use Rattle.tally_machine.specs.Decide.{station_named}
+use Rattle.tally_machine.specs.Named.{con_named, station_named}
 use Rattle.tally_machine.specs.State.{State}
-use Rattle.tally_machine.specs.Step.{con_of, decided_in, without_lot, after_put, with_return, after, step}
-use Rattle.tally_machine.specs.Replies.{IsAnswered, IsRun}
+use Rattle.tally_machine.specs.Step.{con_of, decided_in, without_lot, after_put, with_return, after, after_return}
+use Rattle.tally_machine.specs.Replies.{IsStepAt, IsAnswered, IsRun}
 use Rattle.tally_machine.specs.declared.ask.Ask.{Ask}
 use Rattle.tally_machine.specs.declared.ask.Ask.TheVariants as ask
 use Rattle.tally_machine.specs.declared.change.Change.{Change}
@@ -24,6 +25,7 @@ use Rattle.tally_machine.specs.declared.refusal.Refusal.TheVariants.{Differs}
 use Rattle.tally_machine.specs.declared.reply.LodgeReply.{LodgeReply}
 use Rattle.tally_machine.specs.declared.reply.LodgeReply.TheVariants.{Lodged, Same}
 use Rattle.tally_machine.specs.declared.reply.Reply.{Reply}
+use Rattle.tally_machine.proofs.ConStateLemmas.{con_step-returns}
 
 -- each station that has a return in the one has one in the other
 abbrev pub Stay : Returns → Returns → Type 0
@@ -49,22 +51,29 @@ put-stays setup s (ask.Query station rev note) q there = go (con_of setup statio
     go (Some code) = there
 put-stays setup s a q there = there
 
-step-stays : (setup : List Constituency) (s : State) (a : Ask) → Stay s.returns (step setup s a).returns
-step-stays setup s a q there = go (decided_in setup s a)
+after_return-stays : (setup : List Constituency) (s : State) (a : Ask) → Stay s.returns (after_return setup s a).returns
+after_return-stays setup s a q there = go (decided_in setup s a)
   where
     put : (t : State) (named : Option (List ℕ)) (r : StationReturn) → is_some (map.get t.returns q) ≡ true → is_some (map.get (with_return t named r).returns q) ≡ true
     put t None r stood = stood
     put t (Some station) r stood = insert-stays t.returns station r q stood
 
     go : (d : Result Change Refusal) → is_some (map.get (after setup s a d).returns q) ≡ true
-    go (Ok change.Same) = there
     go (Ok (change.PutReturn r)) = put (after_put setup s a) (station_named a) r (put-stays setup s a q there)
-    go (Err refusal) = there
+    go other = there
+
+-- where the returns are the same ones
+same-stays : (m n : Returns) → n ≡ m → Stay m n
+same-stays m n same = subst (Stay m) (sym same) (λ q there. there)
+
+step-stays : (named : Option (List ℕ)) (setup : List Constituency) (s : State) (a : Ask) (r : Result Reply Refusal) (t : State) → IsStepAt named setup s a r t → Stay s.returns t.returns
+step-stays None setup s a r t is = subst (λ (x : State). Stay s.returns x.returns) (sym is.1) (after_return-stays setup s a)
+step-stays (Some code) setup s a r t is = same-stays s.returns t.returns (con_step-returns (constituency_with code setup) s a r t is)
 
 -- what has a return before a request has one after it
 pub answered-stays : (setup : List Constituency) (s : State) (a : Ask) (r : Result Reply Refusal) (t : State) → IsAnswered setup s a r t → Stay s.returns t.returns
-answered-stays setup s a r t (inl is) = subst (λ (x : State). Stay s.returns x.returns) (sym is.1) (step-stays setup s a)
-answered-stays setup s a r t (inr is) = subst (λ (x : State). Stay s.returns x.returns) (sym is.1) (λ q there. there)
+answered-stays setup s a r t (inl is) = step-stays (con_named a) setup s a r t is
+answered-stays setup s a r t (inr is) = same-stays s.returns t.returns (ap (λ (x : State). x.returns) is.1)
 
 pub run-stays : (setup : List Constituency) (s t : State) (asks : List Ask) (rs : List (Result Reply Refusal)) → IsRun setup s asks rs t → Stay s.returns t.returns
 run-stays setup s t [] [] is = subst (λ (x : State). Stay s.returns x.returns) (sym is) (λ q there. there)

@@ -8,24 +8,16 @@ use Rattle.tally_machine.specs.Return.{StationReturn, first_return}
 use Rattle.tally_machine.specs.Counts.{VoteCounts}
 use Rattle.tally_machine.specs.Lodge.{StationLimits, decided}
 use Rattle.tally_machine.specs.Moves.{query_checks, correct_checks, close_checks, queried, corrected, closed}
+use Rattle.tally_machine.specs.Named.{station_named}
 use Rattle.tally_machine.specs.Checks.{check, first_refusal, refused_or}
 use Rattle.tally_machine.specs.declared.ask.Ask.{Ask}
-use Rattle.tally_machine.specs.declared.ask.Ask.TheVariants.{Lodge, Query, Correct, Close, ShowReturn, ShowProgress}
+use Rattle.tally_machine.specs.declared.ask.Ask.TheVariants.{Lodge, Query, Correct, Close, ShowReturn}
 use Rattle.tally_machine.specs.declared.change.Change.{Change}
 use Rattle.tally_machine.specs.declared.change.Change.TheVariants.{Same, PutReturn}
 use Rattle.tally_machine.specs.declared.refusal.Refusal.{Refusal}
 use Rattle.tally_machine.specs.declared.refusal.Refusal.TheVariants.{NoStation, NoReturn, Memory}
 use Rattle.tally_machine.specs.declared.reply.LodgeReply.{LodgeReply}
 use Rattle.tally_machine.specs.declared.reply.LodgeReply.TheVariants as reply
-
--- the station that a command on a return names
-abbrev pub station_named : Ask → Option (List ℕ)
-station_named (Lodge station slip counts) = Some station
-station_named (Query station rev note) = Some station
-station_named (Correct station rev slip counts) = Some station
-station_named (Close station rev) = Some station
-station_named (ShowReturn station) = Some station
-station_named ShowProgress = None
 
 -- the station of a code in a constituency
 abbrev pub station_in : Constituency → List ℕ → Option Station
@@ -56,14 +48,15 @@ put_next (Some standing) next = PutReturn (next standing)
 abbrev pub moved : List (Option Refusal) → Option StationReturn → (StationReturn → StationReturn) → Result Change Refusal
 moved checks found next = refused_or (first_refusal checks) (Ok (put_next found next))
 
--- what is decided at a station, by whether its constituency is certified and by the return that it has
+-- what is decided at a station, by whether its constituency is certified and by the return that it has. Other commands change no
+-- return.
 abbrev pub decided_return : Option StationLimits → Bool → Option StationReturn → Ask → Result Change Refusal
 decided_return station certified found (Lodge code slip counts) = lodge_change slip counts (decided station found slip counts)
 decided_return station certified found (Query code rev note) = moved (query_checks station certified found rev (string_bytes note)) found (queried (string_bytes note))
 decided_return station certified found (Correct code rev slip counts) = moved (correct_checks station certified found rev counts) found (corrected slip counts)
 decided_return station certified found (Close code rev) = moved (close_checks station certified found rev) found closed
 decided_return station certified found (ShowReturn code) = refused_or (first_refusal (show_checks station found)) (Ok Same)
-decided_return station certified found ShowProgress = Ok Same
+decided_return station certified found other = Ok Same
 
 -- what is answered is this, unless an allocation was refused
 abbrev pub IsUnlessMemory : {X : Type 0} → Result X Refusal → Result X Refusal → Type 0

@@ -21,7 +21,8 @@ pub record IsLawful (station : StationLimits) (standing : StationReturn) : Type 
   pub counts : are_counts station.lists standing.counts ≡ true
   pub votes : all_votes standing.counts ≤ station.electors
 
--- a return that is put is lawful
+-- a return that is put is lawful, and nothing else is changed
 abbrev pub PutsLawful : StationLimits → Change → Type 0
 PutsLawful station Same = Unit {0}
 PutsLawful station (PutReturn standing) = IsLawful station standing
+PutsLawful station other = ⊥

@@ -2,6 +2,7 @@ pub mod Counts
 pub mod Return
 pub mod Refusals
 pub mod Checks
+pub mod Named
 pub mod Lodge
 pub mod Moves
 pub mod Lawful
@@ -12,6 +13,9 @@ pub mod Progress
 pub mod Replies
 pub mod Runs
 pub mod Holders
+pub mod GoneCandidate
 pub mod View
 pub mod Outcome
 pub mod Certification
+pub mod LawfulState
+pub mod ConStep

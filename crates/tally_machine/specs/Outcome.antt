@@ -1,11 +1,11 @@
 -- What closed votes and a lot come to, and the views that a lawful state has.
-use Rattle.std.specs.Prelude.{◌≡◌, ◌≤◌, ◌⊎◌, ℕ, Bool, true, false, List, [], length}
+use Rattle.std.specs.Prelude.{◌≡◌, ◌≢◌, ◌≤◌, ◌⊎◌, ℕ, Bool, true, false, List, [], length, sum}
 use Rattle.tally_rules.specs.Constituency.{Constituency}
 use Rattle.tally_contest.specs.Poll.{Poll, HasEligible}
 use Rattle.tally_contest.specs.Allotment.{Rule}
 use Rattle.tally_allot.specs.AllotFault.{IsAllotmentUnderLot}
 use Rattle.tally_allot.specs.Conditions.{AreLimitsKept}
-use Rattle.tally_contest.specs.LotNeed.{IsNeed, IsLotTaken}
+use Rattle.tally_contest.specs.LotNeed.{IsLotNeeded, IsNeed, IsLotTaken}
 use Rattle.tally_contest.specs.Rules.{rule_of, poll_of}
 use Rattle.tally_machine.specs.View.{View}
 
@@ -35,6 +35,14 @@ HasSeats con view false = view.seats ≡ []
 -- a lot stands only where all stations are closed and it is the one to be taken
 abbrev pub MayStand : Constituency → View → Type 0
 MayStand con view = (view.closed ≡ view.stations) × HasEligible (poll_in con view) × IsLotTaken (rule_in con) (poll_in con view) con.seats view.lot
+
+-- What a certificate stands on: all stations are closed; the seats are those of the one allotment, and exactly as many as there are; and a
+-- lot stands where one is needed.
+pub record IsCertificate (con : Constituency) (view : View) : Type 0 where
+  pub closed : view.closed ≡ view.stations
+  pub allotment : IsAllotmentUnderLot (rule_in con) (poll_in con view) view.lot con.seats view.seats
+  pub exactly : sum view.seats ≡ con.seats
+  pub lot : IsLotNeeded (rule_in con) (poll_in con view) con.seats → view.lot ≢ []
 
 -- A view that a constituency has in a lawful state.
 pub record IsLawfulView (con : Constituency) (view : View) : Type 0 where

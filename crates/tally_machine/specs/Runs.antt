@@ -2,13 +2,17 @@
 use Rattle.std.specs.Prelude.{◌≡◌, if◌then◌else◌, ◌+◌, ℕ, Bool, List, [], ◌∷◌, Result, string_bytes}
 use Rattle.tally_machine.specs.Replies.{is_act}
 use Rattle.tally_machine.specs.declared.ask.Ask.{Ask}
-use Rattle.tally_machine.specs.declared.ask.Ask.TheVariants.{Query}
+use Rattle.tally_machine.specs.declared.ask.Ask.TheVariants.{Query, Draw, Reopen, Vacate}
 use Rattle.tally_machine.specs.declared.refusal.Refusal.{Refusal}
 use Rattle.tally_machine.specs.declared.reply.Reply.{Reply}
 
--- The same command: all its parts are equal. Of a note the text counts, not how a program keeps it.
+-- The same command: all its parts are equal. Of a note the text counts and of an order its codes, not how a program keeps them.
 abbrev pub IsSameCommand : Ask → Ask → Type 0
 IsSameCommand (Query station rev note) (Query other_station other_rev other_note) = (station ≡ other_station) × (rev ≡ other_rev) × (string_bytes note ≡ string_bytes other_note)
+IsSameCommand (Draw con edition order) (Draw other_con other_edition other_order) = (con ≡ other_con) × (edition ≡ other_edition) × (order.items ≡ other_order.items)
+IsSameCommand (Reopen con edition note) (Reopen other_con other_edition other_note) = (con ≡ other_con) × (edition ≡ other_edition) × (string_bytes note ≡ string_bytes other_note)
+IsSameCommand (Vacate con list place note) (Vacate other_con other_list other_place other_note) =
+    (con ≡ other_con) × (list ≡ other_list) × (place ≡ other_place) × (string_bytes note ≡ string_bytes other_note)
 IsSameCommand ask other = ask ≡ other
 
 -- the requests that acted, by what they were answered

@@ -1,16 +1,14 @@
 -- What the office keeps: the return of each station that has one, and what each constituency has come to.
-use Rattle.std.specs.Prelude.{◌≡◌, ℕ, Bool, false, List, [], map, Some, option_map, unwrap_or}
+use Rattle.std.specs.Prelude.{ℕ, Bool, false, List, [], map, option_map, unwrap_or}
 use Rattle.std.specs.FinMap.{FinMap, get, empty, from_entries}
-use Rattle.std.specs.Option.{ForSome}
 use Rattle.std.specs.Ordering.{nat_cmp}
 use Rattle.std.specs.Cmp.Lexicographic.{slice_cmp}
 use Rattle.tally_rules.specs.Code.{code_cmp}
 use Rattle.tally_rules.specs.Constituency.{Constituency}
 use Rattle.tally_rules.specs.Setup.{station_with}
 use Rattle.tally_machine.specs.Return.{Returns}
-use Rattle.tally_machine.specs.Lodge.{StationLimits, Stations}
+use Rattle.tally_machine.specs.Lodge.{Stations}
 use Rattle.tally_machine.specs.Decide.{limits_of}
-use Rattle.tally_machine.specs.Lawful.{IsLawful}
 
 -- the note of each candidate who is gone, by the place of its list in the constituency and its own place there, both from 1
 abbrev pub GoneCandidates : Type 0
@@ -47,9 +45,3 @@ con_state s code = unwrap_or (get s.cons code) opening_con
 -- what a setup says of the station of a code
 abbrev pub stations_of : List Constituency → Stations
 stations_of setup station = option_map (λ place. limits_of place.0 place.1) (station_with station setup)
-
--- A lawful state, in its part on returns: each is one of a station of the setup, and lawful there. The constituencies are as
--- they open.
-pub record IsLawfulState (setup : List Constituency) (s : State) : Type 0 where
-  pub stations : (station : List ℕ) → ForSome (get s.returns station) (λ standing. (limits : StationLimits) × (stations_of setup station ≡ Some limits) × IsLawful limits standing)
-  pub cons : s.cons ≡ opening_cons setup

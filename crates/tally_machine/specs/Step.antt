@@ -1,15 +1,16 @@
--- A step of the office: what is decided of a command in a state, and the state that it leaves.
-use Rattle.std.specs.Prelude.{ℕ, Bool, List, [], ◌∷◌, Option, Some, None, Result, Ok, Err, option_map, true, false}
+-- What is decided of a command on a return in a state, and the state that it leaves.
+use Rattle.std.specs.Prelude.{ℕ, Bool, List, [], Option, Some, None, Result, Ok, Err, option_map, false}
 use Rattle.std.specs.Option.{option_map_or}
 use Rattle.std.specs.FinMap.{get, insert}
 use Rattle.tally_rules.specs.Constituency.{Constituency}
 use Rattle.tally_rules.specs.Setup.{station_with}
 use Rattle.tally_rules.specs.declared.constituency.Station.{Station}
 use Rattle.tally_machine.specs.Return.{StationReturn}
-use Rattle.tally_machine.specs.Decide.{station_named, decided_return}
+use Rattle.tally_machine.specs.Named.{station_named}
+use Rattle.tally_machine.specs.Decide.{decided_return}
 use Rattle.tally_machine.specs.State.{State, con_state, stations_of}
 use Rattle.tally_machine.specs.declared.ask.Ask.{Ask}
-use Rattle.tally_machine.specs.declared.ask.Ask.TheVariants.{Lodge, Query, Correct, Close, ShowReturn, ShowProgress}
+use Rattle.tally_machine.specs.declared.ask.Ask.TheVariants.{Query}
 use Rattle.tally_machine.specs.declared.change.Change.{Change}
 use Rattle.tally_machine.specs.declared.change.Change.TheVariants.{Same, PutReturn}
 use Rattle.tally_machine.specs.declared.refusal.Refusal.{Refusal}
@@ -37,12 +38,8 @@ without_lot s (Some code) = record s { cons = insert s.cons code (record (con_st
 
 -- a query takes the lot of the constituency with it
 abbrev pub after_put : List Constituency → State → Ask → State
-after_put setup s (Lodge station slip counts) = s
 after_put setup s (Query station rev note) = without_lot s (con_of setup station)
-after_put setup s (Correct station rev slip counts) = s
-after_put setup s (Close station rev) = s
-after_put setup s (ShowReturn station) = s
-after_put setup s ShowProgress = s
+after_put setup s other = s
 
 -- the return now stands at the station
 abbrev pub with_return : State → Option (List ℕ) → StationReturn → State
@@ -51,25 +48,9 @@ with_return s (Some station) standing = record s { returns = insert s.returns st
 
 -- the state after what was decided: a refusal leaves it
 abbrev pub after : List Constituency → State → Ask → Result Change Refusal → State
-after setup s ask (Ok Same) = s
 after setup s ask (Ok (PutReturn standing)) = with_return (after_put setup s ask) (station_named ask) standing
-after setup s ask (Err refusal) = s
+after setup s ask other = s
 
--- the state that a command leaves
-abbrev pub step : List Constituency → State → Ask → State
-step setup s ask = after setup s ask (decided_in setup s ask)
-
--- the state that commands leave, one after the other
-abbrev pub run : List Constituency → State → List Ask → State
-run setup s [] = s
-run setup s (ask ∷ asks) = run setup (step setup s ask) asks
-
--- whether a return is put
-abbrev pub puts : Result Change Refusal → Bool
-puts (Ok Same) = false
-puts (Ok (PutReturn standing)) = true
-puts (Err refusal) = false
-
--- a command acts where it puts a return
-abbrev pub acts : List Constituency → State → Ask → Bool
-acts setup s ask = puts (decided_in setup s ask)
+-- the state that a command on a return leaves
+abbrev pub after_return : List Constituency → State → Ask → State
+after_return setup s ask = after setup s ask (decided_in setup s ask)

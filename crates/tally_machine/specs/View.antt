@@ -4,16 +4,11 @@ use Rattle.std.specs.List.{range_with_len}
 use Rattle.std.specs.FinMap.{get, entries}
 use Rattle.tally_rules.specs.Constituency.{Constituency}
 use Rattle.tally_rules.specs.declared.constituency.Station.{Station}
+use Rattle.tally_machine.specs.GoneCandidate.{GoneCandidate}
 use Rattle.tally_machine.specs.Counts.{VoteCounts}
 use Rattle.tally_machine.specs.Return.{StationReturn, Returns}
 use Rattle.tally_machine.specs.State.{State, ConState, GoneCandidates, con_state}
 use Rattle.tally_machine.specs.Progress.{is_received, is_queried, is_corrected, is_closed, stations_in}
-
--- a candidate who is gone: the place of the list, the candidate's own place in it, both from 1, and the note
-pub record GoneCandidate : Type 0 where
-  pub list : ℕ
-  pub place : ℕ
-  pub note : List ℕ
 
 -- how many stations there are and how many of their returns are in each status; votes, blank and spoiled ones are those of the
 -- closed returns; seats are those of each list where the constituency is certified, and else there are none

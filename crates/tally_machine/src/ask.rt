@@ -1,13 +1,14 @@
 //! Commands.
 
 ghost use Rattle.std.specs.Prelude.{◌≡◌};
-ghost use Rattle.tally_machine.specs.Decide.{station_named};
+ghost use Rattle.tally_machine.specs.Named.{con_named, station_named};
 
 use crate::counts::Counts;
 use tally_rules::Code;
 
-/// What is asked of the office. Stations are named by their codes. A command on a return names the
-/// revision that it speaks of, so that it acts on that one or on none.
+/// What is asked of the office. Stations, constituencies and lists are named by their codes. A
+/// command on a return names the revision that it speaks of, and one on a constituency the edition,
+/// so that it acts on that one or on none.
 #[derive(Debug, Drop)]
 pub enum Ask {
     /// Lodges the first return of a station, under the code of its slip.
@@ -38,6 +39,36 @@ pub enum Ask {
     ShowReturn {
         station: Code,
     },
+    /// Records the lot that was drawn among the lists of a group: their codes in its order (LOREG
+    /// article 163.1 d)).
+    Draw {
+        con: Code,
+        edition: u32,
+        order: Vec<Code>,
+    },
+    /// Certifies a constituency, so that its seats are allotted.
+    Certify {
+        con: Code,
+        edition: u32,
+    },
+    /// Opens a certified constituency again, with a note of 1 to 200 bytes that says why.
+    Reopen {
+        con: Code,
+        edition: u32,
+        note: String,
+    },
+    /// Records that the candidate at this place of a list, from 1, who holds a seat, is gone for
+    /// good, with a note of 1 to 200 bytes that says why.
+    Vacate {
+        con: Code,
+        list: Code,
+        place: u32,
+        note: String,
+    },
+    /// Shows what a constituency has come to.
+    ShowCon {
+        con: Code,
+    },
     /// Shows how far each constituency has come.
     ShowProgress,
 }
@@ -53,6 +84,30 @@ impl Ask {
             Ask::Correct { station, .. } => Some(*station),
             Ask::Close { station, .. } => Some(*station),
             Ask::ShowReturn { station } => Some(*station),
+            Ask::Draw { .. } => None,
+            Ask::Certify { .. } => None,
+            Ask::Reopen { .. } => None,
+            Ask::Vacate { .. } => None,
+            Ask::ShowCon { .. } => None,
+            Ask::ShowProgress => None,
+        }
+    }
+
+    /// The constituency that a command on one names.
+    pub fn con(&self) -> Option<Code>
+        ensures { result ≡ con_named self.now }
+    {
+        match self {
+            Ask::Draw { con, .. } => Some(*con),
+            Ask::Certify { con, .. } => Some(*con),
+            Ask::Reopen { con, .. } => Some(*con),
+            Ask::Vacate { con, .. } => Some(*con),
+            Ask::ShowCon { con } => Some(*con),
+            Ask::Lodge { .. } => None,
+            Ask::Query { .. } => None,
+            Ask::Correct { .. } => None,
+            Ask::Close { .. } => None,
+            Ask::ShowReturn { .. } => None,
             Ask::ShowProgress => None,
         }
     }

@@ -1,6 +1,7 @@
 //! Changes.
 
 use crate::returns::Return;
+use crate::view::Gone;
 
 /// What a command that was accepted changes.
 #[derive(Debug, Drop)]
@@ -9,4 +10,12 @@ pub enum Change {
     Same,
     /// This is now the return of the command's station.
     PutReturn(Return),
+    /// A lot stands in the constituency: the places of the lists, from 1, in its order.
+    SetLot(Vec<u32>),
+    /// The constituency is certified, with these seats of its lists.
+    SetCertified(Vec<u32>),
+    /// The constituency is no longer certified, and this is the note of its last reopening.
+    SetReopened(String),
+    /// The candidate is gone, and the one at this place of the list, from 1, moves in.
+    SetGone(Gone, Option<u32>),
 }

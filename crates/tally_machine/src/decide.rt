@@ -75,7 +75,7 @@ pub fn decide_at(
         }
         Ask::Close { rev, .. } => decide_close(alloc, certified, found, *rev),
         Ask::ShowReturn { .. } => decide_show(found),
-        Ask::ShowProgress => Ok(Change::Same),
+        _ => Ok(Change::Same),
     }
 }
 

@@ -1,26 +1,64 @@
 //! The laws of the office's steps and runs. The functions do nothing: each contract is a law.
 
-ghost use Rattle.std.specs.Prelude.{◌≡◌, ◌<◌, ℕ, Bool, List, Some, Result, true, false, slice_get};
+ghost use Rattle.std.specs.Prelude.{◌≡◌, ◌↔◌, ◌<◌, ℕ, Bool, List, [], Some, None, Err, Result, true, false, slice_get};
 ghost use Rattle.std.specs.List.{filter};
-ghost use Rattle.tally_machine.specs.Replies.{IsRun, is_act};
+ghost use Rattle.tally_contest.specs.LotNeed.{IsLotNeeded, IsNeed};
+ghost use Rattle.tally_contest.specs.Poll.{HasEligible};
+ghost use Rattle.tally_machine.specs.Certification.{count_checks};
+ghost use Rattle.tally_machine.specs.Checks.{first_refusal};
+ghost use Rattle.tally_machine.specs.ConStep.{ConChange, Decides, IsView};
+ghost use Rattle.tally_machine.specs.LawfulState.{IsLawfulState};
+ghost use Rattle.tally_machine.specs.Named.{con_named};
+ghost use Rattle.tally_machine.specs.Outcome.{IsCertificate, IsLawfulView, poll_in, rule_in};
+ghost use Rattle.tally_machine.specs.Replies.{Answer, IsRun, IsStep, IsStepSeen, is_act};
 ghost use Rattle.tally_machine.specs.Runs.{IsSameCommand, acting_asks, kept};
-ghost use Rattle.tally_machine.specs.State.{State, IsLawfulState};
-ghost use Rattle.tally_machine.specs.Step.{acts, run, step};
+ghost use Rattle.tally_machine.specs.State.{State, con_state, opening};
+ghost use Rattle.tally_machine.specs.View.{View};
+ghost use Rattle.tally_machine.specs.declared.ask.Ask.TheVariants.{Certify};
+ghost use Rattle.tally_machine.specs.declared.refusal.Refusal.TheVariants.{LotMissing};
 ghost use Rattle.tally_rules.specs.Constituency.{Constituency};
+ghost use Rattle.tally_rules.specs.Limits.{IsSetup};
+ghost use Rattle.tally_rules.specs.Setup.{constituency_with};
 
 use crate::ask::Ask;
 use crate::refusal::Refusal;
 use crate::reply::Reply;
 
-/// A step from a lawful state leads to a lawful one, and so does a run.
+/// The state that an office opens with is lawful, a step from a lawful state leads to a lawful one,
+/// and so does a run.
 pub fn a_step_keeps_a_lawful_state()
-    ensures step { (setup : List Constituency) (s : State) (ask : Ask) → IsLawfulState setup s → IsLawfulState setup (step setup s ask) }
-    ensures run { (setup : List Constituency) (s t : State) (asks : List Ask) (rs : List (Result Reply Refusal)) → IsRun setup s asks rs t → IsLawfulState setup s → IsLawfulState setup t }
+    ensures opening { (setup : List Constituency) → IsSetup setup → IsLawfulState setup (opening setup) }
+    ensures step { (setup : List Constituency) (s t : State) (ask : Ask) (r : Result Reply Refusal) → IsSetup setup → IsLawfulState setup s → IsStep setup s ask r t → IsLawfulState setup t }
+    ensures run { (setup : List Constituency) (s t : State) (asks : List Ask) (rs : List (Result Reply Refusal)) → IsSetup setup → IsRun setup s asks rs t → IsLawfulState setup s → IsLawfulState setup t }
 {}
 
-/// A command on a return that acted does not act again, whatever was asked in between.
-pub fn a_command_acts_once()
-    ensures { (setup : List Constituency) (s : State) (ask : Ask) (asks : List Ask) → acts setup s ask ≡ true → acts setup (run setup (step setup s ask) asks) ask ≡ false }
+/// In every state that a run reaches from the opening one, a certified constituency has all its
+/// stations closed, exactly its seats are allotted, by the one allotment of its closed votes, and a
+/// lot stands wherever one is needed. So it is in any lawful state, and of each view: there is one.
+pub fn a_certificate_stands_on_closed_votes()
+    ensures of_run { (setup : List Constituency) (t : State) (asks : List Ask) (rs : List (Result Reply Refusal)) → IsSetup setup → IsRun setup (opening setup) asks rs t → (code : List ℕ) (con : Constituency) → constituency_with code setup ≡ Some con → (con_state t con.code).certified ≡ true → (view : View) × IsView con t view × IsCertificate con view }
+    ensures each { (setup : List Constituency) (s : State) → IsSetup setup → IsLawfulState setup s → (code : List ℕ) (con : Constituency) (view : View) → constituency_with code setup ≡ Some con → (con_state s con.code).certified ≡ true → IsView con s view → IsCertificate con view }
+    ensures one { (setup : List Constituency) (s : State) (code : List ℕ) (con : Constituency) (view other : View) → IsSetup setup → constituency_with code setup ≡ Some con → IsView con s view → IsView con s other → view ≡ other }
+{}
+
+/// A constituency has a view in each lawful state, and one on which a command is decided.
+pub fn a_constituency_has_a_view()
+    ensures exists { (setup : List Constituency) (s : State) (code : List ℕ) (con : Constituency) → IsSetup setup → IsLawfulState setup s → constituency_with code setup ≡ Some con → (view : View) × IsView con s view }
+    ensures lawful { (setup : List Constituency) (s : State) (code : List ℕ) (con : Constituency) (view : View) → IsSetup setup → IsLawfulState setup s → constituency_with code setup ≡ Some con → IsView con s view → IsLawfulView con view }
+{}
+
+/// In a lawful state each command is decided: there is a step.
+pub fn each_command_has_a_step()
+    ensures decided { (setup : List Constituency) (s : State) (code : List ℕ) (con : Constituency) (view : View) (ask : Ask) → IsSetup setup → IsLawfulState setup s → constituency_with code setup ≡ Some con → IsView con s view → con_named ask ≡ Some code → (decided : Result ConChange Refusal) × Decides con view ask decided }
+    ensures state { (setup : List Constituency) (s : State) (ask : Ask) → IsSetup setup → IsLawfulState setup s → (t : State) × (seen_as : Result Answer Refusal) × IsStepSeen setup s ask seen_as t }
+{}
+
+/// Where the checks before it pass and some list is eligible, Certify answers that a lot is missing
+/// exactly where the votes leave a choice and no lot stands, with the group and the seats in
+/// question.
+pub fn a_missing_lot_is_told()
+    ensures missing { (setup : List Constituency) (s t : State) (code : List ℕ) (con : Constituency) (view : View) (edition : ℕ) (r : Result Reply Refusal) → IsSetup setup → IsLawfulState setup s → constituency_with code setup ≡ Some con → IsView con s view → first_refusal (count_checks view edition) ≡ None → HasEligible (poll_in con view) → IsStep setup s (Certify code edition) r t → ((group : List Bool) × (in_question : ℕ) × (r ≡ Err (LotMissing group in_question))) ↔ (IsLotNeeded (rule_in con) (poll_in con view) con.seats × (view.lot ≡ [])) }
+    ensures told { (setup : List Constituency) (s t : State) (code : List ℕ) (con : Constituency) (view : View) (edition : ℕ) (r : Result Reply Refusal) (group : List Bool) (in_question : ℕ) → IsSetup setup → IsLawfulState setup s → constituency_with code setup ≡ Some con → IsView con s view → IsStep setup s (Certify code edition) r t → r ≡ Err (LotMissing group in_question) → IsNeed (rule_in con) (poll_in con view) con.seats group in_question }
 {}
 
 /// In a run, from any state, no two equal commands act: where one acted, the same one at a later

@@ -2,6 +2,7 @@
 
 use crate::progress::ProgressRow;
 use crate::returns::Return;
+use crate::view::ConView;
 
 /// What an accepted Lodge is answered.
 #[derive(Clone, Copy, Debug, PartialEq, Eq)]
@@ -23,6 +24,12 @@ pub enum Reply {
     Moved { rev: u32 },
     /// The return of the station.
     Return(Return),
+    /// The constituency stands at this edition now.
+    Edition { edition: u32 },
+    /// The candidate is gone, and the one at this place of the list, from 1, moves in, or nobody.
+    Vacated { next: Option<u32> },
+    /// What the constituency has come to.
+    Con(ConView),
     /// How far each constituency has come, in the setup's order.
     Progress(Vec<ProgressRow>),
 }

@@ -1,5 +1,11 @@
 //! What is seen of a constituency.
 
+ghost use Rattle.std.specs.Prelude.{◌≡◌, IfOk};
+
+#[cfg(test)]
+mod tests;
+
+use std::alloc::{AllocError, Global};
 use std::marker::Model;
 
 /// A candidate who is gone for good: the place of the list in the constituency and the candidate's
@@ -13,11 +19,24 @@ pub struct Gone {
 
 impl Model for Gone {
     ghost use Rattle.std.specs.Prelude.{string_bytes};
-    ghost use Rattle.tally_machine.specs.View.{GoneCandidate};
+    ghost use Rattle.tally_machine.specs.GoneCandidate.{GoneCandidate};
 
     ghost Value = { GoneCandidate };
 
     ghost view = { λ gone. record { list = gone.list; place = gone.place; note = string_bytes gone.note } };
+}
+
+impl Gone {
+    /// A copy with the same content.
+    pub fn try_copy(&self, alloc: Global) -> Result<Gone, AllocError>
+        ensures { IfOk result (λ copy. copy ≡ self.now) }
+    {
+        Ok(Gone {
+            list: self.list,
+            place: self.place,
+            note: String::from_str(alloc, self.note.as_str())?,
+        })
+    }
 }
 
 /// What is seen of a constituency.
@@ -56,4 +75,38 @@ impl Model for ConView {
     ghost Value = { View };
 
     ghost view = { λ v. record { edition = v.edition; certified = v.certified; note = string_bytes v.note; lot = v.lot.items; stations = v.stations; received = v.received; queried = v.queried; corrected = v.corrected; closed = v.closed; votes = v.votes.items; blank = v.blank; spoiled = v.spoiled; seats = v.seats.items; gone = v.gone.items } };
+}
+
+impl ConView {
+    /// A copy with the same content.
+    pub fn try_copy(&self, alloc: Global) -> Result<ConView, AllocError>
+        ensures { IfOk result (λ copy. copy ≡ self.now) }
+    {
+        Ok(ConView {
+            edition: self.edition,
+            certified: self.certified,
+            note: String::from_str(alloc, self.note.as_str())?,
+            lot: self.lot.as_slice().to_vec(alloc)?,
+            stations: self.stations,
+            received: self.received,
+            queried: self.queried,
+            corrected: self.corrected,
+            closed: self.closed,
+            votes: self.votes.as_slice().to_vec(alloc)?,
+            blank: self.blank,
+            spoiled: self.spoiled,
+            seats: self.seats.as_slice().to_vec(alloc)?,
+            gone: copies(alloc, &self.gone)?,
+        })
+    }
+}
+
+fn copies(alloc: Global, gone: &[Gone]) -> Result<Vec<Gone>, AllocError>
+    ensures { IfOk result (λ copies. copies.items ≡ gone.now) }
+{
+    let mut copies = Vec::new(alloc);
+    for candidate in gone {
+        copies.push(candidate.try_copy(alloc)?)?;
+    }
+    Ok(copies)
 }

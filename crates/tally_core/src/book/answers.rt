@@ -1,100 +1,115 @@
 //! What a keeper in memory answers.
 
 ghost use Rattle.std.specs.Prelude.{◌≡◌, ◌⊎◌, Some, Err};
-ghost use Rattle.tally_core.specs.Held.{IsLodged, IsMoved, returns_of, state_with};
-ghost use Rattle.tally_machine.specs.Decide.{station_named};
-ghost use Rattle.tally_machine.specs.Replies.{IsAnswered, answer, seen};
-ghost use Rattle.tally_machine.specs.State.{IsLawfulState};
+ghost use Rattle.tally_core.specs.Held.{IsAnsweredInMemory, IsHeld, IsLodged, IsMoved};
+ghost use Rattle.tally_ledger.specs.Kept.{state_in};
+ghost use Rattle.tally_machine.specs.Lodge.{lodge_answer};
+ghost use Rattle.tally_machine.specs.Named.{con_named, station_named};
+ghost use Rattle.tally_machine.specs.Replies.{answer, seen};
+ghost use Rattle.tally_machine.specs.State.{stations_of};
 ghost use Rattle.tally_machine.specs.declared.ask.Ask.TheVariants.{ShowReturn};
 ghost use Rattle.tally_machine.specs.declared.refusal.Refusal.TheVariants.{Memory};
 
-use super::progress::progress;
-use super::returns::{decide_first, put, return_at};
+use super::constituencies::answer_on;
 use std::alloc::Global;
-use std::collections::BTreeMap;
-use tally_machine::{Ask, Change, Counts, LodgeReply, Refusal, Reply, Return, decide_at};
-use tally_rules::{Code, Setup};
+use tally_ledger::Ledger;
+use tally_machine::{
+    Ask, Change, Counts, LodgeReply, Refusal, Reply, Return, decide_at, decide_lodge,
+};
+use tally_rules::Code;
 
-/// Answers a request and carries it out. What can fail is done before the returns are changed.
-pub(super) fn answer_in(
-    alloc: Global,
-    setup: &Setup,
-    returns: &mut BTreeMap<Code, Return>,
-    ask: &Ask,
-) -> Result<Reply, Refusal>
-    requires lawful { IsLawfulState setup.now (state_with setup.now (returns_of returns.old)) }
-    ensures step { IsAnswered setup.now (state_with setup.now (returns_of returns.old)) ask.now result (state_with setup.now (returns_of returns.new)) }
+/// Answers a request and carries it out. What can fail is done before anything is changed.
+pub(super) fn answer_in(alloc: Global, ledger: &mut Ledger, ask: &Ask) -> Result<Reply, Refusal>
+    requires held { IsHeld ledger.old }
+    ensures step { IsAnsweredInMemory ledger.old.setup (state_in ledger.old) ask.now result (state_in ledger.new) }
+    ensures setup { ledger.new.setup ≡ ledger.old.setup }
+    ensures held { IsHeld ledger.new }
 {
+    if let Some(con) = ask.con() {
+        return answer_on(alloc, ledger, con, ask);
+    }
     match ask {
         Ask::Lodge {
             station,
             slip,
             counts,
-        } => lodge(alloc, setup, returns, *station, *slip, counts),
-        Ask::Query { station, .. } => move_on(alloc, setup, returns, *station, ask),
-        Ask::Correct { station, .. } => move_on(alloc, setup, returns, *station, ask),
-        Ask::Close { station, .. } => move_on(alloc, setup, returns, *station, ask),
-        Ask::ShowReturn { station } => show_return(alloc, setup, returns, *station),
-        Ask::ShowProgress => Ok(Reply::Progress(progress(alloc, setup, returns)?)),
+        } => lodge(alloc, ledger, *station, *slip, counts),
+        Ask::Query { station, .. } => move_on(alloc, ledger, *station, ask),
+        Ask::Correct { station, .. } => move_on(alloc, ledger, *station, ask),
+        Ask::Close { station, .. } => move_on(alloc, ledger, *station, ask),
+        Ask::ShowReturn { station } => show_return(alloc, ledger, *station),
+        Ask::ShowProgress => Ok(Reply::Progress(ledger.progress(alloc)?)),
+        _ => unreachable!(),
     }
 }
 
 fn lodge(
     alloc: Global,
-    setup: &Setup,
-    returns: &mut BTreeMap<Code, Return>,
+    ledger: &mut Ledger,
     station: Code,
     slip: Code,
     counts: &Counts,
 ) -> Result<Reply, Refusal>
-    ensures { IsLodged setup.now (returns_of returns.old) station slip counts.now result (returns_of returns.new) }
+    ensures { IsLodged ledger.old station slip counts.now result ledger.new }
 {
-    let reply = decide_first(setup, returns, station, slip, counts)?;
+    let reply = decide_first(ledger, station, slip, counts)?;
     let LodgeReply::Lodged { .. } = reply else {
         return Ok(Reply::from(reply));
     };
     let first = Return::lodged(alloc, slip, counts.try_copy(alloc)?);
-    put(returns, station, first)?;
+    ledger.put(station, first)?;
     Ok(Reply::from(reply))
 }
 
-/// Query, Correct and Close. No constituency is certified: each is as it opens.
-fn move_on(
-    alloc: Global,
-    setup: &Setup,
-    returns: &mut BTreeMap<Code, Return>,
+/// What a Lodge is answered.
+pub(super) fn decide_first(
+    ledger: &Ledger,
     station: Code,
-    ask: &Ask,
-) -> Result<Reply, Refusal>
-    requires named { station_named ask.now ≡ Some station }
-    requires lawful { IsLawfulState setup.now (state_with setup.now (returns_of returns.old)) }
-    ensures { IsMoved setup.now (returns_of returns.old) ask.now result (returns_of returns.new) }
+    slip: Code,
+    counts: &Counts,
+) -> Result<LodgeReply, Refusal>
+    ensures { result ≡ lodge_answer (stations_of ledger.now.setup) ledger.now.returns station slip counts.now }
 {
-    let Some((con, place)) = setup.station(station) else {
+    let Some((con, place)) = ledger.setup().station(station) else {
         return Err(Refusal::NoStation);
     };
-    let found = return_at(returns, station);
-    let next = match decide_at(alloc, con, place, false, found, ask)? {
+    let found = ledger.return_at(station);
+    decide_lodge(con.lists.len(), place.electors, found, slip, counts)
+}
+
+/// Query, Correct and Close. A query takes the lot of the constituency with it.
+fn move_on(alloc: Global, ledger: &mut Ledger, station: Code, ask: &Ask) -> Result<Reply, Refusal>
+    requires named { station_named ask.now ≡ Some station }
+    requires held { IsHeld ledger.old }
+    ensures { IsMoved ledger.old ask.now result ledger.new }
+{
+    let Some((con, place)) = ledger.setup().station(station) else {
+        return Err(Refusal::NoStation);
+    };
+    let code = con.code;
+    let Some(view) = ledger.view(code) else {
+        unreachable!()
+    };
+    let found = ledger.return_at(station);
+    let next = match decide_at(alloc, con, place, view.certified, found, ask)? {
         Change::PutReturn(next) => next,
-        Change::Same => return Err(Refusal::NoReturn),
+        _ => return Err(Refusal::NoReturn),
     };
     let rev = next.rev;
-    put(returns, station, next)?;
+    ledger.put(station, next)?;
+    if let Ask::Query { .. } = ask {
+        ledger.drop_lot(code);
+    }
     Ok(Reply::Moved { rev })
 }
 
-fn show_return(
-    alloc: Global,
-    setup: &Setup,
-    returns: &BTreeMap<Code, Return>,
-    station: Code,
-) -> Result<Reply, Refusal>
-    ensures { (seen result ≡ answer setup.now (state_with setup.now (returns_of returns.now)) (ShowReturn station)) ⊎ (result ≡ Err Memory) }
+fn show_return(alloc: Global, ledger: &Ledger, station: Code) -> Result<Reply, Refusal>
+    ensures { (seen result ≡ answer ledger.now.setup (state_in ledger.now) (ShowReturn station)) ⊎ (result ≡ Err Memory) }
 {
-    if setup.station(station).is_none() {
+    if ledger.setup().station(station).is_none() {
         return Err(Refusal::NoStation);
     }
-    let Some(standing) = return_at(returns, station) else {
+    let Some(standing) = ledger.return_at(station) else {
         return Err(Refusal::NoReturn);
     };
     Ok(Reply::Return(standing.try_copy(alloc)?))

@@ -1,6 +1,9 @@
-use Rattle.tally_machine.proofs.RunLemmas.{run-lawful}
-use Rattle.tally_machine.proofs.StateLemmas.{step-lawful}
+use Rattle.tally_machine.proofs.LawLemmas.{run-lawful, step-lawful}
+use Rattle.tally_machine.proofs.ReturnStepLemmas.{opening-lawful}
 use Rattle.tally_machine.proofs.laws.a_step_keeps_a_lawful_state.Goals as goal
+
+pub returns-clause-opening : goal.returns-clause-opening
+returns-clause-opening c = opening-lawful
 
 pub returns-clause-step : goal.returns-clause-step
 returns-clause-step c = step-lawful

@@ -1,9 +1,18 @@
-use Rattle.tally_core.specs.Held.{returns_of, state_with}
-use Rattle.tally_core.proofs.StepLemmas.{answered-lawful}
+use Rattle.std.proofs.Common.{subst}
+use Rattle.tally_machine.specs.Replies.{IsAnswered}
+use Rattle.tally_ledger.specs.Kept.{state_in}
+use Rattle.tally_core.specs.Held.{Held}
+use Rattle.tally_core.proofs.StoreLemmas.{memory-answered, memory-own}
 use Rattle.tally_core.proofs.book.BookKeeper.answer.Goals as goal
 
-pub invariant_of-self : goal.invariant_of-self
-invariant_of-self c =
-    let setup = c.self.inside.setup in
-    answered-lawful setup (state_with setup (returns_of c.self.inside.returns)) c.args.ask.now c.answer_in.result (state_with setup (returns_of c.answer_in.new.returns))
-    c.self.invariant c.answer_in.ensures.step
+pub returns-clause-step : goal.returns-clause-step
+returns-clause-step c =
+    let old = c.self.inside.ledger in
+    let r = c.answer_in.result in
+    let new = state_in c.answer_in.new.ledger in
+    λ trusted. subst (λ (b : Held). IsAnswered b.setup b.state c.args.ask.now r new) c.self.view_is (memory-answered old.setup (state_in old) c.args.ask.now r new c.answer_in.ensures.step)
+
+pub returns-clause-store : goal.returns-clause-store
+returns-clause-store c =
+    let old = c.self.inside.ledger in
+    memory-own old.setup (state_in old) c.args.ask.now c.answer_in.result (state_in c.answer_in.new.ledger) c.answer_in.ensures.step

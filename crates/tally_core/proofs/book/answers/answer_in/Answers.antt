@@ -1,10 +1,24 @@
-use Rattle.tally_core.specs.Held.{returns_of}
-use Rattle.tally_core.proofs.StepLemmas.{lodged-answered}
+use Rattle.tally_core.proofs.HeldLemmas.{lodged-held, moved-held}
+use Rattle.tally_core.proofs.StepLemmas.{lodged-answered, lodged-setup}
 use Rattle.tally_core.proofs.book.answers.answer_in.Goals as goal
 
 pub returns-in-Lodge : goal.returns-in-Lodge
 returns-in-Lodge c =
+    let k = c.args.ledger.now in
+    let new = c.lodge.new.ledger in
     let way = c.in-Lodge in
     record {
-      step = lodged-answered c.args.setup.now (returns_of c.args.returns.now) (returns_of c.lodge.new.returns) c.args.ask.now way.station way.slip way.counts c.lodge.result way.is c.lodge.ensures;
+      step = lodged-answered k new c.args.ask.now way.station way.slip way.counts c.lodge.result way.is c.lodge.ensures;
+      setup = lodged-setup k new way.station way.slip way.counts c.lodge.result c.lodge.ensures;
+      held = lodged-held k new way.station way.slip way.counts c.lodge.result c.requires.held c.lodge.ensures;
     }
+
+pub returns-in-Query-clause-held : goal.returns-in-Query-clause-held
+returns-in-Query-clause-held c = moved-held c.args.ledger.now c.move_on.new.ledger c.args.ask.now c.move_on.result c.requires.held c.move_on.ensures
+
+pub returns-in-Correct-clause-held : goal.returns-in-Correct-clause-held
+returns-in-Correct-clause-held c =
+    moved-held c.args.ledger.now c.move_on-in-Correct.new.ledger c.args.ask.now c.move_on-in-Correct.result c.requires.held c.move_on-in-Correct.ensures
+
+pub returns-in-Close-clause-held : goal.returns-in-Close-clause-held
+returns-in-Close-clause-held c = moved-held c.args.ledger.now c.move_on-in-Close.new.ledger c.args.ask.now c.move_on-in-Close.result c.requires.held c.move_on-in-Close.ensures

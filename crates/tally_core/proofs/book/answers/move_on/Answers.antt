@@ -1,51 +1,85 @@
-use Rattle.std.proofs.Common.{◌≡◌, Some, Ok, Err, false, ap, sym, subst, rules, ◌∙◌}
-use Rattle.std.specs.Option.{ForSome}
+use Rattle.std.proofs.Common.{◌≡◌, ◌∙◌, Some, None, Ok, Err, Bool, refl, ap, sym, subst, rules}
+use Rattle.tally_rules.specs.Constituency.{Constituency}
+use Rattle.tally_rules.specs.Setup.{constituency_with, station_with}
 use Rattle.tally_machine.specs.Decide.{IsUnlessMemory, decided_return, limits_of}
-use Rattle.tally_machine.specs.declared.reply.Reply.TheVariants.{Moved}
-use Rattle.tally_machine.specs.Lawful.{IsLawful}
+use Rattle.tally_machine.specs.View.{View}
+use Rattle.std.specs.Option.{option_copied}
+use Rattle.tally_core.specs.Held.{IsMoved}
 use Rattle.tally_machine.specs.Return.{StationReturn}
-use Rattle.tally_core.specs.Held.{IsMoved, returns_of, state_with}
-use Rattle.tally_core.proofs.StepLemmas.{lawful-at, moved-put, moved-refused, moved-same, station-known}
+use Rattle.tally_machine.specs.declared.reply.Reply.TheVariants.{Moved}
+use Rattle.tally_ledger.specs.Kept.{with_no_lot}
+use Rattle.tally_core.proofs.StepLemmas.{IsLookedUp, is_query, looked-up, looked_up-lawful, moved-kept, moved-other, moved-query, moved-refused, not_query, station-known, station-own, view-none, with_put}
 use Rattle.tally_core.proofs.book.answers.move_on.Goals as goal
+
+pub unreachable-requires : goal.unreachable-requires
+unreachable-requires c =
+    let k = c.args.ledger.now in
+    let known : station_with c.args.station k.setup ≡ Some (c.in-Some.con.now, c.in-Some.place.now) =
+    ap (station_with c.args.station) (sym c.setup.ensures) ∙ station-known c.setup.result.now c.args.station c.station.result c.in-Some.con c.in-Some.place c.station.ensures.found c.in-Some.is in
+    let code_is = ap (λ (x : Constituency). x.code) c.con.view_is in
+    view-none k c.con.inside.code c.in-Some.con.now c.view.result
+    (ap (λ q. constituency_with q k.setup) code_is ∙ station-own k c.args.station c.in-Some.con.now c.in-Some.place.now c.requires.held known) c.view.ensures c.in_default-view.is
 
 pub decide_at-requires : goal.decide_at-requires
 decide_at-requires c =
-    let setup = c.args.setup.now in
-    let m = returns_of c.args.returns.now in
-    let limits = limits_of c.in-Some.con.now c.in-Some.place.now in
-    let known = station-known setup c.args.station c.station.result c.in-Some.con c.in-Some.place c.station.ensures.found c.in-Some.is in
+    let k = c.args.ledger.now in
+    let known : station_with c.args.station k.setup ≡ Some (c.in-Some.con.now, c.in-Some.place.now) =
+    ap (station_with c.args.station) (sym c.setup.ensures) ∙ station-known c.setup.result.now c.args.station c.station.result c.in-Some.con c.in-Some.place c.station.ensures.found c.in-Some.is in
     record {
-      lawful = subst (λ found. ForSome found (IsLawful limits)) (sym c.return_at-found.ensures) (lawful-at setup (state_with setup m) c.args.station limits c.requires.lawful known);
+      lawful = looked_up-lawful k c.args.station c.in-Some.con.now c.in-Some.place.now (option_copied c.return_at-found.result) c.requires.held known c.return_at-found.ensures;
     }
-
-pub returns-in-Same : goal.returns-in-Same
-returns-in-Same c =
-    let setup = c.args.setup.now in
-    let ask = c.args.ask.now in
-    let limits = limits_of c.in-Some.con.now c.in-Some.place.now in
-    let known = station-known setup c.args.station c.station.result c.in-Some.con c.in-Some.place c.station.ensures.found c.in-Some.is in
-    moved-same setup (returns_of c.args.returns.now) ask c.args.station limits c.requires.named known
-    (ap (λ found. decided_return (Some limits) false found ask) (sym c.return_at-found.ensures) ∙ c.in_ok-next.ensures.decided ∙ ap Ok c.in-Same.is)
 
 pub returns-in_err-next : goal.returns-in_err-next
 returns-in_err-next c =
-    let setup = c.args.setup.now in
-    let m = returns_of c.args.returns.now in
-    let limits = limits_of c.in-Some.con.now c.in-Some.place.now in
-    let known = station-known setup c.args.station c.station.result c.in-Some.con c.in-Some.place c.station.ensures.found c.in-Some.is in
+    let k = c.args.ledger.now in
+    let ask = c.args.ask.now in
+    let con = c.in-Some.con.now in
+    let place = c.in-Some.place.now in
+    let found = option_copied c.return_at-found.result in
+    let certified = c.view-2.inside.certified in
+    let known : station_with c.args.station k.setup ≡ Some (con, place) =
+    ap (station_with c.args.station) (sym c.setup.ensures) ∙ station-known c.setup.result.now c.args.station c.station.result c.in-Some.con c.in-Some.place c.station.ensures.found c.in-Some.is in
+    let looked : IsLookedUp k c.args.station con place certified found =
+    looked-up k c.args.station con place c.con.inside.code c.view.result c.in-Some-view.view certified found c.requires.held known (ap (λ (x : Constituency). x.code) c.con.view_is) c.view.ensures
+    c.in-Some-view.is (ap (λ (v : View). v.certified) c.view-2.view_is) c.return_at-found.ensures in
     let e = c.in_err-next.field-0.0 in
     let is : c.from_residual.result ≡ Err e = search rules in
-    let decided = subst (λ found. IsUnlessMemory (Err e) (decided_return (Some limits) false found c.args.ask.now)) c.return_at-found.ensures c.in_err-next.ensures.decided in
-    subst (λ r. IsMoved setup m c.args.ask.now r m) (sym is) (moved-refused setup m c.args.ask.now c.args.station limits e c.requires.named known decided)
+    subst (λ r. IsMoved k ask r k) (sym is) (moved-refused k ask c.args.station con place certified found e looked c.requires.named c.in_err-next.ensures.decided)
+
+pub returns-in_default-2 : goal.returns-in_default-2
+returns-in_default-2 c =
+    let k = c.args.ledger.now in
+    let ask = c.args.ask.now in
+    let con = c.in-Some.con.now in
+    let place = c.in-Some.place.now in
+    let found = option_copied c.return_at-found.result in
+    let certified = c.view-2.inside.certified in
+    let known : station_with c.args.station k.setup ≡ Some (con, place) =
+    ap (station_with c.args.station) (sym c.setup.ensures) ∙ station-known c.setup.result.now c.args.station c.station.result c.in-Some.con c.in-Some.place c.station.ensures.found c.in-Some.is in
+    let looked : IsLookedUp k c.args.station con place certified found =
+    looked-up k c.args.station con place c.con.inside.code c.view.result c.in-Some-view.view certified found c.requires.held known (ap (λ (x : Constituency). x.code) c.con.view_is) c.view.ensures
+    c.in-Some-view.is (ap (λ (v : View). v.certified) c.view-2.view_is) c.return_at-found.ensures in
+    moved-other k ask c.args.station con place certified found c.in_ok-next.field-0 looked c.requires.named c.in_ok-next.ensures.decided c.in_default-2.not-PutReturn
 
 pub returns : goal.returns
 returns c =
-    let setup = c.args.setup.now in
-    let m = returns_of c.args.returns.now in
+    let k = c.args.ledger.now in
     let ask = c.args.ask.now in
-    let limits = limits_of c.in-Some.con.now c.in-Some.place.now in
-    let known = station-known setup c.args.station c.station.result c.in-Some.con c.in-Some.place c.station.ensures.found c.in-Some.is in
+    let con = c.in-Some.con.now in
+    let place = c.in-Some.place.now in
+    let found = option_copied c.return_at-found.result in
+    let certified = c.view-2.inside.certified in
+    let known : station_with c.args.station k.setup ≡ Some (con, place) =
+    ap (station_with c.args.station) (sym c.setup.ensures) ∙ station-known c.setup.result.now c.args.station c.station.result c.in-Some.con c.in-Some.place c.station.ensures.found c.in-Some.is in
+    let looked : IsLookedUp k c.args.station con place certified found =
+    looked-up k c.args.station con place c.con.inside.code c.view.result c.in-Some-view.view certified found c.requires.held known (ap (λ (x : Constituency). x.code) c.con.view_is) c.view.ensures
+    c.in-Some-view.is (ap (λ (v : View). v.certified) c.view-2.view_is) c.return_at-found.ensures in
     let next = c.in-PutReturn.next in
-    let decided = ap (λ found. decided_return (Some limits) false found ask) (sym c.return_at-found.ensures) ∙ c.in_ok-next.ensures.decided ∙ ap Ok c.in-PutReturn.is in
-    subst (λ (r : StationReturn). IsMoved setup m ask (Ok (Moved r.rev)) (returns_of c.put.new.returns)) (sym c.next.view_is)
-    (moved-put setup m (returns_of c.put.new.returns) ask c.args.station limits next c.requires.lawful c.requires.named known decided c.in_ok-put.ensures.put)
+    let decided = c.in_ok-next.ensures.decided ∙ ap Ok c.in-PutReturn.is in
+    let put : c.put.new.self ≡ with_put k c.args.station next = c.in_ok-put.ensures.put in
+    subst (λ (r : StationReturn). IsMoved k ask (Ok (Moved r.rev)) c.match-ask.ledger) (sym c.next.view_is)
+    (elim c.match-ask.branch [
+      | goal.in-Query w ↦ moved-query k c.match-ask.ledger ask c.args.station con place certified found next looked c.requires.named decided (ap is_query w.in-Query.is)
+          (w.ledger-is ∙ w.drop_lot.ensures ∙ ap (λ x. with_no_lot x c.con.inside.code) put ∙ ap (λ (x : Constituency). with_no_lot (with_put k c.args.station next) x.code) c.con.view_is)
+      | goal.in_default-ask w ↦ moved-kept k c.match-ask.ledger ask c.args.station con place certified found next looked c.requires.named decided (not_query ask w.in_default-ask.not-Query) (w.ledger-is ∙ put)
+    ])

@@ -1,0 +1,161 @@
+#!/usr/bin/env python3
+"""Measures an import of returns into a keeper in memory against a check of the same text.
+
+A constituency has 60 lists and 5,000 stations, and the text has a return of each. One program reads
+both, and in each round imports the text into a keeper in which no return stands and checks the text,
+in turn the one first and then the other. A time is the thread's for the call alone, with the reading
+of the text and without that of the setup; it is the median of the rounds, and what counts is the
+ratio of the medians.
+
+    bench/import.py [--runs N] [--rounds N]
+"""
+
+import argparse
+import os
+import statistics
+import subprocess
+import sys
+import tempfile
+from pathlib import Path
+
+# What is imported from here is not to be left beside it in compiled form.
+sys.dont_write_bytecode = True
+from building import build_office, processor
+from check import ELECTORS, LISTS, codes, distinct_rows, long_row, short_row, text_of
+from measuring import Numbers
+
+# As many as a constituency may have.
+STATIONS = 5_000
+
+# An import may take at most so many times as long as the check.
+GOAL = 2
+
+CALLS = ["import", "check"]
+
+HEAD = """[[profile]]
+code = "loreg"
+method = "dhondt"
+threshold = 300
+base = "valid"
+
+[[constituency]]
+code = "whole"
+name = "Whole"
+seats = 9
+profile = "loreg"
+"""
+
+
+def setup_of(stations):
+    """A setup of one constituency, with a table for each list and each station."""
+    lists = (
+        f'\n[[constituency.list]]\ncode = "{code}"\nname = "List {code}"\ncandidates = ["Ana"]\n'
+        for code in codes("list", LISTS)
+    )
+    tables = (
+        f'\n[[constituency.station]]\ncode = "{code}"\nelectors = {ELECTORS}\n'
+        for code in codes("station", stations)
+    )
+    return HEAD + "".join(lists) + "".join(tables)
+
+
+def shuffled(rows):
+    """The rows in an order that looks random and is the same on every run."""
+    numbers = Numbers(3)
+    for at in range(len(rows) - 1, 0, -1):
+        other = numbers.below(at + 1)
+        rows[at], rows[other] = rows[other], rows[at]
+    return rows
+
+
+# The workloads by name, and how the rows of so many stations are made.
+WORKLOADS = {
+    "in order, long": lambda stations: distinct_rows(stations, long_row),
+    "in order, short": lambda stations: distinct_rows(stations, short_row),
+    "in no order, long": lambda stations: shuffled(distinct_rows(stations, long_row)),
+    "in no order, short": lambda stations: shuffled(distinct_rows(stations, short_row)),
+}
+
+
+def run(program, setup, returns, rounds):
+    """Runs the program: the nanoseconds of each call in each round, and the other lines."""
+    command = [program, setup, returns, str(rounds)]
+    ran = subprocess.run(command, capture_output=True, text=True)
+    if ran.returncode != 0:
+        sys.exit(f"{program}: {ran.stderr}")
+    taken, others = {call: [] for call in CALLS}, []
+    for line in ran.stdout.splitlines():
+        word, _, rest = line.partition(" ")
+        if word in CALLS:
+            taken[word].append(int(rest))
+        else:
+            others.append(line)
+    return taken, others
+
+
+def agree(rows, others):
+    """Stops where not every row was lodged, by the import and by the check."""
+    counts = [f"lodged {len(rows)}", "same 0", "differs 0", "refused 0", "bad 0", "first -"]
+    numbers = [[int(field) for field in row.split(",")[2:]] for row in rows]
+    names = ["blank", "spoiled", *codes("list", LISTS)]
+    totals = [f"{name} {sum(column)}" for name, column in zip(names, zip(*numbers))]
+    if others != [f"imported {len(rows)}", *counts, *totals]:
+        sys.exit("not every row was lodged, or the totals are others")
+
+
+def measure(program, folder, rows, runs, rounds):
+    """The size of the text in MiB, and the median nanoseconds of the import and of the check."""
+    setup, returns = folder / "setup.toml", folder / "returns.csv"
+    setup.write_text(setup_of(len(rows)))
+    returns.write_text(text_of(rows))
+    taken = {call: [] for call in CALLS}
+    for _ in range(runs):
+        times, others = run(program, setup, returns, rounds)
+        agree(rows, others)
+        for call in CALLS:
+            taken[call] += times[call]
+    medians = [statistics.median(taken[call]) for call in CALLS]
+    return returns.stat().st_size / 2**20, *medians
+
+
+def compare(program, folder, runs, rounds):
+    """Prints the times on each workload: whether the goal was met on all of them."""
+    print("workload             MiB   import ms   check ms   ratio")
+    met = True
+    for name, make in WORKLOADS.items():
+        size, imported, checked = measure(program, folder, make(STATIONS), runs, rounds)
+        ratio = imported / checked
+        print(f"{name:18} {size:5.2f} {imported / 1e6:11.2f} {checked / 1e6:10.2f} {ratio:7.2f}")
+        met = met and ratio <= GOAL
+    return met
+
+
+def grow(program, folder, runs, rounds):
+    """Prints the time of an import by the number of stations."""
+    print("\nstations     MiB   import ms   us a row")
+    for stations in (625, 1_250, 2_500, 5_000):
+        rows = shuffled(distinct_rows(stations, short_row))
+        size, imported, _ = measure(program, folder, rows, runs, rounds)
+        print(f"{stations:8} {size:7.2f} {imported / 1e6:11.2f} {imported / stations / 1000:10.2f}")
+
+
+def main():
+    parser = argparse.ArgumentParser(description="Measures an import of returns against a check.")
+    parser.add_argument("--runs", type=int, default=3, help="how often the program runs on a text")
+    parser.add_argument("--rounds", type=int, default=10, help="the rounds of a run")
+    args = parser.parse_args()
+    with tempfile.TemporaryDirectory() as name:
+        folder = Path(name)
+        libraries = [f"//crates/{crate}" for crate in ("tally_core", "tally_import", "tally_rules")]
+        program = str(build_office(folder, "import_office", libraries))
+        load = os.getloadavg()[0]
+        print(f"{os.cpu_count()} processors, {processor()}, load {load:.1f}, {args.runs} runs")
+        print(f"of {args.rounds} rounds; {LISTS} lists, {STATIONS} stations\n")
+        met = compare(program, folder, args.runs, args.rounds)
+        grow(program, folder, args.runs, args.rounds)
+    if not met:
+        sys.exit(f"\nan import takes more than {GOAL} times as long as a check")
+
+
+if __name__ == "__main__":
+    main()

@@ -1,0 +1,61 @@
+//! What a keeper in memory answers to a command on a constituency.
+
+ghost use Rattle.std.specs.Prelude.{◌≡◌, ◌+◌, ◌<◌, ◌^◌, Some, IsSome, IfErr, OnErr, OnOk};
+ghost use Rattle.tally_core.specs.Held.{CanCarryOut, IsAnsweredOn, IsCarriedOut, IsHeld};
+ghost use Rattle.tally_machine.specs.Named.{con_named};
+
+use std::alloc::Global;
+use tally_ledger::Ledger;
+use tally_machine::{Ask, Change, Refusal, Reply, decide_con};
+use tally_rules::Code;
+
+/// Answers a command on the constituency of a code, and carries it out.
+pub(super) fn answer_on(
+    alloc: Global,
+    ledger: &mut Ledger,
+    code: Code,
+    ask: &Ask,
+) -> Result<Reply, Refusal>
+    requires named { con_named ask.now ≡ Some code }
+    requires held { IsHeld ledger.old }
+    ensures step { IsAnsweredOn code ledger.old ask.now result ledger.new }
+    ensures setup { ledger.new.setup ≡ ledger.old.setup }
+    ensures held { IsHeld ledger.new }
+{
+    let Some(con) = ledger.setup().con(code) else {
+        return Err(Refusal::NoConstituency);
+    };
+    let Some(view) = ledger.view(code) else {
+        unreachable!()
+    };
+    let edition = view.edition;
+    match decide_con(alloc, con, view, ask)? {
+        Change::Same => Ok(Reply::Con(view.try_copy(alloc)?)),
+        change => carry_out(ledger, code, edition, change),
+    }
+}
+
+/// Carries out a change of the constituency of a code, which stands at this edition.
+fn carry_out(
+    ledger: &mut Ledger,
+    code: Code,
+    edition: u32,
+    change: Change,
+) -> Result<Reply, Refusal>
+    requires { CanCarryOut ledger.old code edition change }
+    ensures { IsCarriedOut ledger.old code edition change result ledger.new }
+{
+    match change {
+        Change::SetLot(lot) => ledger.set_lot(code, lot),
+        Change::SetCertified(seats) => ledger.set_certified(code, seats),
+        Change::SetReopened(note) => ledger.set_reopened(code, note),
+        Change::SetGone(gone, next) => {
+            ledger.set_gone(code, gone)?;
+            return Ok(Reply::Vacated { next });
+        }
+        _ => unreachable!(),
+    }
+    Ok(Reply::Edition {
+        edition: edition + 1,
+    })
+}

@@ -1,0 +1,43 @@
+use Rattle.std.proofs.Common.{◌≡◌, ◌≤◌, ◌∙◌, [], Option, Some, None, List, ℕ, length, refl, rules, true, false, subst, sym, ap}
+use Rattle.std.specs.List.{list_any}
+use Rattle.std.specs.Str.{bytes_eq}
+use Rattle.csv.specs.Records.{fields_of}
+use Rattle.tally_rules.specs.Constituency.{list_codes, station_codes}
+use Rattle.tally_import.specs.Pieces.{AreAll}
+use Rattle.tally_import.specs.ReturnRows.{IsNext, is_header, text_coming}
+use Rattle.tally_import.specs.declared.check.CheckFault.{CheckFault}
+use Rattle.tally_import.specs.declared.return_rows.Rows.{Rows}
+use Rattle.tally_import.proofs.ReturnRowsLemmas.{rows-opened, header-stop, header-bad}
+use Rattle.tally_import.proofs.return_rows.Rows.new.Goals as goal
+
+pub returns-in-Some-clause-fault : goal.returns-in-Some-clause-fault
+returns-in-Some-clause-fault g c =
+    let text = g.R.Read.remaining c.args.reader.now in
+    let all = c.in_ok-end.ensures.all c.in-Some.end c.in-Some.is text [] c.in_ok-records.ensures.given in
+    subst (λ f. IsNext text (text_coming c.args.con.now c.args.sep) f) (sym c.header_fault.ensures)
+    (header-stop c.args.con.now c.args.sep text (g.R.Read.remaining c.next.new.input) c.in-Some.end.stop
+    (subst (λ s. AreAll s text (g.R.Read.remaining c.next.new.input) [] c.in-Some.end.stop) c.in_ok-records.ensures.sep all))
+
+pub returns-then-not-is_header-clause-fault : goal.returns-then-not-is_header-clause-fault
+returns-then-not-is_header-clause-fault g c =
+    let text = g.R.Read.remaining c.args.reader.now in
+    let lists : list_codes c.as_slice.result.now ≡ list_codes c.args.con.now.lists = ap list_codes (c.as_slice.ensures.value ∙ ap (λ k. k.lists) c.con.view_is) in
+    let bad : is_header (list_codes c.args.con.now.lists) (fields_of c.next.new.into) ≡ false =
+    ap (λ l. is_header l (fields_of c.next.new.into)) (sym lists) ∙ sym c.is_header.ensures ∙ c.if-not-is_header.true in
+    subst (λ s. IsNext text (text_coming c.args.con.now s) _) (c.next.ensures.sep ∙ c.in_ok-records.ensures.sep)
+    (header-bad c.args.con.now c.next.new.self text (g.R.Read.remaining c.next.new.input) (fields_of c.next.new.into) bad
+    (c.in_ok-end.ensures.record c.in_default.is text [] c.in_ok-records.ensures.given))
+
+pub returns-clause-reading : goal.returns-clause-reading
+returns-clause-reading g c =
+    let text = g.R.Read.remaining c.args.reader.now in
+    let lists : list_codes c.as_slice.result.now ≡ list_codes c.args.con.now.lists = ap list_codes (c.as_slice.ensures.value ∙ ap (λ k. k.lists) c.con.view_is) in
+    let good : is_header (list_codes c.args.con.now.lists) (fields_of c.next.new.into) ≡ true =
+    ap (λ l. is_header l (fields_of c.next.new.into)) (sym lists) ∙ sym c.is_header.ensures ∙ c.if-not-is_header.false in
+    let few : length c.args.con.now.lists ≤ 60 = subst (λ k. length k.lists ≤ 60) c.con.view_is c.con.invariant.lists in
+    let count : c.len.result ≡ length c.con.inside.lists.items = search rules in
+    let rows : Rows = record { records = c.next.new.self; lists = c.len.result; stations = c.in_ok-stations.stations; came = 0; fields = c.next.new.into } in
+    rows-opened text (g.R.Read.remaining c.new.new.input) (g.R.Read.remaining c.next.new.input) c.args.con.now c.args.sep c.in_ok-records.records rows (fields_of c.next.new.into)
+    c.in_ok-records.ensures.given (c.in_ok-end.ensures.record c.in_default.is) (c.in_ok-end.ensures.reading c.in_default.is)
+    (c.next.ensures.sep ∙ c.in_ok-records.ensures.sep) good (count ∙ ap (λ k. length k.lists) c.con.view_is) few
+    (λ code. c.in_ok-stations.ensures code ∙ ap (λ l. list_any (bytes_eq code) (station_codes l)) (c.as_slice-2.ensures.value ∙ ap (λ k. k.stations) c.con.view_is)) refl

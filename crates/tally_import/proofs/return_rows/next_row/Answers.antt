@@ -1,0 +1,41 @@
+use Rattle.std.proofs.Common.{◌≡◌, Err, Some, subst, sym}
+use Rattle.tally_import.specs.ReturnRows.{Advances, IsAt, IsNext, IsReadingRows, text_coming}
+use Rattle.tally_import.specs.declared.return_rows.Stage.TheVariants.{Ended, Unread}
+use Rattle.tally_import.proofs.ReturnRowsLemmas.{advanced-fault, advanced-first}
+use Rattle.tally_import.proofs.return_rows.next_row.Goals as goal
+
+pub returns-in_default : goal.returns-in_default
+returns-in_default g c = record {
+  advances = c.next_started.ensures.advances (g.R.Read.remaining c.args.unread.now.value) c.args.con.now c.args.sep c.requires;
+  ends = c.next_started.ensures.ends;
+  again = c.next_started.ensures.again;
+}
+
+pub returns-in-Ok-clause-advances : goal.returns-in-Ok-clause-advances
+returns-in-Ok-clause-advances g c =
+    let text = g.R.Read.remaining c.args.unread.now.value in
+    let left = g.R.Read.remaining c.args.reader.now in
+    let behind = g.R.Read.remaining c.start.new.reader in
+    let then = g.R.Read.remaining c.next_started-in-Ok.new.reader in
+    let result = c.next_started-in-Ok.result in
+    let new = c.next_started-in-Ok.new.stage in
+    let begun = c.in-Ok.ensures.begun in
+    let same : left ≡ text = subst (IsAt text left c.args.con.now c.args.sep) c.in-Unread.is c.requires in
+    let reading = subst (λ t. IsReadingRows t behind c.args.con.now c.args.sep begun.rows) same begun.reading in
+    let at = subst (IsAt text behind c.args.con.now c.args.sep) (sym begun.is) reading in
+    let given = c.next_started-in-Ok.ensures.advances text c.args.con.now c.args.sep at in
+    subst (λ s. Advances text c.args.con.now c.args.sep left s result then new) (sym c.in-Unread.is)
+    (advanced-first text left behind then c.args.con.now c.args.sep begun.rows result new begun.first
+    (subst (λ s. Advances text c.args.con.now c.args.sep behind s result then new) begun.is given))
+
+pub returns-in-Err-clause-advances : goal.returns-in-Err-clause-advances
+returns-in-Err-clause-advances g c =
+    let text = g.R.Read.remaining c.args.unread.now.value in
+    let left = g.R.Read.remaining c.args.reader.now in
+    let then = g.R.Read.remaining c.start.new.reader in
+    let fault = c.in-Err.fault in
+    let same : left ≡ text = subst (IsAt text left c.args.con.now c.args.sep) c.in-Unread.is c.requires in
+    let next = subst (λ t. IsNext t (text_coming c.args.con.now c.args.sep) fault) same c.in-Err.ensures.fault in
+    subst (λ new. Advances text c.args.con.now c.args.sep left c.args.stage.now (Err fault) then new) (sym c.end.ensures)
+    (subst (λ s. Advances text c.args.con.now c.args.sep left s (Err fault) then (Ended (Some fault))) (sym c.in-Unread.is)
+    (advanced-fault text left then c.args.con.now c.args.sep Unread fault next))

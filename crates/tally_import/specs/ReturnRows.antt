@@ -1,0 +1,168 @@
+-- The rows of a constituency's returns: what comes of a text, and how far they have come.
+use Rattle.std.specs.Prelude.{◌≡◌, ◌≢◌, ◌≤◌, ◌<◌, ◌+◌, ◌++◌, ◌⊎◌, if◌then◌else◌, nat_lt, ℕ, Bool, true, List, [], ◌∷◌, map, length, take, drop, Option, Some, None, option_map, is_some, IfSome, Result, Ok, Err, codes, ⊤}
+use Rattle.std.specs.BTreeSet.{BTreeSet, contains}
+use Rattle.std.specs.Cmp.Lexicographic.{pointwise}
+use Rattle.csv.specs.Records.{fields_of}
+use Rattle.tally_rules.specs.Code.{code_cmp}
+use Rattle.tally_rules.specs.Constituency.{Constituency, ListEntry, list_codes}
+use Rattle.tally_machine.specs.Lodge.{Stations}
+use Rattle.tally_machine.specs.Decide.{station_in, limits_of}
+use Rattle.tally_core.specs.Keeper.{Coming, GivesNext, IsSudden}
+use Rattle.tally_core.specs.declared.import.Row.{Row}
+use Rattle.tally_core.specs.declared.source.ImportFault.{ImportFault}
+use Rattle.tally_core.specs.declared.source.ImportFault.TheVariants as cause
+use Rattle.tally_import.specs.Check.{row_limit}
+use Rattle.tally_import.specs.Header.{same_text}
+use Rattle.tally_import.specs.Input.{complete_records, size_limit}
+use Rattle.tally_import.specs.Pieces.{HasGiven, IsReadingOn}
+use Rattle.tally_import.specs.Rows.{row_of}
+use Rattle.tally_import.specs.declared.check.CheckFault.{CheckFault}
+use Rattle.tally_import.specs.declared.check.CheckFault.TheVariants as check
+use Rattle.tally_import.specs.declared.return_rows.Rows.{Rows}
+use Rattle.tally_import.specs.declared.return_rows.Stage.{Stage}
+use Rattle.tally_import.specs.declared.return_rows.Stage.TheVariants.{Unread, Reading, Ended}
+use Rattle.tally_import.specs.declared.separator.Sep.{Sep}
+
+-- the stations of a constituency
+abbrev pub stations_in : Constituency → Stations
+stations_in con code = option_map (limits_of con) (station_in con code)
+
+-- the header of these lists, and nothing else
+abbrev pub header_of : List (List ℕ) → List (List ℕ)
+header_of lists = codes "station" ∷ codes "slip" ∷ codes "blank" ∷ codes "spoiled" ∷ lists
+
+abbrev pub is_header : List (List ℕ) → List (List ℕ) → Bool
+is_header lists fields = pointwise same_text fields (header_of lists)
+
+-- the fault of an import that a stopped text has; no text is stopped by a write
+abbrev pub import_fault : CheckFault → ImportFault
+import_fault check.BadHeader = cause.BadHeader
+import_fault check.TooLong = cause.TooLong
+import_fault check.Read = cause.Read
+import_fault check.Memory = cause.Memory
+import_fault check.Write = cause.Read
+
+-- no row, and this fault
+abbrev pub only : Option ImportFault → Coming
+only fault = record { rows = []; fault = fault }
+
+-- the fault of a text that has no complete record
+abbrev pub no_header : Option CheckFault → ImportFault
+no_header None = cause.BadHeader
+no_header (Some stop) = import_fault stop
+
+-- the rows that at most 20,000 records are, and behind them a fault where there are more, or what stopped the text
+abbrev pub rows_coming : Constituency → List (List (List ℕ)) → Option CheckFault → Coming
+rows_coming con records stop = record {
+  rows = map (row_of (stations_in con) (length con.lists)) (take row_limit records);
+  fault = if nat_lt row_limit (length records) then Some cause.TooLong else option_map import_fault stop;
+}
+
+-- What comes of a text's complete records, and of what stopped it: the header is looked at first, then the rows, and then what stopped the text.
+abbrev pub coming_of : Constituency → List (List (List ℕ)) → Option CheckFault → Coming
+coming_of con [] stop = only (Some (no_header stop))
+coming_of con (header ∷ records) stop = if is_header (list_codes con.lists) header then rows_coming con records stop else only (Some cause.BadHeader)
+
+-- a text that goes on past the limit is stopped there
+abbrev pub text_stop : List ℕ → Option CheckFault
+text_stop text = if nat_lt size_limit (length text) then Some check.TooLong else None
+
+-- the complete records of a text that can be read
+abbrev pub text_records : Sep → List ℕ → List (List (List ℕ))
+text_records sep text = complete_records sep (take size_limit text) (text_stop text)
+
+-- what comes of a text
+abbrev pub text_coming : Constituency → Sep → List ℕ → Coming
+text_coming con sep text = coming_of con (text_records sep text) (text_stop text)
+
+-- ---- how far the rows have come
+
+-- what is left behind so many rows
+abbrev pub behind : ℕ → Coming → Coming
+behind came coming = record { rows = drop came coming.rows; fault = coming.fault }
+
+-- what still comes of a text
+abbrev pub still_coming : Constituency → Sep → Stage → List ℕ → Coming
+still_coming con sep Unread text = text_coming con sep text
+still_coming con sep (Reading rows) text = behind rows.came (text_coming con sep text)
+still_coming con sep (Ended fault) text = only fault
+
+-- the set has the stations of the constituency
+abbrev pub HasStations : Constituency → BTreeSet (List ℕ) → Type 0
+HasStations con set = (code : List ℕ) → contains code_cmp set code ≡ is_some (stations_in con code)
+
+-- Of this text the header and these records were given.
+pub record HasCome (text left : Option (List ℕ)) (rows : Rows) (lists header : List (List ℕ)) (records : List (List (List ℕ))) : Type 0 where
+  pub good : is_header lists header ≡ true
+  pub count : length records ≡ rows.came
+  pub given : HasGiven text left (header ∷ records) rows.records
+
+-- the rows behind the header, at work
+pub record IsReadingRows (text left : Option (List ℕ)) (con : Constituency) (sep : Sep) (rows : Rows) : Type 0 where
+  pub reading : IsReadingOn rows.records
+  pub separator : rows.records.sep ≡ sep
+  pub lists : rows.lists ≡ length con.lists
+  pub few : length con.lists ≤ 60
+  pub stations : HasStations con rows.stations
+  pub within : rows.came ≤ row_limit
+  pub come : (header : List (List ℕ)) × (given : List (List (List ℕ))) × HasCome text left rows (list_codes con.lists) header given
+
+-- the stage of the rows of a text, of which this is left
+abbrev pub IsAt : Option (List ℕ) → Option (List ℕ) → Constituency → Sep → Stage → Type 0
+IsAt text left con sep Unread = left ≡ text
+IsAt text left con sep (Reading rows) = IsReadingRows text left con sep rows
+IsAt text left con sep (Ended fault) = fault ≢ Some cause.Store
+
+-- the fault is want of memory or a failed read, or it is what comes of the text and no row before it
+abbrev pub IsNext : Option (List ℕ) → (List ℕ → Coming) → ImportFault → Type 0
+IsNext text coming fault = (fault ≢ cause.Store) × (IsSudden fault ⊎ IfSome text (λ t. ((coming t).rows ≡ []) × ((coming t).fault ≡ Some fault)))
+
+-- What the rows behind the header give next, and where they are then.
+abbrev pub GivesRow : Option (List ℕ) → Option (List ℕ) → Constituency → Sep → Rows → Result (Option Row) ImportFault → Rows → Type 0
+GivesRow text left con sep old (Ok (Some row)) new = IsReadingRows text left con sep new
+    × IfSome text (λ t. (rest : List Row) × (drop old.came (text_coming con sep t).rows ≡ row ∷ rest) × (drop new.came (text_coming con sep t).rows ≡ rest))
+GivesRow text left con sep old (Ok None) new = IfSome text (λ t. behind old.came (text_coming con sep t) ≡ only None)
+GivesRow text left con sep old (Err fault) new = IsNext text (λ t. behind old.came (text_coming con sep t)) fault
+
+-- What a call gives from one stage to the next.
+abbrev pub Advances : Option (List ℕ) → Constituency → Sep → Option (List ℕ) → Stage → Result (Option Row) ImportFault → Option (List ℕ) → Stage → Type 0
+Advances text con sep old_left old result left new = IsAt text left con sep new
+    × GivesNext (option_map (still_coming con sep old) text) result (option_map (still_coming con sep new) text)
+
+-- The header of a text was read, and this is left.
+pub record IsBegun (text left : Option (List ℕ)) (con : Constituency) (sep : Sep) (stage : Stage) : Type 0 where
+  pub rows : Rows
+  pub is : stage ≡ Reading rows
+  pub first : rows.came ≡ 0
+  pub reading : IsReadingRows text left con sep rows
+
+-- something can be given at this stage: the header was read
+abbrev pub IsStarted : Stage → Type 0
+IsStarted Unread = ⊥
+IsStarted (Reading rows) = IsReadingOn rows.records × (rows.lists ≤ 60) × (rows.came ≤ row_limit)
+IsStarted (Ended fault) = ⊤
+
+-- ---- the end
+
+-- how the rows ended, once they did
+abbrev pub ending : Stage → Option (Option ImportFault)
+ending Unread = None
+ending (Reading rows) = None
+ending (Ended fault) = Some fault
+
+-- how many rows came
+abbrev pub came_by : Stage → ℕ
+came_by Unread = 0
+came_by (Reading rows) = rows.came
+came_by (Ended fault) = 0
+
+-- what is answered at the end: the fault, where there was one
+abbrev pub at_end : Option ImportFault → Result (Option Row) ImportFault
+at_end None = Ok None
+at_end (Some fault) = Err fault
+
+-- where a call leaves the rows
+abbrev pub ends_by : Result (Option Row) ImportFault → Option (Option ImportFault)
+ends_by (Ok (Some row)) = None
+ends_by (Ok None) = Some None
+ends_by (Err fault) = Some (Some fault)

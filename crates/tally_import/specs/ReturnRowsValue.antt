@@ -1,0 +1,33 @@
+-- The rows of a constituency's returns as contracts see them.
+use Rattle.std.specs.Prelude.{ℕ, List, Option, Some, None, option_map}
+use Rattle.tally_rules.specs.Constituency.{Constituency}
+use Rattle.tally_core.specs.Keeper.{Coming}
+use Rattle.tally_core.specs.declared.source.ImportFault.{ImportFault}
+use Rattle.tally_core.specs.declared.source.ImportFault.TheVariants as cause
+use Rattle.tally_import.specs.ReturnRows.{behind, only, text_coming}
+use Rattle.tally_import.specs.declared.separator.Sep.{Sep}
+
+-- The constituency and the separator, the text that the reader would give, where it is known, how many of its rows came, and how they ended, once they did.
+pub record ReturnRows : Type 0 where
+  pub con : Constituency
+  pub sep : Sep
+  pub text : Option (List ℕ)
+  pub came : ℕ
+  pub ended : Option (Option ImportFault)
+
+-- a fault of a source: none is one of a database
+abbrev pub own_fault : ImportFault → ImportFault
+own_fault cause.BadHeader = cause.BadHeader
+own_fault cause.TooLong = cause.TooLong
+own_fault cause.Read = cause.Read
+own_fault cause.Memory = cause.Memory
+own_fault cause.Store = cause.Memory
+
+-- what still comes of a text, by how the rows ended
+abbrev pub coming_at : Constituency → Sep → ℕ → Option (Option ImportFault) → List ℕ → Coming
+coming_at con sep came None text = behind came (text_coming con sep text)
+coming_at con sep came (Some fault) text = only (option_map own_fault fault)
+
+-- What still comes, where the text is known.
+abbrev pub coming : ReturnRows → Option Coming
+coming rows = option_map (coming_at rows.con rows.sep rows.came rows.ended) rows.text

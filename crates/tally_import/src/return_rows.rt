@@ -1,0 +1,352 @@
+//! The returns of a constituency from CSV.
+
+ghost use Rattle.std.specs.Prelude.{◌≡◌, ◌≢◌, ◌≤◌, Option, Some, None, List, ℕ, is_some, option_map, IfOk, IfErr, OnOk};
+ghost use Rattle.std.specs.BTreeSet.{contains};
+ghost use Rattle.std.specs.List.{list_any};
+ghost use Rattle.std.specs.Str.{bytes_eq};
+ghost use Rattle.csv.specs.Records.{fields_of};
+ghost use Rattle.tally_rules.specs.Code.{code_cmp};
+ghost use Rattle.tally_rules.specs.Constituency.{Constituency, list_codes, station_codes};
+ghost use Rattle.tally_machine.specs.Lodge.{Stations};
+ghost use Rattle.tally_core.specs.Keeper.{GivesNext};
+ghost use Rattle.tally_core.specs.declared.source.ImportFault.{ImportFault};
+ghost use Rattle.tally_import.specs.Pieces.{IsReadingOn};
+ghost use Rattle.tally_import.specs.Rows.{row_of};
+ghost use Rattle.tally_import.specs.declared.return_rows.Stage.TheVariants.{Ended};
+ghost use Rattle.tally_import.specs.declared.separator.Sep.{Sep};
+ghost use Rattle.tally_import.specs.ReturnRowsValue.{coming};
+ghost use Rattle.tally_import.specs.ReturnRowsWithin.{coming-within};
+ghost use Rattle.tally_import.specs.ReturnRows.{Advances, GivesRow, IsAt, IsBegun, IsNext, IsReadingRows, IsStarted, at_end, ending, ends_by, import_fault, is_header, no_header, still_coming, text_coming};
+
+use crate::check::CheckFault;
+use crate::field::field;
+use crate::header::has_fixed_names;
+use crate::held::End;
+use crate::records::Records;
+use crate::row::row_of;
+use crate::separator::Sep;
+use csv::ByteRecord;
+use std::alloc::{AllocError, Global};
+use std::collections::BTreeSet;
+use std::io::Read;
+use std::marker::Model;
+use std::snapshot::Snapshot;
+use tally_core::{ImportFault, Row, RowSource};
+use tally_rules::{Code, Constituency, ListEntry, Station};
+
+/// The most rows that a text may have.
+const ROW_LIMIT: u32 = 20_000;
+
+/// How many names stand before those of the lists.
+const FIXED_NAMES: usize = 4;
+
+/// The rows of a constituency's returns, from a text that a reader gives.
+#[derive(Drop)]
+pub struct ReturnRows<R: Read> {
+    alloc: Global,
+    reader: R,
+    sep: Sep,
+    con: Constituency,
+    stage: Stage,
+    /// The reader as it was when nothing was read, for clauses alone.
+    unread: Snapshot<R>,
+}
+
+impl<R: Read> Model for ReturnRows<R> {
+    ghost use Rattle.tally_import.specs.ReturnRows.{IsAt, came_by, ending};
+    ghost use Rattle.tally_import.specs.ReturnRowsValue as value;
+
+    ghost Value = { value.ReturnRows };
+
+    ghost view = { λ s. record { con = s.con; sep = s.sep; text = R.remaining s.unread.value; came = came_by s.stage; ended = ending s.stage } };
+
+    ghost invariant = { λ s. IsAt (R.remaining s.unread.value) (R.remaining s.reader) s.con s.sep s.stage };
+}
+
+/// How far the rows have come.
+#[derive(Drop)]
+pub(crate) enum Stage {
+    /// Nothing was read.
+    Unread,
+    /// The header was read.
+    Reading(Rows),
+    /// The rows came to their end, or to a fault.
+    Ended(Option<ImportFault>),
+}
+
+/// The rows behind the header.
+#[derive(Drop)]
+pub(crate) struct Rows {
+    records: Records,
+    /// How many lists there are.
+    lists: usize,
+    /// The codes of the stations.
+    stations: BTreeSet<Code>,
+    /// How many rows came.
+    came: u32,
+    /// The record that was read last, whose room serves for the next one.
+    fields: ByteRecord,
+}
+
+impl<R: Read> ReturnRows<R> {
+    /// The rows of a constituency's returns from CSV (after RFC 4180, with this separator). Nothing
+    /// is read yet.
+    pub fn new(alloc: Global, reader: R, sep: Sep, con: Constituency) -> ReturnRows<R>
+        ensures { result ≡ record { con = con; sep = sep; text = R.remaining reader; came = 0; ended = None } }
+    {
+        let unread = Snapshot::of(&reader);
+        ReturnRows {
+            alloc,
+            reader,
+            sep,
+            con,
+            stage: Stage::Unread,
+            unread,
+        }
+    }
+}
+
+impl<R: Read> RowSource for ReturnRows<R> {
+    ghost coming = { coming };
+
+    ghost within = { coming-within };
+
+    /// The next row. A record is read to its end before it is given; with a fault, the rows before
+    /// it were given.
+    fn next_row(&mut self) -> Result<Option<Row>, ImportFault>
+        ensures gives { GivesNext (coming self.old) result (coming self.new) }
+        ensures ends { self.new.ended ≡ ends_by result }
+        ensures again { (fault : Option ImportFault) → self.old.ended ≡ Some fault → (result ≡ at_end fault) × (self.new ≡ self.old) }
+        ensures same { (self.new.con ≡ self.old.con) × (self.new.sep ≡ self.old.sep) × (self.new.text ≡ self.old.text) }
+    {
+        next_row(
+            &self.unread,
+            self.alloc,
+            &mut self.reader,
+            self.sep,
+            &self.con,
+            &mut self.stage,
+        )
+    }
+}
+
+/// The next row at this stage.
+fn next_row<R: Read>(
+    unread: &Snapshot<R>,
+    alloc: Global,
+    reader: &mut R,
+    sep: Sep,
+    con: &Constituency,
+    stage: &mut Stage,
+) -> Result<Option<Row>, ImportFault>
+    requires { IsAt (R.remaining unread.now.value) (R.remaining reader.old) con.now sep stage.old }
+    ensures advances { Advances (R.remaining unread.now.value) con.now sep (R.remaining reader.old) stage.old result (R.remaining reader.new) stage.new }
+    ensures ends { ending stage.new ≡ ends_by result }
+    ensures again { (fault : Option ImportFault) → ending stage.old ≡ Some fault → (result ≡ at_end fault) × (reader.new ≡ reader.old) × (stage.new ≡ stage.old) }
+{
+    let Stage::Unread = stage else {
+        return next_started(alloc, reader, stage);
+    };
+    match start(alloc, reader, sep, con, stage) {
+        Ok(()) => next_started(alloc, reader, stage),
+        Err(fault) => {
+            end(stage, Some(fault));
+            Err(fault)
+        }
+    }
+}
+
+/// Reads the header, and goes on to the rows. It stands by itself, since a stage is some kilobytes
+/// large, and a function that holds one pays for it at each call.
+fn start<R: Read>(
+    alloc: Global,
+    reader: &mut R,
+    sep: Sep,
+    con: &Constituency,
+    stage: &mut Stage,
+) -> Result<(), ImportFault>
+    ensures begun { OnOk result (IsBegun (R.remaining reader.old) (R.remaining reader.new) con.now sep stage.new) }
+    ensures fault { IfErr result (IsNext (R.remaining reader.old) (text_coming con.now sep)) }
+{
+    *stage = Stage::Reading(Rows::new(alloc, reader, sep, con)?);
+    Ok(())
+}
+
+/// Ends the rows. It stands by itself for the same reason.
+fn end(stage: &mut Stage, fault: Option<ImportFault>)
+    ensures { stage.new ≡ Ended fault }
+{
+    *stage = Stage::Ended(fault);
+}
+
+/// The next row behind the header.
+fn next_started<R: Read>(
+    alloc: Global,
+    reader: &mut R,
+    stage: &mut Stage,
+) -> Result<Option<Row>, ImportFault>
+    requires { IsStarted stage.old }
+    ensures advances { (text : Option (List ℕ)) (con : Constituency) (sep : Sep) → IsAt text (R.remaining reader.old) con sep stage.old
+        → Advances text con sep (R.remaining reader.old) stage.old result (R.remaining reader.new) stage.new }
+    ensures ends { ending stage.new ≡ ends_by result }
+    ensures again { (fault : Option ImportFault) → ending stage.old ≡ Some fault → (result ≡ at_end fault) × (reader.new ≡ reader.old) × (stage.new ≡ stage.old) }
+{
+    let rows = match stage {
+        Stage::Unread => unreachable!(),
+        Stage::Reading(rows) => rows,
+        Stage::Ended(Some(fault)) => return Err(*fault),
+        Stage::Ended(None) => return Ok(None),
+    };
+    match rows.next(alloc, reader) {
+        Ok(Some(row)) => Ok(Some(row)),
+        Ok(None) => {
+            end(stage, None);
+            Ok(None)
+        }
+        Err(fault) => {
+            end(stage, Some(fault));
+            Err(fault)
+        }
+    }
+}
+
+impl Rows {
+    /// Reads the header, which has to be the constituency's.
+    fn new<R: Read>(
+        alloc: Global,
+        reader: &mut R,
+        sep: Sep,
+        con: &Constituency,
+    ) -> Result<Rows, ImportFault>
+        ensures reading { IfOk result (IsReadingRows (R.remaining reader.old) (R.remaining reader.new) con.now sep) }
+        ensures came { IfOk result (λ rows. rows.came ≡ 0) }
+        ensures fault { IfErr result (IsNext (R.remaining reader.old) (text_coming con.now sep)) }
+    {
+        let mut records = Records::new(alloc, reader, sep)?;
+        let mut header = ByteRecord::new(alloc);
+        if let Some(end) = records.next(alloc, reader, &mut header)? {
+            return Err(header_fault(end));
+        }
+        if !is_header(con.lists.as_slice(), &header) {
+            return Err(ImportFault::BadHeader);
+        }
+        let stations = station_codes(alloc, con.stations.as_slice())?;
+        Ok(Rows {
+            records,
+            lists: con.lists.len(),
+            stations,
+            came: 0,
+            fields: header,
+        })
+    }
+
+    /// The next row, or the end or the fault behind the last one.
+    fn next<R: Read>(&mut self, alloc: Global, reader: &mut R) -> Result<Option<Row>, ImportFault>
+        requires reading { IsReadingOn self.old.records }
+        requires few { self.old.lists ≤ 60 }
+        requires within { self.old.came ≤ 20000 }
+        ensures { (text : Option (List ℕ)) (con : Constituency) (sep : Sep) → IsReadingRows text (R.remaining reader.old) con sep self.old
+            → GivesRow text (R.remaining reader.new) con sep self.old result self.new }
+    {
+        if let Some(end) = self.records.next(alloc, reader, &mut self.fields)? {
+            return rows_end(end);
+        }
+        if self.came == ROW_LIMIT {
+            return Err(ImportFault::TooLong);
+        }
+        let row = station_row(alloc, self.lists, &self.stations, &self.fields)?;
+        self.came += 1;
+        Ok(Some(row))
+    }
+}
+
+/// The fault of an import that a stopped text has.
+fn import_fault(stop: CheckFault) -> ImportFault
+    ensures { result ≡ import_fault stop }
+{
+    match stop {
+        CheckFault::BadHeader => ImportFault::BadHeader,
+        CheckFault::TooLong => ImportFault::TooLong,
+        // No text is stopped by a write.
+        CheckFault::Read | CheckFault::Write => ImportFault::Read,
+        CheckFault::Memory => ImportFault::Memory,
+    }
+}
+
+/// The fault of a text that has no complete record.
+fn header_fault(end: End) -> ImportFault
+    ensures { result ≡ no_header end.stop }
+{
+    match end.stop {
+        None => ImportFault::BadHeader,
+        Some(stop) => import_fault(stop),
+    }
+}
+
+/// What comes behind the last row of a text.
+fn rows_end(end: End) -> Result<Option<Row>, ImportFault>
+    ensures { result ≡ at_end (option_map import_fault end.stop) }
+{
+    match end.stop {
+        None => Ok(None),
+        Some(stop) => Err(import_fault(stop)),
+    }
+}
+
+/// Whether a record is the header for these lists.
+fn is_header(lists: &[ListEntry], fields: &ByteRecord) -> bool
+    ensures { result ≡ is_header (list_codes lists.now) (fields_of fields.now) }
+{
+    if fields.len() < FIXED_NAMES || fields.len() - FIXED_NAMES != lists.len() {
+        return false;
+    }
+    if !has_fixed_names(fields) {
+        return false;
+    }
+    for place in 0..lists.len() {
+        let list = &lists[place];
+        if field(fields, FIXED_NAMES + place) != list.code.as_bytes() {
+            return false;
+        }
+    }
+    true
+}
+
+/// The codes of stations, in which each is found in logarithmic time.
+fn station_codes(alloc: Global, stations: &[Station]) -> Result<BTreeSet<Code>, AllocError>
+    ensures { IfOk result (λ codes. (code : List ℕ) → contains code_cmp codes code ≡ list_any (bytes_eq code) (station_codes stations.now)) }
+{
+    let mut codes = BTreeSet::new(alloc);
+    for station in stations {
+        codes.insert(station.code)?;
+    }
+    Ok(codes)
+}
+
+/// The row that a record is, under a header of so many lists, where these are the stations.
+fn station_row(
+    alloc: Global,
+    lists: usize,
+    stations: &BTreeSet<Code>,
+    fields: &ByteRecord,
+) -> Result<Row, AllocError>
+    requires { lists ≤ 60 }
+    ensures { IfOk result (λ row. (limits : Stations) → ((code : List ℕ) → contains code_cmp stations.now code ≡ is_some (limits code))
+        → row ≡ row_of limits lists (fields_of fields.now)) }
+{
+    if fields.len() != lists + FIXED_NAMES {
+        return Ok(Row::Bad);
+    }
+    let Some(station) = Code::new(field(fields, 0)) else {
+        return Ok(Row::Bad);
+    };
+    if !stations.contains(&station) {
+        return Ok(Row::Bad);
+    }
+    row_of(alloc, lists, fields)
+}
+
+#[cfg(test)]
+mod book_tests;
+#[cfg(test)]
+mod tests;

@@ -1,0 +1,7 @@
+pub mod ChangeLemmas
+pub mod GoneLemmas
+pub mod OpeningLemmas
+pub mod SetupLemmas
+pub mod SumLemmas
+pub mod TallyLemmas
+pub mod TreeLemmas

@@ -1,0 +1,4 @@
+pub mod Kept
+pub mod KeptCode
+pub mod Rows
+pub mod Sums

@@ -1,0 +1,68 @@
+-- Sums of closed votes that are moved by a return.
+use Rattle.std.specs.Prelude.{◌≡◌, ◌+◌, ◌-◌, ◌≤◌, ◌<◌, if◌then◌else◌, ℕ, Bool, true, false, map, slice_index, length}
+use Rattle.std.specs.List.{range_with_len}
+use Rattle.tally_machine.specs.Counts.{VoteCounts}
+use Rattle.tally_machine.specs.Progress.{is_received, is_queried, is_corrected, is_closed}
+use Rattle.tally_machine.specs.Return.{StationReturn}
+use Rattle.tally_machine.specs.View.{View}
+use Rattle.tally_machine.specs.declared.returns.Status.{Status}
+
+-- a sum with a number added to it or taken away
+abbrev pub moved : ℕ → ℕ → Bool → ℕ
+moved n by true = n + by
+moved n by false = n - by
+
+-- the sum stays from 0 to 5,000,000,000
+abbrev pub CanMove : ℕ → ℕ → Bool → Type 0
+CanMove n by true = n + by ≤ 5000000000
+CanMove n by false = by ≤ n
+
+-- what a return counts for in the number of returns with such a status
+abbrev pub moved_where : Bool → ℕ → Bool → ℕ
+moved_where has_status n add = if has_status then moved n 1 add else n
+
+-- the view with the numbers of a return's status moved by one
+abbrev pub with_status : View → Status → Bool → View
+with_status view status add = record view {
+  received = moved_where (is_received status) view.received add;
+  queried = moved_where (is_queried status) view.queried add;
+  corrected = moved_where (is_corrected status) view.corrected add;
+  closed = moved_where (is_closed status) view.closed add;
+}
+
+-- the view with the counts of a closed return moved
+abbrev pub with_counts : View → VoteCounts → Bool → View
+with_counts view counts add = record view {
+  votes = map (λ place. moved (slice_index view.votes place) (slice_index counts.votes place) add) (range_with_len 0 (length view.votes));
+  blank = moved view.blank counts.blank add;
+  spoiled = moved view.spoiled counts.spoiled add;
+}
+
+-- the view with a return counted, or counted no longer
+abbrev pub with_return_counted : View → StationReturn → Bool → View
+with_return_counted view standing add =
+    if is_closed standing.status then with_counts (with_status view standing.status add) standing.counts add else with_status view standing.status add
+
+-- the number of returns with a status can be moved by one
+pub record CanMoveOne (has_status : Bool) (n : ℕ) (add : Bool) : Type 0 where
+  pub few : n ≤ 5000
+  pub can : has_status ≡ true → CanMove n 1 add
+
+-- so can those of a view, for a return of this status
+pub record CanCountOne (view : View) (status : Status) (add : Bool) : Type 0 where
+  pub received : CanMoveOne (is_received status) view.received add
+  pub queried : CanMoveOne (is_queried status) view.queried add
+  pub corrected : CanMoveOne (is_corrected status) view.corrected add
+  pub closed : CanMoveOne (is_closed status) view.closed add
+
+-- each sum of a view can be moved by the counts of a return
+pub record CanMoveCounts (view : View) (counts : VoteCounts) (add : Bool) : Type 0 where
+  pub lists : length counts.votes ≡ length view.votes
+  pub votes : (place : ℕ) → place < length view.votes → CanMove (slice_index view.votes place) (slice_index counts.votes place) add
+  pub blank : CanMove view.blank counts.blank add
+  pub spoiled : CanMove view.spoiled counts.spoiled add
+
+-- the return can be counted in the view, or be counted no longer
+pub record CanCount (view : View) (standing : StationReturn) (add : Bool) : Type 0 where
+  pub status : CanCountOne view standing.status add
+  pub counts : is_closed standing.status ≡ true → CanMoveCounts view standing.counts add

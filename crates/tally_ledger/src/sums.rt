@@ -1,0 +1,71 @@
+//! Sums of closed votes, and numbers of returns in each status.
+
+ghost use Rattle.std.specs.Prelude.{◌≡◌, ◌<◌, ◌≤◌, ℕ, length, map, slice_index};
+ghost use Rattle.std.specs.List.{range_with_len};
+ghost use Rattle.tally_ledger.specs.Sums.{CanCount, CanCountOne, CanMove, CanMoveCounts, moved, with_counts, with_return_counted, with_status};
+
+use tally_machine::{ConView, Counts, Return, Status};
+
+/// A sum of votes, from 0 to 5,000,000,000, with this number added to it or taken away.
+pub fn moved(n: u64, by: u32, add: bool) -> u64
+    requires { CanMove n by add }
+    ensures { result ≡ moved n by add }
+{
+    if add {
+        n + u64::from(by)
+    } else {
+        n - u64::from(by)
+    }
+}
+
+/// Counts a return in the view of its constituency, or counts it no longer.
+pub(crate) fn count_return(view: &mut ConView, standing: &Return, add: bool)
+    requires { CanCount view.old standing.now add }
+    ensures { view.new ≡ with_return_counted view.old standing.now add }
+{
+    count_status(view, standing.status, add);
+    if let Status::Closed = standing.status {
+        count_votes(view, &standing.counts, add);
+    }
+}
+
+/// One return more or one fewer has this status.
+fn count_status(view: &mut ConView, status: Status, add: bool)
+    requires { CanCountOne view.old status add }
+    ensures { view.new ≡ with_status view.old status add }
+{
+    match status {
+        Status::Received => view.received = one_moved(view.received, add),
+        Status::Queried => view.queried = one_moved(view.queried, add),
+        Status::Corrected => view.corrected = one_moved(view.corrected, add),
+        Status::Closed => view.closed = one_moved(view.closed, add),
+    }
+}
+
+fn one_moved(n: u32, add: bool) -> u32
+    requires can { CanMove n 1 add }
+    requires few { n ≤ 5000 }
+    ensures { result ≡ moved n 1 add }
+{
+    if add { n + 1 } else { n - 1 }
+}
+
+/// The counts of a closed return count, or count no longer.
+fn count_votes(view: &mut ConView, counts: &Counts, add: bool)
+    requires { CanMoveCounts view.old counts.now add }
+    ensures { view.new ≡ with_counts view.old counts.now add }
+{
+    move_votes(&mut view.votes, &counts.votes, add);
+    view.blank = moved(view.blank, counts.blank, add);
+    view.spoiled = moved(view.spoiled, counts.spoiled, add);
+}
+
+fn move_votes(votes: &mut [u64], by: &[u32], add: bool)
+    requires lists { length by.now ≡ length votes.old }
+    requires each { (place : ℕ) → place < length votes.old → CanMove (slice_index votes.old place) (slice_index by.now place) add }
+    ensures { votes.new ≡ map (λ place. moved (slice_index votes.old place) (slice_index by.now place) add) (range_with_len 0 (length votes.old)) }
+{
+    for place in 0..votes.len() {
+        votes[place] = moved(votes[place], by[place], add);
+    }
+}

@@ -1,0 +1,254 @@
+-- The laws of steps and runs.
+use Rattle.std.proofs.Common.{◌≡◌, ◌≢◌, ◌≤◌, ◌↔◌, ◌∙◌, ◌-◌, ◌∷◌, ℕ, List, [], Bool, true, false, Option, Some, None, Result, Ok, Err, refl, sym, ap, subst, inl, inr, arith}
+use Rattle.std.specs.Prelude.{◌==◌, not, sum}
+use Rattle.tally_rules.specs.Constituency.{Constituency}
+use Rattle.tally_rules.specs.Limits.{IsSetup}
+use Rattle.tally_rules.specs.Setup.{constituency_with}
+use Rattle.tally_rules.specs.Threshold.{base_of}
+use Rattle.tally_rules.specs.declared.profile.Method.{Method}
+use Rattle.tally_rules.specs.declared.profile.Method.TheVariants.{DHondt, SainteLague, Hare}
+use Rattle.tally_contest.specs.Allotment.{Rule, divisors, hare, IsAllotment}
+use Rattle.tally_contest.specs.LotNeed.{IsLotNeeded, IsLotTaken, IsNeed}
+use Rattle.tally_contest.specs.Poll.{HasEligible, Poll}
+use Rattle.tally_contest.specs.Premises.{ArePlacedApart, IsRule, IsSound}
+use Rattle.tally_contest.specs.Rules.{rule_of}
+use Rattle.tally_contest.proofs.PollLemmas.{sound_under}
+use Rattle.tally_contest.proofs.TermsRace.{are_races}
+use Rattle.tally_allot.proofs.AllotmentLaws.{exists, placed_apart, unique_by_divisors, unique_by_quotas}
+use Rattle.tally_allot.proofs.LotLaws.{decided_not_needed, order_not_empty}
+use Rattle.tally_machine.specs.Certification.{Certifies, RefusedOr, certified_by, count_checks, last_edition}
+use Rattle.tally_machine.specs.Checks.{check, first_refusal}
+use Rattle.tally_machine.specs.ConStep.{IsView, certified_with, changed_by}
+use Rattle.tally_machine.specs.LawfulState.{IsLawfulState}
+use Rattle.tally_machine.specs.Named.{con_named}
+use Rattle.tally_machine.specs.Outcome.{HasSeats, IsCertificate, IsOutcome, MayStand, Outcome, allotted, lot_missing, nobody, poll_in, rule_in}
+use Rattle.tally_machine.specs.Replies.{IsAnswered, IsConStep, IsRun, IsStep, IsStepAt, con_answer, seen}
+use Rattle.tally_machine.specs.State.{State, con_state, opening}
+use Rattle.tally_machine.specs.View.{View, view_of}
+use Rattle.tally_machine.specs.declared.ask.Ask.{Ask}
+use Rattle.tally_machine.specs.declared.ask.Ask.TheVariants.{Certify}
+use Rattle.tally_machine.specs.declared.refusal.Refusal.{Refusal}
+use Rattle.tally_machine.specs.declared.refusal.Refusal.TheVariants.{Certified, Exhausted, LotMissing, NotAllClosed, Stale}
+use Rattle.tally_machine.specs.declared.reply.Reply.{Reply}
+use Rattle.tally_machine.proofs.ConStepLemmas.{con-step-lawful}
+use Rattle.tally_machine.proofs.ReturnStepLemmas.{opening-lawful, return-step-lawful}
+use Rattle.tally_machine.proofs.ViewLemmas.{constituency-limits}
+
+-- ---- steps and runs
+
+pub step-lawful : (setup : List Constituency) (s t : State) (ask : Ask) (r : Result Reply Refusal) → IsSetup setup → IsLawfulState setup s → IsStep setup s ask r t → IsLawfulState setup t
+step-lawful setup s t ask r ok lawful step = at (con_named ask) refl step
+  where
+    at_con : (code : List ℕ) → con_named ask ≡ Some code → (found : Option Constituency) → constituency_with code setup ≡ found → IsConStep found s ask r t → IsLawfulState setup t
+    at_con code named None is step = subst (IsLawfulState setup) (sym step.1) lawful
+    at_con code named (Some con) is step = con-step-lawful setup s t ask r code con ok lawful is named step
+
+    at : (named : Option (List ℕ)) → con_named ask ≡ named → IsStepAt named setup s ask r t → IsLawfulState setup t
+    at None is step = subst (IsLawfulState setup) (sym step.1) (return-step-lawful setup s ask ok lawful)
+    at (Some code) is step = at_con code is (constituency_with code setup) refl step
+
+answered-lawful : (setup : List Constituency) (s t : State) (ask : Ask) (r : Result Reply Refusal) → IsSetup setup → IsLawfulState setup s → IsAnswered setup s ask r t → IsLawfulState setup t
+answered-lawful setup s t ask r ok lawful (inl step) = step-lawful setup s t ask r ok lawful step
+answered-lawful setup s t ask r ok lawful (inr not_accepted) = subst (IsLawfulState setup) (sym not_accepted.1) lawful
+
+pub run-lawful : (setup : List Constituency) (s t : State) (asks : List Ask) (rs : List (Result Reply Refusal)) → IsSetup setup → IsRun setup s asks rs t → IsLawfulState setup s → IsLawfulState setup t
+run-lawful setup s t [] [] ok run lawful = subst (IsLawfulState setup) (sym run) lawful
+run-lawful setup s t [] (r ∷ rs) ok run lawful = absurd run
+run-lawful setup s t (ask ∷ asks) [] ok run lawful = absurd run
+run-lawful setup s t (ask ∷ asks) (r ∷ rs) ok run lawful =
+    run-lawful setup run.0 t asks rs ok run.2 (answered-lawful setup s run.0 ask r ok lawful run.1)
+
+-- ---- allotments
+
+pub rule-is : (method : Method) → IsRule (rule_of method)
+rule-is DHondt = record { positive = λ k some. some; rises = λ j k some lt. lt }
+rule-is SainteLague = record {
+  positive = λ k some. omega (arith, some);
+  rises = λ j k some lt. omega (arith, some, lt);
+}
+rule-is Hare = tt
+
+pub poll-sound : (con : Constituency) (view : View) → IsSound (poll_in con view)
+poll-sound con view = sound_under con.profile.threshold (base_of con.profile.base view.votes view.blank) view.votes
+
+allotted-sum : (rule : Rule) (poll : Poll) (lot : List ℕ) (seats : ℕ) (a : List ℕ) → IsAllotment rule poll lot seats a → sum a ≡ seats
+allotted-sum (divisors nth) poll lot seats a is = is.shares.whole
+allotted-sum hare poll lot seats a is = is.shares.whole
+
+-- the lot that is to be taken stands where one is needed
+pub lot-stands : (rule : Rule) (poll : Poll) (seats : ℕ) (lot : List ℕ) → IsRule rule → IsSound poll → 1 ≤ seats → IsLotTaken rule poll seats lot → IsLotNeeded rule poll seats → lot ≢ []
+lot-stands rule poll seats lot d sound some (inl taken) needed = absurd (decided_not_needed (record { rule = rule; poll = poll; lot = lot; seats = seats }) taken.0 needed)
+lot-stands rule poll seats lot d sound some (inr taken) needed =
+    order_not_empty (record { rule = rule; poll = poll; lot = lot; seats = seats }) (are_races rule poll lot seats d sound some) taken.0 taken.1 taken.2 lot taken.3
+
+-- ---- certificates
+
+unique : (rule : Rule) (poll : Poll) (lot : List ℕ) (seats : ℕ) (a b : List ℕ) → IsRule rule → IsSound poll → 1 ≤ seats → ArePlacedApart poll lot → IsAllotment rule poll lot seats a → IsAllotment rule poll lot seats b → a ≡ b
+unique (divisors nth) poll lot seats a b d sound some apart first second = unique_by_divisors nth poll lot seats a b d sound some apart first second
+unique hare poll lot seats a b d sound some apart first second = unique_by_quotas poll lot seats a b sound some apart first second
+
+-- two views of one state have the same seats
+seats-one : (con : Constituency) (s : State) (seats other : List ℕ) (b : Bool) → 1 ≤ con.seats → HasSeats con (view_of con s seats) b → HasSeats con (view_of con s other) b → seats ≡ other
+seats-one con s seats other false some has again = has ∙ sym again
+seats-one con s seats other true some has again =
+    let view = view_of con s seats in
+    let d = rule-is con.profile.method in
+    let sound = poll-sound con view in
+    unique (rule_in con) (poll_in con view) view.lot con.seats seats other d sound some (placed_apart (rule_in con) (poll_in con view) view.lot con.seats d sound some has.1) has.2 again.2
+
+-- a constituency of a setup has at most one view in a state
+pub view-one : (setup : List Constituency) (s : State) (code : List ℕ) (con : Constituency) (view other : View) → IsSetup setup → constituency_with code setup ≡ Some con → IsView con s view → IsView con s other → view ≡ other
+view-one setup s code con view other ok is first second =
+    let certified = (con_state s con.code).certified in
+    let has : HasSeats con (view_of con s view.seats) certified = subst (λ (v : View). HasSeats con v v.certified) first.0 first.1 in
+    let again : HasSeats con (view_of con s other.seats) certified = subst (λ (v : View). HasSeats con v v.certified) second.0 second.1 in
+    first.0 ∙ ap (view_of con s) (seats-one con s view.seats other.seats certified (constituency-limits setup code con ok is).some_seat has again) ∙ sym second.0
+
+-- in a lawful state what is seen of a certified constituency is a certificate
+pub certificate-of_view : (setup : List Constituency) (t : State) → IsSetup setup → IsLawfulState setup t → (code : List ℕ) (con : Constituency) → constituency_with code setup ≡ Some con
+    → (con_state t con.code).certified ≡ true → (view : View) → IsView con t view → IsCertificate con view
+certificate-of_view setup t ok lawful code con is certified view seen =
+    let here = view_of con t view.seats in
+    let has : HasSeats con here true = subst (λ (b : Bool). HasSeats con here b) certified (subst (λ (v : View). HasSeats con v v.certified) seen.0 seen.1) in
+    let certificate : IsCertificate con here = record {
+      closed = ((lawful.cons code con is).certified certified).0;
+      allotment = has;
+      exactly = allotted-sum (rule_in con) (poll_in con here) here.lot con.seats here.seats has.2;
+      lot = lot-stands (rule_in con) (poll_in con here) con.seats here.lot (rule-is con.profile.method) (poll-sound con here) (constituency-limits setup code con ok is).some_seat has.1;
+    } in
+    subst (IsCertificate con) (sym seen.0) certificate
+
+-- and something is seen of it
+pub certificate-stands : (setup : List Constituency) (t : State) → IsSetup setup → IsLawfulState setup t → (code : List ℕ) (con : Constituency) → constituency_with code setup ≡ Some con
+    → (con_state t con.code).certified ≡ true → (view : View) × IsView con t view × IsCertificate con view
+certificate-stands setup t ok lawful code con is certified =
+    let some : 1 ≤ con.seats = (constituency-limits setup code con ok is).some_seat in
+    let empty = view_of con t [] in
+    let may : MayStand con empty = (lawful.cons code con is).certified certified in
+    let rule = rule_in con in
+    let poll = poll_in con empty in
+    let d = rule-is con.profile.method in
+    let sound = poll-sound con empty in
+    let a = exists rule poll empty.lot con.seats d sound some may.1 (placed_apart rule poll empty.lot con.seats d sound some may.2) in
+    let view = view_of con t a.0 in
+    let has : HasSeats con view true = (may.1, may.2, a.1) in
+    let seen : IsView con t view = (refl, subst (λ (b : Bool). HasSeats con view b) (sym certified) has) in
+    (view, seen, certificate-of_view setup t ok lawful code con is certified view seen)
+
+-- something is seen of each constituency
+pub view-stands : (setup : List Constituency) (s : State) (code : List ℕ) (con : Constituency) → IsSetup setup → IsLawfulState setup s → constituency_with code setup ≡ Some con → (view : View) × IsView con s view
+view-stands setup s code con ok lawful is = go (con_state s con.code).certified refl
+  where
+    go : (b : Bool) → (con_state s con.code).certified ≡ b → (view : View) × IsView con s view
+    go true certified = let stands = certificate-stands setup s ok lawful code con is certified in (stands.0, stands.1)
+    go false opened = (view_of con s [], (refl, subst (λ (x : Bool). HasSeats con (view_of con s []) x) (sym opened) refl))
+
+pub certificate-of_run : (setup : List Constituency) (t : State) (asks : List Ask) (rs : List (Result Reply Refusal)) → IsSetup setup → IsRun setup (opening setup) asks rs t
+    → (code : List ℕ) (con : Constituency) → constituency_with code setup ≡ Some con → (con_state t con.code).certified ≡ true → (view : View) × IsView con t view × IsCertificate con view
+certificate-of_run setup t asks rs ok run = certificate-stands setup t ok (run-lawful setup (opening setup) t asks rs ok run (opening-lawful setup ok))
+
+-- ---- a missing lot
+
+-- where no check fails, it is as is said otherwise
+otherwise : {X : Type 0} (refusal : Option Refusal) (P : Result X Refusal → Type 0) (result : Result X Refusal) → refusal ≡ None → RefusedOr refusal P result → P result
+otherwise None P result none h = h
+otherwise (Some e) P result none h = cc
+
+seen-refused : (r : Result Reply Refusal) (refusal : Refusal) → seen r ≡ Err refusal → r ≡ Err refusal
+seen-refused (Ok reply) refusal is = cc
+seen-refused (Err e) refusal is = cc
+
+-- what Certify gives where no check before it fails
+abbrev IsByOutcome : Constituency → View → Result (List ℕ) Refusal → Type 0
+IsByOutcome con view result = (outcome : Outcome) × IsOutcome con view outcome × (result ≡ certified_by outcome)
+
+-- a missing lot is told exactly where one is needed and none stands
+told-where_missing : (con : Constituency) (view : View) (r : Result Reply Refusal) (outcome : Outcome) → 1 ≤ con.seats → HasEligible (poll_in con view) → IsOutcome con view outcome
+    → seen r ≡ con_answer view (changed_by certified_with (certified_by outcome))
+    → ((group : List Bool) × (in_question : ℕ) × (r ≡ Err (LotMissing group in_question))) ↔ (IsLotNeeded (rule_in con) (poll_in con view) con.seats × (view.lot ≡ []))
+told-where_missing con view r nobody some has is answer = absurd (is has)
+told-where_missing con view r (lot_missing group n) some has is answer = (λ told. (is.1.needed, is.2), λ missing. (group, n, seen-refused r (LotMissing group n) answer))
+told-where_missing con view r (allotted seats) some has is answer = (
+  λ told. let both : seen r ≡ Err (LotMissing told.0 told.1) = ap seen told.2 in cc,
+  λ missing. absurd (lot-stands (rule_in con) (poll_in con view) con.seats view.lot (rule-is con.profile.method) (poll-sound con view) some is.1 missing.0 missing.1),
+)
+
+-- what is told of a missing lot is its need
+need-told : (con : Constituency) (view : View) (group : List Bool) (n : ℕ) (outcome : Outcome) → IsOutcome con view outcome → Err (LotMissing group n) ≡ certified_by outcome
+    → IsNeed (rule_in con) (poll_in con view) con.seats group n
+need-told con view group n nobody is told = cc
+need-told con view group n (allotted seats) is told = cc
+need-told con view group n (lot_missing its m) is told =
+    let same_group : its ≡ group = cc in
+    let same_number : m ≡ n = cc in
+    subst (λ (g : List Bool). IsNeed (rule_in con) (poll_in con view) con.seats g n) same_group
+    (subst (λ (k : ℕ). IsNeed (rule_in con) (poll_in con view) con.seats its k) same_number is.1)
+
+result-told : (view : View) (result : Result (List ℕ) Refusal) (refusal : Refusal) → Err refusal ≡ con_answer view (changed_by certified_with result) → result ≡ Err refusal
+result-told view (Ok seats) refusal is = cc
+result-told view (Err e) refusal is = cc
+
+-- no check before the votes tells of a lot
+no_lot-checked : (a b c d : Bool) (now left : ℕ) (group : List Bool) (n : ℕ)
+    → first_refusal (check a Certified ∷ check b (Stale now) ∷ check c Exhausted ∷ check d (NotAllClosed left) ∷ []) ≡ Some (LotMissing group n) → ⊥
+no_lot-checked false b c d now left group n is = cc
+no_lot-checked true false c d now left group n is = cc
+no_lot-checked true true false d now left group n is = cc
+no_lot-checked true true true false now left group n is = cc
+no_lot-checked true true true true now left group n is = cc
+
+certifies-told : (con : Constituency) (view : View) (edition : ℕ) (group : List Bool) (n : ℕ) → Certifies con view edition (Err (LotMissing group n)) → IsNeed (rule_in con) (poll_in con view) con.seats group n
+certifies-told con view edition group n certifies = at (first_refusal (count_checks view edition)) refl certifies
+  where
+    at : (refusal : Option Refusal) → first_refusal (count_checks view edition) ≡ refusal → RefusedOr refusal (IsByOutcome con view) (Err (LotMissing group n)) → IsNeed (rule_in con) (poll_in con view) con.seats group n
+    at None none by = need-told con view group n by.0 by.1 by.2
+    at (Some e) some by =
+        let same : e ≡ LotMissing group n = cc in
+        absurd (
+        no_lot-checked (not view.certified) (view.edition == edition) (not (view.edition == last_edition)) (view.closed == view.stations) view.edition (view.stations - view.closed) group n
+        (some ∙ ap Some same)
+        )
+
+-- a step of Certify, by the view of the constituency; views of one state differ in their seats at most
+record IsCertifyStep (con : Constituency) (s : State) (edition : ℕ) (r : Result Reply Refusal) : Type 0 where
+  seats : List ℕ
+  result : Result (List ℕ) Refusal
+  certifies : Certifies con (view_of con s seats) edition result
+  answer : seen r ≡ con_answer (view_of con s seats) (changed_by certified_with result)
+
+certify-step : (setup : List Constituency) (s t : State) (code : List ℕ) (con : Constituency) (edition : ℕ) (r : Result Reply Refusal) → constituency_with code setup ≡ Some con
+    → IsStep setup s (Certify code edition) r t → IsCertifyStep con s edition r
+certify-step setup s t code con edition r is step =
+    let here : IsConStep (Some con) s (Certify code edition) r t = subst (λ (found : Option Constituency). IsConStep found s (Certify code edition) r t) is step in
+    let view = here.0 in
+    let decides = here.3 in record {
+      seats = view.seats;
+      result = decides.0;
+      certifies = subst (λ (v : View). Certifies con v edition decides.0) here.2.0 decides.1;
+      answer = here.4 ∙ ap (con_answer view) decides.2 ∙ ap (λ (v : View). con_answer v (changed_by certified_with decides.0)) here.2.0;
+    }
+
+pub missing-told : (setup : List Constituency) (s t : State) (code : List ℕ) (con : Constituency) (view : View) (edition : ℕ) (r : Result Reply Refusal) → IsSetup setup → IsLawfulState setup s
+    → constituency_with code setup ≡ Some con → IsView con s view → first_refusal (count_checks view edition) ≡ None → HasEligible (poll_in con view) → IsStep setup s (Certify code edition) r t
+    → ((group : List Bool) × (in_question : ℕ) × (r ≡ Err (LotMissing group in_question))) ↔ (IsLotNeeded (rule_in con) (poll_in con view) con.seats × (view.lot ≡ []))
+missing-told setup s t code con view edition r ok lawful is view_is none has step =
+    let its = certify-step setup s t code con edition r is step in
+    let same_view = view_is.0 in
+    let other = view_of con s its.seats in
+    let none_there : first_refusal (count_checks other edition) ≡ None = ap (λ (v : View). first_refusal (count_checks v edition)) (sym same_view) ∙ none in
+    let has_there : HasEligible (poll_in con other) = subst (λ (v : View). HasEligible (poll_in con v)) same_view has in
+    let by = otherwise (first_refusal (count_checks other edition)) (IsByOutcome con other) its.result none_there its.certifies in
+    let answer : seen r ≡ con_answer other (changed_by certified_with (certified_by by.0)) = its.answer ∙ ap (λ (x : Result (List ℕ) Refusal). con_answer other (changed_by certified_with x)) by.2 in
+    subst (λ (v : View). ((group : List Bool) × (in_question : ℕ) × (r ≡ Err (LotMissing group in_question))) ↔ (IsLotNeeded (rule_in con) (poll_in con v) con.seats × (v.lot ≡ []))) (sym same_view)
+    (told-where_missing con other r by.0 (constituency-limits setup code con ok is).some_seat has_there by.1 answer)
+
+pub told-is_need : (setup : List Constituency) (s t : State) (code : List ℕ) (con : Constituency) (view : View) (edition : ℕ) (r : Result Reply Refusal) (group : List Bool) (in_question : ℕ)
+    → IsSetup setup → IsLawfulState setup s → constituency_with code setup ≡ Some con → IsView con s view → IsStep setup s (Certify code edition) r t → r ≡ Err (LotMissing group in_question)
+    → IsNeed (rule_in con) (poll_in con view) con.seats group in_question
+told-is_need setup s t code con view edition r group n ok lawful is view_is step told =
+    let its = certify-step setup s t code con edition r is step in
+    let other = view_of con s its.seats in
+    let result_is : its.result ≡ Err (LotMissing group n) = result-told other its.result (LotMissing group n) (sym (ap seen told) ∙ its.answer) in
+    let need : IsNeed (rule_in con) (poll_in con other) con.seats group n =
+    certifies-told con other edition group n (subst (λ (x : Result (List ℕ) Refusal). Certifies con other edition x) result_is its.certifies) in
+    subst (λ (v : View). IsNeed (rule_in con) (poll_in con v) con.seats group n) (sym view_is.0) need

@@ -1,0 +1,43 @@
+use Rattle.std.proofs.Common.{◌≡◌, Ok, List, ℕ, refl, sym, ap, subst, string_bytes}
+use Rattle.tally_machine.specs.Certification.{Draws, reopened, vacates}
+use Rattle.tally_machine.specs.ConStep.{Decides, certified_with, changed_by, gone_for_good, lot_set, open_again}
+use Rattle.tally_machine.specs.declared.ask.Ask.{Ask}
+use Rattle.tally_machine.proofs.con_commands.decide_con.Goals as goal
+
+pub returns-in_ok-draw-in-Draw-clause-decided : goal.returns-in_ok-draw-in-Draw-clause-decided
+returns-in_ok-draw-in-Draw-clause-decided c =
+    let con = c.args.con.now in
+    let view = c.args.view.now in
+    let places = c.in_ok-draw-in-Draw.field-0.items in
+    let drawn : Draws con view c.in-Draw.edition c.in-Draw.order.items (Ok places) =
+    subst (λ (order : List (List ℕ)). Draws con view c.in-Draw.edition order (Ok places)) c.deref.ensures.value c.in_ok-draw-in-Draw.ensures.places in
+    (lot_set places, refl, subst (λ (ask : Ask). Decides con view ask (Ok (lot_set places))) (sym c.in-Draw.is) (Ok places, drawn, refl))
+
+pub returns-in_ok-certify-in-Certify-clause-decided :
+    goal.returns-in_ok-certify-in-Certify-clause-decided
+returns-in_ok-certify-in-Certify-clause-decided c =
+    let con = c.args.con.now in
+    let view = c.args.view.now in
+    let seats = c.in_ok-certify-in-Certify.field-0.items in
+    (certified_with seats, refl, subst (λ (ask : Ask). Decides con view ask (Ok (certified_with seats))) (sym c.in-Certify.is) (Ok seats, c.in_ok-certify-in-Certify.ensures.seats, refl))
+
+pub returns-in_ok-reopen-in-Reopen-clause-decided :
+    goal.returns-in_ok-reopen-in-Reopen-clause-decided
+returns-in_ok-reopen-in-Reopen-clause-decided c =
+    let con = c.args.con.now in
+    let view = c.args.view.now in
+    let note = string_bytes c.in_ok-reopen-in-Reopen.field-0 in
+    let kept : reopened view c.in-Reopen.edition (string_bytes c.in-Reopen.note) ≡ Ok note =
+    subst (λ (n : List ℕ). reopened view c.in-Reopen.edition n ≡ Ok note) c.deref-in-Reopen.ensures c.in_ok-reopen-in-Reopen.ensures.note in
+    (open_again note, refl, subst (λ (ask : Ask). Decides con view ask (Ok (open_again note))) (sym c.in-Reopen.is) (sym (ap (changed_by open_again) kept)))
+
+pub returns-in_ok-vacancy-in-Vacate-clause-decided :
+    goal.returns-in_ok-vacancy-in-Vacate-clause-decided
+returns-in_ok-vacancy-in-Vacate-clause-decided c =
+    let con = c.args.con.now in
+    let view = c.args.view.now in
+    let gone = c.in_ok-vacancy-in-Vacate.vacancy.gone in
+    let next = c.in_ok-vacancy-in-Vacate.vacancy.next in
+    let left : vacates con view c.in-Vacate.list c.in-Vacate.place (string_bytes c.in-Vacate.note) ≡ Ok (gone, next) =
+    subst (λ (n : List ℕ). vacates con view c.in-Vacate.list c.in-Vacate.place n ≡ Ok (gone, next)) c.deref-in-Vacate.ensures c.in_ok-vacancy-in-Vacate.ensures.vacated in
+    (gone_for_good gone next, refl, subst (λ (ask : Ask). Decides con view ask (Ok (gone_for_good gone next))) (sym c.in-Vacate.is) (sym (ap (changed_by (λ v. gone_for_good v.0 v.1)) left)))

@@ -1,0 +1,56 @@
+//! What is decided of a command on a constituency.
+
+ghost use Rattle.std.specs.Prelude.{◌≡◌, ◌≢◌, Some, Ok, Err, IfOk, IfErr};
+ghost use Rattle.tally_machine.specs.ConStep.{ConChange, Decides, con_change};
+ghost use Rattle.tally_machine.specs.Named.{con_named};
+ghost use Rattle.tally_machine.specs.Outcome.{IsLawfulView};
+ghost use Rattle.tally_machine.specs.declared.refusal.Refusal.TheVariants.{Memory};
+
+#[cfg(test)]
+mod tests;
+
+use crate::ask::Ask;
+use crate::certification::{certify, draw, reopen};
+use crate::change::Change;
+use crate::refusal::Refusal;
+use crate::vacancy::vacate;
+use crate::view::ConView;
+use std::alloc::Global;
+use tally_rules::Constituency;
+
+/// What a command on a constituency changes, or why it is refused: on this constituency, of which
+/// this is seen.
+pub fn decide_con(
+    alloc: Global,
+    con: &Constituency,
+    view: &ConView,
+    ask: &Ask,
+) -> Result<Change, Refusal>
+    requires named { con_named ask.now ≡ Some con.now.code }
+    requires lawful { IsLawfulView con.now view.now }
+    ensures decided { IfOk result (λ change. (decided : ConChange) × (con_change change ≡ Some decided) × Decides con.now view.now ask.now (Ok decided)) }
+    ensures refused { IfErr result (λ refusal. refusal ≢ Memory → Decides con.now view.now ask.now (Err refusal)) }
+{
+    match ask {
+        Ask::Draw { edition, order, .. } => {
+            Ok(Change::SetLot(draw(alloc, con, view, *edition, order)?))
+        }
+        Ask::Certify { edition, .. } => {
+            Ok(Change::SetCertified(certify(alloc, con, view, *edition)?))
+        }
+        Ask::Reopen { edition, note, .. } => {
+            Ok(Change::SetReopened(reopen(alloc, view, *edition, note)?))
+        }
+        Ask::Vacate {
+            list,
+            place,
+            note,
+            ..
+        } => {
+            let vacancy = vacate(alloc, con, view, *list, *place, note)?;
+            Ok(Change::SetGone(vacancy.gone, vacancy.next))
+        }
+        Ask::ShowCon { .. } => Ok(Change::Same),
+        _ => unreachable!(),
+    }
+}
