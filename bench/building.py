@@ -1,10 +1,13 @@
 """Builds the programs that the benchmarks measure."""
 
+import argparse
 import json
+import os
 import shutil
 import subprocess
 import sys
 import tempfile
+from contextlib import contextmanager
 from pathlib import Path
 
 HERE = Path(__file__).resolve().parent
@@ -50,6 +53,25 @@ def build_office(folder, name, libraries):
         if not built.is_file():
             sys.exit(f"{name} is not built:\n{ran.stdout[-3000:]}{ran.stderr[-3000:]}")
         return shutil.copy(built, folder / name)
+
+
+@contextmanager
+def keeper_program(name, description, runs, sizes):
+    """The Rattle program `name`.rattle over a keeper in memory, its folder, and how many runs and
+    rounds the command line asks for; says on what machine and with which sizes it runs.
+    """
+    parser = argparse.ArgumentParser(description=description)
+    parser.add_argument("--runs", type=int, default=runs, help="how often the program runs on a text")
+    parser.add_argument("--rounds", type=int, default=10, help="the rounds of a run")
+    args = parser.parse_args()
+    libraries = [f"//crates/{crate}" for crate in ("tally_core", "tally_import", "tally_rules")]
+    with tempfile.TemporaryDirectory() as folder:
+        folder = Path(folder)
+        program = str(build_office(folder, name, libraries))
+        load = os.getloadavg()[0]
+        print(f"{os.cpu_count()} processors, {processor()}, load {load:.1f}, {args.runs} runs")
+        print(f"of {args.rounds} rounds; {sizes}\n")
+        yield program, folder, args.runs, args.rounds
 
 
 def build_plain(folder, name):

@@ -10,17 +10,13 @@ ratio of the medians.
     bench/import.py [--runs N] [--rounds N]
 """
 
-import argparse
-import os
 import statistics
 import subprocess
 import sys
-import tempfile
-from pathlib import Path
 
 # What is imported from here is not to be left beside it in compiled form.
 sys.dont_write_bytecode = True
-from building import build_office, processor
+from building import keeper_program
 from check import ELECTORS, LISTS, codes, distinct_rows, long_row, short_row, text_of
 from measuring import Numbers
 
@@ -140,19 +136,11 @@ def grow(program, folder, runs, rounds):
 
 
 def main():
-    parser = argparse.ArgumentParser(description="Measures an import of returns against a check.")
-    parser.add_argument("--runs", type=int, default=3, help="how often the program runs on a text")
-    parser.add_argument("--rounds", type=int, default=10, help="the rounds of a run")
-    args = parser.parse_args()
-    with tempfile.TemporaryDirectory() as name:
-        folder = Path(name)
-        libraries = [f"//crates/{crate}" for crate in ("tally_core", "tally_import", "tally_rules")]
-        program = str(build_office(folder, "import_office", libraries))
-        load = os.getloadavg()[0]
-        print(f"{os.cpu_count()} processors, {processor()}, load {load:.1f}, {args.runs} runs")
-        print(f"of {args.rounds} rounds; {LISTS} lists, {STATIONS} stations\n")
-        met = compare(program, folder, args.runs, args.rounds)
-        grow(program, folder, args.runs, args.rounds)
+    description = "Measures an import of returns against a check."
+    sizes = f"{LISTS} lists, {STATIONS} stations"
+    with keeper_program("import_office", description, 3, sizes) as (program, folder, runs, rounds):
+        met = compare(program, folder, runs, rounds)
+        grow(program, folder, runs, rounds)
     if not met:
         sys.exit(f"\nan import takes more than {GOAL} times as long as a check")
 

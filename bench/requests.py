@@ -14,18 +14,14 @@ stations.
     bench/requests.py [--runs N] [--rounds N]
 """
 
-import argparse
-import os
 import statistics
 import subprocess
 import sys
-import tempfile
 from importlib import import_module
-from pathlib import Path
 
 # What is imported from here is not to be left beside it in compiled form.
 sys.dont_write_bytecode = True
-from building import build_office, processor
+from building import keeper_program
 from check import ELECTORS, LISTS, codes, short_row, text_of
 from measuring import Numbers
 
@@ -190,18 +186,10 @@ def grow(medians):
 
 
 def main():
-    parser = argparse.ArgumentParser(description="Measures requests of a keeper in memory.")
-    parser.add_argument("--runs", type=int, default=10, help="how often the program runs on a text")
-    parser.add_argument("--rounds", type=int, default=10, help="the rounds of a run")
-    args = parser.parse_args()
-    with tempfile.TemporaryDirectory() as name:
-        folder = Path(name)
-        libraries = [f"//crates/{crate}" for crate in ("tally_core", "tally_import", "tally_rules")]
-        program = str(build_office(folder, "requests_office", libraries))
-        load = os.getloadavg()[0]
-        print(f"{os.cpu_count()} processors, {processor()}, load {load:.1f}, {args.runs} runs")
-        print(f"of {args.rounds} rounds; {LISTS} lists, {STATIONS} stations, {SEATS} seats\n")
-        medians = measure(program, folder, args.runs, args.rounds)
+    description = "Measures requests of a keeper in memory."
+    sizes = f"{LISTS} lists, {STATIONS} stations, {SEATS} seats"
+    with keeper_program("requests_office", description, 10, sizes) as (program, folder, runs, rounds):
+        medians = measure(program, folder, runs, rounds)
         show(medians[STATIONS])
         grow(medians)
 

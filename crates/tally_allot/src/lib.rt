@@ -19,6 +19,3 @@ pub use fault::AllotFault;
 pub use quota_row::QuotaRow;
 pub use quota_table::quotas;
 pub use tally_contest::{ListSet, Need};
-
-#[cfg(test)]
-mod tests;

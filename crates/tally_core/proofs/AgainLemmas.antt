@@ -2,16 +2,16 @@
 use Rattle.std.proofs.Common.{◌≡◌, ◌∙◌, ◌+◌, ◌++◌, inl, List, [], ◌∷◌, false, cond, Some, Result, Ok, Err, refl, sym, ap, subst, arith, count_by}
 use Rattle.std.proofs.lemmas.List.Sums.{sum_by-cons}
 use Rattle.tally_rules.specs.Constituency.{Constituency}
-use Rattle.tally_machine.specs.Return.{Returns}
-use Rattle.tally_machine.specs.Lodge.{Stations, lodge_answer, lodge}
-use Rattle.tally_machine.specs.State.{State, stations_of}
+use Rattle.tally_returns.specs.Return.{Returns}
+use Rattle.tally_returns.specs.Lodge.{Stations, lodge_answer, lodge}
+use Rattle.tally_returns.specs.State.{State, stations_of}
 use Rattle.tally_machine.specs.Replies.{IsRun, seen, lodge_reply}
-use Rattle.tally_machine.specs.declared.ask.Ask.{Ask}
-use Rattle.tally_machine.specs.declared.ask.Ask.TheVariants.{Lodge}
-use Rattle.tally_machine.specs.declared.refusal.Refusal.{Refusal}
-use Rattle.tally_machine.specs.declared.reply.LodgeReply.{LodgeReply}
-use Rattle.tally_machine.specs.declared.reply.LodgeReply.TheVariants.{Lodged, Same}
-use Rattle.tally_machine.specs.declared.reply.Reply.{Reply}
+use Rattle.tally_returns.specs.declared.ask.Ask.{Ask}
+use Rattle.tally_returns.specs.declared.ask.Ask.TheVariants.{Lodge}
+use Rattle.tally_returns.specs.declared.refusal.Refusal.{Refusal}
+use Rattle.tally_returns.specs.declared.reply.LodgeReply.{LodgeReply}
+use Rattle.tally_returns.specs.declared.reply.LodgeReply.TheVariants.{Lodged, Same}
+use Rattle.tally_returns.specs.declared.reply.Reply.{Reply}
 use Rattle.tally_machine.proofs.StayLemmas.{Stay, answered-stays, run-stays, lodge-stays, not_lodged-again}
 use Rattle.tally_core.proofs.HeldLemmas.{lodge-step}
 use Rattle.tally_core.specs.Import.{row_answer, after_row, answers, imported, is_lodged, count_of}

@@ -1,34 +1,33 @@
 -- What is decided of a constituency can be carried out, and is what was answered.
-use Rattle.std.proofs.Common.{◌≡◌, ◌≢◌, ◌≤◌, ◌⊎◌, ◌∙◌, ◌+◌, ◌∷◌, ℕ, List, [], Bool, true, false, Option, Some, None, Result, Ok, Err, Bor, refl, sym, ap, subst, inl, inr, arith}
-use Rattle.std.specs.Prelude.{IsSome, is_some, option_map, string_bytes}
+use Rattle.std.proofs.Common.{◌≡◌, ◌≢◌, ◌≤◌, ◌⊎◌, ◌∙◌, ◌+◌, ◌∷◌, ℕ, List, [], false, Option, Some, None, Result, Ok, Err, refl, sym, ap, subst, inl, inr, arith}
+use Rattle.std.specs.Prelude.{IsSome, IfErr, IfOk, IfSome, OnErr, OnOk, is_some, string_bytes}
 use Rattle.std.specs.FinMap as fin
-use Rattle.std.specs.Option.{option_copied}
 use Rattle.tally_rules.specs.Constituency.{Constituency}
 use Rattle.tally_rules.specs.Setup.{constituency_with}
 use Rattle.tally_machine.specs.Certification.{ListFound, gone_of, holders_of, last_edition, list_found, vacate_checks, vacated, vacates}
-use Rattle.tally_machine.specs.Checks.{first_refusal, refused_or}
-use Rattle.tally_machine.specs.ConStep.{ConChange, Decides, IsView, after_change, certified_with, changed, con_change, gone_for_good, lot_set, no_change, open_again}
-use Rattle.tally_machine.specs.GoneCandidate.{GoneCandidate}
+use Rattle.tally_returns.specs.Checks.{first_refusal, refused_or}
+use Rattle.tally_machine.specs.ConStep.{ConChange, Decides, after_change, certified_with, changed, con_change, gone_for_good, lot_set, no_change, open_again}
+use Rattle.tally_returns.specs.GoneCandidate.{GoneCandidate}
 use Rattle.tally_machine.specs.Holders.{newcomer}
-use Rattle.tally_machine.specs.Named.{con_named}
+use Rattle.tally_returns.specs.Named.{con_named}
 use Rattle.tally_machine.specs.Outcome.{IsLawfulView}
-use Rattle.tally_machine.specs.Replies.{IsAnswered, IsConStep, con_answer, con_shown, edition_now, seen}
-use Rattle.tally_machine.specs.State.{ConState, con_state}
-use Rattle.tally_machine.specs.View.{View}
-use Rattle.tally_machine.specs.declared.ask.Ask.{Ask}
-use Rattle.tally_machine.specs.declared.ask.Ask.TheVariants.{Lodge, Query, Correct, Close, ShowReturn, Draw, Certify, Reopen, Vacate, ShowCon, ShowProgress}
-use Rattle.tally_machine.specs.declared.change.Change.{Change}
-use Rattle.tally_machine.specs.declared.change.Change.TheVariants.{Same, PutReturn, SetLot, SetCertified, SetReopened, SetGone}
-use Rattle.tally_machine.specs.declared.refusal.Refusal.{Refusal}
-use Rattle.tally_machine.specs.declared.refusal.Refusal.TheVariants.{Memory}
-use Rattle.tally_machine.specs.declared.reply.Reply.{Reply}
-use Rattle.tally_machine.specs.declared.reply.Reply.TheVariants.{Con, Vacated}
-use Rattle.tally_machine.proofs.ClosedLemmas.{constituency_with-code}
+use Rattle.tally_machine.specs.Replies.{IsAnswered, IsConStep, answer_seen, con_answer, con_shown, edition_now, seen}
+use Rattle.tally_returns.specs.State.{ConState, con_state}
+use Rattle.tally_returns.specs.View.{View}
+use Rattle.tally_returns.specs.declared.ask.Ask.{Ask}
+use Rattle.tally_returns.specs.declared.ask.Ask.TheVariants.{Lodge, Query, Correct, Close, ShowReturn, Draw, Certify, Reopen, Vacate, ShowCon, ShowProgress}
+use Rattle.tally_returns.specs.declared.change.Change.{Change}
+use Rattle.tally_returns.specs.declared.change.Change.TheVariants.{Same, PutReturn, SetLot, SetCertified, SetReopened, SetGone}
+use Rattle.tally_returns.specs.declared.refusal.Refusal.{Refusal}
+use Rattle.tally_returns.specs.declared.refusal.Refusal.TheVariants.{Memory}
+use Rattle.tally_returns.specs.declared.reply.Reply.{Reply}
+use Rattle.tally_returns.specs.declared.reply.Reply.TheVariants.{Con, Vacated}
+use Rattle.tally_returns.proofs.ClosedLemmas.{constituency_with-code}
 use Rattle.tally_machine.proofs.ConStateLemmas.{con_state-changed}
-use Rattle.tally_machine.proofs.SpentLemmas.{IsGoneFlag, answered-used, candidate}
+use Rattle.tally_machine.proofs.SpentLemmas.{IsGoneFlag, answered-used}
 use Rattle.tally_machine.proofs.ViewLemmas.{view-lawful}
 use Rattle.tally_ledger.specs.Kept.{Kept, state_in, view_in, with_change}
-use Rattle.tally_core.specs.Held.{CanCarryOut, IsAnsweredOn, IsCarriedOut, IsHeld, carried_reply}
+use Rattle.tally_core.specs.Held.{CanCarryOut, IsAnsweredOn, IsHeld, carried_reply}
 use Rattle.tally_core.proofs.HeldLemmas.{change-state, con-kept, given-by, held-change}
 use Rattle.tally_core.proofs.StepLemmas.{memory-or}
 
@@ -170,20 +169,31 @@ pub record IsDone (k new : Kept) (code : List ℕ) (ask : Ask) (r : Result Reply
   pub setup : new.setup ≡ k.setup
   pub held : IsHeld new
 
+-- a change was carried out, or memory was wanting and nothing has changed
+abbrev pub IsCarriedOut : Kept → List ℕ → ℕ → ConChange → Result Reply Refusal → Kept → Type 0
+IsCarriedOut k code edition decided r new =
+    ((seen r ≡ Ok (carried_reply edition decided)) × (new ≡ with_change k code decided)) ⊎ ((r ≡ Err Memory) × (new ≡ k))
+
+pub carried : (k new : Kept) (code : List ℕ) (edition : ℕ) (change : Change) (decided : ConChange) (r : Result Reply Refusal) → con_change change ≡ Some decided
+    → IfOk r (λ reply. IfSome (con_change change) (λ d. answer_seen reply ≡ carried_reply edition d)) → OnOk r (IfSome (con_change change) (λ d. new ≡ with_change k code d))
+    → IfErr r (λ e. e ≡ Memory) → OnErr r (new ≡ k) → IsCarriedOut k code edition decided r new
+carried k new code edition change decided (Ok reply) is told done refused stays = inl (
+  ap Ok (subst (λ o. IfSome o (λ d. answer_seen reply ≡ carried_reply edition d)) is told),
+  subst (λ o. IfSome o (λ d. new ≡ with_change k code d)) is done,
+)
+carried k new code edition change decided (Err e) is told done refused stays = inr (ap Err refused, stays)
+
 pub carried-done : (k new : Kept) (code : List ℕ) (con : Constituency) (ask : Ask) (edition : ℕ) (change : Change) (decided : ConChange) (r : Result Reply Refusal) → IsHeld k
     → constituency_with code k.setup ≡ Some con → con_named ask ≡ Some code → edition ≡ (view_in k con).edition → con_change change ≡ Some decided → Decides con (view_in k con) ask (Ok decided)
-    → change ≢ Same → IsCarriedOut k code edition change r new → IsDone k new code ask r
+    → change ≢ Same → IsCarriedOut k code edition decided r new → IsDone k new code ask r
 carried-done k new code con ask edition change decided r held found named edition_is is decides not_same (inr memory) = record {
   step = inr (memory.0, ap state_in memory.1);
   setup = ap (λ (x : Kept). x.setup) memory.1;
   held = subst IsHeld (sym memory.1) held;
 }
 carried-done k new code con ask edition change decided r held found named edition_is is decides not_same (inl done) =
-    let both : Some done.0 ≡ Some decided = sym done.1 ∙ is in
-    let same : done.0 ≡ decided = cc in
-    let now : new ≡ with_change k code decided = done.3 ∙ ap (with_change k code) same in
-    let answer : seen r ≡ con_answer (view_in k con) (Ok decided) =
-    done.2 ∙ ap (λ d. Ok (carried_reply edition d)) same ∙ reply-is (view_in k con) edition change decided is not_same edition_is in
+    let now : new ≡ with_change k code decided = done.1 in
+    let answer : seen r ≡ con_answer (view_in k con) (Ok decided) = done.0 ∙ reply-is (view_in k con) edition change decided is not_same edition_is in
     let state : state_in new ≡ after_change (state_in k) con.code (Ok decided) =
     ap state_in now ∙ change-state k code decided (con-kept k code con held found) ∙ ap (λ q. after_change (state_in k) q (Ok decided)) (sym (constituency_with-code k.setup code con found)) in
     let step : IsConStep (Some con) (state_in k) ask r (state_in new) = (view_in k con, Ok decided, held.seats code con found, decides, answer, state) in

@@ -13,38 +13,38 @@ use Rattle.tally_rules.specs.Setup.{constituency_with, station_with}
 use Rattle.tally_rules.specs.Text.{is_note}
 use Rattle.tally_rules.specs.declared.constituency.Station.{Station}
 use Rattle.tally_machine.specs.Certification.{Certifies, Draws, vacates, reopened}
-use Rattle.tally_machine.specs.Checks.{check, first_refusal, refused_or}
+use Rattle.tally_returns.specs.Checks.{check, first_refusal, refused_or}
 use Rattle.tally_machine.specs.ConStep.{ConChange, Decides, IsView, after_change, certified_with, changed, changed_by, gone_for_good, lot_set, no_change, open_again}
-use Rattle.tally_machine.specs.Counts.{VoteCounts, same_counts}
-use Rattle.tally_machine.specs.Decide.{decided_return, limits_of, lodge_change, moved, put_next}
-use Rattle.tally_machine.specs.GoneCandidate.{GoneCandidate}
+use Rattle.tally_returns.specs.Counts.{VoteCounts, same_counts}
+use Rattle.tally_returns.specs.Decide.{decided_return, limits_of, lodge_change, moved, put_next}
+use Rattle.tally_returns.specs.GoneCandidate.{GoneCandidate}
 use Rattle.tally_machine.specs.LawfulState.{IsLawfulState}
-use Rattle.tally_machine.specs.Lodge.{StationLimits, admitted, after_lodge, counts_checks, lodge, lodge_answer, unless_refused}
-use Rattle.tally_machine.specs.Moves.{close_checks, closed, correct_checks, corrected, counts_checks_at, may_close, may_correct, may_query, move_checks, queried, query_checks}
-use Rattle.tally_machine.specs.Named.{con_named, station_named}
+use Rattle.tally_returns.specs.Lodge.{StationLimits, admitted, after_lodge, counts_checks, lodge, lodge_answer, unless_refused}
+use Rattle.tally_returns.specs.Moves.{close_checks, closed, correct_checks, corrected, counts_checks_at, may_close, may_correct, may_query, move_checks, queried, query_checks}
+use Rattle.tally_returns.specs.Named.{con_named, station_named}
 use Rattle.tally_machine.specs.Outcome.{HasSeats}
 use Rattle.tally_machine.specs.Replies.{con_answer, seen}
-use Rattle.tally_machine.specs.Return.{StationReturn, Returns}
-use Rattle.tally_machine.specs.State.{State, ConState, con_state, opening, opening_con, stations_of}
-use Rattle.tally_machine.specs.Step.{after, after_put, after_return, con_of, decided_at_station, decided_in, is_certified, with_return, without_lot}
-use Rattle.tally_machine.specs.View.{View, view_of, view_with}
-use Rattle.tally_machine.specs.declared.ask.Ask.{Ask}
-use Rattle.tally_machine.specs.declared.ask.Ask.TheVariants.{Lodge, Query, Correct, Close, ShowReturn, Draw, Certify, Reopen, Vacate, ShowCon, ShowProgress}
-use Rattle.tally_machine.specs.declared.change.Change.{Change}
-use Rattle.tally_machine.specs.declared.change.Change.TheVariants.{PutReturn, Same, SetCertified, SetGone, SetLot, SetReopened}
-use Rattle.tally_machine.specs.declared.refusal.Refusal.{Refusal}
-use Rattle.tally_machine.specs.declared.refusal.Refusal.TheVariants.{BadNote, Certified, Differs, NoReturn}
-use Rattle.tally_machine.specs.declared.returns.Status.{Status}
-use Rattle.tally_machine.specs.declared.reply.LodgeReply.{LodgeReply}
-use Rattle.tally_machine.specs.declared.reply.LodgeReply.TheVariants as reply
-use Rattle.tally_machine.specs.declared.reply.Reply.{Reply}
-use Rattle.tally_machine.specs.declared.reply.Reply.TheVariants.{Con, Edition, Vacated}
-use Rattle.tally_machine.proofs.ClosedLemmas.{IsSameAt, apart-untied, closed_now, constituency_with-code, get-kept, get-put, put-elsewhere, same-tied, station-elsewhere, station_with-con, tied-same, view_with-same}
+use Rattle.tally_returns.specs.Return.{StationReturn, Returns}
+use Rattle.tally_returns.specs.State.{State, ConState, con_state, opening, opening_con, stations_of}
+use Rattle.tally_returns.specs.Step.{after, after_put, after_return, con_of, decided_at_station, decided_in, is_certified, with_return, without_lot}
+use Rattle.tally_returns.specs.View.{View, view_of, view_with}
+use Rattle.tally_returns.specs.declared.ask.Ask.{Ask}
+use Rattle.tally_returns.specs.declared.ask.Ask.TheVariants.{Lodge, Query, Correct, Close, ShowReturn, Draw, Certify, Reopen, Vacate, ShowCon, ShowProgress}
+use Rattle.tally_returns.specs.declared.change.Change.{Change}
+use Rattle.tally_returns.specs.declared.change.Change.TheVariants.{PutReturn, Same, SetCertified, SetGone, SetLot, SetReopened}
+use Rattle.tally_returns.specs.declared.refusal.Refusal.{Refusal}
+use Rattle.tally_returns.specs.declared.refusal.Refusal.TheVariants.{BadNote, Certified, Differs, NoReturn}
+use Rattle.tally_returns.specs.declared.returns.Status.{Status}
+use Rattle.tally_returns.specs.declared.reply.LodgeReply.{LodgeReply}
+use Rattle.tally_returns.specs.declared.reply.LodgeReply.TheVariants as reply
+use Rattle.tally_returns.specs.declared.reply.Reply.{Reply}
+use Rattle.tally_returns.specs.declared.reply.Reply.TheVariants.{Con, Edition, Vacated}
+use Rattle.tally_returns.proofs.ClosedLemmas.{IsSameAt, apart-untied, closed_now, constituency_with-code, get-kept, get-put, put-elsewhere, same-tied, station-elsewhere, station_with-con, tied-same, view_with-same}
 use Rattle.tally_machine.proofs.ConStateLemmas.{con_state-with_con}
 use Rattle.tally_machine.proofs.ConStepLemmas.{con-step-lawful}
-use Rattle.tally_machine.proofs.DecideLemmas.{passed-first, passed-rest}
+use Rattle.tally_returns.proofs.DecideLemmas.{passed-first, passed-rest}
 use Rattle.tally_machine.proofs.LawfulViewLemmas.{certified-seats, drawn-open}
-use Rattle.tally_machine.proofs.LifeLemmas.{after_put-returns}
+use Rattle.tally_returns.proofs.LifeLemmas.{after_put-returns}
 use Rattle.tally_machine.proofs.ReturnStepLemmas.{open-station, opening-lawful, put-placed, return-step-lawful}
 use Rattle.tally_ledger.specs.Kept.{Kept, opening_kept, seats_in, state_in, view_in, with_change}
 use Rattle.tally_core.specs.Held.{IsHeld, IsLodged, IsMoved, with_state}

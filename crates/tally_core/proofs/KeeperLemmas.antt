@@ -1,11 +1,11 @@
 -- The run of a keeper is a run of the machine.
 use Rattle.std.proofs.Common.{◌↔◌, List, [], ◌∷◌, Option, Some, None, Result, refl, ap, inr}
 use Rattle.tally_rules.specs.Constituency.{Constituency}
-use Rattle.tally_machine.specs.State.{State}
+use Rattle.tally_returns.specs.State.{State}
 use Rattle.tally_machine.specs.Replies.{IsAnswered, IsRun}
-use Rattle.tally_machine.specs.declared.ask.Ask.{Ask}
-use Rattle.tally_machine.specs.declared.refusal.Refusal.{Refusal}
-use Rattle.tally_machine.specs.declared.reply.Reply.{Reply}
+use Rattle.tally_returns.specs.declared.ask.Ask.{Ask}
+use Rattle.tally_returns.specs.declared.refusal.Refusal.{Refusal}
+use Rattle.tally_returns.specs.declared.reply.Reply.{Reply}
 use Rattle.tally_core.specs.Keeper.{Steps, Runs}
 
 -- a keeper that was shut stays so

@@ -3,14 +3,14 @@ use Rattle.std.proofs.Common.{◌≡◌, List, ℕ, Bool, true, false, Option, S
 use Rattle.std.specs.Prelude.{◌&&◌, nat_eq, if◌then◌else◌}
 use Rattle.std.specs.Cmp.Lexicographic.{pointwise}
 use Rattle.std.specs.FinMap.{get}
-use Rattle.tally_machine.specs.Checks.{first_refusal}
-use Rattle.tally_machine.specs.Counts.{VoteCounts, same_counts}
-use Rattle.tally_machine.specs.Lodge.{StationLimits, Stations, counts_checks, unless_refused, decided, lodge_answer}
-use Rattle.tally_machine.specs.Return.{StationReturn, Returns}
-use Rattle.tally_machine.specs.declared.refusal.Refusal.{Refusal}
-use Rattle.tally_machine.specs.declared.refusal.Refusal.TheVariants.{Differs}
-use Rattle.tally_machine.specs.declared.reply.LodgeReply.{LodgeReply}
-use Rattle.tally_machine.specs.declared.reply.LodgeReply.TheVariants.{Lodged, Same}
+use Rattle.tally_returns.specs.Checks.{first_refusal}
+use Rattle.tally_returns.specs.Counts.{VoteCounts, same_counts}
+use Rattle.tally_returns.specs.Lodge.{StationLimits, Stations, counts_checks, unless_refused, decided, lodge_answer}
+use Rattle.tally_returns.specs.Return.{StationReturn, Returns}
+use Rattle.tally_returns.specs.declared.refusal.Refusal.{Refusal}
+use Rattle.tally_returns.specs.declared.refusal.Refusal.TheVariants.{Differs}
+use Rattle.tally_returns.specs.declared.reply.LodgeReply.{LodgeReply}
+use Rattle.tally_returns.specs.declared.reply.LodgeReply.TheVariants.{Lodged, Same}
 
 -- a return is lodged only where none stood
 pub lodged-none : (stations : Stations) (m : Returns) (station slip : List ℕ) (counts : VoteCounts) (rev : ℕ)

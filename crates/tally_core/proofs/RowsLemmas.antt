@@ -1,10 +1,10 @@
 -- The rows of an import, one more.
 use Rattle.std.proofs.Common.{◌≡◌, ◌≤◌, ◌++◌, ◌∷◌, suc, List, [], Some, Ok, length, refl, ap, arith}
-use Rattle.tally_machine.specs.Return.{Returns}
-use Rattle.tally_machine.specs.Lodge.{Stations}
+use Rattle.tally_returns.specs.Return.{Returns}
+use Rattle.tally_returns.specs.Lodge.{Stations}
 use Rattle.tally_core.specs.Import.{Answer, row_answer, after_row, answers, imported, lodged_counts}
-use Rattle.tally_machine.specs.declared.ask.Ask.TheVariants.{Lodge}
-use Rattle.tally_machine.specs.declared.reply.LodgeReply.TheVariants.{Lodged}
+use Rattle.tally_returns.specs.declared.ask.Ask.TheVariants.{Lodge}
+use Rattle.tally_returns.specs.declared.reply.LodgeReply.TheVariants.{Lodged}
 use Rattle.tally_core.specs.declared.import.Row.{Row}
 use Rattle.tally_core.specs.declared.import.Row.TheVariants as row
 

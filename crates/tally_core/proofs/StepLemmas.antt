@@ -1,6 +1,6 @@
 -- What is decided of a command on a return, as a keeper in memory looks it up.
 use Rattle.std.proofs.Common.{◌≡◌, ◌≢◌, ◌⊎◌, ◌∷◌, ◌∙◌, ℕ, List, [], Bool, true, false, Option, Some, None, Result, Ok, Err, refl, sym, ap, subst, inl, inr, arith, Bor, Global, String}
-use Rattle.std.specs.Prelude.{◌&&◌, nat_eq, nat_le, option_map, unwrap_or, if◌then◌else◌}
+use Rattle.std.specs.Prelude.{◌&&◌, nat_eq, nat_le, option_map, if◌then◌else◌}
 use Rattle.std.specs.Cmp.Lexicographic.{pointwise}
 use Rattle.std.specs.Option.{ForSome, option_copied}
 use Rattle.std.specs.FinMap as fin
@@ -8,32 +8,31 @@ use Rattle.std.proofs.lemmas.Bool.{leb-true}
 use Rattle.tally_rules.specs.Constituency.{Constituency}
 use Rattle.tally_rules.specs.Setup.{constituency_with, station_with}
 use Rattle.tally_rules.specs.declared.constituency.Station.{Station}
-use Rattle.tally_machine.specs.Checks.{check, first_refusal}
-use Rattle.tally_machine.specs.Counts.{VoteCounts, all_votes, are_counts, same_counts}
-use Rattle.tally_machine.specs.Decide.{IsUnlessMemory, decided_return, limits_of}
-use Rattle.tally_machine.specs.Lawful.{IsLawful}
+use Rattle.tally_returns.specs.Checks.{check, first_refusal}
+use Rattle.tally_returns.specs.Counts.{VoteCounts, all_votes, are_counts, same_counts}
+use Rattle.tally_returns.specs.Decide.{IsUnlessMemory, decided_return, limits_of}
+use Rattle.tally_returns.specs.Lawful.{IsLawful}
 use Rattle.tally_machine.specs.LawfulState.{IsLawfulState}
-use Rattle.tally_machine.specs.Lodge.{StationLimits, Stations, admitted, counts_checks, decided, lodge, lodge_answer, unless_refused}
-use Rattle.tally_machine.specs.Named.{station_named}
+use Rattle.tally_returns.specs.Lodge.{StationLimits, Stations, admitted, counts_checks, decided, lodge_answer, unless_refused}
+use Rattle.tally_returns.specs.Named.{station_named}
 use Rattle.tally_machine.specs.Replies.{move_reply}
-use Rattle.tally_machine.specs.Return.{StationReturn, Returns, first_return}
-use Rattle.tally_machine.specs.State.{State, con_state, stations_of}
-use Rattle.tally_machine.specs.Step.{after, after_put, con_of, decided_at_station, decided_in, is_certified, with_return, without_lot}
-use Rattle.tally_machine.specs.View.{View}
-use Rattle.tally_machine.specs.declared.ask.Ask.{Ask}
-use Rattle.tally_machine.specs.declared.ask.Ask.TheVariants.{Lodge, Query, Correct, Close, ShowReturn, Draw, Certify, Reopen, Vacate, ShowCon, ShowProgress}
-use Rattle.tally_machine.specs.declared.change.Change.{Change}
-use Rattle.tally_machine.specs.declared.change.Change.TheVariants as change
-use Rattle.tally_machine.specs.declared.refusal.Refusal.{Refusal}
-use Rattle.tally_machine.specs.declared.refusal.Refusal.TheVariants.{NoStation, BadCounts, BadNote, TooManyVotes, Differs, NoReturn, Certified, Stale, Exhausted, WrongStatus, Memory, Store, NoConstituency, NoCandidate, NotCertified, NotAllClosed, NoEligible, LotStands, LotNotNeeded, LotWrongGroup, LotMissing, AlreadyGone, NotHolder}
-use Rattle.tally_machine.specs.declared.reply.LodgeReply.{LodgeReply}
-use Rattle.tally_machine.specs.declared.reply.LodgeReply.TheVariants as reply
-use Rattle.tally_machine.specs.declared.reply.Reply.{Reply}
-use Rattle.tally_machine.specs.declared.reply.Reply.TheVariants.{Moved}
-use Rattle.tally_machine.proofs.ClosedLemmas.{station_with-con}
-use Rattle.tally_machine.proofs.DecideLemmas.{passed-first, passed-rest}
+use Rattle.tally_returns.specs.Return.{StationReturn, Returns, first_return}
+use Rattle.tally_returns.specs.State.{State, con_state, stations_of}
+use Rattle.tally_returns.specs.Step.{after, after_put, con_of, decided_at_station, decided_in, is_certified, with_return, without_lot}
+use Rattle.tally_returns.specs.View.{View}
+use Rattle.tally_returns.specs.declared.ask.Ask.{Ask}
+use Rattle.tally_returns.specs.declared.ask.Ask.TheVariants.{Lodge, Query, Correct, Close, ShowReturn, Draw, Certify, Reopen, Vacate, ShowCon, ShowProgress}
+use Rattle.tally_returns.specs.declared.change.Change.{Change}
+use Rattle.tally_returns.specs.declared.change.Change.TheVariants as change
+use Rattle.tally_returns.specs.declared.refusal.Refusal.{Refusal}
+use Rattle.tally_returns.specs.declared.refusal.Refusal.TheVariants.{NoStation, BadCounts, BadNote, TooManyVotes, Differs, NoReturn, Certified, Stale, Exhausted, WrongStatus, Memory, Store, NoConstituency, NoCandidate, NotCertified, NotAllClosed, NoEligible, LotStands, LotNotNeeded, LotWrongGroup, LotMissing, AlreadyGone, NotHolder}
+use Rattle.tally_returns.specs.declared.reply.LodgeReply.TheVariants as reply
+use Rattle.tally_returns.specs.declared.reply.Reply.{Reply}
+use Rattle.tally_returns.specs.declared.reply.Reply.TheVariants.{Moved}
+use Rattle.tally_returns.proofs.ClosedLemmas.{station_with-con}
+use Rattle.tally_returns.proofs.DecideLemmas.{passed-first, passed-rest}
 use Rattle.tally_ledger.specs.Kept.{Kept, state_in, view_in, with_no_lot}
-use Rattle.tally_core.specs.Held.{IsAnsweredInMemory, IsHeld, IsLodged, IsMoved, with_state}
+use Rattle.tally_core.specs.Held.{IsAnsweredInMemory, IsHeld, IsLodged, IsMoved, is_query, with_state}
 use Rattle.tally_core.proofs.HeldLemmas.{certified-found, con_of-found, lodge-step}
 
 -- ---- what is decided at a station
@@ -208,10 +207,6 @@ moved-put k new ask station con place certified found r looked named is now =
           ∙ ap (λ d. with_state k (after k.setup (state_in k) ask d)) (sym put),
     )
 
-abbrev pub is_query : Ask → Bool
-is_query (Query station rev note) = true
-is_query other = false
-
 pub not_query : (ask : Ask) → ((code : List ℕ) (rev : ℕ) (note : String Global) → ask ≢ Query code rev note) → is_query ask ≡ false
 not_query (Query code rev note) never = absurd (never code rev note refl)
 not_query other never = refl
@@ -238,7 +233,7 @@ other-put k (Query code rev note) query = cc
 other-put k other query = refl
 
 -- a query that moved a return, with which the lot went
-pub moved-query : (k new : Kept) (ask : Ask) (station : List ℕ) (con : Constituency) (place : Station) (certified : Bool) (found : Option StationReturn) (r : StationReturn)
+moved-query : (k new : Kept) (ask : Ask) (station : List ℕ) (con : Constituency) (place : Station) (certified : Bool) (found : Option StationReturn) (r : StationReturn)
     → IsLookedUp k station con place certified found → station_named ask ≡ Some station → decided_return (Some (limits_of con place)) certified found ask ≡ Ok (change.PutReturn r)
     → is_query ask ≡ true → new ≡ with_no_lot (with_put k station r) con.code → IsMoved k ask (Ok (Moved r.rev)) new
 moved-query k new ask station con place certified found r looked named is query now =
@@ -246,11 +241,21 @@ moved-query k new ask station con place certified found r looked named is query 
     (now ∙ ap (λ s. with_state k (with_return s (Some station) r)) (sym (query-put k ask station con place named looked.place_is query)))
 
 -- another command that moved a return
-pub moved-kept : (k new : Kept) (ask : Ask) (station : List ℕ) (con : Constituency) (place : Station) (certified : Bool) (found : Option StationReturn) (r : StationReturn)
+moved-kept : (k new : Kept) (ask : Ask) (station : List ℕ) (con : Constituency) (place : Station) (certified : Bool) (found : Option StationReturn) (r : StationReturn)
     → IsLookedUp k station con place certified found → station_named ask ≡ Some station → decided_return (Some (limits_of con place)) certified found ask ≡ Ok (change.PutReturn r)
     → is_query ask ≡ false → new ≡ with_put k station r → IsMoved k ask (Ok (Moved r.rev)) new
 moved-kept k new ask station con place certified found r looked named is query now =
     moved-put k new ask station con place certified found r looked named is (now ∙ ap (λ s. with_state k (with_return s (Some station) r)) (sym (other-put k ask query)))
+
+-- a command that moved a return
+pub moved-on : (k new : Kept) (ask : Ask) (station : List ℕ) (con : Constituency) (place : Station) (certified : Bool) (found : Option StationReturn) (r : StationReturn)
+    → IsLookedUp k station con place certified found → station_named ask ≡ Some station → decided_return (Some (limits_of con place)) certified found ask ≡ Ok (change.PutReturn r)
+    → (is_query ask ≡ true → new ≡ with_no_lot (with_put k station r) con.code) → (is_query ask ≡ false → new ≡ with_put k station r) → IsMoved k ask (Ok (Moved r.rev)) new
+moved-on k new ask station con place certified found r looked named is query other = go (is_query ask) refl
+  where
+    go : (asked : Bool) → is_query ask ≡ asked → IsMoved k ask (Ok (Moved r.rev)) new
+    go true asked = moved-query k new ask station con place certified found r looked named is asked (query asked)
+    go false asked = moved-kept k new ask station con place certified found r looked named is asked (other asked)
 
 -- ---- a Lodge
 

@@ -7,31 +7,31 @@ use Rattle.tally_rules.specs.Constituency.{Constituency}
 use Rattle.tally_rules.specs.Setup.{constituency_with}
 use Rattle.tally_rules.specs.Text.{is_note}
 use Rattle.tally_machine.specs.Certification.{ListFound, RefusedOr, certified_by, count_checks, drawn_where, gone_of, has_candidate, holders_of, last_edition, list_found, list_places, names_group, reopen_checks, reopened, vacate_checks, vacated, vacates}
-use Rattle.tally_machine.specs.Checks.{check, check_found, first_refusal, refused_or}
+use Rattle.tally_returns.specs.Checks.{check, check_found, first_refusal, refused_or}
 use Rattle.tally_machine.specs.ConStep.{ConChange, no_change, gone_for_good, lot_set, certified_with, open_again, Decides, changed_by}
-use Rattle.tally_machine.specs.Counts.{VoteCounts, all_votes, are_counts, same_counts}
-use Rattle.tally_machine.specs.Decide.{put_next, show_checks}
-use Rattle.tally_machine.specs.GoneCandidate.{GoneCandidate}
+use Rattle.tally_returns.specs.Counts.{VoteCounts, all_votes, are_counts, same_counts}
+use Rattle.tally_returns.specs.Decide.{put_next, show_checks}
+use Rattle.tally_returns.specs.GoneCandidate.{GoneCandidate}
 use Rattle.tally_machine.specs.Holders.{is_among}
-use Rattle.tally_machine.specs.Lodge.{StationLimits, admitted, counts_checks, decided, lodge_answer, unless_refused}
-use Rattle.tally_machine.specs.Moves.{close_checks, closed, correct_checks, corrected, counts_checks_at, last_revision, may_close, may_correct, may_query, move_checks, queried, query_checks}
-use Rattle.tally_machine.specs.Named.{con_named}
+use Rattle.tally_returns.specs.Lodge.{StationLimits, admitted, counts_checks, decided, lodge_answer, unless_refused}
+use Rattle.tally_returns.specs.Moves.{close_checks, closed, correct_checks, corrected, counts_checks_at, last_revision, may_close, may_correct, may_query, move_checks, queried, query_checks}
+use Rattle.tally_returns.specs.Named.{con_named}
 use Rattle.tally_machine.specs.Outcome.{Outcome, nobody, lot_missing, allotted}
 use Rattle.tally_machine.specs.Replies.{Answer, answer, con_answer, lodge_reply, move_reply, return_reply, seen, IsAnswered, IsConStep, IsStep, IsStepAt}
-use Rattle.tally_machine.specs.Return.{StationReturn}
-use Rattle.tally_machine.specs.State.{State, stations_of}
-use Rattle.tally_machine.specs.Step.{decided_in, is_certified}
-use Rattle.tally_machine.specs.View.{View}
-use Rattle.tally_machine.specs.declared.ask.Ask.{Ask}
-use Rattle.tally_machine.specs.declared.ask.Ask.TheVariants.{Lodge, Query, Correct, Close, ShowReturn, Draw, Certify, Reopen, Vacate, ShowCon, ShowProgress}
-use Rattle.tally_machine.specs.declared.change.Change.{Change}
-use Rattle.tally_machine.specs.declared.change.Change.TheVariants as change
-use Rattle.tally_machine.specs.declared.refusal.Refusal.{Refusal}
-use Rattle.tally_machine.specs.declared.refusal.Refusal.TheVariants.{NoStation, NoReturn, NoCandidate, BadCounts, BadNote, TooManyVotes, Certified, NotCertified, Stale, Exhausted, WrongStatus, NotAllClosed, Differs, LotWrongGroup, AlreadyGone, NotHolder, Memory, Store}
-use Rattle.tally_machine.specs.declared.reply.LodgeReply.{LodgeReply}
-use Rattle.tally_machine.specs.declared.reply.LodgeReply.TheVariants as lodge
-use Rattle.tally_machine.specs.declared.reply.Reply.{Reply}
-use Rattle.tally_machine.specs.declared.returns.Status.{Status}
+use Rattle.tally_returns.specs.Return.{StationReturn}
+use Rattle.tally_returns.specs.State.{State, stations_of}
+use Rattle.tally_returns.specs.Step.{decided_in, is_certified}
+use Rattle.tally_returns.specs.View.{View}
+use Rattle.tally_returns.specs.declared.ask.Ask.{Ask}
+use Rattle.tally_returns.specs.declared.ask.Ask.TheVariants.{Lodge, Query, Correct, Close, ShowReturn, Draw, Certify, Reopen, Vacate, ShowCon, ShowProgress}
+use Rattle.tally_returns.specs.declared.change.Change.{Change}
+use Rattle.tally_returns.specs.declared.change.Change.TheVariants as change
+use Rattle.tally_returns.specs.declared.refusal.Refusal.{Refusal}
+use Rattle.tally_returns.specs.declared.refusal.Refusal.TheVariants.{NoStation, NoReturn, NoCandidate, BadCounts, BadNote, TooManyVotes, Certified, NotCertified, Stale, Exhausted, WrongStatus, NotAllClosed, Differs, LotWrongGroup, AlreadyGone, NotHolder, Memory, Store}
+use Rattle.tally_returns.specs.declared.reply.LodgeReply.{LodgeReply}
+use Rattle.tally_returns.specs.declared.reply.LodgeReply.TheVariants as lodge
+use Rattle.tally_returns.specs.declared.reply.Reply.{Reply}
+use Rattle.tally_returns.specs.declared.returns.Status.{Status}
 use Rattle.tally_core.specs.Held.{IsAnsweredInMemory}
 
 -- a refusal of the machine's own

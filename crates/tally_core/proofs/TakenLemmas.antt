@@ -2,10 +2,10 @@
 use Rattle.std.proofs.Common.{◌≡◌, ◌≤◌, ◌<◌, ◌⊎◌, inl, inr, ◌+◌, ◌++◌, ◌∷◌, ◌∙◌, ℕ, List, [], Option, Some, None, Ok, Err, length, refl, sym, ap, subst, arith, append-nil, append_assoc, length-append}
 use Rattle.std.specs.Prelude.{IfSome}
 use Rattle.tally_ledger.specs.Kept.{Kept, state_in}
-use Rattle.tally_machine.specs.Lodge.{Stations, lodge}
-use Rattle.tally_machine.specs.Return.{Returns}
-use Rattle.tally_machine.specs.State.{State, stations_of}
-use Rattle.tally_machine.specs.declared.ask.Ask.TheVariants.{Lodge}
+use Rattle.tally_returns.specs.Lodge.{Stations, lodge}
+use Rattle.tally_returns.specs.Return.{Returns}
+use Rattle.tally_returns.specs.State.{State, stations_of}
+use Rattle.tally_returns.specs.declared.ask.Ask.TheVariants.{Lodge}
 use Rattle.tally_core.specs.Held.{IsHeld}
 use Rattle.tally_core.specs.Import.{Answer, IsBelow, row_answer, after_row, answers, imported, count_of, counted}
 use Rattle.tally_core.specs.Keeper.{Coming, IsFault, IsImport, IsSudden, IsWithin, GivesNext, row_limit}

@@ -7,7 +7,7 @@ use Rattle.std.specs.FinMap.{get, insert, remove, get-insert, get-remove, get_ti
 use Rattle.std.specs.List.{list_any}
 use Rattle.std.specs.Ordering.{eq_by_cmp}
 use Rattle.tally_rules.specs.Code.{code_cmp}
-use Rattle.tally_machine.specs.Return.{StationReturn, Returns}
+use Rattle.tally_returns.specs.Return.{StationReturn, Returns}
 use Rattle.tally_core.specs.Held.{without}
 
 -- returns that are the same at each station are the same

@@ -1,13 +1,14 @@
 -- What comes to a keeper: requests and whole imports in any order, and an import as a run.
 use Rattle.std.specs.Prelude.{◌≡◌, List, [], ◌∷◌, ◌++◌, Some, None, Result, Ok, Err}
 use Rattle.tally_rules.specs.Constituency.{Constituency}
-use Rattle.tally_machine.specs.State.{State}
-use Rattle.tally_machine.specs.Replies.{IsAnswered, as_reply}
-use Rattle.tally_machine.specs.declared.ask.Ask.{Ask}
-use Rattle.tally_machine.specs.declared.ask.Ask.TheVariants.{Lodge}
-use Rattle.tally_machine.specs.declared.refusal.Refusal.{Refusal}
-use Rattle.tally_machine.specs.declared.reply.LodgeReply.{LodgeReply}
-use Rattle.tally_machine.specs.declared.reply.Reply.{Reply}
+use Rattle.tally_returns.specs.State.{State}
+use Rattle.tally_machine.specs.Replies.{IsAnswered}
+use Rattle.tally_returns.specs.Reply.{as_reply}
+use Rattle.tally_returns.specs.declared.ask.Ask.{Ask}
+use Rattle.tally_returns.specs.declared.ask.Ask.TheVariants.{Lodge}
+use Rattle.tally_returns.specs.declared.refusal.Refusal.{Refusal}
+use Rattle.tally_returns.specs.declared.reply.LodgeReply.{LodgeReply}
+use Rattle.tally_returns.specs.declared.reply.Reply.{Reply}
 use Rattle.tally_core.specs.Import.{Answer}
 use Rattle.tally_core.specs.Keeper.{Coming, IsImport}
 use Rattle.tally_core.specs.declared.import.ImportCount.{ImportCount}

@@ -1,28 +1,29 @@
 -- What a keeper in memory holds. Public contracts speak of `Held` alone.
-use Rattle.std.specs.Prelude.{◌≡◌, ◌⊎◌, ◌+◌, ◌<◌, ◌^◌, ℕ, Bool, true, false, List, [], ◌∷◌, Some, None, IsSome, Result, Ok, Err, refl}
+use Rattle.std.specs.Prelude.{◌≡◌, ◌⊎◌, ◌+◌, ◌<◌, ◌^◌, ℕ, Bool, true, false, List, [], ◌∷◌, None, IsSome, Result, Err, refl}
 use Rattle.std.specs.Coded.{Coded, code_by, coded×}
 use Rattle.std.specs.FinMap.{get, remove}
 use Rattle.std.specs.Option.{ForSome}
-use Rattle.tally_ledger.specs.Kept.{Kept, state_in, view_in, with_change}
+use Rattle.tally_ledger.specs.Kept.{Kept, state_in, view_in}
 use Rattle.tally_ledger.specs.KeptCode.{state_code}
 use Rattle.tally_rules.specs.Constituency.{Constituency}
 use Rattle.tally_rules.specs.Limits.{IsSetup}
 use Rattle.tally_rules.specs.Setup.{constituency_with}
 use Rattle.tally_rules.specs.contracts.setup.Setup.{the_row as setup_row}
-use Rattle.tally_machine.specs.ConStep.{ConChange, IsView, con_change, gone_for_good}
-use Rattle.tally_machine.specs.Counts.{VoteCounts}
+use Rattle.tally_machine.specs.ConStep.{ConChange, IsView, gone_for_good}
+use Rattle.tally_returns.specs.Counts.{VoteCounts}
 use Rattle.tally_machine.specs.LawfulState.{IsLawfulState}
-use Rattle.tally_machine.specs.Lodge.{lodge, lodge_answer}
+use Rattle.tally_returns.specs.Lodge.{lodge, lodge_answer}
 use Rattle.tally_machine.specs.Replies.{Answer, edition_now, vacated, IsConStep, IsStep, seen, lodge_reply, move_reply}
-use Rattle.tally_machine.specs.Return.{Returns}
-use Rattle.tally_machine.specs.State.{State, con_state, stations_of}
-use Rattle.tally_machine.specs.Step.{after_return, decided_in}
-use Rattle.tally_machine.specs.declared.ask.Ask.{Ask}
-use Rattle.tally_machine.specs.declared.change.Change.{Change}
-use Rattle.tally_machine.specs.declared.change.Change.TheVariants.{SetLot, SetCertified, SetReopened, SetGone}
-use Rattle.tally_machine.specs.declared.refusal.Refusal.{Refusal}
-use Rattle.tally_machine.specs.declared.refusal.Refusal.TheVariants.{Memory}
-use Rattle.tally_machine.specs.declared.reply.Reply.{Reply}
+use Rattle.tally_returns.specs.Return.{Returns}
+use Rattle.tally_returns.specs.State.{State, con_state, stations_of}
+use Rattle.tally_returns.specs.Step.{after_return, decided_in}
+use Rattle.tally_returns.specs.declared.ask.Ask.{Ask}
+use Rattle.tally_returns.specs.declared.ask.Ask.TheVariants.{Query}
+use Rattle.tally_returns.specs.declared.change.Change.{Change}
+use Rattle.tally_returns.specs.declared.change.Change.TheVariants.{SetLot, SetCertified, SetReopened, SetGone}
+use Rattle.tally_returns.specs.declared.refusal.Refusal.{Refusal}
+use Rattle.tally_returns.specs.declared.refusal.Refusal.TheVariants.{Memory}
+use Rattle.tally_returns.specs.declared.reply.Reply.{Reply}
 
 -- a setup, and the state of its election
 pub record Held : Type 0 where
@@ -59,6 +60,11 @@ IsMoved k ask r new =
     ((seen r ≡ move_reply (decided_in k.setup (state_in k) ask)) × (new ≡ with_state k (after_return k.setup (state_in k) ask)))
     ⊎ ((r ≡ Err Memory) × (new ≡ k))
 
+-- a query takes the lot of its constituency with it, and no other command does
+abbrev pub is_query : Ask → Bool
+is_query (Query station rev note) = true
+is_query other = false
+
 -- a command on the constituency of a code was answered by a step, or memory was wanting and nothing has changed
 abbrev pub IsAnsweredOn : List ℕ → Kept → Ask → Result Reply Refusal → Kept → Type 0
 IsAnsweredOn code k ask r new =
@@ -83,12 +89,6 @@ CanCarryOut k code edition change =
 abbrev pub carried_reply : ℕ → ConChange → Answer
 carried_reply edition (gone_for_good candidate next) = vacated next
 carried_reply edition other = edition_now (edition + 1)
-
--- It was carried out, or memory was wanting and nothing has changed.
-abbrev pub IsCarriedOut : Kept → List ℕ → ℕ → Change → Result Reply Refusal → Kept → Type 0
-IsCarriedOut k code edition change r new =
-    ((decided : ConChange) × (con_change change ≡ Some decided) × (seen r ≡ Ok (carried_reply edition decided)) × (new ≡ with_change k code decided))
-    ⊎ ((r ≡ Err Memory) × (new ≡ k))
 
 -- the returns but for those of these stations
 abbrev pub without : List (List ℕ) → Returns → Returns

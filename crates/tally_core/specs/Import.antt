@@ -1,13 +1,13 @@
 -- An import: the Lodge commands of its rows one by one, bad rows passed over, and the count of what they were answered.
 use Rattle.std.specs.Prelude.{if◌then◌else◌, ◌+◌, ◌<◌, ◌==◌, not, ℕ, Bool, true, false, List, [], ◌∷◌, Option, Some, None, Result, Ok, Err, count_by}
-use Rattle.tally_machine.specs.Counts.{VoteCounts}
-use Rattle.tally_machine.specs.Return.{Returns}
-use Rattle.tally_machine.specs.Refusals.{number}
-use Rattle.tally_machine.specs.Lodge.{Stations, lodge, lodge_answer}
-use Rattle.tally_machine.specs.declared.ask.Ask.TheVariants.{Lodge}
-use Rattle.tally_machine.specs.declared.refusal.Refusal.{Refusal}
-use Rattle.tally_machine.specs.declared.reply.LodgeReply.{LodgeReply}
-use Rattle.tally_machine.specs.declared.reply.LodgeReply.TheVariants.{Lodged, Same}
+use Rattle.tally_returns.specs.Counts.{VoteCounts}
+use Rattle.tally_returns.specs.Return.{Returns}
+use Rattle.tally_returns.specs.Refusals.{number}
+use Rattle.tally_returns.specs.Lodge.{Stations, lodge, lodge_answer}
+use Rattle.tally_returns.specs.declared.ask.Ask.TheVariants.{Lodge}
+use Rattle.tally_returns.specs.declared.refusal.Refusal.{Refusal}
+use Rattle.tally_returns.specs.declared.reply.LodgeReply.{LodgeReply}
+use Rattle.tally_returns.specs.declared.reply.LodgeReply.TheVariants.{Lodged, Same}
 use Rattle.tally_core.specs.declared.import.ImportCount.{ImportCount}
 use Rattle.tally_core.specs.declared.import.FirstRow.{FirstRow}
 use Rattle.tally_core.specs.declared.import.Row.{Row}

@@ -1,13 +1,11 @@
 //! A keeper in memory.
 
 ghost use Rattle.std.specs.Prelude.{◌≡◌, IfOk};
-ghost use Rattle.tally_machine.specs.State.{opening};
+ghost use Rattle.tally_returns.specs.State.{opening};
 
 mod answers;
 mod constituencies;
 mod rows;
-#[cfg(test)]
-mod tests;
 
 use crate::import::ImportCount;
 use crate::keeper::Keeper;

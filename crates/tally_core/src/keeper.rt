@@ -2,10 +2,10 @@
 
 ghost use Rattle.std.specs.Prelude.{◌≡◌, List, Option, IfErr, IfOk, OnErr};
 ghost use Rattle.tally_rules.specs.Constituency.{Constituency};
-ghost use Rattle.tally_machine.specs.State.{State};
+ghost use Rattle.tally_returns.specs.State.{State};
 ghost use Rattle.tally_core.specs.Keeper.{Steps, Runs, Imports};
 ghost use Rattle.tally_core.specs.declared.source.ImportFault.TheVariants as fault;
-ghost use Rattle.tally_machine.specs.declared.refusal.Refusal.TheVariants as refusal;
+ghost use Rattle.tally_returns.specs.declared.refusal.Refusal.TheVariants as refusal;
 
 use crate::import::ImportCount;
 use crate::source::{ImportFault, RowSource};

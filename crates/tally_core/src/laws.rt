@@ -5,7 +5,7 @@ ghost use Rattle.tally_core.specs.Events.{Event, AreEvents, asks_of, lodges, lod
 ghost use Rattle.tally_core.specs.Import.{answers, count_of};
 ghost use Rattle.tally_core.specs.Keeper.{Coming, IsImport, Runs};
 ghost use Rattle.tally_machine.specs.Replies.{IsRun};
-ghost use Rattle.tally_machine.specs.State.{State, stations_of};
+ghost use Rattle.tally_returns.specs.State.{State, stations_of};
 ghost use Rattle.tally_rules.specs.Constituency.{Constituency};
 
 use crate::import::ImportCount;

@@ -7,8 +7,6 @@ mod import;
 mod keeper;
 pub mod laws;
 mod source;
-#[cfg(test)]
-mod tests;
 
 pub use book::Book;
 pub use import::{FirstRow, ImportCount, Row};

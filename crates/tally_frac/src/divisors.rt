@@ -107,7 +107,7 @@ mod tests {
 
     #[test]
     fn the_rules_have_their_divisors(rt: HostRuntime) {
-        assert_eq!(rt; sample(&DHondt), [1, 2, 3, 501, 1]);
-        assert_eq!(rt; sample(&SainteLague), [1, 3, 5, 1001, 1]);
+        assert!(rt; sample(&DHondt) == [1, 2, 3, 501, 1]);
+        assert!(rt; sample(&SainteLague) == [1, 3, 5, 1001, 1]);
     }
 }

@@ -73,10 +73,10 @@ mod tests {
         // 35 / 2 is 17.5, and 52 / 3 is 17 and a third.
         let greater = Share::new(35, 2).expect(&rt, "35/2 is a share");
         let less = Share::new(52, 3).expect(&rt, "52/3 is a share");
-        assert_eq!(rt; greater.cmp_value(&less), Ordering::Greater);
-        assert_eq!(rt; less.cmp_value(&greater), Ordering::Less);
-        assert_eq!(rt; greater.floor(), 17);
-        assert_eq!(rt; less.floor(), 17);
+        assert!(rt; greater.cmp_value(&less) == Ordering::Greater);
+        assert!(rt; less.cmp_value(&greater) == Ordering::Less);
+        assert!(rt; greater.floor() == 17);
+        assert!(rt; less.floor() == 17);
     }
 
     #[test]
@@ -86,7 +86,7 @@ mod tests {
             &rt,
             "both numbers are below 10^18",
         );
-        assert_eq!(rt; short.cmp_value(&long), Ordering::Equal);
+        assert!(rt; short.cmp_value(&long) == Ordering::Equal);
     }
 
     #[test]
@@ -99,7 +99,7 @@ mod tests {
             (limit + 1, 1, false),
             (1, limit + 1, false),
         ] {
-            assert_eq!(rt; Share::new(num, den).is_some(), want, "{num} / {den}");
+            assert!(rt; Share::new(num, den).is_some() == want, "{num} / {den}");
         }
     }
 }

@@ -1,39 +1,52 @@
 -- What a check answers, by what was found.
 use Rattle.std.proofs.Common.{◌≡◌, ◌∷◌, ℕ, List, [], Bool, true, false, Option, Some, None, Result, Ok, Err, length, refl, sym, subst, inl, inr}
-use Rattle.std.specs.Prelude.{◌⊎◌, IfSome, OnOk, if◌then◌else◌, nat_lt}
+use Rattle.std.specs.Prelude.{◌≢◌, ◌⊎◌, IfSome, OnOk, if◌then◌else◌, nat_lt}
 use Rattle.std.specs.Io.KnownBytes.{Appends, Keeps}
 use Rattle.tally_import.specs.Header.{header_lists}
-use Rattle.tally_import.specs.Input.{Gave, complete_records}
-use Rattle.tally_import.specs.Check.{Checks, Found, checked, examined, under_header, ended, row_limit}
+use Rattle.tally_records.specs.Input.{Gave, complete_records}
+use Rattle.tally_import.specs.Check.{Checks, Found, check_fault, checked, examined, no_header, under_header, ended, row_limit}
+use Rattle.tally_records.specs.declared.end.Stop.{Stop}
+use Rattle.tally_records.specs.declared.end.Stop.TheVariants as stopped
 use Rattle.tally_import.specs.declared.check.CheckFault.{CheckFault}
 use Rattle.tally_import.specs.declared.check.CheckFault.TheVariants.{BadHeader, TooLong, Read, Memory, Write}
-use Rattle.tally_import.specs.declared.separator.Sep.{Sep}
+use Rattle.tally_records.specs.declared.separator.Sep.{Sep}
 
 -- a fault of writing is found nowhere
-found-write : (records : List (List (List ℕ))) (stop : Option CheckFault) → examined records stop ≡ Err Write → stop ≡ Some Write
-found-write [] None e = cc
-found-write [] (Some stop) e = cc
-found-write (header ∷ records) stop e = under (header_lists header) e
+not-write : (records : List (List (List ℕ))) (stop : Option Stop) → ◌≡◌ {A = Result (List ℕ) CheckFault} (examined records stop) (Err Write) → ⊥
+not-write records stop e = go records e
   where
-    after : (lists : List (List ℕ)) (s : Option CheckFault) → ended lists records s ≡ Err Write → s ≡ Some Write
-    after lists None e = cc
-    after lists (Some s) e = cc
+    own : (s : Stop) → check_fault s ≢ Write
+    own stopped.TooLong same = cc
+    own stopped.Read same = cc
 
-    many : (b : Bool) (lists : List (List ℕ)) → (if b then Err TooLong else ended lists records stop) ≡ Err Write → stop ≡ Some Write
-    many true lists e = cc
-    many false lists e = after lists stop e
+    after : (lists : List (List ℕ)) (behind : List (List (List ℕ))) (s : Option Stop) → ◌≡◌ {A = Result (List ℕ) CheckFault} (ended lists behind s) (Err Write) → ⊥
+    after lists behind None same = cc
+    after lists behind (Some s) same = own s (let is : ◌≡◌ {A = CheckFault} (check_fault s) Write = cc in is)
 
-    under : (o : Option (List (List ℕ))) → under_header o records stop ≡ Err Write → stop ≡ Some Write
-    under None e = cc
-    under (Some lists) e = many (nat_lt row_limit (length records)) lists e
+    none : (s : Option Stop) → ◌≡◌ {A = Result (List ℕ) CheckFault} (no_header s) (Err Write) → ⊥
+    none None same = cc
+    none (Some s) same = own s (let is : ◌≡◌ {A = CheckFault} (check_fault s) Write = cc in is)
+
+    many : (b : Bool) (lists : List (List ℕ)) (behind : List (List (List ℕ)))
+        → ◌≡◌ {A = Result (List ℕ) CheckFault} (if b then Err TooLong else ended lists behind stop) (Err Write) → ⊥
+    many true lists behind same = cc
+    many false lists behind same = after lists behind stop same
+
+    under : (o : Option (List (List ℕ))) (behind : List (List (List ℕ))) → ◌≡◌ {A = Result (List ℕ) CheckFault} (under_header o behind stop) (Err Write) → ⊥
+    under None behind same = cc
+    under (Some lists) behind same = many (nat_lt row_limit (length behind)) lists behind same
+
+    go : (all : List (List (List ℕ))) → ◌≡◌ {A = Result (List ℕ) CheckFault} (examined all stop) (Err Write) → ⊥
+    go [] same = none stop same
+    go (header ∷ behind) same = under (header_lists header) behind same
 
 -- a text is found only where nothing stopped it
-pub found-text : (records : List (List (List ℕ))) (stop : Option CheckFault) (t : List ℕ) → examined records stop ≡ Ok t → stop ≡ None
+pub found-text : (records : List (List (List ℕ))) (stop : Option Stop) (t : List ℕ) → examined records stop ≡ Ok t → stop ≡ None
 found-text [] None t e = refl
 found-text [] (Some stop) t e = cc
 found-text (header ∷ records) stop t e = under (header_lists header) e
   where
-    after : (lists : List (List ℕ)) (s : Option CheckFault) → ended lists records s ≡ Ok t → s ≡ None
+    after : (lists : List (List ℕ)) (s : Option Stop) → ended lists records s ≡ Ok t → s ≡ None
     after lists None e = refl
     after lists (Some s) e = cc
 
@@ -45,10 +58,6 @@ found-text (header ∷ records) stop t e = under (header_lists header) e
     under None e = cc
     under (Some lists) e = many (nat_lt row_limit (length records)) lists e
 
-not-write : (sep : Sep) (text : List ℕ) (left : Option (List ℕ)) (bytes : List ℕ) (stop : Option CheckFault)
-    → Gave text left bytes stop → checked sep bytes stop ≡ Err Write → ⊥
-not-write sep text left bytes stop gave e = subst (Gave text left bytes) (found-write (complete_records sep bytes stop) stop e) gave
-
 -- the first fault, with nothing written
 pub Checks-fault : (sep : Sep) (text : Option (List ℕ)) (left old new : Option (List ℕ)) (fault : CheckFault)
     → IfSome text (λ t. (fault ≡ Memory) ⊎ Found sep t left (λ f. f ≡ Err fault)) → Keeps old new
@@ -59,7 +68,7 @@ Checks-fault sep (Some t) left old new BadHeader (inr found) keeps = (found, kee
 Checks-fault sep (Some t) left old new TooLong (inr found) keeps = (found, keeps)
 Checks-fault sep (Some t) left old new Read (inr found) keeps = (found, keeps)
 Checks-fault sep (Some t) left old new Memory (inr found) keeps = keeps
-Checks-fault sep (Some t) left old new Write (inr found) keeps = absurd (not-write sep t left found.0 found.1 found.2 found.3)
+Checks-fault sep (Some t) left old new Write (inr found) keeps = absurd (not-write (complete_records sep found.0 found.1) found.1 found.3)
 
 pub Keeps-same : (known : Option (List ℕ)) → Keeps known known
 Keeps-same None = tt

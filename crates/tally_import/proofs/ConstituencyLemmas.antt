@@ -12,7 +12,7 @@ use Rattle.std.proofs.lemmas.Slice.Eq.{bytes_eq-Decides}
 use Rattle.tally_rules.specs.Code.{code_cmp}
 use Rattle.tally_rules.specs.Constituency.{Constituency, ListEntry, list_codes, station_codes}
 use Rattle.tally_rules.specs.declared.constituency.Station.{Station}
-use Rattle.tally_machine.specs.Decide.{station_in, limits_of}
+use Rattle.tally_returns.specs.Decide.{station_in, limits_of}
 use Rattle.tally_import.specs.Header.{same_text}
 use Rattle.tally_import.specs.ReturnRows.{header_of, is_header, stations_in}
 use Rattle.tally_import.proofs.HeaderLemmas.{drop-at, has_names}

@@ -1,22 +1,23 @@
 -- What is found in a text, by the records that came of it.
 use Rattle.std.proofs.Common.{◌≡◌, ◌<◌, ◌≤◌, ◌++◌, ◌∷◌, ◌∙◌, ℕ, List, [], Bool, true, false, Option, Some, None, Result, Ok, Err, length, refl, sym, ap, subst, arith, inl, inr}
-use Rattle.std.specs.Prelude.{◌⊎◌, IfSome, IfOk, IfErr, String, string_bytes, nat_lt, if◌then◌else◌}
+use Rattle.std.specs.Prelude.{◌⊎◌, IfSome, IfOk, IfErr, String, string_bytes, nat_lt, option_map, if◌then◌else◌}
 use Rattle.std.specs.declared.alloc.Global.{Global}
 use Rattle.std.proofs.lemmas.Bool.{lt-ltb}
 use Rattle.std.proofs.lemmas.Bool.Decides.{nat_tests}
 use Rattle.tally_import.specs.Header.{header_lists}
-use Rattle.tally_import.specs.Check.{Found, check_text, examined, ended, under_header, row_limit, rows_of_records}
-use Rattle.tally_import.specs.Pieces.{AreAll}
+use Rattle.tally_import.specs.Check.{Found, check_fault, check_text, examined, ended, under_header, row_limit, rows_of_records}
+use Rattle.tally_records.specs.Input.{AreAll}
 use Rattle.tally_import.specs.Progress.{HasTaken}
 use Rattle.tally_import.specs.Rounds.{Finds, Imports, ended_import}
 use Rattle.tally_import.specs.declared.import.Import.{Import}
+use Rattle.tally_records.specs.declared.end.Stop.{Stop}
 use Rattle.tally_import.specs.declared.check.CheckFault.{CheckFault}
 use Rattle.tally_import.specs.declared.check.CheckFault.TheVariants.{BadHeader, TooLong, Memory}
-use Rattle.tally_import.specs.declared.separator.Sep.{Sep}
+use Rattle.tally_records.specs.declared.separator.Sep.{Sep}
 use Rattle.tally_import.proofs.RoundsLemmas.{examined-whole}
 
 -- where these are all records that came, what they are examined to be is found
-pub Found-all : (sep : Sep) (text left : Option (List ℕ)) (records : List (List (List ℕ))) (stop : Option CheckFault) (result : Result (List ℕ) CheckFault)
+pub Found-all : (sep : Sep) (text left : Option (List ℕ)) (records : List (List (List ℕ))) (stop : Option Stop) (result : Result (List ℕ) CheckFault)
     → AreAll sep text left records stop → examined records stop ≡ result → IfSome text (λ t. Found sep t left (λ f. f ≡ result))
 Found-all sep None left records stop result all is = tt
 Found-all sep (Some t) left records stop result all is = (all.0, stop, all.1, ap (λ r. examined r stop) all.2 ∙ is)
@@ -26,33 +27,37 @@ pub Found-memory : (sep : Sep) (text left : Option (List ℕ)) (fault : CheckFau
 Found-memory sep None left fault is = tt
 Found-memory sep (Some t) left fault is = inl is
 
-pub Found-fault : (sep : Sep) (text left : Option (List ℕ)) (records : List (List (List ℕ))) (stop : Option CheckFault) (fault : CheckFault)
+pub Found-fault : (sep : Sep) (text left : Option (List ℕ)) (records : List (List (List ℕ))) (stop : Option Stop) (fault : CheckFault)
     → AreAll sep text left records stop → ◌≡◌ {A = Result (List ℕ) CheckFault} (examined records stop) (Err fault)
     → IfSome text (λ t. (fault ≡ Memory) ⊎ Found sep t left (λ f. f ≡ Err fault))
 Found-fault sep None left records stop fault all is = tt
 Found-fault sep (Some t) left records stop fault all is = inr (all.0, stop, all.1, ap (λ r. examined r stop) all.2 ∙ is)
 
 -- a first record that is no header
-pub no-lists : (header : List (List ℕ)) (records : List (List (List ℕ))) (stop : Option CheckFault) → header_lists header ≡ None
+pub no-lists : (header : List (List ℕ)) (records : List (List (List ℕ))) (stop : Option Stop) → header_lists header ≡ None
     → ◌≡◌ {A = Result (List ℕ) CheckFault} (examined (header ∷ records) stop) (Err BadHeader)
 no-lists header records stop none = ap (λ o. under_header o records stop) none
 
 -- rows under a header: too many, or stopped
-pub under-fault : (header : List (List ℕ)) (lists : List (List ℕ)) (records : List (List (List ℕ))) (stop : Option CheckFault) (fault : CheckFault)
-    → Some lists ≡ header_lists header → ((fault ≡ TooLong) × (row_limit < length records)) ⊎ ((stop ≡ Some fault) × (length records ≤ row_limit))
+pub under-fault : (header : List (List ℕ)) (lists : List (List ℕ)) (records : List (List (List ℕ))) (stop : Option Stop) (fault : CheckFault)
+    → Some lists ≡ header_lists header → ((fault ≡ TooLong) × (row_limit < length records)) ⊎ ((option_map check_fault stop ≡ Some fault) × (length records ≤ row_limit))
     → ◌≡◌ {A = Result (List ℕ) CheckFault} (examined (header ∷ records) stop) (Err fault)
 under-fault header lists records stop fault named (inl many) =
     ap (λ o. under_header o records stop) (sym named)
     ∙ ap (λ b. if b then Err TooLong else ended lists records stop) (lt-ltb 20000 (length records) many.1) ∙ ap Err (sym many.0)
 under-fault header lists records stop fault named (inr stopped) =
     ap (λ o. under_header o records stop) (sym named)
-    ∙ ap (λ b. if b then Err TooLong else ended lists records stop) (not_more (length records) stopped.1) ∙ ap (ended lists records) stopped.0
+    ∙ ap (λ b. if b then Err TooLong else ended lists records stop) (not_more (length records) stopped.1) ∙ end stop stopped.0
   where
+    end : (s : Option Stop) → option_map check_fault s ≡ Some fault → ◌≡◌ {A = Result (List ℕ) CheckFault} (ended lists records s) (Err fault)
+    end None same = cc
+    end (Some s) same = ap Err (let is : ◌≡◌ {A = CheckFault} (check_fault s) fault = cc in is)
+
     not_more : (n : ℕ) → n ≤ 20000 → nat_lt 20000 n ≡ false
     not_more n few = grind (arith, nat_tests)
 
 -- an import of all rows, or of those before what stopped the text
-pub Imports-ended : (lists : ℕ) (AreRows : List (List (List ℕ)) → Option CheckFault → Type 0) (import : Import) (rows : List (List (List ℕ))) (stop : Option CheckFault)
+pub Imports-ended : (lists : ℕ) (AreRows : List (List (List ℕ)) → Option Stop → Type 0) (import : Import) (rows : List (List (List ℕ))) (stop : Option Stop)
     → AreRows rows stop → HasTaken (record { lists = lists; rows = rows_of_records lists rows }) import → length rows ≤ row_limit
     → Imports lists AreRows (ended_import stop import)
 Imports-ended lists AreRows import rows None are taken few = (rows, are, taken, few)
@@ -60,9 +65,9 @@ Imports-ended lists AreRows import rows (Some fault) are taken few = inr (rows, 
 
 -- what an import that failed tells of the text
 pub Found-rows : (sep : Sep) (text left : Option (List ℕ)) (header : List (List ℕ)) (lists : List (List ℕ)) (n : ℕ) (fault : CheckFault)
-    (AreRows : List (List (List ℕ)) → Option CheckFault → Type 0)
+    (AreRows : List (List (List ℕ)) → Option Stop → Type 0)
     → Some lists ≡ header_lists header
-    → ((rows : List (List (List ℕ))) (stop : Option CheckFault) → AreRows rows stop → AreAll sep text left (header ∷ rows) stop)
+    → ((rows : List (List (List ℕ))) (stop : Option Stop) → AreRows rows stop → AreAll sep text left (header ∷ rows) stop)
     → Imports n AreRows (Err fault)
     → IfSome text (λ t. (fault ≡ Memory) ⊎ Found sep t left (λ f. f ≡ Err fault))
 Found-rows sep text left header lists n fault AreRows named all (inl memory) = Found-memory sep text left fault memory

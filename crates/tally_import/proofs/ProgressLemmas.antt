@@ -8,15 +8,15 @@ use Rattle.std.specs.FinMap as map
 use Rattle.std.specs.HashMap as table
 use Rattle.std.specs.Map.{lookup}
 use Rattle.tally_rules.specs.Code.{code_cmp}
-use Rattle.tally_machine.specs.Return.{StationReturn, Returns}
-use Rattle.tally_machine.specs.Counts.{VoteCounts}
-use Rattle.tally_machine.specs.Return.{first_return}
-use Rattle.tally_machine.specs.Lodge.{Stations, lodge, lodge_answer, after_lodge, decided_at}
+use Rattle.tally_returns.specs.Return.{StationReturn, Returns}
+use Rattle.tally_returns.specs.Counts.{VoteCounts}
+use Rattle.tally_returns.specs.Return.{first_return}
+use Rattle.tally_returns.specs.Lodge.{Stations, lodge, lodge_answer, after_lodge, decided_at}
 use Rattle.tally_core.specs.Import.{row_answer, after_row, imported, count_of, lodged_counts}
 use Rattle.tally_core.specs.declared.import.Row.{Row}
-use Rattle.tally_machine.specs.declared.refusal.Refusal.{Refusal}
-use Rattle.tally_machine.specs.declared.reply.LodgeReply.{LodgeReply}
-use Rattle.tally_machine.specs.declared.reply.LodgeReply.TheVariants.{Lodged}
+use Rattle.tally_returns.specs.declared.refusal.Refusal.{Refusal}
+use Rattle.tally_returns.specs.declared.reply.LodgeReply.{LodgeReply}
+use Rattle.tally_returns.specs.declared.reply.LodgeReply.TheVariants.{Lodged}
 use Rattle.tally_core.proofs.RowsLemmas.{imported-push, answers-push, length-answers, lodged_counts-push, length-lodged_counts}
 use Rattle.tally_import.specs.Check.{every_code}
 use Rattle.tally_import.specs.Totals.{AreTotals}

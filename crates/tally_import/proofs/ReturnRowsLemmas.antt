@@ -9,30 +9,27 @@ use Rattle.std.specs.List.{list_any}
 use Rattle.std.specs.Str.{bytes_eq}
 use Rattle.tally_rules.specs.Code.{code_cmp}
 use Rattle.tally_rules.specs.Constituency.{Constituency, list_codes, station_codes}
-use Rattle.tally_machine.specs.Lodge.{Stations}
+use Rattle.tally_returns.specs.Lodge.{Stations}
 use Rattle.tally_core.specs.Keeper.{Coming, GivesNext}
 use Rattle.tally_core.specs.declared.import.Row.{Row}
 use Rattle.tally_core.specs.declared.source.ImportFault.{ImportFault}
 use Rattle.tally_core.specs.declared.source.ImportFault.TheVariants as cause
 use Rattle.tally_import.specs.Check.{row_limit}
-use Rattle.tally_import.specs.Input.{BeginsWith, Gave, complete_records, size_limit}
-use Rattle.tally_import.specs.Pieces.{AreAll, Came, HasGiven, IsReadingOn, MayCome, to_come}
-use Rattle.tally_import.specs.ReturnRows.{Advances, GivesRow, IsAt, IsNext, IsReadingRows, at_end, behind, coming_of, import_fault, is_header, no_header, came_by, ending, only, rows_coming, stations_in, still_coming, text_coming, text_records, text_stop}
+use Rattle.tally_records.specs.Input.{AreAll, BeginsWith, text_records, text_stop}
+use Rattle.tally_records.specs.Pieces.{HasGiven, IsReadingOn, sep_of}
+use Rattle.tally_import.specs.ReturnRows.{Advances, GivesRow, IsAt, IsNext, IsReadingRows, at_end, behind, coming_of, import_fault, is_header, no_header, came_by, ending, only, rows_coming, stations_in, still_coming, text_coming}
 use Rattle.tally_import.specs.ReturnRowsValue.{coming_at, own_fault}
 use Rattle.tally_import.specs.Rows.{row_of}
-use Rattle.tally_import.specs.declared.check.CheckFault.{CheckFault}
-use Rattle.tally_import.specs.declared.check.CheckFault.TheVariants.{BadHeader, TooLong, Read, Memory, Write}
-use Rattle.tally_import.specs.declared.held.End.{End}
-use Rattle.tally_import.specs.declared.records.Records.{Records}
+use Rattle.tally_records.specs.declared.end.Stop.{Stop}
+use Rattle.tally_records.specs.declared.end.Stop.TheVariants.{TooLong, Read}
+use Rattle.tally_records.specs.declared.records.Records.{Records}
 use Rattle.tally_import.specs.declared.return_rows.Rows.{Rows}
 use Rattle.tally_import.specs.declared.return_rows.Stage.{Stage}
 use Rattle.tally_import.specs.declared.return_rows.Stage.TheVariants.{Unread, Reading, Ended}
-use Rattle.tally_import.specs.declared.separator.Sep.{Sep}
+use Rattle.tally_records.specs.declared.separator.Sep.{Sep}
 use Rattle.tally_import.proofs.ConstituencyLemmas.{is_some-stations}
-use Rattle.tally_import.proofs.FrontLemmas.{complete_records-front}
-use Rattle.tally_import.proofs.StoppedLemmas.{complete_records-stopped}
-use Rattle.tally_import.proofs.InputLemmas.{take-behind}
-use Rattle.tally_import.proofs.PieceLemmas.{drop-nothing}
+use Rattle.tally_records.proofs.GivenLemmas.{AreAll-text, HasGiven-front}
+use Rattle.tally_records.proofs.PieceLemmas.{drop-nothing}
 
 -- ---- rows of records
 
@@ -60,107 +57,25 @@ rows-full f (suc l) (x ∷ xs) = rows-full f l xs
 
 -- ---- what comes behind a header
 
-pub header-coming : (con : Constituency) (header : List (List ℕ)) (records : List (List (List ℕ))) (stop : Option CheckFault)
+pub header-coming : (con : Constituency) (header : List (List ℕ)) (records : List (List (List ℕ))) (stop : Option Stop)
     → is_header (list_codes con.lists) header ≡ true → coming_of con (header ∷ records) stop ≡ rows_coming con records stop
 header-coming con header records stop is = ap (λ b. if b then rows_coming con records stop else only (Some cause.BadHeader)) is
 
-pub other-coming : (con : Constituency) (header : List (List ℕ)) (records : List (List (List ℕ))) (stop : Option CheckFault)
+pub other-coming : (con : Constituency) (header : List (List ℕ)) (records : List (List (List ℕ))) (stop : Option Stop)
     → is_header (list_codes con.lists) header ≡ false → coming_of con (header ∷ records) stop ≡ only (Some cause.BadHeader)
 other-coming con header records stop is = ap (λ b. if b then rows_coming con records stop else only (Some cause.BadHeader)) is
 
--- ---- the records of a text
-
--- a text within the limit
-whole-text : (text : List ℕ) → length text ≤ size_limit → (take size_limit text ≡ text) × (text_stop text ≡ None)
-whole-text text within = (take_all size_limit text within, ap (λ b. if b then Some TooLong else None) (le-ltb size_limit (length text) within))
-
--- a text past the limit
-long-text : (text : List ℕ) → size_limit < length text → text_stop text ≡ Some TooLong
-long-text text past = ap (λ b. if b then Some TooLong else None) (lt-ltb size_limit (length text) past)
-
--- all that came of a text without a failed read is the text within the limit
-pub all-came : (sep : Sep) (text : List ℕ) (left : Option (List ℕ)) (bytes : List ℕ) (stop : Option CheckFault)
-    → Gave text left bytes stop → stop ≢ Some Read → (take size_limit text ≡ bytes) × (text_stop text ≡ stop)
-all-came sep text left bytes None gave other =
-    let h = whole-text text gave.1 in
-    (h.0 ∙ sym gave.0, h.1)
-all-came sep text left bytes (Some TooLong) gave other = (sym gave.0, long-text text gave.1)
-all-came sep text left bytes (Some Read) gave other = absurd (other refl)
-all-came sep text left bytes (Some BadHeader) gave other = absurd gave
-all-came sep text left bytes (Some Memory) gave other = absurd gave
-all-came sep text left bytes (Some Write) gave other = absurd gave
-
-pub AreAll-text : (sep : Sep) (text : List ℕ) (left : Option (List ℕ)) (given : List (List (List ℕ))) (stop : Option CheckFault)
-    → AreAll sep (Some text) left given stop → stop ≢ Some Read → (text_records sep text ≡ given) × (text_stop text ≡ stop)
-AreAll-text sep text left given stop all other =
-    let came = all-came sep text left all.0 stop all.1 other in
-    (ap (λ b. complete_records sep b (text_stop text)) came.0 ∙ ap (complete_records sep all.0) came.1 ∙ all.2, came.1)
-
--- ---- the front of a text that was given
-
--- more bytes leave the records that were complete, also where they go on past the limit
-pub stopped-front : (sep : Sep) (bytes rest : List ℕ) (fault : CheckFault) (stop : Option CheckFault)
-    → BeginsWith (complete_records sep (bytes ++ rest) stop) (complete_records sep bytes (Some fault))
-stopped-front sep bytes rest fault None = complete_records-front sep bytes rest fault
-stopped-front sep bytes rest fault (Some stop) = complete_records-stopped sep bytes rest fault stop
-
--- a text whose front came is this within the limit
-front-text : (text bytes rest : List ℕ) → text ≡ bytes ++ rest → length bytes ≤ size_limit → take size_limit text ≡ bytes ++ take (size_limit - length bytes) rest
-front-text text bytes rest is within =
-    let all : size_limit ≡ length bytes + (size_limit - length bytes) = omega (arith, within) in
-    ap (take size_limit) is ∙ ap (λ n. take n (bytes ++ rest)) all ∙ take-behind bytes rest (size_limit - length bytes)
-
-at-end : (sep : Sep) (text : List ℕ) (left : Option (List ℕ)) (given later : List (List (List ℕ))) (bytes : List ℕ) (stop : Option CheckFault)
-    → Gave text left bytes stop → complete_records sep (bytes ++ []) stop ≡ given ++ later → BeginsWith (text_records sep text) given
-at-end sep text left given later bytes None gave same =
-    let came = all-came sep text left bytes None gave (λ e. cc) in
-    (later, ap (λ b. complete_records sep b (text_stop text)) (came.0 ∙ sym (append-nil bytes)) ∙ ap (complete_records sep (bytes ++ [])) came.1 ∙ same)
-at-end sep text left given later bytes (Some TooLong) gave same =
-    let came = all-came sep text left bytes (Some TooLong) gave (λ e. cc) in
-    (later, ap (λ b. complete_records sep b (text_stop text)) (came.0 ∙ sym (append-nil bytes)) ∙ ap (complete_records sep (bytes ++ [])) came.1 ∙ same)
-at-end sep text None given later bytes (Some Read) gave same = absurd gave.0
-at-end sep text (Some rest) given later bytes (Some Read) gave same =
-    let front = stopped-front sep bytes (take (size_limit - length bytes) rest) Read (text_stop text) in (
-      later ++ front.0,
-      ap (λ b. complete_records sep b (text_stop text)) (front-text text bytes rest gave.0 gave.1) ∙ front.1
-          ∙ ap (λ l. l ++ front.0) (ap (λ b. complete_records sep b (Some Read)) (sym (append-nil bytes)) ∙ same) ∙ append_assoc given later front.0,
-    )
-at-end sep text left given later bytes (Some BadHeader) gave same = absurd gave
-at-end sep text left given later bytes (Some Memory) gave same = absurd gave
-at-end sep text left given later bytes (Some Write) gave same = absurd gave
-
-front-given : (sep : Sep) (text : List ℕ) (left : Option (List ℕ)) (given : List (List (List ℕ))) (end : Option End) (count : ℕ) (bytes : List ℕ)
-    (later : List ℕ → Option CheckFault → List (List (List ℕ)))
-    → Came (Some text) left bytes count end
-    → ((more : List ℕ) (stop : Option CheckFault) → MayCome end more stop → complete_records sep (bytes ++ more) stop ≡ given ++ later more stop)
-    → BeginsWith (text_records sep text) given
-front-given sep text None given None count bytes later came all = absurd came.0
-front-given sep text (Some rest) given None count bytes later came all =
-    let more = take (size_limit - length bytes) rest in
-    let within : length bytes ≤ size_limit = omega (arith, came.1, came.2) in
-    (later more (text_stop text), ap (λ b. complete_records sep b (text_stop text)) (front-text text bytes rest came.0 within) ∙ all more (text_stop text) tt)
-front-given sep text left given (Some end) count bytes later came all =
-    at-end sep text left given (later [] end.stop) bytes end.stop came (all [] end.stop (refl, refl))
-
--- the records that were given are the first of the text
-pub HasGiven-front : (text : List ℕ) (left : Option (List ℕ)) (given : List (List (List ℕ))) (r : Records)
-    → HasGiven (Some text) left given r → BeginsWith (text_records r.sep text) given
-HasGiven-front text left given r has = front-given r.sep text left given r.end r.held.taken has.0 (to_come r) has.1 has.2
-
 -- ---- what is given next
 
-import_fault-own : (stop : CheckFault) → import_fault stop ≢ cause.Store
-import_fault-own BadHeader e = cc
+import_fault-own : (stop : Stop) → import_fault stop ≢ cause.Store
 import_fault-own TooLong e = cc
 import_fault-own Read e = cc
-import_fault-own Memory e = cc
-import_fault-own Write e = cc
 
-not-long : (n : ℕ) (stop : Option CheckFault) → n ≤ row_limit → (if nat_lt row_limit n then Some cause.TooLong else option_map import_fault stop) ≡ option_map import_fault stop
+not-long : (n : ℕ) (stop : Option Stop) → n ≤ row_limit → (if nat_lt row_limit n then Some cause.TooLong else option_map import_fault stop) ≡ option_map import_fault stop
 not-long n stop within = ap (λ b. if b then Some cause.TooLong else option_map import_fault stop) (le-ltb row_limit n within)
 
 -- what comes of a text whose records are the header and these
-whole-coming : (con : Constituency) (sep : Sep) (text : List ℕ) (header : List (List ℕ)) (given : List (List (List ℕ))) (stop : Option CheckFault) (came : ℕ)
+whole-coming : (con : Constituency) (sep : Sep) (text : List ℕ) (header : List (List ℕ)) (given : List (List (List ℕ))) (stop : Option Stop) (came : ℕ)
     → is_header (list_codes con.lists) header ≡ true → length given ≡ came → came ≤ row_limit
     → text_records sep text ≡ header ∷ given → text_stop text ≡ stop → behind came (text_coming con sep text) ≡ only (option_map import_fault stop)
 whole-coming con sep text header given stop came good count within records how =
@@ -179,14 +94,10 @@ rows-end con sep (Some text) left header given came good count within all =
     let h = AreAll-text sep text left (header ∷ given) None all (λ e. cc) in
     whole-coming con sep text header given None came good count within h.0 h.1
 
-pub rows-stop : (con : Constituency) (sep : Sep) (text left : Option (List ℕ)) (header : List (List ℕ)) (given : List (List (List ℕ))) (came : ℕ) (stop : CheckFault)
+pub rows-stop : (con : Constituency) (sep : Sep) (text left : Option (List ℕ)) (header : List (List ℕ)) (given : List (List (List ℕ))) (came : ℕ) (stop : Stop)
     → is_header (list_codes con.lists) header ≡ true → length given ≡ came → came ≤ row_limit
     → AreAll sep text left (header ∷ given) (Some stop) → IsNext text (λ t. behind came (text_coming con sep t)) (import_fault stop)
 rows-stop con sep text left header given came Read good count within all = (import_fault-own Read, inl tt)
-rows-stop con sep text left header given came Memory good count within all = (import_fault-own Memory, inl tt)
-rows-stop con sep text left header given came Write good count within all = (import_fault-own Write, inl tt)
-rows-stop con sep None left header given came BadHeader good count within all = (import_fault-own BadHeader, inr tt)
-rows-stop con sep (Some text) left header given came BadHeader good count within all = absurd all.1
 rows-stop con sep None left header given came TooLong good count within all = (import_fault-own TooLong, inr tt)
 rows-stop con sep (Some text) left header given came TooLong good count within all =
     let h = AreAll-text sep text left (header ∷ given) (Some TooLong) all (λ e. cc) in
@@ -196,7 +107,7 @@ rows-stop con sep (Some text) left header given came TooLong good count within a
 -- what comes of a text that begins with the header and these records
 front-coming : (con : Constituency) (r : Records) (text : List ℕ) (left : Option (List ℕ)) (header : List (List ℕ)) (given : List (List (List ℕ)))
     → is_header (list_codes con.lists) header ≡ true → HasGiven (Some text) left (header ∷ given) r
-    → (more : List (List (List ℕ))) × (text_coming con r.sep text ≡ rows_coming con (given ++ more) (text_stop text))
+    → (more : List (List (List ℕ))) × (text_coming con (sep_of r) text ≡ rows_coming con (given ++ more) (text_stop text))
 front-coming con r text left header given good has =
     let front = HasGiven-front text left (header ∷ given) r has in
     (front.0, ap (λ l. coming_of con l (text_stop text)) front.1 ∙ header-coming con header (given ++ front.0) (text_stop text) good)
@@ -204,20 +115,20 @@ front-coming con r text left header given good has =
 pub rows-next : (con : Constituency) (r : Records) (text left : Option (List ℕ)) (header fields : List (List ℕ)) (given : List (List (List ℕ))) (came : ℕ)
     → is_header (list_codes con.lists) header ≡ true → length given ≡ came → came < row_limit
     → HasGiven text left (header ∷ (given ++ fields ∷ [])) r
-    → IfSome text (λ t. (rest : List Row) × (drop came (text_coming con r.sep t).rows ≡ row_of (stations_in con) (length con.lists) fields ∷ rest)
-    × (drop (came + 1) (text_coming con r.sep t).rows ≡ rest))
+    → IfSome text (λ t. (rest : List Row) × (drop came (text_coming con (sep_of r) t).rows ≡ row_of (stations_in con) (length con.lists) fields ∷ rest)
+    × (drop (came + 1) (text_coming con (sep_of r) t).rows ≡ rest))
 rows-next con r None left header fields given came good count within has = tt
 rows-next con r (Some text) left header fields given came good count within has =
     let f = row_of (stations_in con) (length con.lists) in
     let front = front-coming con r text left header (given ++ fields ∷ []) good has in
-    let rows : (text_coming con r.sep text).rows ≡ map f (take row_limit (given ++ fields ∷ front.0)) =
+    let rows : (text_coming con (sep_of r) text).rows ≡ map f (take row_limit (given ++ fields ∷ front.0)) =
     ap (λ c. c.rows) front.1 ∙ ap (λ l. map f (take row_limit l)) (append_assoc given (fields ∷ []) front.0) in
     let at = row-at f row_limit came given fields front.0 count within in
-    (at.0, ap (drop came) rows ∙ at.1, ap (λ n. drop n (text_coming con r.sep text).rows) (add-one came) ∙ ap (drop (suc came)) rows ∙ at.2)
+    (at.0, ap (drop came) rows ∙ at.1, ap (λ n. drop n (text_coming con (sep_of r) text).rows) (add-one came) ∙ ap (drop (suc came)) rows ∙ at.2)
 
 pub rows-many : (con : Constituency) (r : Records) (text left : Option (List ℕ)) (header fields : List (List ℕ)) (given : List (List (List ℕ)))
     → is_header (list_codes con.lists) header ≡ true → length given ≡ row_limit
-    → HasGiven text left (header ∷ (given ++ fields ∷ [])) r → IsNext text (λ t. behind row_limit (text_coming con r.sep t)) cause.TooLong
+    → HasGiven text left (header ∷ (given ++ fields ∷ [])) r → IsNext text (λ t. behind row_limit (text_coming con (sep_of r) t)) cause.TooLong
 rows-many con r None left header fields given good count has = ((λ e. cc), inr tt)
 rows-many con r (Some text) left header fields given good count has =
     let f = row_of (stations_in con) (length con.lists) in
@@ -233,7 +144,7 @@ rows-many con r (Some text) left header fields given good count has =
 
 -- ---- the header
 
-pub header-stop : (con : Constituency) (sep : Sep) (text left : Option (List ℕ)) (stop : Option CheckFault)
+pub header-stop : (con : Constituency) (sep : Sep) (text left : Option (List ℕ)) (stop : Option Stop)
     → AreAll sep text left [] stop → IsNext text (text_coming con sep) (no_header stop)
 header-stop con sep None left None all = ((λ e. cc), inr tt)
 header-stop con sep (Some text) left None all =
@@ -241,10 +152,6 @@ header-stop con sep (Some text) left None all =
     let is : text_coming con sep text ≡ only (Some cause.BadHeader) = ap (λ l. coming_of con l (text_stop text)) h.0 ∙ ap (coming_of con []) h.1 in
     ((λ e. cc), inr (ap (λ c. c.rows) is, ap (λ c. c.fault) is))
 header-stop con sep text left (Some Read) all = (import_fault-own Read, inl tt)
-header-stop con sep text left (Some Memory) all = (import_fault-own Memory, inl tt)
-header-stop con sep text left (Some Write) all = (import_fault-own Write, inl tt)
-header-stop con sep None left (Some BadHeader) all = (import_fault-own BadHeader, inr tt)
-header-stop con sep (Some text) left (Some BadHeader) all = absurd all.1
 header-stop con sep None left (Some TooLong) all = (import_fault-own TooLong, inr tt)
 header-stop con sep (Some text) left (Some TooLong) all =
     let h = AreAll-text sep text left [] (Some TooLong) all (λ e. cc) in
@@ -252,11 +159,11 @@ header-stop con sep (Some text) left (Some TooLong) all =
     (import_fault-own TooLong, inr (ap (λ c. c.rows) is, ap (λ c. c.fault) is))
 
 pub header-bad : (con : Constituency) (r : Records) (text left : Option (List ℕ)) (header : List (List ℕ))
-    → is_header (list_codes con.lists) header ≡ false → HasGiven text left (header ∷ []) r → IsNext text (text_coming con r.sep) cause.BadHeader
+    → is_header (list_codes con.lists) header ≡ false → HasGiven text left (header ∷ []) r → IsNext text (text_coming con (sep_of r)) cause.BadHeader
 header-bad con r None left header bad has = ((λ e. cc), inr tt)
 header-bad con r (Some text) left header bad has =
     let front = HasGiven-front text left (header ∷ []) r has in
-    let is : text_coming con r.sep text ≡ only (Some cause.BadHeader) =
+    let is : text_coming con (sep_of r) text ≡ only (Some cause.BadHeader) =
     ap (λ l. coming_of con l (text_stop text)) front.1 ∙ other-coming con header front.0 (text_stop text) bad in
     ((λ e. cc), inr (ap (λ c. c.rows) is, ap (λ c. c.fault) is))
 
@@ -267,12 +174,12 @@ abbrev pub Step : Option (List ℕ) → Option (List ℕ) → Records → List (
 Step old_left left old fields new =
     (text : Option (List ℕ)) (given : List (List (List ℕ))) → HasGiven text old_left given old → HasGiven text left (given ++ fields ∷ []) new
 
-abbrev pub Over : Option (List ℕ) → Option (List ℕ) → Records → Option CheckFault → Type 0
+abbrev pub Over : Option (List ℕ) → Option (List ℕ) → Records → Option Stop → Type 0
 Over old_left left old stop =
-    (text : Option (List ℕ)) (given : List (List (List ℕ))) → HasGiven text old_left given old → AreAll old.sep text left given stop
+    (text : Option (List ℕ)) (given : List (List (List ℕ))) → HasGiven text old_left given old → AreAll (sep_of old) text left given stop
 
 -- the rows came to their end, or were stopped
-pub rows-ended : (text old_left left : Option (List ℕ)) (con : Constituency) (sep : Sep) (old new : Rows) (stop : Option CheckFault)
+pub rows-ended : (text old_left left : Option (List ℕ)) (con : Constituency) (sep : Sep) (old new : Rows) (stop : Option Stop)
     → IsReadingRows text old_left con sep old → Over old_left left old.records stop → GivesRow text left con sep old (at_end (option_map import_fault stop)) new
 rows-ended text old_left left con sep old new None at over =
     let come = at.come.2 in
@@ -285,7 +192,7 @@ rows-ended text old_left left con sep old new (Some stop) at over =
 
 -- one record more than may come
 pub rows-too_many : (text old_left left : Option (List ℕ)) (con : Constituency) (sep : Sep) (old new : Rows) (records : Records) (fields : List (List ℕ))
-    → IsReadingRows text old_left con sep old → Step old_left left old.records fields records → records.sep ≡ old.records.sep → old.came ≡ row_limit
+    → IsReadingRows text old_left con sep old → Step old_left left old.records fields records → sep_of records ≡ sep_of old.records → old.came ≡ row_limit
     → GivesRow text left con sep old (Err cause.TooLong) new
 rows-too_many text old_left left con sep old new records fields at step same full =
     let come = at.come.2 in
@@ -295,7 +202,7 @@ rows-too_many text old_left left con sep old new records fields at step same ful
 
 -- one row more
 pub rows-row : (text old_left left : Option (List ℕ)) (con : Constituency) (sep : Sep) (old new : Rows) (fields : List (List ℕ)) (row : Row)
-    → IsReadingRows text old_left con sep old → Step old_left left old.records fields new.records → new.records.sep ≡ old.records.sep → IsReadingOn new.records
+    → IsReadingRows text old_left con sep old → Step old_left left old.records fields new.records → sep_of new.records ≡ sep_of old.records → IsReadingOn new.records
     → new.lists ≡ old.lists → new.stations ≡ old.stations → new.came ≡ old.came + 1 → old.came < row_limit
     → ((limits : Stations) → ((code : List ℕ) → contains code_cmp old.stations code ≡ is_some (limits code)) → row ≡ row_of limits old.lists fields)
     → GivesRow text left con sep old (Ok (Some row)) new
@@ -331,7 +238,7 @@ rows-row text old_left left con sep old new fields row at step same reading list
 
 -- the header was read
 pub rows-opened : (text old_left left : Option (List ℕ)) (con : Constituency) (sep : Sep) (old : Records) (rows : Rows) (header : List (List ℕ))
-    → HasGiven text old_left [] old → Step old_left left old header rows.records → IsReadingOn rows.records → rows.records.sep ≡ sep
+    → HasGiven text old_left [] old → Step old_left left old header rows.records → IsReadingOn rows.records → sep_of rows.records ≡ sep
     → is_header (list_codes con.lists) header ≡ true → rows.lists ≡ length con.lists → length con.lists ≤ 60
     → ((code : List ℕ) → contains code_cmp rows.stations code ≡ list_any (bytes_eq code) (station_codes con.stations)) → rows.came ≡ 0
     → IsReadingRows text left con sep rows

@@ -15,19 +15,6 @@ use Rattle.tally_import.specs.Rows.{row_of}
 use Rattle.tally_import.specs.Progress.{HasTaken}
 use Rattle.tally_import.specs.declared.import.Import.{Import}
 
--- the records that are left, one of them read
-pub left-more : (records left rest : List (List (List ℕ))) (n : ℕ) (fields : List (List ℕ)) → left ≡ drop n records → left ≡ fields ∷ rest
-    → (n < length records) × (fields ≡ get_or records n []) × (rest ≡ drop (n + 1) records)
-left-more records left rest n fields is more =
-    let same : drop n records ≡ fields ∷ rest = sym is ∙ more in
-    let within : n < length records = omega (arith, ap length same, length-drop n records) in
-    let first : get_or records n [] ∷ drop (n + 1) records ≡ fields ∷ rest = ap (λ k. get_or records n [] ∷ drop k records) (add-one n) ∙ sym (drop-cons records n [] within) ∙ same in
-    (within, cc first, cc first)
-
--- none is left
-pub left-none : (records left : List (List (List ℕ))) (n : ℕ) → left ≡ drop n records → left ≡ [] → length records ≤ n
-left-none records left n is none = omega (arith, ap length (sym is ∙ none), length-drop n records)
-
 -- the rows of one record more
 rows-more : (lists : ℕ) (records : List (List (List ℕ))) (fields : List (List ℕ))
     → rows_of_records lists (records ++ fields ∷ []) ≡ rows_of_records lists records ++ row_of (every_code lists) lists fields ∷ []

@@ -3,18 +3,20 @@ use Rattle.std.specs.Prelude.{◌≡◌, ◌+◌, ◌++◌, if◌then◌else◌,
 use Rattle.std.specs.Fmt.{decimal}
 use Rattle.std.specs.FinMap.{empty}
 use Rattle.std.specs.Io.KnownBytes.{Appends, Keeps}
-use Rattle.tally_machine.specs.Counts.{VoteCounts}
-use Rattle.tally_machine.specs.Lodge.{Stations}
+use Rattle.tally_returns.specs.Counts.{VoteCounts}
+use Rattle.tally_returns.specs.Lodge.{Stations}
 use Rattle.tally_core.specs.Import.{answers, count_of, lodged_counts}
 use Rattle.tally_core.specs.declared.import.ImportCount.{ImportCount}
 use Rattle.tally_core.specs.declared.import.FirstRow.{FirstRow}
 use Rattle.tally_core.specs.declared.import.Row.{Row}
 use Rattle.tally_import.specs.Header.{header_lists}
-use Rattle.tally_import.specs.Input.{Gave, complete_records}
+use Rattle.tally_records.specs.Input.{Gave, complete_records}
 use Rattle.tally_import.specs.Rows.{row_of}
+use Rattle.tally_records.specs.declared.end.Stop.{Stop}
+use Rattle.tally_records.specs.declared.end.Stop.TheVariants as stopped
 use Rattle.tally_import.specs.declared.check.CheckFault.{CheckFault}
 use Rattle.tally_import.specs.declared.check.CheckFault.TheVariants.{BadHeader, TooLong, Read, Memory, Write}
-use Rattle.tally_import.specs.declared.separator.Sep.{Sep}
+use Rattle.tally_records.specs.declared.separator.Sep.{Sep}
 
 -- the most rows that a text may have
 abbrev pub row_limit : ℕ
@@ -67,35 +69,40 @@ check_text lists rows =
 
 -- ---- the check of a text
 
+-- the fault of a check whose text was stopped
+abbrev pub check_fault : Stop → CheckFault
+check_fault stopped.TooLong = TooLong
+check_fault stopped.Read = Read
+
 -- the rows that records are, under a header of so many lists
 abbrev pub rows_of_records : ℕ → List (List (List ℕ)) → List Row
 rows_of_records lists records = map (row_of (every_code lists) lists) records
 
-abbrev pub ended : List (List ℕ) → List (List (List ℕ)) → Option CheckFault → Result (List ℕ) CheckFault
+abbrev pub ended : List (List ℕ) → List (List (List ℕ)) → Option Stop → Result (List ℕ) CheckFault
 ended lists records None = Ok (check_text lists (rows_of_records (length lists) records))
-ended lists records (Some stop) = Err stop
+ended lists records (Some stop) = Err (check_fault stop)
 
-abbrev pub under_header : Option (List (List ℕ)) → List (List (List ℕ)) → Option CheckFault → Result (List ℕ) CheckFault
+abbrev pub under_header : Option (List (List ℕ)) → List (List (List ℕ)) → Option Stop → Result (List ℕ) CheckFault
 under_header None records stop = Err BadHeader
 under_header (Some lists) records stop = if nat_lt row_limit (length records) then Err TooLong else ended lists records stop
 
-abbrev pub no_header : Option CheckFault → Result (List ℕ) CheckFault
+abbrev pub no_header : Option Stop → Result (List ℕ) CheckFault
 no_header None = Err BadHeader
-no_header (Some stop) = Err stop
+no_header (Some stop) = Err (check_fault stop)
 
 -- the check text of a text's complete records, or the fault that comes first: the header is looked at first, then the rows, and then what stopped the text
-abbrev pub examined : List (List (List ℕ)) → Option CheckFault → Result (List ℕ) CheckFault
+abbrev pub examined : List (List (List ℕ)) → Option Stop → Result (List ℕ) CheckFault
 examined [] stop = no_header stop
 examined (header ∷ records) stop = under_header (header_lists header) records stop
 
 -- the same of the bytes that came, and what stopped them
-abbrev pub checked : Sep → List ℕ → Option CheckFault → Result (List ℕ) CheckFault
+abbrev pub checked : Sep → List ℕ → Option Stop → Result (List ℕ) CheckFault
 checked sep bytes stop = examined (complete_records sep bytes stop) stop
 
 -- What is found in the bytes that came of a text, of which `left` is not read, before its end or before what stopped
 -- it: the check text or the first fault.
 abbrev pub Found : Sep → List ℕ → Option (List ℕ) → (Result (List ℕ) CheckFault → Type 0) → Type 0
-Found sep text left P = (bytes : List ℕ) × (stop : Option CheckFault) × Gave text left bytes stop × P (checked sep bytes stop)
+Found sep text left P = (bytes : List ℕ) × (stop : Option Stop) × Gave text left bytes stop × P (checked sep bytes stop)
 
 -- What the check of a text answers, and what it leaves on its writer: the check text is written, or the first fault is
 -- answered and nothing written. A write that failed leaves a front of the text. Want of memory may come at any place.

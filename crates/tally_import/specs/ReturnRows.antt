@@ -5,23 +5,23 @@ use Rattle.std.specs.Cmp.Lexicographic.{pointwise}
 use Rattle.csv.specs.Records.{fields_of}
 use Rattle.tally_rules.specs.Code.{code_cmp}
 use Rattle.tally_rules.specs.Constituency.{Constituency, ListEntry, list_codes}
-use Rattle.tally_machine.specs.Lodge.{Stations}
-use Rattle.tally_machine.specs.Decide.{station_in, limits_of}
+use Rattle.tally_returns.specs.Lodge.{Stations}
+use Rattle.tally_returns.specs.Decide.{station_in, limits_of}
 use Rattle.tally_core.specs.Keeper.{Coming, GivesNext, IsSudden}
 use Rattle.tally_core.specs.declared.import.Row.{Row}
 use Rattle.tally_core.specs.declared.source.ImportFault.{ImportFault}
 use Rattle.tally_core.specs.declared.source.ImportFault.TheVariants as cause
 use Rattle.tally_import.specs.Check.{row_limit}
 use Rattle.tally_import.specs.Header.{same_text}
-use Rattle.tally_import.specs.Input.{complete_records, size_limit}
-use Rattle.tally_import.specs.Pieces.{HasGiven, IsReadingOn}
+use Rattle.tally_records.specs.Input.{text_records, text_stop}
+use Rattle.tally_records.specs.Pieces.{HasGiven, IsReadingOn, sep_of}
 use Rattle.tally_import.specs.Rows.{row_of}
-use Rattle.tally_import.specs.declared.check.CheckFault.{CheckFault}
-use Rattle.tally_import.specs.declared.check.CheckFault.TheVariants as check
+use Rattle.tally_records.specs.declared.end.Stop.{Stop}
+use Rattle.tally_records.specs.declared.end.Stop.TheVariants as stopped
 use Rattle.tally_import.specs.declared.return_rows.Rows.{Rows}
 use Rattle.tally_import.specs.declared.return_rows.Stage.{Stage}
 use Rattle.tally_import.specs.declared.return_rows.Stage.TheVariants.{Unread, Reading, Ended}
-use Rattle.tally_import.specs.declared.separator.Sep.{Sep}
+use Rattle.tally_records.specs.declared.separator.Sep.{Sep}
 
 -- the stations of a constituency
 abbrev pub stations_in : Constituency → Stations
@@ -34,42 +34,31 @@ header_of lists = codes "station" ∷ codes "slip" ∷ codes "blank" ∷ codes "
 abbrev pub is_header : List (List ℕ) → List (List ℕ) → Bool
 is_header lists fields = pointwise same_text fields (header_of lists)
 
--- the fault of an import that a stopped text has; no text is stopped by a write
-abbrev pub import_fault : CheckFault → ImportFault
-import_fault check.BadHeader = cause.BadHeader
-import_fault check.TooLong = cause.TooLong
-import_fault check.Read = cause.Read
-import_fault check.Memory = cause.Memory
-import_fault check.Write = cause.Read
+-- the fault of an import that a stopped text has
+abbrev pub import_fault : Stop → ImportFault
+import_fault stopped.TooLong = cause.TooLong
+import_fault stopped.Read = cause.Read
 
 -- no row, and this fault
 abbrev pub only : Option ImportFault → Coming
 only fault = record { rows = []; fault = fault }
 
 -- the fault of a text that has no complete record
-abbrev pub no_header : Option CheckFault → ImportFault
+abbrev pub no_header : Option Stop → ImportFault
 no_header None = cause.BadHeader
 no_header (Some stop) = import_fault stop
 
 -- the rows that at most 20,000 records are, and behind them a fault where there are more, or what stopped the text
-abbrev pub rows_coming : Constituency → List (List (List ℕ)) → Option CheckFault → Coming
+abbrev pub rows_coming : Constituency → List (List (List ℕ)) → Option Stop → Coming
 rows_coming con records stop = record {
   rows = map (row_of (stations_in con) (length con.lists)) (take row_limit records);
   fault = if nat_lt row_limit (length records) then Some cause.TooLong else option_map import_fault stop;
 }
 
 -- What comes of a text's complete records, and of what stopped it: the header is looked at first, then the rows, and then what stopped the text.
-abbrev pub coming_of : Constituency → List (List (List ℕ)) → Option CheckFault → Coming
+abbrev pub coming_of : Constituency → List (List (List ℕ)) → Option Stop → Coming
 coming_of con [] stop = only (Some (no_header stop))
 coming_of con (header ∷ records) stop = if is_header (list_codes con.lists) header then rows_coming con records stop else only (Some cause.BadHeader)
-
--- a text that goes on past the limit is stopped there
-abbrev pub text_stop : List ℕ → Option CheckFault
-text_stop text = if nat_lt size_limit (length text) then Some check.TooLong else None
-
--- the complete records of a text that can be read
-abbrev pub text_records : Sep → List ℕ → List (List (List ℕ))
-text_records sep text = complete_records sep (take size_limit text) (text_stop text)
 
 -- what comes of a text
 abbrev pub text_coming : Constituency → Sep → List ℕ → Coming
@@ -100,7 +89,7 @@ pub record HasCome (text left : Option (List ℕ)) (rows : Rows) (lists header :
 -- the rows behind the header, at work
 pub record IsReadingRows (text left : Option (List ℕ)) (con : Constituency) (sep : Sep) (rows : Rows) : Type 0 where
   pub reading : IsReadingOn rows.records
-  pub separator : rows.records.sep ≡ sep
+  pub separator : sep_of rows.records ≡ sep
   pub lists : rows.lists ≡ length con.lists
   pub few : length con.lists ≤ 60
   pub stations : HasStations con rows.stations

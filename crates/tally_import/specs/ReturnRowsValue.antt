@@ -5,7 +5,7 @@ use Rattle.tally_core.specs.Keeper.{Coming}
 use Rattle.tally_core.specs.declared.source.ImportFault.{ImportFault}
 use Rattle.tally_core.specs.declared.source.ImportFault.TheVariants as cause
 use Rattle.tally_import.specs.ReturnRows.{behind, only, text_coming}
-use Rattle.tally_import.specs.declared.separator.Sep.{Sep}
+use Rattle.tally_records.specs.declared.separator.Sep.{Sep}
 
 -- The constituency and the separator, the text that the reader would give, where it is known, how many of its rows came, and how they ended, once they did.
 pub record ReturnRows : Type 0 where

@@ -6,12 +6,11 @@ use Rattle.tally_core.specs.Keeper.{Coming, IsWithin}
 use Rattle.tally_core.specs.declared.source.ImportFault.{ImportFault}
 use Rattle.tally_core.specs.declared.source.ImportFault.TheVariants as cause
 use Rattle.tally_import.specs.Check.{row_limit}
-use Rattle.tally_import.specs.Input.{size_limit}
-use Rattle.tally_import.specs.ReturnRows.{coming_of, import_fault, is_header, no_header, only, rows_coming, text_coming, text_records, text_stop}
+use Rattle.tally_records.specs.Input.{size_limit, text_records}
+use Rattle.tally_import.specs.ReturnRows.{coming_of, import_fault, is_header, no_header, only, rows_coming, text_coming}
 use Rattle.tally_import.specs.ReturnRowsValue.{ReturnRows, coming, coming_at, own_fault}
-use Rattle.tally_import.specs.declared.check.CheckFault.{CheckFault}
-use Rattle.tally_import.specs.declared.check.CheckFault.TheVariants as check
-use Rattle.tally_import.specs.declared.separator.Sep.{Sep}
+use Rattle.tally_records.specs.declared.end.Stop.TheVariants as stopped
+use Rattle.tally_records.specs.declared.separator.Sep.{Sep}
 
 few : {X Y : Type 0} (f : X → Y) (n : ℕ) (xs : List X) → length (map f (take n xs)) ≤ n
 few f zero xs = omega arith
@@ -19,22 +18,22 @@ few f (suc n) [] = omega arith
 few f (suc n) (x ∷ xs) = omega (arith, few f n xs)
 
 rows-within : (con : Constituency) (records : List (List (List ℕ))) (long : Bool)
-    → IsWithin (rows_coming con records (if long then Some check.TooLong else None))
+    → IsWithin (rows_coming con records (if long then Some stopped.TooLong else None))
 rows-within con records long = (few _ row_limit records, go (nat_lt row_limit (length records)) long)
   where
     go : (many long : Bool)
-        → ◌≢◌ {A = Option ImportFault} (if many then Some cause.TooLong else option_map import_fault (if long then Some check.TooLong else None)) (Some cause.Store)
+        → ◌≢◌ {A = Option ImportFault} (if many then Some cause.TooLong else option_map import_fault (if long then Some stopped.TooLong else None)) (Some cause.Store)
     go true long e = cc
     go false true e = cc
     go false false e = cc
 
 records-within : (con : Constituency) (records : List (List (List ℕ))) (long : Bool)
-    → IsWithin (coming_of con records (if long then Some check.TooLong else None))
+    → IsWithin (coming_of con records (if long then Some stopped.TooLong else None))
 records-within con [] true = (omega arith, λ e. cc)
 records-within con [] false = (omega arith, λ e. cc)
 records-within con (header ∷ records) long = go (is_header (list_codes con.lists) header)
   where
-    go : (good : Bool) → IsWithin (if good then rows_coming con records (if long then Some check.TooLong else None) else only (Some cause.BadHeader))
+    go : (good : Bool) → IsWithin (if good then rows_coming con records (if long then Some stopped.TooLong else None) else only (Some cause.BadHeader))
     go true = rows-within con records long
     go false = (omega arith, λ e. cc)
 

@@ -3,8 +3,8 @@ use Rattle.std.specs.Prelude.{◌+◌, ◌-◌, ◌*◌, ◌==◌, ◌&&◌, if�
 use Rattle.std.specs.Char.{is_ascii_digit}
 use Rattle.std.specs.List.{list_all}
 use Rattle.tally_rules.specs.Code.{is_code}
-use Rattle.tally_machine.specs.Lodge.{Stations}
-use Rattle.tally_machine.specs.declared.ask.Ask.TheVariants as ask
+use Rattle.tally_returns.specs.Lodge.{Stations}
+use Rattle.tally_returns.specs.declared.ask.Ask.TheVariants as ask
 use Rattle.tally_core.specs.declared.import.Row.{Row}
 use Rattle.tally_core.specs.declared.import.Row.TheVariants.{Lodge, Bad}
 

@@ -1,7 +1,7 @@
 -- The totals of returns.
 use Rattle.std.specs.Prelude.{◌≡◌, ◌<◌, ℕ, true, List, length, slice_index, sum_by}
 use Rattle.std.specs.List.{list_all}
-use Rattle.tally_machine.specs.Counts.{VoteCounts, are_counts}
+use Rattle.tally_returns.specs.Counts.{VoteCounts, are_counts}
 use Rattle.tally_import.specs.Check.{votes_for}
 use Rattle.tally_import.specs.declared.totals.Totals.{Totals}
 

@@ -3,20 +3,18 @@
 ghost use Rattle.std.specs.Prelude.{◌≡◌, ◌≤◌, List, ℕ, None, Ok, Err, IfSome, OnOk};
 ghost use Rattle.std.specs.Io.KnownBytes.{Appends};
 ghost use Rattle.tally_import.specs.Check.{Checks, IsSilent, checked, no_header};
-ghost use Rattle.tally_import.specs.Pieces.{AreBehind, IsReadingOn};
-ghost use Rattle.tally_import.specs.Rounds.{Finds, Imports, ended_import};
+ghost use Rattle.tally_records.specs.Pieces.{IsReadingOn};
+ghost use Rattle.tally_import.specs.Rounds.{AreBehind, Finds, Imports, ended_import};
 
 use crate::header::lists_of;
-use crate::held::End;
 use crate::import::Import;
 use crate::output::write_text;
-use crate::records::Records;
 use crate::row::row_of;
-use crate::separator::Sep;
 use crate::summary::import_text;
 use csv::ByteRecord;
 use std::alloc::{AllocError, Global};
 use std::io::{Read, Write};
+use tally_records::{End, Records, Sep, Stop};
 
 /// The most rows that a text may have.
 const ROW_LIMIT: u32 = 20_000;
@@ -44,6 +42,19 @@ impl From<AllocError> for CheckFault {
 
     fn from(_error: AllocError) -> CheckFault {
         CheckFault::Memory
+    }
+}
+
+impl From<Stop> for CheckFault {
+    ghost use Rattle.tally_import.specs.Check.{check_fault};
+
+    ghost from_gives = { λ stop fault. fault ≡ check_fault stop };
+
+    fn from(stop: Stop) -> CheckFault {
+        match stop {
+            Stop::TooLong => CheckFault::TooLong,
+            Stop::Read => CheckFault::Read,
+        }
     }
 }
 
@@ -113,7 +124,7 @@ fn no_header(end: End) -> CheckFault
 {
     match end.stop {
         None => CheckFault::BadHeader,
-        Some(stop) => stop,
+        Some(stop) => CheckFault::from(stop),
     }
 }
 
@@ -143,12 +154,12 @@ fn import_rows<R: Read>(
     }
 }
 
-/// An import whose text came to its end, or the fault that stopped it.
+/// An import whose text came to its end, or the fault of one that was stopped.
 fn ended(import: Import, end: End) -> Result<Import, CheckFault>
     ensures { result ≡ ended_import end.stop import }
 {
     match end.stop {
         None => Ok(import),
-        Some(stop) => Err(stop),
+        Some(stop) => Err(CheckFault::from(stop)),
     }
 }

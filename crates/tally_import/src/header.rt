@@ -4,9 +4,9 @@ ghost use Rattle.std.specs.Prelude.{◌≡◌, ◌≤◌, ◌&&◌, [], length, 
 ghost use Rattle.csv.specs.Records.{fields_of};
 ghost use Rattle.tally_import.specs.Header.{header_lists, same_text};
 
-use crate::field::field;
 use csv::ByteRecord;
 use std::alloc::{AllocError, Global};
+use tally_records::field;
 use tally_rules::Code;
 
 /// How many names stand before those of the lists.

@@ -2,10 +2,10 @@
 
 ghost use Rattle.std.specs.Prelude.{◌≡◌, ◌+◌, ◌<◌, ◌≤◌, ◌++◌, List, [], ◌∷◌, length, Some, IfOk, OnOk};
 ghost use Rattle.tally_core.specs.Import.{row_answer, after_row, lodged_counts};
-ghost use Rattle.tally_machine.specs.Counts.{VoteCounts};
+ghost use Rattle.tally_returns.specs.Counts.{VoteCounts};
 ghost use Rattle.tally_core.specs.Import.{Answer, count_of, or_else};
-ghost use Rattle.tally_machine.specs.Lodge.{lodge, lodge_answer};
-ghost use Rattle.tally_machine.specs.Return.{Returns};
+ghost use Rattle.tally_returns.specs.Lodge.{lodge, lodge_answer};
+ghost use Rattle.tally_returns.specs.Return.{Returns};
 ghost use Rattle.tally_core.specs.declared.import.Row.{Row};
 ghost use Rattle.tally_import.specs.Check.{every_code};
 ghost use Rattle.tally_import.specs.Notes.{with_row};

@@ -7,24 +7,19 @@ ghost use Rattle.std.specs.Str.{bytes_eq};
 ghost use Rattle.csv.specs.Records.{fields_of};
 ghost use Rattle.tally_rules.specs.Code.{code_cmp};
 ghost use Rattle.tally_rules.specs.Constituency.{Constituency, list_codes, station_codes};
-ghost use Rattle.tally_machine.specs.Lodge.{Stations};
+ghost use Rattle.tally_returns.specs.Lodge.{Stations};
 ghost use Rattle.tally_core.specs.Keeper.{GivesNext};
 ghost use Rattle.tally_core.specs.declared.source.ImportFault.{ImportFault};
-ghost use Rattle.tally_import.specs.Pieces.{IsReadingOn};
+ghost use Rattle.tally_records.specs.Pieces.{IsReadingOn};
 ghost use Rattle.tally_import.specs.Rows.{row_of};
 ghost use Rattle.tally_import.specs.declared.return_rows.Stage.TheVariants.{Ended};
-ghost use Rattle.tally_import.specs.declared.separator.Sep.{Sep};
+ghost use Rattle.tally_records.specs.declared.separator.Sep.{Sep};
 ghost use Rattle.tally_import.specs.ReturnRowsValue.{coming};
 ghost use Rattle.tally_import.specs.ReturnRowsWithin.{coming-within};
 ghost use Rattle.tally_import.specs.ReturnRows.{Advances, GivesRow, IsAt, IsBegun, IsNext, IsReadingRows, IsStarted, at_end, ending, ends_by, import_fault, is_header, no_header, still_coming, text_coming};
 
-use crate::check::CheckFault;
-use crate::field::field;
 use crate::header::has_fixed_names;
-use crate::held::End;
-use crate::records::Records;
 use crate::row::row_of;
-use crate::separator::Sep;
 use csv::ByteRecord;
 use std::alloc::{AllocError, Global};
 use std::collections::BTreeSet;
@@ -32,6 +27,7 @@ use std::io::Read;
 use std::marker::Model;
 use std::snapshot::Snapshot;
 use tally_core::{ImportFault, Row, RowSource};
+use tally_records::{End, Records, Sep, Stop, field};
 use tally_rules::{Code, Constituency, ListEntry, Station};
 
 /// The most rows that a text may have.
@@ -261,15 +257,12 @@ impl Rows {
 }
 
 /// The fault of an import that a stopped text has.
-fn import_fault(stop: CheckFault) -> ImportFault
+fn import_fault(stop: Stop) -> ImportFault
     ensures { result ≡ import_fault stop }
 {
     match stop {
-        CheckFault::BadHeader => ImportFault::BadHeader,
-        CheckFault::TooLong => ImportFault::TooLong,
-        // No text is stopped by a write.
-        CheckFault::Read | CheckFault::Write => ImportFault::Read,
-        CheckFault::Memory => ImportFault::Memory,
+        Stop::TooLong => ImportFault::TooLong,
+        Stop::Read => ImportFault::Read,
     }
 }
 
@@ -345,8 +338,3 @@ fn station_row(
     }
     row_of(alloc, lists, fields)
 }
-
-#[cfg(test)]
-mod book_tests;
-#[cfg(test)]
-mod tests;

@@ -5,10 +5,10 @@ ghost use Rattle.csv.specs.Records.{fields_of};
 ghost use Rattle.tally_import.specs.Check.{every_code};
 ghost use Rattle.tally_import.specs.Rows.{is_number_text, number_of, row_of, numbers_of};
 
-use crate::field::field;
 use csv::ByteRecord;
 use std::alloc::{AllocError, Global};
 use tally_core::{Ask, Counts, Row};
+use tally_records::field;
 use tally_rules::Code;
 
 /// The most digits that a number may have.

@@ -1,7 +1,7 @@
 //! The text of a check.
 
 ghost use Rattle.std.specs.Prelude.{◌≡◌, ◌++◌, List, length, string_bytes, IfOk, IfErr, OnOk};
-ghost use Rattle.tally_machine.specs.Counts.{VoteCounts};
+ghost use Rattle.tally_returns.specs.Counts.{VoteCounts};
 ghost use Rattle.tally_import.specs.Check.{check_text, count_text, named_number, totals_text};
 ghost use Rattle.tally_import.specs.Progress.{HasTaken, Taken};
 ghost use Rattle.tally_import.specs.Totals.{AreTotals};

@@ -1,7 +1,7 @@
 //! The totals of returns.
 
 ghost use Rattle.std.specs.Prelude.{◌≡◌, ◌+◌, ◌<◌, ◌≤◌, ◌^◌, ◌++◌, ℕ, true, List, [], ◌∷◌, length, slice_index, IfOk};
-ghost use Rattle.tally_machine.specs.Counts.{VoteCounts, are_counts};
+ghost use Rattle.tally_returns.specs.Counts.{VoteCounts, are_counts};
 ghost use Rattle.tally_import.specs.Totals.{AreTotals};
 
 use std::alloc::{AllocError, Global};

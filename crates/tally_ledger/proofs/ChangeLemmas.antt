@@ -9,11 +9,11 @@ use Rattle.tally_rules.specs.Constituency.{Constituency}
 use Rattle.tally_rules.specs.Limits.{IsSetup}
 use Rattle.tally_rules.specs.Setup.{constituency_with}
 use Rattle.tally_machine.specs.ConStep.{ConChange, certified_with, changed, gone_for_good, lot_set, open_again}
-use Rattle.tally_machine.specs.GoneCandidate.{GoneCandidate}
-use Rattle.tally_machine.specs.Progress.{progress_row}
-use Rattle.tally_machine.specs.Return.{Returns}
-use Rattle.tally_machine.specs.State.{ConState, con_state, opening_con}
-use Rattle.tally_machine.specs.View.{View, gone_candidates, view_with}
+use Rattle.tally_returns.specs.GoneCandidate.{GoneCandidate}
+use Rattle.tally_returns.specs.Progress.{progress_row}
+use Rattle.tally_returns.specs.Return.{Returns}
+use Rattle.tally_returns.specs.State.{ConState, con_state, opening_con}
+use Rattle.tally_returns.specs.View.{View, gone_candidates, view_with}
 use Rattle.tally_ledger.specs.Kept.{Kept, seats_after, state_in, view_in, with_change, with_no_lot}
 use Rattle.tally_ledger.specs.Rows.{IsTallied, Views, con_of, cons_of, gone_of, row_of, seats_of, with_gone, with_view}
 use Rattle.tally_ledger.proofs.GoneLemmas.{gone-stays, gone_of-insert, key_of}

@@ -9,9 +9,9 @@ use Rattle.std.specs.declared.cmp.Ordering.{Ordering}
 use Rattle.std.specs.declared.cmp.Ordering.TheVariants.{Less, Equal, Greater}
 use Rattle.std.proofs.lemmas.Cmp.{ranked}
 use Rattle.tally_rules.specs.Code.{code_cmp}
-use Rattle.tally_machine.specs.GoneCandidate.{GoneCandidate}
-use Rattle.tally_machine.specs.State.{GoneCandidates}
-use Rattle.tally_machine.specs.View.{gone_candidate, gone_candidates}
+use Rattle.tally_returns.specs.GoneCandidate.{GoneCandidate}
+use Rattle.tally_returns.specs.State.{GoneCandidates}
+use Rattle.tally_returns.specs.View.{gone_candidate, gone_candidates}
 use Rattle.tally_ledger.specs.Rows.{gone_of, gone_place, is_before, with_gone}
 use Rattle.tally_ledger.proofs.TreeLemmas.{same_maps}
 

@@ -11,11 +11,11 @@ use Rattle.tally_rules.specs.Constituency.{Constituency}
 use Rattle.tally_rules.specs.Limits.{IsSetup}
 use Rattle.tally_rules.specs.Setup.{constituency_with}
 use Rattle.tally_rules.specs.declared.constituency.Station.{Station}
-use Rattle.tally_machine.specs.Progress.{is_received, is_queried, is_corrected, is_closed, stations_in}
-use Rattle.tally_machine.specs.Return.{StationReturn}
-use Rattle.tally_machine.specs.State.{opening_con, opening_cons}
-use Rattle.tally_machine.specs.View.{View, blank_of, closed_counts, counts_if_closed, gone_candidate, spoiled_of, view_with, votes_at, votes_of_lists}
-use Rattle.tally_machine.specs.declared.returns.Status.{Status}
+use Rattle.tally_returns.specs.Progress.{is_received, is_queried, is_corrected, is_closed, stations_in}
+use Rattle.tally_returns.specs.Return.{StationReturn}
+use Rattle.tally_returns.specs.State.{opening_con, opening_cons}
+use Rattle.tally_returns.specs.View.{View, blank_of, closed_counts, counts_if_closed, gone_candidate, spoiled_of, view_with, votes_at, votes_of_lists}
+use Rattle.tally_returns.specs.declared.returns.Status.{Status}
 use Rattle.tally_ledger.specs.Kept.{opening_kept}
 use Rattle.tally_ledger.specs.Rows.{IsTallied, con_of, cons_of, opening_view, opening_views, seats_of}
 use Rattle.tally_ledger.proofs.ChangeLemmas.{kept}

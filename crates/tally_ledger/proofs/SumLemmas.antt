@@ -10,12 +10,12 @@ use Rattle.std.proofs.lemmas.List.FromFn.{get_or-map-range_with_len, length-map-
 use Rattle.std.proofs.lemmas.List.Sums.{count_by-le-length, sum_by-append, sum_by-cons}
 use Rattle.tally_rules.specs.Constituency.{Constituency}
 use Rattle.tally_rules.specs.declared.constituency.Station.{Station}
-use Rattle.tally_machine.specs.Counts.{VoteCounts}
-use Rattle.tally_machine.specs.Progress.{is_received, is_queried, is_corrected, is_closed, stations_in}
-use Rattle.tally_machine.specs.Return.{StationReturn, Returns}
-use Rattle.tally_machine.specs.State.{ConState}
-use Rattle.tally_machine.specs.View.{View, view_with, counts_if_closed, closed_counts, votes_at, votes_of_lists}
-use Rattle.tally_machine.specs.declared.returns.Status.{Status}
+use Rattle.tally_returns.specs.Counts.{VoteCounts}
+use Rattle.tally_returns.specs.Progress.{is_received, is_queried, is_corrected, is_closed, stations_in}
+use Rattle.tally_returns.specs.Return.{StationReturn, Returns}
+use Rattle.tally_returns.specs.State.{ConState}
+use Rattle.tally_returns.specs.View.{View, view_with, counts_if_closed, closed_counts, votes_at, votes_of_lists}
+use Rattle.tally_returns.specs.declared.returns.Status.{Status}
 use Rattle.tally_ledger.specs.Sums.{moved, CanMove, CanMoveOne, CanMoveCounts, CanCount, moved_where, with_status, with_counts, with_return_counted}
 use Rattle.tally_ledger.proofs.SetupLemmas.{Has, Apart, Differ, apart-has, bytes_flipped, code_of_station}
 

@@ -12,15 +12,15 @@ use Rattle.tally_rules.specs.Constituency.{Constituency}
 use Rattle.tally_rules.specs.Limits.{IsSetup, IsStation}
 use Rattle.tally_rules.specs.Setup.{constituency_with, station_with}
 use Rattle.tally_rules.specs.declared.constituency.Station.{Station}
-use Rattle.tally_machine.specs.Counts.{VoteCounts, all_votes}
-use Rattle.tally_machine.specs.Decide.{limits_of}
-use Rattle.tally_machine.specs.Lawful.{IsLawful}
-use Rattle.tally_machine.specs.Lodge.{StationLimits}
-use Rattle.tally_machine.specs.Progress.{is_closed}
-use Rattle.tally_machine.specs.Return.{StationReturn, Returns}
-use Rattle.tally_machine.specs.State.{stations_of}
-use Rattle.tally_machine.specs.View.{View, view_with}
-use Rattle.tally_machine.proofs.CountsLemmas.{length-counts}
+use Rattle.tally_returns.specs.Counts.{VoteCounts, all_votes}
+use Rattle.tally_returns.specs.Decide.{limits_of}
+use Rattle.tally_returns.specs.Lawful.{IsLawful}
+use Rattle.tally_returns.specs.Lodge.{StationLimits}
+use Rattle.tally_returns.specs.Progress.{is_closed}
+use Rattle.tally_returns.specs.Return.{StationReturn, Returns}
+use Rattle.tally_returns.specs.State.{stations_of}
+use Rattle.tally_returns.specs.View.{View, view_with}
+use Rattle.tally_returns.proofs.CountsLemmas.{length-counts}
 use Rattle.tally_ledger.specs.Rows.{AreLawfulReturns, IsTallied, Views, con_of, cons_of, seats_of, with_view, without_former}
 use Rattle.tally_ledger.specs.Sums.{CanCount, with_counts, with_return_counted, with_status}
 use Rattle.tally_ledger.proofs.SetupLemmas.{Apart, Has, all-has, code_of_station, con-found, con-limits, con-only, has_or_apart, not_apart, station-found, station-only, stations-differ}

@@ -10,8 +10,8 @@ use Rattle.std.specs.Map.{lookup}
 use Rattle.std.specs.Option.{ForSome}
 use Rattle.std.specs.Ordering.{eq_by_cmp}
 use Rattle.tally_rules.specs.Code.{code_cmp}
-use Rattle.tally_machine.specs.State.{ConState}
-use Rattle.tally_machine.specs.View.{View}
+use Rattle.tally_returns.specs.State.{ConState}
+use Rattle.tally_returns.specs.View.{View}
 use Rattle.tally_ledger.specs.Rows.{Views, con_of, cons_of, seats_of, views_of, with_changed, with_view}
 
 -- codes that tie are the same

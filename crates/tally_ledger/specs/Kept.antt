@@ -4,9 +4,9 @@ use Rattle.std.specs.FinMap.{FinMap, get, empty, insert, from_entries}
 use Rattle.tally_rules.specs.Code.{code_cmp}
 use Rattle.tally_rules.specs.Constituency.{Constituency}
 use Rattle.tally_machine.specs.ConStep.{ConChange, certified_with, open_again, changed}
-use Rattle.tally_machine.specs.Return.{Returns}
-use Rattle.tally_machine.specs.State.{State, ConState, con_state, opening_cons}
-use Rattle.tally_machine.specs.View.{View, view_of}
+use Rattle.tally_returns.specs.Return.{Returns}
+use Rattle.tally_returns.specs.State.{State, ConState, con_state, opening_cons}
+use Rattle.tally_returns.specs.View.{View, view_of}
 
 -- the seats of each constituency, by its code: none where it is not certified
 abbrev pub Seats : Type 0

@@ -5,9 +5,9 @@ use Rattle.std.specs.FinMap.{FinMap, code}
 use Rattle.tally_rules.specs.Code.{code_cmp}
 use Rattle.tally_rules.specs.Constituency.{Constituency}
 use Rattle.tally_rules.specs.contracts.setup.Setup.{the_row as setup_row}
-use Rattle.tally_machine.specs.Return.{Returns}
-use Rattle.tally_machine.specs.State.{State, ConState, GoneCandidates}
-use Rattle.tally_machine.specs.contracts.returns.Return.{the_row as return_row}
+use Rattle.tally_returns.specs.Return.{Returns}
+use Rattle.tally_returns.specs.State.{State, ConState, GoneCandidates}
+use Rattle.tally_returns.specs.contracts.returns.Return.{the_row as return_row}
 use Rattle.tally_ledger.specs.Kept.{Kept, Seats}
 
 abbrev gone_code : Coded GoneCandidates

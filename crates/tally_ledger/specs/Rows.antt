@@ -7,13 +7,13 @@ use Rattle.std.specs.Option.{ForSome}
 use Rattle.tally_rules.specs.Code.{code_cmp}
 use Rattle.tally_rules.specs.Constituency.{Constituency}
 use Rattle.tally_rules.specs.Setup.{constituency_with}
-use Rattle.tally_machine.specs.GoneCandidate.{GoneCandidate}
-use Rattle.tally_machine.specs.Lawful.{IsLawful}
-use Rattle.tally_machine.specs.Lodge.{StationLimits}
-use Rattle.tally_machine.specs.Return.{StationReturn, Returns}
-use Rattle.tally_machine.specs.State.{ConState, GoneCandidates, opening_con, stations_of}
-use Rattle.tally_machine.specs.View.{View, view_with}
-use Rattle.tally_machine.specs.declared.progress.ProgressRow.{ProgressRow}
+use Rattle.tally_returns.specs.GoneCandidate.{GoneCandidate}
+use Rattle.tally_returns.specs.Lawful.{IsLawful}
+use Rattle.tally_returns.specs.Lodge.{StationLimits}
+use Rattle.tally_returns.specs.Return.{StationReturn, Returns}
+use Rattle.tally_returns.specs.State.{ConState, GoneCandidates, opening_con, stations_of}
+use Rattle.tally_returns.specs.View.{View, view_with}
+use Rattle.tally_returns.specs.declared.progress.ProgressRow.{ProgressRow}
 use Rattle.tally_ledger.specs.Kept.{Seats}
 use Rattle.tally_ledger.specs.Sums.{with_return_counted}
 

@@ -1,11 +1,11 @@
 -- Sums of closed votes that are moved by a return.
 use Rattle.std.specs.Prelude.{◌≡◌, ◌+◌, ◌-◌, ◌≤◌, ◌<◌, if◌then◌else◌, ℕ, Bool, true, false, map, slice_index, length}
 use Rattle.std.specs.List.{range_with_len}
-use Rattle.tally_machine.specs.Counts.{VoteCounts}
-use Rattle.tally_machine.specs.Progress.{is_received, is_queried, is_corrected, is_closed}
-use Rattle.tally_machine.specs.Return.{StationReturn}
-use Rattle.tally_machine.specs.View.{View}
-use Rattle.tally_machine.specs.declared.returns.Status.{Status}
+use Rattle.tally_returns.specs.Counts.{VoteCounts}
+use Rattle.tally_returns.specs.Progress.{is_received, is_queried, is_corrected, is_closed}
+use Rattle.tally_returns.specs.Return.{StationReturn}
+use Rattle.tally_returns.specs.View.{View}
+use Rattle.tally_returns.specs.declared.returns.Status.{Status}
 
 -- a sum with a number added to it or taken away
 abbrev pub moved : ℕ → ℕ → Bool → ℕ

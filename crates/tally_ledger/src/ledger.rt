@@ -5,10 +5,10 @@ ghost use Rattle.std.specs.FinMap.{get, insert, remove};
 ghost use Rattle.std.specs.Option.{option_copied};
 ghost use Rattle.tally_ledger.specs.Kept.{opening_kept, state_in, view_in, with_change, with_no_lot};
 ghost use Rattle.tally_machine.specs.ConStep.{certified_with, gone_for_good, lot_set, open_again};
-ghost use Rattle.tally_machine.specs.Lawful.{IsLawful};
-ghost use Rattle.tally_machine.specs.Lodge.{StationLimits};
-ghost use Rattle.tally_machine.specs.Progress.{progress};
-ghost use Rattle.tally_machine.specs.State.{con_state, stations_of};
+ghost use Rattle.tally_returns.specs.Lawful.{IsLawful};
+ghost use Rattle.tally_returns.specs.Lodge.{StationLimits};
+ghost use Rattle.tally_returns.specs.Progress.{progress};
+ghost use Rattle.tally_returns.specs.State.{con_state, stations_of};
 ghost use Rattle.tally_rules.specs.Limits.{IsSetup};
 ghost use Rattle.tally_rules.specs.Setup.{constituency_with};
 

@@ -5,9 +5,9 @@ ghost use Rattle.std.specs.FinMap.{get, insert, remove};
 ghost use Rattle.std.specs.Option.{ForSome};
 ghost use Rattle.tally_ledger.specs.Rows.{IsTallied, cons_of, returns_of, seats_of, views_of, without_former};
 ghost use Rattle.tally_ledger.specs.Sums.{CanCount};
-ghost use Rattle.tally_machine.specs.Lawful.{IsLawful};
-ghost use Rattle.tally_machine.specs.Lodge.{StationLimits};
-ghost use Rattle.tally_machine.specs.State.{stations_of};
+ghost use Rattle.tally_returns.specs.Lawful.{IsLawful};
+ghost use Rattle.tally_returns.specs.Lodge.{StationLimits};
+ghost use Rattle.tally_returns.specs.State.{stations_of};
 
 use crate::views::count;
 use std::alloc::AllocError;

@@ -5,7 +5,7 @@ ghost use Rattle.std.specs.FinMap.{empty, get};
 ghost use Rattle.std.specs.Option.{ForSome, option_copied};
 ghost use Rattle.tally_ledger.specs.Rows.{gone_place, is_before, opening_view, opening_views, row_of, views_of, with_gone, with_view};
 ghost use Rattle.tally_ledger.specs.Sums.{CanCount, with_return_counted};
-ghost use Rattle.tally_machine.specs.View.{View};
+ghost use Rattle.tally_returns.specs.View.{View};
 ghost use Rattle.tally_rules.specs.Limits.{IsSetup};
 
 use crate::sums::count_return;

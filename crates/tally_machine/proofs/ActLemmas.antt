@@ -3,28 +3,28 @@ use Rattle.std.proofs.Common.{◌≡◌, ◌∙◌, ℕ, List, Bool, true, false
 use Rattle.std.specs.FinMap.{get}
 use Rattle.tally_rules.specs.Constituency.{Constituency}
 use Rattle.tally_rules.specs.Setup.{constituency_with}
-use Rattle.tally_machine.specs.Checks.{first_refusal, refused_or}
-use Rattle.tally_machine.specs.Counts.{VoteCounts}
-use Rattle.tally_machine.specs.Return.{StationReturn}
-use Rattle.tally_machine.specs.Lodge.{decided}
-use Rattle.tally_machine.specs.Decide.{show_checks, lodge_change}
-use Rattle.tally_machine.specs.Named.{con_named}
-use Rattle.tally_machine.specs.State.{State, con_state, stations_of}
-use Rattle.tally_machine.specs.Step.{decided_in, after}
-use Rattle.tally_machine.specs.View.{View, view_of}
+use Rattle.tally_returns.specs.Checks.{first_refusal, refused_or}
+use Rattle.tally_returns.specs.Counts.{VoteCounts}
+use Rattle.tally_returns.specs.Return.{StationReturn}
+use Rattle.tally_returns.specs.Lodge.{decided}
+use Rattle.tally_returns.specs.Decide.{show_checks, lodge_change}
+use Rattle.tally_returns.specs.Named.{con_named}
+use Rattle.tally_returns.specs.State.{State, con_state, stations_of}
+use Rattle.tally_returns.specs.Step.{decided_in, after}
+use Rattle.tally_returns.specs.View.{View, view_of}
 use Rattle.tally_machine.specs.ConStep.{ConChange, no_change, gone_for_good, Decides, after_change, changed, with_con}
 use Rattle.tally_machine.specs.Replies.{Answer, lodged, moved, edition_now, vacated, seen, lodge_reply, move_reply, return_reply, answer, con_answer, IsConStep, IsReturnStepSeen, IsStepAt, IsNotAccepted, IsAnswered, is_act}
-use Rattle.tally_machine.specs.declared.ask.Ask.{Ask}
-use Rattle.tally_machine.specs.declared.ask.Ask.TheVariants.{Lodge, ShowReturn, ShowProgress}
-use Rattle.tally_machine.specs.declared.change.Change.{Change}
-use Rattle.tally_machine.specs.declared.change.Change.TheVariants as change
-use Rattle.tally_machine.specs.declared.refusal.Refusal.{Refusal}
-use Rattle.tally_machine.specs.declared.reply.LodgeReply.{LodgeReply}
-use Rattle.tally_machine.specs.declared.reply.LodgeReply.TheVariants as lodge
-use Rattle.tally_machine.specs.declared.reply.Reply.{Reply}
-use Rattle.tally_machine.specs.declared.reply.Reply.TheVariants.{Lodged, Same, Moved, Return, Edition, Vacated, Con, Progress}
+use Rattle.tally_returns.specs.declared.ask.Ask.{Ask}
+use Rattle.tally_returns.specs.declared.ask.Ask.TheVariants.{Lodge, ShowReturn, ShowProgress}
+use Rattle.tally_returns.specs.declared.change.Change.{Change}
+use Rattle.tally_returns.specs.declared.change.Change.TheVariants as change
+use Rattle.tally_returns.specs.declared.refusal.Refusal.{Refusal}
+use Rattle.tally_returns.specs.declared.reply.LodgeReply.{LodgeReply}
+use Rattle.tally_returns.specs.declared.reply.LodgeReply.TheVariants as lodge
+use Rattle.tally_returns.specs.declared.reply.Reply.{Reply}
+use Rattle.tally_returns.specs.declared.reply.Reply.TheVariants.{Lodged, Same, Moved, Return, Edition, Vacated, Con, Progress}
 use Rattle.tally_machine.proofs.ConStateLemmas.{con-code}
-use Rattle.tally_machine.proofs.LifeLemmas.{puts, acts}
+use Rattle.tally_returns.proofs.LifeLemmas.{puts, acts}
 
 -- whether an answer, as contracts see it, is one of a command that acted
 abbrev acted : Result Answer Refusal → Bool

@@ -1,24 +1,21 @@
 -- What votes and a lot come to, and what is decided by it.
-use Rattle.std.proofs.Common.{◌≡◌, ◌≢◌, ◌≤◌, ◌<◌, ◌⊎◌, ◌∙◌, ℕ, List, [], ◌∷◌, Bool, true, false, Option, Some, None, Result, Ok, Err, IfOk, IfErr, OnOk, length, get_or, refl, sym, ap, subst, inl, inr, arith}
+use Rattle.std.proofs.Common.{◌≡◌, ◌≢◌, ◌≤◌, ◌⊎◌, ◌∙◌, ℕ, List, [], ◌∷◌, Bool, true, false, Option, Some, None, Result, Ok, Err, IfOk, IfErr, OnOk, length, get_or, refl, sym, subst, inl, inr, arith}
 use Rattle.std.proofs.lemmas.Bool.{false_from_ne_true}
 use Rattle.std.proofs.lemmas.List.{get_or_past}
 use Rattle.tally_rules.specs.Constituency.{Constituency}
 use Rattle.tally_contest.specs.Allotment.{Rule, divisors, hare, IsAllotmentByVotes}
-use Rattle.tally_contest.specs.Poll.{HasEligible}
 use Rattle.tally_allot.specs.AllotFault.{IsFaultOf}
-use Rattle.tally_contest.specs.Lot.{IsOrderOf}
-use Rattle.tally_contest.specs.LotNeed.{IsDecidedByVotes, IsInGroup, IsLotNeeded, IsLotTaken, IsLotWrong, IsNeed}
+use Rattle.tally_contest.specs.LotNeed.{IsDecidedByVotes, IsLotNeeded, IsLotTaken, IsLotWrong, IsNeed}
 use Rattle.tally_contest.specs.Poll.{Poll}
 use Rattle.tally_allot.specs.declared.fault.AllotFault.{AllotFault}
 use Rattle.tally_allot.specs.declared.fault.AllotFault.TheVariants.{WrongLot}
-use Rattle.tally_allot.specs.declared.fault.AllotFault.TheVariants as fault
 use Rattle.tally_machine.specs.Certification.{Certifies, Draws, RefusedOr, certified_by, count_checks, drawn_places, drawn_where, list_places}
-use Rattle.tally_machine.specs.Checks.{first_refusal}
-use Rattle.tally_machine.specs.Outcome.{Outcome, HasSeats, IsLawfulView, IsOutcome, MayStand, allotted, lot_missing, nobody, poll_in, rule_in}
-use Rattle.tally_machine.specs.View.{View}
-use Rattle.tally_machine.specs.declared.refusal.Refusal.{Refusal}
-use Rattle.tally_machine.specs.declared.refusal.Refusal.TheVariants.{LotMissing, LotNotNeeded, LotStands, NoEligible}
-use Rattle.tally_machine.proofs.LotLemmas.{order-from, order-same}
+use Rattle.tally_returns.specs.Checks.{first_refusal}
+use Rattle.tally_machine.specs.Outcome.{Outcome, IsOutcome, MayStand, allotted, lot_missing, poll_in, rule_in}
+use Rattle.tally_returns.specs.View.{View}
+use Rattle.tally_returns.specs.declared.refusal.Refusal.{Refusal}
+use Rattle.tally_returns.specs.declared.refusal.Refusal.TheVariants.{LotMissing, LotNotNeeded, LotStands}
+use Rattle.tally_machine.proofs.LotLemmas.{order-same}
 
 -- ---- the lot
 

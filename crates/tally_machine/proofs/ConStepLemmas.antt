@@ -14,24 +14,24 @@ use Rattle.tally_rules.specs.Limits.{IsSetup}
 use Rattle.tally_rules.specs.Setup.{constituency_with}
 use Rattle.tally_rules.specs.Text.{is_note}
 use Rattle.tally_machine.specs.Certification.{Certifies, Draws, ListFound, found_from, gone_of, has_candidate, holders_of, last_edition, list_found, reopen_checks, reopened, vacate_checks, vacated, vacates}
-use Rattle.tally_machine.specs.Checks.{check, first_refusal, refused_or}
+use Rattle.tally_returns.specs.Checks.{check, first_refusal, refused_or}
 use Rattle.tally_machine.specs.ConStep.{ConChange, Decides, after_change, certified_with, changed, changed_by, gone_for_good, lot_set, open_again, with_con}
-use Rattle.tally_machine.specs.GoneCandidate.{GoneCandidate}
+use Rattle.tally_returns.specs.GoneCandidate.{GoneCandidate}
 use Rattle.tally_machine.specs.Holders.{is_among, newcomer}
-use Rattle.tally_machine.specs.Lawful.{may_stand}
+use Rattle.tally_returns.specs.Lawful.{may_stand}
 use Rattle.tally_machine.specs.LawfulState.{IsLawfulCon, IsLawfulState, is_candidate}
-use Rattle.tally_machine.specs.Named.{con_named}
+use Rattle.tally_returns.specs.Named.{con_named}
 use Rattle.tally_machine.specs.Outcome.{IsLawfulView, MayStand}
 use Rattle.tally_machine.specs.Replies.{IsConStep}
-use Rattle.tally_machine.specs.Return.{Returns}
-use Rattle.tally_machine.specs.State.{ConState, State, con_state, opening_con}
-use Rattle.tally_machine.specs.View.{View, view_of, view_with}
-use Rattle.tally_machine.specs.declared.ask.Ask.{Ask}
-use Rattle.tally_machine.specs.declared.ask.Ask.TheVariants.{Lodge, Query, Correct, Close, ShowReturn, Draw, Certify, Reopen, Vacate, ShowCon, ShowProgress}
-use Rattle.tally_machine.specs.declared.refusal.Refusal.{Refusal}
-use Rattle.tally_machine.specs.declared.refusal.Refusal.TheVariants.{AlreadyGone, BadNote, Exhausted, NoCandidate, NotCertified, NotHolder, Stale}
-use Rattle.tally_machine.specs.declared.reply.Reply.{Reply}
-use Rattle.tally_machine.proofs.DecideLemmas.{passed-first, passed-rest}
+use Rattle.tally_returns.specs.Return.{Returns}
+use Rattle.tally_returns.specs.State.{ConState, State, con_state, opening_con}
+use Rattle.tally_returns.specs.View.{View, view_of, view_with}
+use Rattle.tally_returns.specs.declared.ask.Ask.{Ask}
+use Rattle.tally_returns.specs.declared.ask.Ask.TheVariants.{Lodge, Query, Correct, Close, ShowReturn, Draw, Certify, Reopen, Vacate, ShowCon, ShowProgress}
+use Rattle.tally_returns.specs.declared.refusal.Refusal.{Refusal}
+use Rattle.tally_returns.specs.declared.refusal.Refusal.TheVariants.{AlreadyGone, BadNote, Exhausted, NoCandidate, NotCertified, NotHolder, Stale}
+use Rattle.tally_returns.specs.declared.reply.Reply.{Reply}
+use Rattle.tally_returns.proofs.DecideLemmas.{passed-first, passed-rest}
 use Rattle.tally_machine.proofs.LawfulViewLemmas.{certified-lawful, certified-seats, drawn-lawful, drawn-open}
 use Rattle.tally_machine.proofs.ViewLemmas.{constituency-code, view-lawful}
 

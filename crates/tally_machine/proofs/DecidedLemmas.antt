@@ -18,19 +18,19 @@ use Rattle.tally_contest.proofs.TermsRace.{AreRaces, are_races}
 use Rattle.tally_allot.proofs.AllotmentLaws.{by_votes, exists, placed_apart}
 use Rattle.tally_allot.proofs.LotLaws.{setup_apart}
 use Rattle.tally_machine.specs.Certification.{Certifies, Draws, RefusedOr, certified_by, count_checks, drawn_where, list_places}
-use Rattle.tally_machine.specs.Checks.{first_refusal}
+use Rattle.tally_returns.specs.Checks.{first_refusal}
 use Rattle.tally_machine.specs.ConStep.{ConChange, Decides, IsView, after_change, certified_with, changed_by, lot_set}
 use Rattle.tally_machine.specs.LawfulState.{IsLawfulState}
-use Rattle.tally_machine.specs.Named.{con_named}
+use Rattle.tally_returns.specs.Named.{con_named}
 use Rattle.tally_machine.specs.Outcome.{IsOutcome, MayStand, Outcome, allotted, lot_missing, nobody, poll_in, rule_in}
 use Rattle.tally_machine.specs.Replies.{Answer, IsConStepSeen, IsStepSeen, IsStepSeenAt, answer, con_answer}
-use Rattle.tally_machine.specs.State.{State}
-use Rattle.tally_machine.specs.Step.{after_return}
-use Rattle.tally_machine.specs.View.{View}
-use Rattle.tally_machine.specs.declared.ask.Ask.{Ask}
-use Rattle.tally_machine.specs.declared.ask.Ask.TheVariants.{Certify, Close, Correct, Draw, Lodge, Query, Reopen, ShowCon, ShowProgress, ShowReturn, Vacate}
-use Rattle.tally_machine.specs.declared.refusal.Refusal.{Refusal}
-use Rattle.tally_machine.specs.declared.refusal.Refusal.TheVariants.{NoConstituency}
+use Rattle.tally_returns.specs.State.{State}
+use Rattle.tally_returns.specs.Step.{after_return}
+use Rattle.tally_returns.specs.View.{View}
+use Rattle.tally_returns.specs.declared.ask.Ask.{Ask}
+use Rattle.tally_returns.specs.declared.ask.Ask.TheVariants.{Certify, Close, Correct, Draw, Lodge, Query, Reopen, ShowCon, ShowProgress, ShowReturn, Vacate}
+use Rattle.tally_returns.specs.declared.refusal.Refusal.{Refusal}
+use Rattle.tally_returns.specs.declared.refusal.Refusal.TheVariants.{NoConstituency}
 use Rattle.tally_machine.proofs.LawLemmas.{poll-sound, rule-is, view-stands}
 use Rattle.tally_machine.proofs.ViewLemmas.{constituency-limits, view-lawful}
 

@@ -17,19 +17,19 @@ use Rattle.tally_contest.proofs.TermsRace.{are_races}
 use Rattle.tally_allot.proofs.AllotmentLaws.{exists, placed_apart, unique_by_divisors, unique_by_quotas}
 use Rattle.tally_allot.proofs.LotLaws.{decided_not_needed, order_not_empty}
 use Rattle.tally_machine.specs.Certification.{Certifies, RefusedOr, certified_by, count_checks, last_edition}
-use Rattle.tally_machine.specs.Checks.{check, first_refusal}
+use Rattle.tally_returns.specs.Checks.{check, first_refusal}
 use Rattle.tally_machine.specs.ConStep.{IsView, certified_with, changed_by}
 use Rattle.tally_machine.specs.LawfulState.{IsLawfulState}
-use Rattle.tally_machine.specs.Named.{con_named}
+use Rattle.tally_returns.specs.Named.{con_named}
 use Rattle.tally_machine.specs.Outcome.{HasSeats, IsCertificate, IsOutcome, MayStand, Outcome, allotted, lot_missing, nobody, poll_in, rule_in}
 use Rattle.tally_machine.specs.Replies.{IsAnswered, IsConStep, IsRun, IsStep, IsStepAt, con_answer, seen}
-use Rattle.tally_machine.specs.State.{State, con_state, opening}
-use Rattle.tally_machine.specs.View.{View, view_of}
-use Rattle.tally_machine.specs.declared.ask.Ask.{Ask}
-use Rattle.tally_machine.specs.declared.ask.Ask.TheVariants.{Certify}
-use Rattle.tally_machine.specs.declared.refusal.Refusal.{Refusal}
-use Rattle.tally_machine.specs.declared.refusal.Refusal.TheVariants.{Certified, Exhausted, LotMissing, NotAllClosed, Stale}
-use Rattle.tally_machine.specs.declared.reply.Reply.{Reply}
+use Rattle.tally_returns.specs.State.{State, con_state, opening}
+use Rattle.tally_returns.specs.View.{View, view_of}
+use Rattle.tally_returns.specs.declared.ask.Ask.{Ask}
+use Rattle.tally_returns.specs.declared.ask.Ask.TheVariants.{Certify}
+use Rattle.tally_returns.specs.declared.refusal.Refusal.{Refusal}
+use Rattle.tally_returns.specs.declared.refusal.Refusal.TheVariants.{Certified, Exhausted, LotMissing, NotAllClosed, Stale}
+use Rattle.tally_returns.specs.declared.reply.Reply.{Reply}
 use Rattle.tally_machine.proofs.ConStepLemmas.{con-step-lawful}
 use Rattle.tally_machine.proofs.ReturnStepLemmas.{opening-lawful, return-step-lawful}
 use Rattle.tally_machine.proofs.ViewLemmas.{constituency-limits}
@@ -228,10 +228,10 @@ certify-step setup s t code con edition r is step =
       answer = here.4 ∙ ap (con_answer view) decides.2 ∙ ap (λ (v : View). con_answer v (changed_by certified_with decides.0)) here.2.0;
     }
 
-pub missing-told : (setup : List Constituency) (s t : State) (code : List ℕ) (con : Constituency) (view : View) (edition : ℕ) (r : Result Reply Refusal) → IsSetup setup → IsLawfulState setup s
+pub missing-told : (setup : List Constituency) (s t : State) (code : List ℕ) (con : Constituency) (view : View) (edition : ℕ) (r : Result Reply Refusal) → IsSetup setup
     → constituency_with code setup ≡ Some con → IsView con s view → first_refusal (count_checks view edition) ≡ None → HasEligible (poll_in con view) → IsStep setup s (Certify code edition) r t
     → ((group : List Bool) × (in_question : ℕ) × (r ≡ Err (LotMissing group in_question))) ↔ (IsLotNeeded (rule_in con) (poll_in con view) con.seats × (view.lot ≡ []))
-missing-told setup s t code con view edition r ok lawful is view_is none has step =
+missing-told setup s t code con view edition r ok is view_is none has step =
     let its = certify-step setup s t code con edition r is step in
     let same_view = view_is.0 in
     let other = view_of con s its.seats in
@@ -243,9 +243,9 @@ missing-told setup s t code con view edition r ok lawful is view_is none has ste
     (told-where_missing con other r by.0 (constituency-limits setup code con ok is).some_seat has_there by.1 answer)
 
 pub told-is_need : (setup : List Constituency) (s t : State) (code : List ℕ) (con : Constituency) (view : View) (edition : ℕ) (r : Result Reply Refusal) (group : List Bool) (in_question : ℕ)
-    → IsSetup setup → IsLawfulState setup s → constituency_with code setup ≡ Some con → IsView con s view → IsStep setup s (Certify code edition) r t → r ≡ Err (LotMissing group in_question)
+    → constituency_with code setup ≡ Some con → IsView con s view → IsStep setup s (Certify code edition) r t → r ≡ Err (LotMissing group in_question)
     → IsNeed (rule_in con) (poll_in con view) con.seats group in_question
-told-is_need setup s t code con view edition r group n ok lawful is view_is step told =
+told-is_need setup s t code con view edition r group n is view_is step told =
     let its = certify-step setup s t code con edition r is step in
     let other = view_of con s its.seats in
     let result_is : its.result ≡ Err (LotMissing group n) = result-told other its.result (LotMissing group n) (sym (ap seen told) ∙ its.answer) in

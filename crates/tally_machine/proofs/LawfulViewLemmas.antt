@@ -5,12 +5,12 @@ use Rattle.std.proofs.lemmas.Bool.{eqb-true, eqb-false, not-true}
 use Rattle.tally_rules.specs.Constituency.{Constituency}
 use Rattle.tally_contest.specs.Lot.{IsOrderOf}
 use Rattle.tally_machine.specs.Certification.{Certifies, Draws, RefusedOr, certified_by, count_checks, drawn_places, drawn_where, last_edition, list_places, names_group}
-use Rattle.tally_machine.specs.Checks.{check, first_refusal}
+use Rattle.tally_returns.specs.Checks.{check, first_refusal}
 use Rattle.tally_machine.specs.Outcome.{Outcome, HasSeats, IsLawfulView, IsOutcome, allotted, lot_missing, nobody}
-use Rattle.tally_machine.specs.View.{View}
-use Rattle.tally_machine.specs.declared.refusal.Refusal.{Refusal}
-use Rattle.tally_machine.specs.declared.refusal.Refusal.TheVariants.{Certified, Exhausted, LotWrongGroup, NotAllClosed, Stale}
-use Rattle.tally_machine.proofs.DecideLemmas.{passed-first, passed-rest}
+use Rattle.tally_returns.specs.View.{View}
+use Rattle.tally_returns.specs.declared.refusal.Refusal.{Refusal}
+use Rattle.tally_returns.specs.declared.refusal.Refusal.TheVariants.{Certified, Exhausted, LotWrongGroup, NotAllClosed, Stale}
+use Rattle.tally_returns.proofs.DecideLemmas.{passed-first, passed-rest}
 use Rattle.tally_machine.proofs.LotLemmas.{order-from}
 
 -- ---- where something is given, no check failed

@@ -7,20 +7,20 @@ use Rattle.std.specs.Ordering.{eq_by_cmp, nat_cmp}
 use Rattle.tally_rules.specs.Code.{code_cmp}
 use Rattle.tally_rules.specs.Constituency.{Constituency}
 use Rattle.tally_rules.specs.Setup.{constituency_with}
-use Rattle.tally_machine.specs.Return.{StationReturn}
-use Rattle.tally_machine.specs.Named.{con_named, station_named}
-use Rattle.tally_machine.specs.State.{State, ConState, GoneCandidates, con_state}
-use Rattle.tally_machine.specs.Step.{con_of, decided_in, without_lot, after_put, with_return, after}
+use Rattle.tally_returns.specs.Return.{StationReturn}
+use Rattle.tally_returns.specs.Named.{con_named, station_named}
+use Rattle.tally_returns.specs.State.{State, ConState, GoneCandidates, con_state}
+use Rattle.tally_returns.specs.Step.{con_of, decided_in, without_lot, after_put, with_return, after}
 use Rattle.tally_machine.specs.ConStep.{ConChange, no_change, lot_set, certified_with, open_again, gone_for_good, changed, with_con, after_change}
 use Rattle.tally_machine.specs.Replies.{IsConStep, IsStepAt, IsAnswered}
-use Rattle.tally_machine.specs.declared.ask.Ask.{Ask}
-use Rattle.tally_machine.specs.declared.ask.Ask.TheVariants.{Query}
-use Rattle.tally_machine.specs.declared.change.Change.{Change}
-use Rattle.tally_machine.specs.declared.change.Change.TheVariants.{PutReturn}
-use Rattle.tally_machine.specs.declared.refusal.Refusal.{Refusal}
-use Rattle.tally_machine.specs.declared.reply.Reply.{Reply}
+use Rattle.tally_returns.specs.declared.ask.Ask.{Ask}
+use Rattle.tally_returns.specs.declared.ask.Ask.TheVariants.{Query}
+use Rattle.tally_returns.specs.declared.change.Change.{Change}
+use Rattle.tally_returns.specs.declared.change.Change.TheVariants.{PutReturn}
+use Rattle.tally_returns.specs.declared.refusal.Refusal.{Refusal}
+use Rattle.tally_returns.specs.declared.reply.Reply.{Reply}
 use Rattle.tally_machine.proofs.ConStateLemmas.{same_code, con_state-with_con, con_step-returns}
-use Rattle.tally_machine.proofs.LifeLemmas.{rev_at, after_return-rises}
+use Rattle.tally_returns.proofs.LifeLemmas.{rev_at, after_return-rises}
 
 -- a constituency has gone on: no edition back, and nobody who was gone is there again
 pub record IsConOnward (c d : ConState) : Type 0 where

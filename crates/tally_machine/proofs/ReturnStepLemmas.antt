@@ -15,31 +15,31 @@ use Rattle.tally_rules.specs.Setup.{constituency_with, station_with}
 use Rattle.tally_rules.specs.Text.{is_note}
 use Rattle.tally_rules.specs.declared.constituency.Station.{Station}
 use Rattle.tally_machine.specs.Certification.{last_edition}
-use Rattle.tally_machine.specs.Checks.{check, first_refusal, refused_or}
-use Rattle.tally_machine.specs.Counts.{VoteCounts, same_counts}
-use Rattle.tally_machine.specs.Decide.{decided_return, limits_of, lodge_change, moved, put_next}
-use Rattle.tally_machine.specs.Lawful.{IsLawful, may_stand}
+use Rattle.tally_returns.specs.Checks.{check, first_refusal, refused_or}
+use Rattle.tally_returns.specs.Counts.{VoteCounts, same_counts}
+use Rattle.tally_returns.specs.Decide.{decided_return, limits_of, lodge_change, moved, put_next}
+use Rattle.tally_returns.specs.Lawful.{IsLawful, may_stand}
 use Rattle.tally_machine.specs.LawfulState.{IsLawfulCon, IsLawfulState, is_candidate}
-use Rattle.tally_machine.specs.Lodge.{StationLimits, admitted, counts_checks, unless_refused}
-use Rattle.tally_machine.specs.Moves.{close_checks, closed, correct_checks, corrected, counts_checks_at, last_revision, may_close, may_correct, may_query, move_checks, queried, query_checks}
+use Rattle.tally_returns.specs.Lodge.{StationLimits, admitted, counts_checks, unless_refused}
+use Rattle.tally_returns.specs.Moves.{close_checks, closed, correct_checks, corrected, counts_checks_at, last_revision, may_close, may_correct, may_query, move_checks, queried, query_checks}
 use Rattle.tally_machine.specs.Outcome.{MayStand}
-use Rattle.tally_machine.specs.Progress.{is_closed}
-use Rattle.tally_machine.specs.Return.{StationReturn, Returns}
-use Rattle.tally_machine.specs.State.{State, ConState, con_state, opening, opening_con, opening_cons, stations_of}
-use Rattle.tally_machine.specs.Step.{after, after_return, con_of, decided_in, is_certified, with_return, without_lot}
-use Rattle.tally_machine.specs.View.{view_of, view_with}
-use Rattle.tally_machine.specs.declared.ask.Ask.{Ask}
-use Rattle.tally_machine.specs.declared.ask.Ask.TheVariants.{Certify, Close, Correct, Draw, Lodge, Query, Reopen, ShowCon, ShowProgress, ShowReturn, Vacate}
-use Rattle.tally_machine.specs.declared.change.Change.{Change}
-use Rattle.tally_machine.specs.declared.change.Change.TheVariants.{PutReturn, Same, SetCertified, SetGone, SetLot, SetReopened}
-use Rattle.tally_machine.specs.declared.refusal.Refusal.{Refusal}
-use Rattle.tally_machine.specs.declared.refusal.Refusal.TheVariants.{BadNote, Certified, Differs, Exhausted, NoReturn, NoStation, Stale, WrongStatus}
-use Rattle.tally_machine.specs.declared.reply.LodgeReply.TheVariants as reply
-use Rattle.tally_machine.specs.declared.returns.Status.{Status}
-use Rattle.tally_machine.specs.declared.returns.Status.TheVariants.{Closed, Corrected, Queried, Received}
-use Rattle.tally_machine.proofs.ClosedLemmas.{IsSameAt, all_closed-at, closed_now, constituency_with-code, get-kept, get-put, put-elsewhere, same-tied, station-elsewhere, station_with-con, tied-same, view_with-same}
-use Rattle.tally_machine.proofs.DecideLemmas.{decided-lawful, passed-rest}
-use Rattle.tally_machine.proofs.StateLemmas.{station_with-in}
+use Rattle.tally_returns.specs.Progress.{is_closed}
+use Rattle.tally_returns.specs.Return.{StationReturn, Returns}
+use Rattle.tally_returns.specs.State.{State, ConState, con_state, opening, opening_con, opening_cons, stations_of}
+use Rattle.tally_returns.specs.Step.{after, after_return, con_of, decided_in, is_certified, with_return, without_lot}
+use Rattle.tally_returns.specs.View.{view_of, view_with}
+use Rattle.tally_returns.specs.declared.ask.Ask.{Ask}
+use Rattle.tally_returns.specs.declared.ask.Ask.TheVariants.{Certify, Close, Correct, Draw, Lodge, Query, Reopen, ShowCon, ShowProgress, ShowReturn, Vacate}
+use Rattle.tally_returns.specs.declared.change.Change.{Change}
+use Rattle.tally_returns.specs.declared.change.Change.TheVariants.{PutReturn, Same, SetCertified, SetGone, SetLot, SetReopened}
+use Rattle.tally_returns.specs.declared.refusal.Refusal.{Refusal}
+use Rattle.tally_returns.specs.declared.refusal.Refusal.TheVariants.{BadNote, Certified, Differs, Exhausted, NoReturn, NoStation, Stale, WrongStatus}
+use Rattle.tally_returns.specs.declared.reply.LodgeReply.TheVariants as reply
+use Rattle.tally_returns.specs.declared.returns.Status.{Status}
+use Rattle.tally_returns.specs.declared.returns.Status.TheVariants.{Closed, Corrected, Queried, Received}
+use Rattle.tally_returns.proofs.ClosedLemmas.{IsSameAt, all_closed-at, closed_now, constituency_with-code, get-kept, get-put, put-elsewhere, same-tied, station-elsewhere, station_with-con, tied-same, view_with-same}
+use Rattle.tally_returns.proofs.DecideLemmas.{decided-lawful, passed-rest}
+use Rattle.tally_returns.proofs.StateLemmas.{station_with-in}
 
 -- ---- what is lawful of a constituency
 

@@ -1,12 +1,12 @@
 -- Runs: which requests act in them, and which can be left out.
 use Rattle.std.proofs.Common.{◌≡◌, ◌+◌, ◌<◌, ◌∷◌, ◌∙◌, ℕ, zero, suc, List, [], Bool, true, false, cond, Some, Result, refl, sym, ap, subst, arith, add-one, filter, slice_get}
 use Rattle.tally_rules.specs.Constituency.{Constituency}
-use Rattle.tally_machine.specs.State.{State}
+use Rattle.tally_returns.specs.State.{State}
 use Rattle.tally_machine.specs.Replies.{IsRun, is_act}
 use Rattle.tally_machine.specs.Runs.{IsSameCommand, acting_asks, kept}
-use Rattle.tally_machine.specs.declared.ask.Ask.{Ask}
-use Rattle.tally_machine.specs.declared.refusal.Refusal.{Refusal}
-use Rattle.tally_machine.specs.declared.reply.Reply.{Reply}
+use Rattle.tally_returns.specs.declared.ask.Ask.{Ask}
+use Rattle.tally_returns.specs.declared.refusal.Refusal.{Refusal}
+use Rattle.tally_returns.specs.declared.reply.Reply.{Reply}
 use Rattle.tally_machine.proofs.ActLemmas.{answered-idle}
 use Rattle.tally_machine.proofs.SpentLemmas.{Mark, mark, same-mark, IsFresh, IsSpent, fresh-not_spent, answered-spent, answered-used}
 

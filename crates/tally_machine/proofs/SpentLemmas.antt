@@ -11,24 +11,24 @@ use Rattle.tally_rules.specs.Constituency.{Constituency}
 use Rattle.tally_rules.specs.Setup.{constituency_with}
 use Rattle.tally_rules.specs.Text.{is_note}
 use Rattle.tally_machine.specs.Certification.{ListFound, RefusedOr, count_checks, gone_of, has_candidate, holders_of, last_edition, list_found, reopened, reopen_checks, vacate_checks, vacated, vacates}
-use Rattle.tally_machine.specs.Checks.{check, first_refusal, refused_or}
-use Rattle.tally_machine.specs.GoneCandidate.{GoneCandidate}
+use Rattle.tally_returns.specs.Checks.{check, first_refusal, refused_or}
+use Rattle.tally_returns.specs.GoneCandidate.{GoneCandidate}
 use Rattle.tally_machine.specs.Holders.{is_among, newcomer}
-use Rattle.tally_machine.specs.View.{View, gone_candidate}
-use Rattle.tally_machine.specs.State.{State, ConState, GoneCandidates, con_state}
+use Rattle.tally_returns.specs.View.{View, gone_candidate}
+use Rattle.tally_returns.specs.State.{State, ConState, GoneCandidates, con_state}
 use Rattle.tally_machine.specs.ConStep.{ConChange, lot_set, certified_with, open_again, gone_for_good, changed, changed_by}
-use Rattle.tally_machine.specs.Named.{station_named}
+use Rattle.tally_returns.specs.Named.{station_named}
 use Rattle.tally_machine.specs.Replies.{IsReturnStepSeen, IsAnswered, IsStep, is_act, seen}
 use Rattle.tally_machine.specs.Runs.{IsSameCommand}
-use Rattle.tally_machine.specs.declared.ask.Ask.{Ask}
-use Rattle.tally_machine.specs.declared.ask.Ask.TheVariants.{Lodge, Query, Correct, Close, ShowReturn, Draw, Certify, Reopen, Vacate, ShowCon, ShowProgress}
-use Rattle.tally_machine.specs.declared.refusal.Refusal.{Refusal}
-use Rattle.tally_machine.specs.declared.refusal.Refusal.TheVariants.{NoCandidate, BadNote, Certified, NotCertified, Stale, Exhausted, NotAllClosed, AlreadyGone, NotHolder}
-use Rattle.tally_machine.specs.declared.reply.Reply.{Reply}
+use Rattle.tally_returns.specs.declared.ask.Ask.{Ask}
+use Rattle.tally_returns.specs.declared.ask.Ask.TheVariants.{Lodge, Query, Correct, Close, ShowReturn, Draw, Certify, Reopen, Vacate, ShowCon, ShowProgress}
+use Rattle.tally_returns.specs.declared.refusal.Refusal.{Refusal}
+use Rattle.tally_returns.specs.declared.refusal.Refusal.TheVariants.{NoCandidate, BadNote, Certified, NotCertified, Stale, Exhausted, NotAllClosed, AlreadyGone, NotHolder}
+use Rattle.tally_returns.specs.declared.reply.Reply.{Reply}
 use Rattle.tally_machine.proofs.ActLemmas.{IsConAct, changes, con-acted, is_act-return, not_accepted-idle}
 use Rattle.tally_machine.proofs.ConStateLemmas.{same_code, con_state-changed, con-code}
-use Rattle.tally_machine.proofs.DecideLemmas.{passed-first, passed-rest}
-use Rattle.tally_machine.proofs.LifeLemmas.{rev_at, named_rev, acts, acts-stood, acts-rises}
+use Rattle.tally_returns.proofs.DecideLemmas.{passed-first, passed-rest}
+use Rattle.tally_returns.proofs.LifeLemmas.{rev_at, named_rev, acts, acts-stood, acts-rises}
 use Rattle.tally_machine.proofs.OnwardLemmas.{IsOnward, answered-onward}
 
 -- what a command acts on: a revision of a station's return, an edition of a constituency, the candidate at a place of a list in a

@@ -8,23 +8,23 @@ use Rattle.std.specs.Ordering.{eq_by_cmp}
 use Rattle.tally_rules.specs.Code.{code_cmp}
 use Rattle.tally_rules.specs.Constituency.{Constituency}
 use Rattle.tally_rules.specs.Setup.{constituency_with}
-use Rattle.tally_machine.specs.Checks.{first_refusal}
-use Rattle.tally_machine.specs.Counts.{VoteCounts, same_counts}
-use Rattle.tally_machine.specs.Return.{StationReturn, Returns, first_return}
-use Rattle.tally_machine.specs.Lodge.{StationLimits, Stations, counts_checks, unless_refused, admitted, decided, lodge_answer, after_lodge, lodge}
-use Rattle.tally_machine.specs.Named.{con_named, station_named}
-use Rattle.tally_machine.specs.State.{State}
-use Rattle.tally_machine.specs.Step.{con_of, decided_in, without_lot, after_put, with_return, after, after_return}
+use Rattle.tally_returns.specs.Checks.{first_refusal}
+use Rattle.tally_returns.specs.Counts.{VoteCounts, same_counts}
+use Rattle.tally_returns.specs.Return.{StationReturn, Returns, first_return}
+use Rattle.tally_returns.specs.Lodge.{StationLimits, Stations, counts_checks, unless_refused, admitted, decided, lodge_answer, after_lodge, lodge}
+use Rattle.tally_returns.specs.Named.{con_named, station_named}
+use Rattle.tally_returns.specs.State.{State}
+use Rattle.tally_returns.specs.Step.{con_of, decided_in, without_lot, after_put, with_return, after, after_return}
 use Rattle.tally_machine.specs.Replies.{IsStepAt, IsAnswered, IsRun}
-use Rattle.tally_machine.specs.declared.ask.Ask.{Ask}
-use Rattle.tally_machine.specs.declared.ask.Ask.TheVariants as ask
-use Rattle.tally_machine.specs.declared.change.Change.{Change}
-use Rattle.tally_machine.specs.declared.change.Change.TheVariants as change
-use Rattle.tally_machine.specs.declared.refusal.Refusal.{Refusal}
-use Rattle.tally_machine.specs.declared.refusal.Refusal.TheVariants.{Differs}
-use Rattle.tally_machine.specs.declared.reply.LodgeReply.{LodgeReply}
-use Rattle.tally_machine.specs.declared.reply.LodgeReply.TheVariants.{Lodged, Same}
-use Rattle.tally_machine.specs.declared.reply.Reply.{Reply}
+use Rattle.tally_returns.specs.declared.ask.Ask.{Ask}
+use Rattle.tally_returns.specs.declared.ask.Ask.TheVariants as ask
+use Rattle.tally_returns.specs.declared.change.Change.{Change}
+use Rattle.tally_returns.specs.declared.change.Change.TheVariants as change
+use Rattle.tally_returns.specs.declared.refusal.Refusal.{Refusal}
+use Rattle.tally_returns.specs.declared.refusal.Refusal.TheVariants.{Differs}
+use Rattle.tally_returns.specs.declared.reply.LodgeReply.{LodgeReply}
+use Rattle.tally_returns.specs.declared.reply.LodgeReply.TheVariants.{Lodged, Same}
+use Rattle.tally_returns.specs.declared.reply.Reply.{Reply}
 use Rattle.tally_machine.proofs.ConStateLemmas.{con_step-returns}
 
 -- each station that has a return in the one has one in the other

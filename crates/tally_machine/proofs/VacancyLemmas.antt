@@ -8,13 +8,13 @@ use Rattle.tally_rules.specs.Text.{is_note}
 use Rattle.tally_contest.specs.Allotment.{Rule, divisors, hare, IsAllotment}
 use Rattle.tally_contest.specs.Poll.{Poll}
 use Rattle.tally_machine.specs.Certification.{ListFound, found_from, gone_of, has_candidate, holders_of, list_found, vacate_checks, vacated, vacates}
-use Rattle.tally_machine.specs.Checks.{check, first_refusal, refused_or}
+use Rattle.tally_returns.specs.Checks.{check, first_refusal, refused_or}
 use Rattle.tally_machine.specs.Holders.{holders, is_among, newcomer}
 use Rattle.tally_machine.specs.Outcome.{HasSeats, IsLawfulView, poll_in, rule_in}
-use Rattle.tally_machine.specs.View.{View}
-use Rattle.tally_machine.specs.declared.refusal.Refusal.{Refusal}
-use Rattle.tally_machine.specs.declared.refusal.Refusal.TheVariants.{NoCandidate, BadNote, NotCertified, AlreadyGone, NotHolder}
-use Rattle.tally_machine.proofs.DecideLemmas.{first_refusal-passed}
+use Rattle.tally_returns.specs.View.{View}
+use Rattle.tally_returns.specs.declared.refusal.Refusal.{Refusal}
+use Rattle.tally_returns.specs.declared.refusal.Refusal.TheVariants.{NoCandidate, BadNote, NotCertified, AlreadyGone, NotHolder}
+use Rattle.tally_returns.proofs.DecideLemmas.{first_refusal-passed}
 
 -- ---- the list that was found
 

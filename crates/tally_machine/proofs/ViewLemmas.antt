@@ -17,14 +17,14 @@ use Rattle.tally_allot.specs.Conditions.{AreLimitsKept}
 use Rattle.tally_contest.specs.Sums.{sum_before}
 use Rattle.tally_contest.proofs.Sums.{sum_before-add, sum_before-shift}
 use Rattle.tally_machine.specs.ConStep.{IsView}
-use Rattle.tally_machine.specs.Counts.{VoteCounts, all_votes}
+use Rattle.tally_returns.specs.Counts.{VoteCounts, all_votes}
 use Rattle.tally_machine.specs.LawfulState.{IsLawfulState}
-use Rattle.tally_machine.specs.Lodge.{StationLimits}
+use Rattle.tally_returns.specs.Lodge.{StationLimits}
 use Rattle.tally_machine.specs.Outcome.{HasSeats, IsLawfulView}
-use Rattle.tally_machine.specs.Progress.{is_closed}
-use Rattle.tally_machine.specs.Return.{StationReturn, Returns}
-use Rattle.tally_machine.specs.State.{State, stations_of}
-use Rattle.tally_machine.specs.View.{View, blank_of, closed_counts, counts_if_closed, view_of, votes_at, votes_of_lists}
+use Rattle.tally_returns.specs.Progress.{is_closed}
+use Rattle.tally_returns.specs.Return.{StationReturn, Returns}
+use Rattle.tally_returns.specs.State.{State, stations_of}
+use Rattle.tally_returns.specs.View.{View, blank_of, closed_counts, counts_if_closed, view_of, votes_at, votes_of_lists}
 
 -- ---- what was found
 

@@ -5,13 +5,13 @@ use Rattle.std.specs.Str.{bytes_eq}
 use Rattle.tally_rules.specs.Constituency.{Constituency, ListEntry}
 use Rattle.tally_rules.specs.Text.{is_note}
 use Rattle.tally_contest.specs.ListSet.{has_place}
-use Rattle.tally_machine.specs.Checks.{check, check_found, first_refusal, refused_or}
+use Rattle.tally_returns.specs.Checks.{check, check_found, first_refusal, refused_or}
 use Rattle.tally_machine.specs.Holders.{is_among, holders, newcomer}
-use Rattle.tally_machine.specs.GoneCandidate.{GoneCandidate}
-use Rattle.tally_machine.specs.View.{View}
+use Rattle.tally_returns.specs.GoneCandidate.{GoneCandidate}
+use Rattle.tally_returns.specs.View.{View}
 use Rattle.tally_machine.specs.Outcome.{Outcome, nobody, lot_missing, allotted, IsOutcome}
-use Rattle.tally_machine.specs.declared.refusal.Refusal.{Refusal}
-use Rattle.tally_machine.specs.declared.refusal.Refusal.TheVariants.{NoCandidate, BadNote, Certified, NotCertified, Stale, Exhausted, NotAllClosed, NoEligible, LotStands, LotNotNeeded, LotWrongGroup, LotMissing, AlreadyGone, NotHolder}
+use Rattle.tally_returns.specs.declared.refusal.Refusal.{Refusal}
+use Rattle.tally_returns.specs.declared.refusal.Refusal.TheVariants.{NoCandidate, BadNote, Certified, NotCertified, Stale, Exhausted, NotAllClosed, NoEligible, LotStands, LotNotNeeded, LotWrongGroup, LotMissing, AlreadyGone, NotHolder}
 
 -- the last edition that a constituency can have
 abbrev pub last_edition : ℕ

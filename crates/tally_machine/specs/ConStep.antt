@@ -4,14 +4,14 @@ use Rattle.std.specs.FinMap.{insert}
 use Rattle.tally_rules.specs.Constituency.{Constituency}
 use Rattle.tally_machine.specs.Certification.{Certifies, Draws, reopened, vacates}
 use Rattle.tally_machine.specs.Outcome.{HasSeats}
-use Rattle.tally_machine.specs.State.{State, ConState, con_state}
-use Rattle.tally_machine.specs.GoneCandidate.{GoneCandidate}
-use Rattle.tally_machine.specs.View.{View, view_of}
-use Rattle.tally_machine.specs.declared.ask.Ask.{Ask}
-use Rattle.tally_machine.specs.declared.ask.Ask.TheVariants.{Draw, Certify, Reopen, Vacate, ShowCon}
-use Rattle.tally_machine.specs.declared.change.Change.{Change}
-use Rattle.tally_machine.specs.declared.change.Change.TheVariants.{Same, PutReturn, SetLot, SetCertified, SetReopened, SetGone}
-use Rattle.tally_machine.specs.declared.refusal.Refusal.{Refusal}
+use Rattle.tally_returns.specs.State.{State, ConState, con_state}
+use Rattle.tally_returns.specs.GoneCandidate.{GoneCandidate}
+use Rattle.tally_returns.specs.View.{View, view_of}
+use Rattle.tally_returns.specs.declared.ask.Ask.{Ask}
+use Rattle.tally_returns.specs.declared.ask.Ask.TheVariants.{Draw, Certify, Reopen, Vacate, ShowCon}
+use Rattle.tally_returns.specs.declared.change.Change.{Change}
+use Rattle.tally_returns.specs.declared.change.Change.TheVariants.{Same, PutReturn, SetLot, SetCertified, SetReopened, SetGone}
+use Rattle.tally_returns.specs.declared.refusal.Refusal.{Refusal}
 
 -- what a command on a constituency changes, as contracts see it: nothing; the lot, as the places of its lists; it is certified, with
 -- these seats; it is open again, with this note; a candidate is gone, and another moves in or nobody

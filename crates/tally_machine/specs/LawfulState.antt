@@ -6,11 +6,11 @@ use Rattle.tally_rules.specs.Constituency.{Constituency, ListEntry}
 use Rattle.tally_rules.specs.Setup.{constituency_with}
 use Rattle.tally_rules.specs.Text.{is_note}
 use Rattle.tally_machine.specs.Certification.{last_edition}
-use Rattle.tally_machine.specs.Lawful.{IsLawful, may_stand}
-use Rattle.tally_machine.specs.Lodge.{StationLimits}
+use Rattle.tally_returns.specs.Lawful.{IsLawful, may_stand}
+use Rattle.tally_returns.specs.Lodge.{StationLimits}
 use Rattle.tally_machine.specs.Outcome.{MayStand}
-use Rattle.tally_machine.specs.State.{State, con_state, stations_of}
-use Rattle.tally_machine.specs.View.{view_of}
+use Rattle.tally_returns.specs.State.{State, con_state, stations_of}
+use Rattle.tally_returns.specs.View.{view_of}
 
 -- a candidate of the constituency, by the place of the list and the candidate's own place there, both from 1
 abbrev pub is_candidate : Constituency → List ℕ → Bool

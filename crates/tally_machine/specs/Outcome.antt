@@ -7,7 +7,7 @@ use Rattle.tally_allot.specs.AllotFault.{IsAllotmentUnderLot}
 use Rattle.tally_allot.specs.Conditions.{AreLimitsKept}
 use Rattle.tally_contest.specs.LotNeed.{IsLotNeeded, IsNeed, IsLotTaken}
 use Rattle.tally_contest.specs.Rules.{rule_of, poll_of}
-use Rattle.tally_machine.specs.View.{View}
+use Rattle.tally_returns.specs.View.{View}
 
 -- No list is eligible; or a lot among a group is needed for so many seats, and none stands; or these are the seats of the lists.
 pub data Outcome : Type 0 where

@@ -2,28 +2,28 @@
 use Rattle.std.specs.Prelude.{◌≡◌, ◌+◌, ◌∷◌, [], ◌⊎◌, ℕ, List, Bool, true, false, Option, Some, None, Result, Ok, Err}
 use Rattle.std.specs.FinMap.{get}
 use Rattle.tally_rules.specs.Constituency.{Constituency}
-use Rattle.tally_machine.specs.Checks.{first_refusal, refused_or}
-use Rattle.tally_machine.specs.Return.{StationReturn}
-use Rattle.tally_machine.specs.Lodge.{lodge_answer}
-use Rattle.tally_machine.specs.Decide.{show_checks}
-use Rattle.tally_machine.specs.State.{State, stations_of}
+use Rattle.tally_returns.specs.Checks.{first_refusal, refused_or}
+use Rattle.tally_returns.specs.Return.{StationReturn}
+use Rattle.tally_returns.specs.Lodge.{lodge_answer}
+use Rattle.tally_returns.specs.Decide.{show_checks}
+use Rattle.tally_returns.specs.State.{State, stations_of}
 use Rattle.tally_rules.specs.Setup.{constituency_with}
-use Rattle.tally_machine.specs.Named.{con_named}
-use Rattle.tally_machine.specs.Step.{decided_in, after_return}
-use Rattle.tally_machine.specs.View.{View}
+use Rattle.tally_returns.specs.Named.{con_named}
+use Rattle.tally_returns.specs.Step.{decided_in, after_return}
+use Rattle.tally_returns.specs.View.{View}
 use Rattle.tally_machine.specs.ConStep.{ConChange, no_change, gone_for_good, Decides, IsView, after_change}
-use Rattle.tally_machine.specs.Progress.{progress}
-use Rattle.tally_machine.specs.declared.ask.Ask.{Ask}
-use Rattle.tally_machine.specs.declared.ask.Ask.TheVariants.{Lodge, ShowReturn, ShowProgress}
-use Rattle.tally_machine.specs.declared.change.Change.{Change}
-use Rattle.tally_machine.specs.declared.change.Change.TheVariants as change
-use Rattle.tally_machine.specs.declared.progress.ProgressRow.{ProgressRow}
-use Rattle.tally_machine.specs.declared.refusal.Refusal.{Refusal}
-use Rattle.tally_machine.specs.declared.refusal.Refusal.TheVariants.{NoConstituency, NoReturn, Memory, Store}
-use Rattle.tally_machine.specs.declared.reply.LodgeReply.{LodgeReply}
-use Rattle.tally_machine.specs.declared.reply.LodgeReply.TheVariants as lodge
-use Rattle.tally_machine.specs.declared.reply.Reply.{Reply}
-use Rattle.tally_machine.specs.declared.reply.Reply.TheVariants.{Lodged, Same, Moved, Return, Edition, Vacated, Con, Progress}
+use Rattle.tally_returns.specs.Progress.{progress}
+use Rattle.tally_returns.specs.declared.ask.Ask.{Ask}
+use Rattle.tally_returns.specs.declared.ask.Ask.TheVariants.{Lodge, ShowReturn, ShowProgress}
+use Rattle.tally_returns.specs.declared.change.Change.{Change}
+use Rattle.tally_returns.specs.declared.change.Change.TheVariants as change
+use Rattle.tally_returns.specs.declared.progress.ProgressRow.{ProgressRow}
+use Rattle.tally_returns.specs.declared.refusal.Refusal.{Refusal}
+use Rattle.tally_returns.specs.declared.refusal.Refusal.TheVariants.{NoConstituency, NoReturn, Memory, Store}
+use Rattle.tally_returns.specs.declared.reply.LodgeReply.{LodgeReply}
+use Rattle.tally_returns.specs.declared.reply.LodgeReply.TheVariants as lodge
+use Rattle.tally_returns.specs.declared.reply.Reply.{Reply}
+use Rattle.tally_returns.specs.declared.reply.Reply.TheVariants.{Lodged, Same, Moved, Return, Edition, Vacated, Con, Progress}
 
 -- what an accepted command is answered, as contracts see it
 pub data Answer : Type 0 where
@@ -50,11 +50,6 @@ answer_seen (Progress rows) = progress_shown rows.items
 abbrev pub seen : Result Reply Refusal → Result Answer Refusal
 seen (Ok reply) = Ok (answer_seen reply)
 seen (Err refusal) = Err refusal
-
--- the reply that a Lodge is answered, among all replies
-abbrev pub as_reply : LodgeReply → Reply
-as_reply (lodge.Lodged rev) = Lodged rev
-as_reply (lodge.Same rev) = Same rev
 
 -- what a Lodge is answered
 abbrev pub lodge_reply : Result LodgeReply Refusal → Result Answer Refusal

@@ -1,10 +1,10 @@
 -- Equal commands of a run, and what is left of it where some requests are left out.
 use Rattle.std.specs.Prelude.{◌≡◌, if◌then◌else◌, ◌+◌, ℕ, Bool, List, [], ◌∷◌, Result, string_bytes}
 use Rattle.tally_machine.specs.Replies.{is_act}
-use Rattle.tally_machine.specs.declared.ask.Ask.{Ask}
-use Rattle.tally_machine.specs.declared.ask.Ask.TheVariants.{Query, Draw, Reopen, Vacate}
-use Rattle.tally_machine.specs.declared.refusal.Refusal.{Refusal}
-use Rattle.tally_machine.specs.declared.reply.Reply.{Reply}
+use Rattle.tally_returns.specs.declared.ask.Ask.{Ask}
+use Rattle.tally_returns.specs.declared.ask.Ask.TheVariants.{Query, Draw, Reopen, Vacate}
+use Rattle.tally_returns.specs.declared.refusal.Refusal.{Refusal}
+use Rattle.tally_returns.specs.declared.reply.Reply.{Reply}
 
 -- The same command: all its parts are equal. Of a note the text counts and of an order its codes, not how a program keeps them.
 abbrev pub IsSameCommand : Ask → Ask → Type 0

@@ -4,15 +4,14 @@ ghost use Rattle.std.specs.Prelude.{◌≡◌, ◌≢◌, ◌≤◌, ℕ, false,
 ghost use Rattle.tally_allot.specs.AllotFault.{IsFaultOf};
 ghost use Rattle.tally_allot.specs.declared.fault.AllotFault.TheVariants.{WrongLot};
 ghost use Rattle.tally_machine.specs.Certification.{Certifies, Draws, count_checks, drawn_places, list_places, reopened};
-ghost use Rattle.tally_machine.specs.Checks.{first_refusal};
+ghost use Rattle.tally_returns.specs.Checks.{first_refusal};
 ghost use Rattle.tally_machine.specs.Outcome.{IsLawfulView, IsOutcome, allotted, rule_in, poll_in};
-ghost use Rattle.tally_machine.specs.declared.refusal.Refusal.TheVariants.{Memory};
+ghost use Rattle.tally_returns.specs.declared.refusal.Refusal.TheVariants.{Memory};
 
 use crate::list_order::{list_places, names_group};
-use crate::refusal::Refusal;
-use crate::view::ConView;
 use std::alloc::Global;
 use tally_allot::{AllotFault, ListSet, allot};
+use tally_returns::{ConView, Refusal};
 use tally_rules::{Code, Constituency, good_note};
 
 /// The last edition that a constituency can have.

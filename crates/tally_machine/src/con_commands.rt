@@ -2,20 +2,14 @@
 
 ghost use Rattle.std.specs.Prelude.{◌≡◌, ◌≢◌, Some, Ok, Err, IfOk, IfErr};
 ghost use Rattle.tally_machine.specs.ConStep.{ConChange, Decides, con_change};
-ghost use Rattle.tally_machine.specs.Named.{con_named};
+ghost use Rattle.tally_returns.specs.Named.{con_named};
 ghost use Rattle.tally_machine.specs.Outcome.{IsLawfulView};
-ghost use Rattle.tally_machine.specs.declared.refusal.Refusal.TheVariants.{Memory};
+ghost use Rattle.tally_returns.specs.declared.refusal.Refusal.TheVariants.{Memory};
 
-#[cfg(test)]
-mod tests;
-
-use crate::ask::Ask;
 use crate::certification::{certify, draw, reopen};
-use crate::change::Change;
-use crate::refusal::Refusal;
 use crate::vacancy::vacate;
-use crate::view::ConView;
 use std::alloc::Global;
+use tally_returns::{Ask, Change, ConView, Refusal};
 use tally_rules::Constituency;
 
 /// What a command on a constituency changes, or why it is refused: on this constituency, of which

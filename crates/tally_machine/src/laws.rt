@@ -5,24 +5,22 @@ ghost use Rattle.std.specs.List.{filter};
 ghost use Rattle.tally_contest.specs.LotNeed.{IsLotNeeded, IsNeed};
 ghost use Rattle.tally_contest.specs.Poll.{HasEligible};
 ghost use Rattle.tally_machine.specs.Certification.{count_checks};
-ghost use Rattle.tally_machine.specs.Checks.{first_refusal};
+ghost use Rattle.tally_returns.specs.Checks.{first_refusal};
 ghost use Rattle.tally_machine.specs.ConStep.{ConChange, Decides, IsView};
 ghost use Rattle.tally_machine.specs.LawfulState.{IsLawfulState};
-ghost use Rattle.tally_machine.specs.Named.{con_named};
+ghost use Rattle.tally_returns.specs.Named.{con_named};
 ghost use Rattle.tally_machine.specs.Outcome.{IsCertificate, IsLawfulView, poll_in, rule_in};
 ghost use Rattle.tally_machine.specs.Replies.{Answer, IsRun, IsStep, IsStepSeen, is_act};
 ghost use Rattle.tally_machine.specs.Runs.{IsSameCommand, acting_asks, kept};
-ghost use Rattle.tally_machine.specs.State.{State, con_state, opening};
-ghost use Rattle.tally_machine.specs.View.{View};
-ghost use Rattle.tally_machine.specs.declared.ask.Ask.TheVariants.{Certify};
-ghost use Rattle.tally_machine.specs.declared.refusal.Refusal.TheVariants.{LotMissing};
+ghost use Rattle.tally_returns.specs.State.{State, con_state, opening};
+ghost use Rattle.tally_returns.specs.View.{View};
+ghost use Rattle.tally_returns.specs.declared.ask.Ask.TheVariants.{Certify};
+ghost use Rattle.tally_returns.specs.declared.refusal.Refusal.TheVariants.{LotMissing};
 ghost use Rattle.tally_rules.specs.Constituency.{Constituency};
 ghost use Rattle.tally_rules.specs.Limits.{IsSetup};
 ghost use Rattle.tally_rules.specs.Setup.{constituency_with};
 
-use crate::ask::Ask;
-use crate::refusal::Refusal;
-use crate::reply::Reply;
+use tally_returns::{Ask, Refusal, Reply};
 
 /// The state that an office opens with is lawful, a step from a lawful state leads to a lawful one,
 /// and so does a run.
@@ -57,8 +55,8 @@ pub fn each_command_has_a_step()
 /// exactly where the votes leave a choice and no lot stands, with the group and the seats in
 /// question.
 pub fn a_missing_lot_is_told()
-    ensures missing { (setup : List Constituency) (s t : State) (code : List ℕ) (con : Constituency) (view : View) (edition : ℕ) (r : Result Reply Refusal) → IsSetup setup → IsLawfulState setup s → constituency_with code setup ≡ Some con → IsView con s view → first_refusal (count_checks view edition) ≡ None → HasEligible (poll_in con view) → IsStep setup s (Certify code edition) r t → ((group : List Bool) × (in_question : ℕ) × (r ≡ Err (LotMissing group in_question))) ↔ (IsLotNeeded (rule_in con) (poll_in con view) con.seats × (view.lot ≡ [])) }
-    ensures told { (setup : List Constituency) (s t : State) (code : List ℕ) (con : Constituency) (view : View) (edition : ℕ) (r : Result Reply Refusal) (group : List Bool) (in_question : ℕ) → IsSetup setup → IsLawfulState setup s → constituency_with code setup ≡ Some con → IsView con s view → IsStep setup s (Certify code edition) r t → r ≡ Err (LotMissing group in_question) → IsNeed (rule_in con) (poll_in con view) con.seats group in_question }
+    ensures missing { (setup : List Constituency) (s t : State) (code : List ℕ) (con : Constituency) (view : View) (edition : ℕ) (r : Result Reply Refusal) → IsSetup setup → constituency_with code setup ≡ Some con → IsView con s view → first_refusal (count_checks view edition) ≡ None → HasEligible (poll_in con view) → IsStep setup s (Certify code edition) r t → ((group : List Bool) × (in_question : ℕ) × (r ≡ Err (LotMissing group in_question))) ↔ (IsLotNeeded (rule_in con) (poll_in con view) con.seats × (view.lot ≡ [])) }
+    ensures told { (setup : List Constituency) (s t : State) (code : List ℕ) (con : Constituency) (view : View) (edition : ℕ) (r : Result Reply Refusal) (group : List Bool) (in_question : ℕ) → constituency_with code setup ≡ Some con → IsView con s view → IsStep setup s (Certify code edition) r t → r ≡ Err (LotMissing group in_question) → IsNeed (rule_in con) (poll_in con view) con.seats group in_question }
 {}
 
 /// In a run, from any state, no two equal commands act: where one acted, the same one at a later

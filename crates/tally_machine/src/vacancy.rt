@@ -4,13 +4,12 @@ ghost use Rattle.std.specs.Prelude.{◌≡◌, ◌≢◌, ◌≤◌, ◌∷◌, 
 ghost use Rattle.tally_machine.specs.Certification.{gone_of, holders_of, vacates};
 ghost use Rattle.tally_machine.specs.Holders.{newcomer};
 ghost use Rattle.tally_machine.specs.Outcome.{IsLawfulView};
-ghost use Rattle.tally_machine.specs.declared.refusal.Refusal.TheVariants.{Memory};
+ghost use Rattle.tally_returns.specs.declared.refusal.Refusal.TheVariants.{Memory};
 
 use crate::list_order::{Found, list_found};
-use crate::refusal::Refusal;
 use crate::seat_holders::{holders, newcomer};
-use crate::view::{ConView, Gone};
 use std::alloc::{AllocError, Global};
+use tally_returns::{ConView, Gone, Refusal};
 use tally_rules::{Code, Constituency, good_note};
 
 /// A seat that was left.

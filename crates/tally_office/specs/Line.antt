@@ -11,8 +11,8 @@ use Rattle.clap.specs.declared.error.Error.{Error}
 use Rattle.clap.specs.declared.error.ErrorKind.{ErrorKind}
 use Rattle.clap.specs.declared.error.ErrorKind.TheVariants.{OutOfMemory}
 use Rattle.clap.specs.declared.builder.ArgAction.TheVariants.{SetTrue}
-use Rattle.tally_import.specs.declared.Sep.{Sep}
-use Rattle.tally_import.specs.declared.Sep.TheVariants.{Comma, Semicolon}
+use Rattle.tally_records.specs.declared.separator.Sep.{Sep}
+use Rattle.tally_records.specs.declared.separator.Sep.TheVariants.{Comma, Semicolon}
 use Rattle.tally_office.specs.declared.line.Line.{Line}
 use Rattle.tally_office.specs.declared.line.Line.TheVariants.{Check}
 use Rattle.tally_office.specs.declared.line.LineFault.{LineFault}

@@ -1,7 +1,7 @@
 -- What the program does for a command line.
 use Rattle.std.specs.Prelude.{◌≡◌, ℕ, List, Option, IfSome, Result, Ok, Err}
 use Rattle.tally_import.specs.Check.{Checks, IsSilent}
-use Rattle.tally_import.specs.declared.Sep.{Sep}
+use Rattle.tally_records.specs.declared.separator.Sep.{Sep}
 use Rattle.tally_import.specs.declared.CheckFault.{CheckFault}
 use Rattle.tally_import.specs.declared.CheckFault.TheVariants as check
 use Rattle.tally_office.specs.declared.line.LineFault.{LineFault}

@@ -2,7 +2,7 @@
 
 ghost use Rattle.std.specs.Prelude.{◌≡◌, ◌≢◌, ◌⊎◌, Some, None, map, string_bytes};
 ghost use Rattle.std.specs.IoError.{error_kind};
-ghost use Rattle.tally_import.specs.declared.Sep.{Sep};
+ghost use Rattle.tally_records.specs.declared.separator.Sep.{Sep};
 ghost use Rattle.tally_office.specs.Line.{line_of};
 ghost use Rattle.tally_office.specs.Perform.{ChecksInput, check_status, fault_status};
 

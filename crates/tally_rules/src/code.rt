@@ -162,6 +162,3 @@ impl fmt::Display for Code {
         f.pad(self.as_str())
     }
 }
-
-#[cfg(test)]
-mod tests;

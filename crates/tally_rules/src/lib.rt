@@ -9,8 +9,6 @@ mod fault;
 mod profile;
 mod read;
 mod setup;
-#[cfg(test)]
-mod tests;
 mod text;
 mod threshold;
 

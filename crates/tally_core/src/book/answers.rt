@@ -1,14 +1,15 @@
 //! What a keeper in memory answers.
 
-ghost use Rattle.std.specs.Prelude.{◌≡◌, ◌⊎◌, Some, Err};
-ghost use Rattle.tally_core.specs.Held.{IsAnsweredInMemory, IsHeld, IsLodged, IsMoved};
-ghost use Rattle.tally_ledger.specs.Kept.{state_in};
-ghost use Rattle.tally_machine.specs.Lodge.{lodge_answer};
-ghost use Rattle.tally_machine.specs.Named.{con_named, station_named};
+ghost use Rattle.std.specs.Prelude.{◌≡◌, ◌⊎◌, true, false, Some, Err, IsSome};
+ghost use Rattle.tally_core.specs.Held.{IsAnsweredInMemory, IsHeld, IsLodged, IsMoved, is_query};
+ghost use Rattle.tally_ledger.specs.Kept.{state_in, with_no_lot};
+ghost use Rattle.tally_returns.specs.Lodge.{lodge_answer};
+ghost use Rattle.tally_returns.specs.Named.{con_named, station_named};
 ghost use Rattle.tally_machine.specs.Replies.{answer, seen};
-ghost use Rattle.tally_machine.specs.State.{stations_of};
-ghost use Rattle.tally_machine.specs.declared.ask.Ask.TheVariants.{ShowReturn};
-ghost use Rattle.tally_machine.specs.declared.refusal.Refusal.TheVariants.{Memory};
+ghost use Rattle.tally_rules.specs.Setup.{constituency_with};
+ghost use Rattle.tally_returns.specs.State.{stations_of};
+ghost use Rattle.tally_returns.specs.declared.ask.Ask.TheVariants.{ShowReturn};
+ghost use Rattle.tally_returns.specs.declared.refusal.Refusal.TheVariants.{Memory};
 
 use super::constituencies::answer_on;
 use std::alloc::Global;
@@ -77,7 +78,7 @@ pub(super) fn decide_first(
     decide_lodge(con.lists.len(), place.electors, found, slip, counts)
 }
 
-/// Query, Correct and Close. A query takes the lot of the constituency with it.
+/// Query, Correct and Close.
 fn move_on(alloc: Global, ledger: &mut Ledger, station: Code, ask: &Ask) -> Result<Reply, Refusal>
     requires named { station_named ask.now ≡ Some station }
     requires held { IsHeld ledger.old }
@@ -97,10 +98,20 @@ fn move_on(alloc: Global, ledger: &mut Ledger, station: Code, ask: &Ask) -> Resu
     };
     let rev = next.rev;
     ledger.put(station, next)?;
-    if let Ask::Query { .. } = ask {
-        ledger.drop_lot(code);
-    }
+    take_lot(ledger, code, ask);
     Ok(Reply::Moved { rev })
+}
+
+/// A query takes the lot of its constituency with it.
+fn take_lot(ledger: &mut Ledger, con: Code, ask: &Ask)
+    requires known { IsSome (constituency_with con ledger.old.setup) }
+    ensures query { is_query ask.now ≡ true → ledger.new ≡ with_no_lot ledger.old con }
+    ensures other { is_query ask.now ≡ false → ledger.new ≡ ledger.old }
+{
+    if let Ask::Query { .. } = ask {
+        ledger.drop_lot(con);
+        return;
+    }
 }
 
 fn show_return(alloc: Global, ledger: &Ledger, station: Code) -> Result<Reply, Refusal>

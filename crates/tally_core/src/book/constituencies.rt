@@ -1,8 +1,12 @@
 //! What a keeper in memory answers to a command on a constituency.
 
-ghost use Rattle.std.specs.Prelude.{◌≡◌, ◌+◌, ◌<◌, ◌^◌, Some, IsSome, IfErr, OnErr, OnOk};
-ghost use Rattle.tally_core.specs.Held.{CanCarryOut, IsAnsweredOn, IsCarriedOut, IsHeld};
-ghost use Rattle.tally_machine.specs.Named.{con_named};
+ghost use Rattle.std.specs.Prelude.{◌≡◌, ◌+◌, ◌<◌, ◌^◌, Some, IsSome, IfErr, IfOk, IfSome, OnErr, OnOk};
+ghost use Rattle.tally_core.specs.Held.{CanCarryOut, IsAnsweredOn, IsHeld, carried_reply};
+ghost use Rattle.tally_ledger.specs.Kept.{with_change};
+ghost use Rattle.tally_machine.specs.ConStep.{con_change};
+ghost use Rattle.tally_machine.specs.Replies.{answer_seen};
+ghost use Rattle.tally_returns.specs.Named.{con_named};
+ghost use Rattle.tally_returns.specs.declared.refusal.Refusal.TheVariants.{Memory};
 
 use std::alloc::Global;
 use tally_ledger::Ledger;
@@ -43,7 +47,10 @@ fn carry_out(
     change: Change,
 ) -> Result<Reply, Refusal>
     requires { CanCarryOut ledger.old code edition change }
-    ensures { IsCarriedOut ledger.old code edition change result ledger.new }
+    ensures reply { IfOk result (λ reply. IfSome (con_change change) (λ decided. answer_seen reply ≡ carried_reply edition decided)) }
+    ensures carried_out { OnOk result (IfSome (con_change change) (λ decided. ledger.new ≡ with_change ledger.old code decided)) }
+    ensures refused { IfErr result (λ refusal. refusal ≡ Memory) }
+    ensures stays { OnErr result (ledger.new ≡ ledger.old) }
 {
     match change {
         Change::SetLot(lot) => ledger.set_lot(code, lot),

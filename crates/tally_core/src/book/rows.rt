@@ -7,8 +7,8 @@ ghost use Rattle.tally_core.specs.Keeper.{IsFault, IsImport};
 ghost use Rattle.tally_core.specs.declared.import.Row.{Row};
 ghost use Rattle.tally_core.specs.declared.source.ImportFault.TheVariants.{Store};
 ghost use Rattle.tally_ledger.specs.Kept.{state_in};
-ghost use Rattle.tally_machine.specs.Lodge.{lodge, lodge_answer};
-ghost use Rattle.tally_machine.specs.State.{stations_of};
+ghost use Rattle.tally_returns.specs.Lodge.{lodge, lodge_answer};
+ghost use Rattle.tally_returns.specs.State.{stations_of};
 
 use super::answers::decide_first;
 use crate::import::{ImportCount, Row};

@@ -2,12 +2,13 @@ use Rattle.std.proofs.Common.{rules, ◌≡◌, ◌<◌, ◌≤◌, ◌+◌, ◌
 use Rattle.std.proofs.lemmas.List.{append-nil}
 use Rattle.csv.specs.Records.{fields_of}
 use Rattle.tally_import.specs.Check.{rows_of_records, row_limit}
-use Rattle.tally_import.specs.Pieces.{AreAll, AreBehind, HasGiven, sep_of}
-use Rattle.tally_import.specs.Rounds.{Imports}
-use Rattle.tally_import.specs.declared.held.End.{End}
+use Rattle.tally_records.specs.Input.{AreAll}
+use Rattle.tally_records.specs.Pieces.{HasGiven, sep_of}
+use Rattle.tally_import.specs.Rounds.{AreBehind, Imports}
+use Rattle.tally_records.specs.declared.end.End.{End}
 use Rattle.tally_import.proofs.FoundLemmas.{Imports-ended}
 use Rattle.tally_import.proofs.RoundsLemmas.{more-taken, length-rows}
-use Rattle.tally_import.proofs.WorkLemmas.{HasGiven-partly}
+use Rattle.tally_records.proofs.WorkLemmas.{HasGiven-partly}
 use Rattle.tally_import.proofs.check.import_rows.Goals as goal
 
 pub loop-taken-init : goal.loop-taken-init

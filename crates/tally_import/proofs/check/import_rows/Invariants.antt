@@ -1,6 +1,6 @@
 use Rattle.std.proofs.Common.{◌≡◌, ◌++◌, List, ℕ, Option, length}
 use Rattle.tally_import.specs.Check.{rows_of_records}
-use Rattle.tally_import.specs.Pieces.{HasGiven, IsReadingOn, sep_of}
+use Rattle.tally_records.specs.Pieces.{HasGiven, IsReadingOn, sep_of}
 use Rattle.tally_import.specs.Progress.{HasTaken}
 use Rattle.tally_import.proofs.check.import_rows.Given as goal
 

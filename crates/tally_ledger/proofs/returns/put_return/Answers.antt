@@ -3,12 +3,12 @@ use Rattle.std.specs.FinMap.{get, insert}
 use Rattle.std.specs.Option.{ForSome}
 use Rattle.tally_rules.specs.Constituency.{Constituency}
 use Rattle.tally_rules.specs.Setup.{station_with}
-use Rattle.tally_machine.specs.Decide.{limits_of}
-use Rattle.tally_machine.specs.Lawful.{IsLawful}
-use Rattle.tally_machine.specs.Lodge.{StationLimits}
-use Rattle.tally_machine.specs.Return.{StationReturn}
-use Rattle.tally_machine.specs.State.{stations_of}
-use Rattle.tally_machine.specs.View.{View}
+use Rattle.tally_returns.specs.Decide.{limits_of}
+use Rattle.tally_returns.specs.Lawful.{IsLawful}
+use Rattle.tally_returns.specs.Lodge.{StationLimits}
+use Rattle.tally_returns.specs.Return.{StationReturn}
+use Rattle.tally_returns.specs.State.{stations_of}
+use Rattle.tally_returns.specs.View.{View}
 use Rattle.tally_ledger.specs.Rows.{IsTallied, cons_of, returns_of, seats_of, views_of, with_view, without_former}
 use Rattle.tally_ledger.specs.Sums.{CanCount, with_return_counted}
 use Rattle.tally_ledger.proofs.TallyLemmas.{counted-con, counted-seats, former-can, former-cons, former-seats, limits-at, put-can, tallied-former, tallied-put}

@@ -1,4 +1,4 @@
-use Rattle.tally_machine.specs.View.{View}
+use Rattle.tally_returns.specs.View.{View}
 use Rattle.tally_ledger.specs.Sums.{CanCount, with_return_counted}
 use Rattle.tally_ledger.proofs.TreeLemmas.{not_written, of_lent, written}
 use Rattle.tally_ledger.proofs.views.count.Goals as goal

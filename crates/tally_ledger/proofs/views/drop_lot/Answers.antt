@@ -1,6 +1,6 @@
 use Rattle.std.proofs.Common.{◌≡◌, ◌∙◌, [], ap}
-use Rattle.tally_machine.specs.View.{View}
-use Rattle.tally_machine.specs.contracts.view.ConView.{the_view}
+use Rattle.tally_returns.specs.View.{View}
+use Rattle.tally_returns.specs.contracts.view.ConView.{the_view}
 use Rattle.tally_ledger.proofs.TreeLemmas.{not_written, written}
 use Rattle.tally_ledger.proofs.views.drop_lot.Goals as goal
 

@@ -5,8 +5,8 @@ use Rattle.tally_allot.specs.AllotFault.{IsFaultOf}
 use Rattle.tally_allot.specs.declared.fault.AllotFault.{AllotFault}
 use Rattle.tally_machine.specs.Certification.{Draws, drawn_places, list_places}
 use Rattle.tally_machine.specs.Outcome.{IsOutcome, lot_missing, poll_in, rule_in}
-use Rattle.tally_machine.specs.View.{View}
-use Rattle.tally_machine.specs.declared.refusal.Refusal.TheVariants.{Memory}
+use Rattle.tally_returns.specs.View.{View}
+use Rattle.tally_returns.specs.declared.refusal.Refusal.TheVariants.{Memory}
 use Rattle.tally_machine.proofs.CertificationLemmas.{draws-decided, draws-missing, draws-stands, group-within, none_long, on_fault, on_ok}
 use Rattle.tally_machine.proofs.certification.draw.Goals as goal
 

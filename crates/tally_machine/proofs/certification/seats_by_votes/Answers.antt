@@ -1,4 +1,4 @@
-use Rattle.std.proofs.Common.{◌≡◌, ◌≢◌, ◌∙◌, ℕ, List, IfOk, IfErr, OnOk, ap}
+use Rattle.std.proofs.Common.{◌≢◌, ◌∙◌, ℕ, List, IfOk, IfErr, OnOk, ap}
 use Rattle.tally_rules.specs.Constituency.{Constituency}
 use Rattle.tally_rules.specs.declared.profile.Profile.{Profile}
 use Rattle.tally_contest.specs.Allotment.{IsAllotment}
@@ -6,10 +6,9 @@ use Rattle.tally_contest.specs.Poll.{HasEligible}
 use Rattle.tally_allot.specs.AllotFault.{IsFaultOf}
 use Rattle.tally_contest.specs.LotNeed.{IsLotTaken}
 use Rattle.tally_contest.specs.Rules.{rule_of, poll_of}
-use Rattle.tally_allot.specs.declared.fault.AllotFault.{AllotFault}
 use Rattle.tally_allot.specs.declared.fault.AllotFault.TheVariants.{WrongLot}
 use Rattle.tally_machine.specs.Outcome.{poll_in, rule_in}
-use Rattle.tally_machine.specs.View.{View}
+use Rattle.tally_returns.specs.View.{View}
 use Rattle.tally_machine.proofs.CertificationLemmas.{all_three, carried, lot-right, on_fault}
 use Rattle.tally_machine.proofs.certification.seats_by_votes.Goals as goal
 

@@ -1,5 +1,5 @@
-use Rattle.std.proofs.Common.{◌≡◌, ◌≤◌, ◌<◌, ◌⊎◌, ◌∙◌, ℕ, suc, ◌+◌, Bool, true, false, get_or, inl, inr, sym, ap, arith}
-use Rattle.std.proofs.lemmas.Bool.{cases_lt, false≢true, not-true}
+use Rattle.std.proofs.Common.{◌≡◌, ◌≤◌, ◌<◌, ◌⊎◌, ◌∙◌, ℕ, suc, ◌+◌, true, false, get_or, inl, inr, sym, ap, arith}
+use Rattle.std.proofs.lemmas.Bool.{cases_lt, false≢true}
 use Rattle.tally_contest.specs.ListSet.{has_place}
 use Rattle.tally_machine.specs.Holders.{is_among}
 use Rattle.tally_machine.proofs.LotLemmas.{all_marked-fails, all_marked-from, among-turned}

@@ -3,7 +3,7 @@ use Rattle.std.specs.Prelude.{slice_index}
 use Rattle.std.proofs.lemmas.List.{get_or_read}
 use Rattle.tally_machine.specs.Certification.{ListFound, holders_of}
 use Rattle.tally_machine.specs.Holders.{holders}
-use Rattle.tally_machine.specs.View.{View}
+use Rattle.tally_returns.specs.View.{View}
 use Rattle.tally_machine.proofs.CertificationLemmas.{on_ok}
 use Rattle.tally_machine.proofs.VacancyLemmas.{holders-found}
 use Rattle.tally_machine.proofs.vacancy.holders_of.Goals as goal

@@ -1,8 +1,7 @@
-use Rattle.std.proofs.Common.{◌≡◌, ◌∙◌, Ok, ap, sym}
-use Rattle.tally_machine.specs.Counts.{VoteCounts}
-use Rattle.tally_machine.specs.Lawful.{IsLawful}
-use Rattle.tally_machine.specs.Return.{StationReturn, first_return}
-use Rattle.tally_machine.specs.State.{stations_of}
+use Rattle.std.proofs.Common.{◌∙◌, Ok, ap, sym}
+use Rattle.tally_returns.specs.Lawful.{IsLawful}
+use Rattle.tally_returns.specs.Return.{first_return}
+use Rattle.tally_returns.specs.State.{stations_of}
 use Rattle.std.proofs.Common.{subst}
 use Rattle.tally_core.proofs.StepLemmas.{first-lawful}
 use Rattle.tally_core.proofs.book.answers.lodge.Goals as goal

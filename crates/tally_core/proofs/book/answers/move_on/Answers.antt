@@ -1,14 +1,13 @@
-use Rattle.std.proofs.Common.{◌≡◌, ◌∙◌, Some, None, Ok, Err, Bool, refl, ap, sym, subst, rules}
+use Rattle.std.proofs.Common.{◌≡◌, ◌∙◌, Some, Ok, Err, true, false, ap, sym, subst, rules}
 use Rattle.tally_rules.specs.Constituency.{Constituency}
 use Rattle.tally_rules.specs.Setup.{constituency_with, station_with}
-use Rattle.tally_machine.specs.Decide.{IsUnlessMemory, decided_return, limits_of}
-use Rattle.tally_machine.specs.View.{View}
+use Rattle.tally_returns.specs.View.{View}
 use Rattle.std.specs.Option.{option_copied}
-use Rattle.tally_core.specs.Held.{IsMoved}
-use Rattle.tally_machine.specs.Return.{StationReturn}
-use Rattle.tally_machine.specs.declared.reply.Reply.TheVariants.{Moved}
+use Rattle.tally_core.specs.Held.{IsMoved, is_query}
+use Rattle.tally_returns.specs.Return.{StationReturn}
+use Rattle.tally_returns.specs.declared.reply.Reply.TheVariants.{Moved}
 use Rattle.tally_ledger.specs.Kept.{with_no_lot}
-use Rattle.tally_core.proofs.StepLemmas.{IsLookedUp, is_query, looked-up, looked_up-lawful, moved-kept, moved-other, moved-query, moved-refused, not_query, station-known, station-own, view-none, with_put}
+use Rattle.tally_core.proofs.StepLemmas.{IsLookedUp, looked-up, looked_up-lawful, moved-on, moved-other, moved-refused, station-known, station-own, view-none, with_put}
 use Rattle.tally_core.proofs.book.answers.move_on.Goals as goal
 
 pub unreachable-requires : goal.unreachable-requires
@@ -77,9 +76,11 @@ returns c =
     let next = c.in-PutReturn.next in
     let decided = c.in_ok-next.ensures.decided ∙ ap Ok c.in-PutReturn.is in
     let put : c.put.new.self ≡ with_put k c.args.station next = c.in_ok-put.ensures.put in
-    subst (λ (r : StationReturn). IsMoved k ask (Ok (Moved r.rev)) c.match-ask.ledger) (sym c.next.view_is)
-    (elim c.match-ask.branch [
-      | goal.in-Query w ↦ moved-query k c.match-ask.ledger ask c.args.station con place certified found next looked c.requires.named decided (ap is_query w.in-Query.is)
-          (w.ledger-is ∙ w.drop_lot.ensures ∙ ap (λ x. with_no_lot x c.con.inside.code) put ∙ ap (λ (x : Constituency). with_no_lot (with_put k c.args.station next) x.code) c.con.view_is)
-      | goal.in_default-ask w ↦ moved-kept k c.match-ask.ledger ask c.args.station con place certified found next looked c.requires.named decided (not_query ask w.in_default-ask.not-Query) (w.ledger-is ∙ put)
-    ])
+    let own = c.con.inside.code in
+    let con_is : own ≡ con.code = ap (λ (x : Constituency). x.code) c.con.view_is in
+    let new = c.take_lot.new.ledger in
+    let query : is_query ask ≡ true → new ≡ with_no_lot (with_put k c.args.station next) con.code =
+    λ q. c.take_lot.ensures.query q ∙ ap (λ x. with_no_lot x own) put ∙ ap (with_no_lot (with_put k c.args.station next)) con_is in
+    let other : is_query ask ≡ false → new ≡ with_put k c.args.station next = λ q. c.take_lot.ensures.other q ∙ put in
+    subst (λ (r : StationReturn). IsMoved k ask (Ok (Moved r.rev)) new) (sym c.next.view_is)
+    (moved-on k new ask c.args.station con place certified found next looked c.requires.named decided query other)

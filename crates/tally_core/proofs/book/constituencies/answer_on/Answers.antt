@@ -1,11 +1,11 @@
 use Rattle.std.proofs.Common.{◌≡◌, ◌∙◌, Some, Err, ap, subst, sym, rules}
 use Rattle.std.specs.Option.{option_copied}
 use Rattle.tally_rules.specs.Setup.{constituency_with}
-use Rattle.tally_machine.specs.View.{View}
-use Rattle.tally_machine.proofs.ClosedLemmas.{constituency_with-code}
+use Rattle.tally_returns.specs.View.{View}
+use Rattle.tally_returns.proofs.ClosedLemmas.{constituency_with-code}
 use Rattle.tally_ledger.specs.Kept.{view_in}
 use Rattle.tally_core.specs.Held.{IsAnsweredOn}
-use Rattle.tally_core.proofs.CarryLemmas.{can-carry-out, carried-done, decided-seen, held-view, refused-done, shown-done}
+use Rattle.tally_core.proofs.CarryLemmas.{can-carry-out, carried, carried-done, decided-seen, held-view, refused-done, shown-done}
 use Rattle.tally_core.proofs.StepLemmas.{view-found, view-none}
 use Rattle.tally_core.proofs.book.constituencies.answer_on.Goals as goal
 
@@ -49,7 +49,8 @@ returns-in_default-2 c =
     let edition_is = ap (λ (v : View). v.edition) (c.view-2.view_is ∙ seen) in
     let d = decided-seen k con view ask c.in_ok-change.change seen c.in_ok-change.ensures.decided in
     let done = carried-done k c.carry_out.new.ledger c.args.code con ask c.view-2.inside.edition c.in_ok-change.change d.decided c.carry_out.result c.requires.held found c.requires.named edition_is d.is d.decides
-    c.in_default-2.not-Same c.carry_out.ensures in
+    c.in_default-2.not-Same (carried k c.carry_out.new.ledger c.args.code c.view-2.inside.edition c.in_ok-change.change d.decided c.carry_out.result d.is c.carry_out.ensures.reply c.carry_out.ensures.carried_out
+    c.carry_out.ensures.refused c.carry_out.ensures.stays) in
     record { step = done.step; setup = done.setup; held = done.held }
 
 pub unreachable-requires : goal.unreachable-requires

@@ -1,9 +1,9 @@
 use Rattle.std.proofs.Common.{◌≡◌, ◌∙◌, ◌++◌, ◌∷◌, [], Ok, None, sym, ap, subst}
 use Rattle.std.specs.FinMap.{get, insert}
 use Rattle.tally_ledger.specs.Kept.{Kept}
-use Rattle.tally_machine.specs.Lawful.{IsLawful}
-use Rattle.tally_machine.specs.State.{stations_of}
-use Rattle.tally_machine.specs.declared.reply.LodgeReply.TheVariants.{Lodged}
+use Rattle.tally_returns.specs.Lawful.{IsLawful}
+use Rattle.tally_returns.specs.State.{stations_of}
+use Rattle.tally_returns.specs.declared.reply.LodgeReply.TheVariants.{Lodged}
 use Rattle.tally_core.specs.Held.{without}
 use Rattle.tally_core.proofs.LodgeLemmas.{lodged-none}
 use Rattle.tally_core.proofs.StepLemmas.{first-lawful}

@@ -1,5 +1,5 @@
 use Rattle.std.proofs.Common.{◌≡◌, ◌∙◌, Ok, subst}
-use Rattle.tally_machine.specs.State.{stations_of}
+use Rattle.tally_returns.specs.State.{stations_of}
 use Rattle.tally_core.specs.Held.{without}
 use Rattle.tally_core.specs.Keeper.{GivesNext}
 use Rattle.tally_core.proofs.TakenLemmas.{SoFar-below, SoFar-taken, kept-next}

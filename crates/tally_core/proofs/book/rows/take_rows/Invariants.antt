@@ -1,5 +1,5 @@
 use Rattle.std.proofs.Common.{◌≡◌}
-use Rattle.tally_machine.specs.State.{stations_of}
+use Rattle.tally_returns.specs.State.{stations_of}
 use Rattle.tally_core.specs.Held.{without}
 use Rattle.tally_core.proofs.TakenLemmas.{SoFar}
 use Rattle.tally_core.proofs.book.rows.take_rows.Given as goal

@@ -1,8 +1,8 @@
 use Rattle.std.proofs.Common.{◌≡◌, ◌∙◌, ◌++◌, ◌∷◌, [], sym, ap, subst, Ok}
 use Rattle.std.specs.FinMap.{insert}
 use Rattle.std.specs.Option.{option_copied}
-use Rattle.tally_machine.proofs.CountsLemmas.{are_counts-lodged, length-counts}
-use Rattle.tally_machine.specs.declared.reply.LodgeReply.TheVariants.{Lodged}
+use Rattle.tally_returns.proofs.CountsLemmas.{are_counts-lodged, length-counts}
+use Rattle.tally_returns.specs.declared.reply.LodgeReply.TheVariants.{Lodged}
 use Rattle.tally_import.specs.Check.{every_code}
 use Rattle.tally_import.specs.Progress.{Holds, lodged_of}
 use Rattle.tally_import.specs.Totals.{AreTotals}

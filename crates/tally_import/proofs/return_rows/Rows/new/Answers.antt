@@ -3,7 +3,7 @@ use Rattle.std.specs.List.{list_any}
 use Rattle.std.specs.Str.{bytes_eq}
 use Rattle.csv.specs.Records.{fields_of}
 use Rattle.tally_rules.specs.Constituency.{list_codes, station_codes}
-use Rattle.tally_import.specs.Pieces.{AreAll}
+use Rattle.tally_records.specs.Input.{AreAll}
 use Rattle.tally_import.specs.ReturnRows.{IsNext, is_header, text_coming}
 use Rattle.tally_import.specs.declared.check.CheckFault.{CheckFault}
 use Rattle.tally_import.specs.declared.return_rows.Rows.{Rows}

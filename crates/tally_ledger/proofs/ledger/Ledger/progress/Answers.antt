@@ -3,7 +3,7 @@ use Rattle.std.specs.Prelude.{is_some}
 use Rattle.std.specs.FinMap.{get}
 use Rattle.std.proofs.lemmas.List.{map-append, take_more}
 use Rattle.tally_rules.specs.Constituency.{Constituency}
-use Rattle.tally_machine.specs.Progress.{progress_row}
+use Rattle.tally_returns.specs.Progress.{progress_row}
 use Rattle.tally_ledger.specs.Kept.{Kept, state_in}
 use Rattle.tally_ledger.specs.Rows.{returns_of, row_of, views_of}
 use Rattle.tally_ledger.proofs.ChangeLemmas.{held-has, row-is}

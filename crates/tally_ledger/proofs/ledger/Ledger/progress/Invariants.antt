@@ -1,5 +1,5 @@
 use Rattle.std.proofs.Common.{◌≡◌, map, take}
-use Rattle.tally_machine.specs.Progress.{progress_row}
+use Rattle.tally_returns.specs.Progress.{progress_row}
 use Rattle.tally_ledger.specs.Kept.{state_in}
 use Rattle.tally_ledger.proofs.ledger.Ledger.progress.Given as goal
 

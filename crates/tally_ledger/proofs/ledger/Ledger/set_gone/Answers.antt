@@ -3,7 +3,7 @@ use Rattle.std.specs.Prelude.{IsSome, OnErr, OnOk}
 use Rattle.std.specs.FinMap.{get}
 use Rattle.tally_rules.specs.Setup.{constituency_with}
 use Rattle.tally_machine.specs.ConStep.{gone_for_good}
-use Rattle.tally_machine.specs.State.{con_state}
+use Rattle.tally_returns.specs.State.{con_state}
 use Rattle.tally_ledger.specs.Kept.{Kept, state_in, with_change}
 use Rattle.tally_ledger.specs.Rows.{IsTallied, returns_of, views_of}
 use Rattle.tally_ledger.proofs.GoneLemmas.{key_of}

@@ -2,7 +2,7 @@ use Rattle.std.proofs.Common.{◌<◌, ◌+◌, ◌^◌, ◌∙◌, string_bytes
 use Rattle.std.specs.Prelude.{IsSome}
 use Rattle.tally_rules.specs.Setup.{constituency_with}
 use Rattle.tally_machine.specs.ConStep.{open_again}
-use Rattle.tally_machine.specs.State.{con_state}
+use Rattle.tally_returns.specs.State.{con_state}
 use Rattle.tally_ledger.specs.Kept.{Kept, state_in, with_change}
 use Rattle.tally_ledger.specs.Rows.{IsTallied, returns_of, views_of}
 use Rattle.tally_ledger.proofs.ChangeLemmas.{edition-room, kept, note-kept, note-seen, tallied-changed, with_note}

@@ -1,0 +1,22 @@
+//! Tests of `tally_core` and of the crates that its names come from (`tally_machine` among them), which
+//! over their finished proofs are checked once. Nothing here is public, so there are no must-fail edits.
+#![tactic(auto)]
+
+#[cfg(test)]
+mod book;
+#[cfg(test)]
+mod certification;
+#[cfg(test)]
+mod commands;
+#[cfg(test)]
+mod decide;
+#[cfg(test)]
+mod import;
+#[cfg(test)]
+mod lodge;
+#[cfg(test)]
+mod rows;
+#[cfg(test)]
+mod setups;
+#[cfg(test)]
+mod view;

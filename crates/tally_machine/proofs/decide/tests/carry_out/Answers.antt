@@ -1,4 +1,0 @@
-use Rattle.tally_machine.proofs.decide.tests.carry_out.Goals as goal
-
-pub decide_return-requires-clause-lawful : goal.decide_return-requires-clause-lawful
-decide_return-requires-clause-lawful c = c.may_decide.ensures.lawful c.if-not-may_decide.false

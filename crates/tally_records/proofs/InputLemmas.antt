@@ -1,0 +1,43 @@
+-- What came of a text that goes on past the limit.
+use Rattle.std.proofs.Common.{◌≡◌, ◌<◌, ◌+◌, ◌-◌, ◌++◌, ◌∷◌, ◌∙◌, ℕ, suc, List, [], Option, Some, None, length, take, sym, ap, arith, length-append}
+use Rattle.std.specs.Prelude.{IfSome}
+use Rattle.std.specs.Io.KnownBytes.{Consumes}
+use Rattle.std.proofs.lemmas.List.{take-append-le}
+use Rattle.tally_records.specs.Input.{Gave, size_limit}
+use Rattle.tally_records.specs.declared.end.Stop.TheVariants.{TooLong}
+
+past : (limit : ℕ) (text bytes rest : List ℕ) → text ≡ bytes ++ rest → limit < length bytes → (take limit bytes ≡ take limit text) × (limit < length text)
+past limit text bytes rest is more =
+    (sym (ap (take limit) is ∙ take-append-le limit bytes rest (omega arith)), omega (arith, ap length is, length-append bytes rest))
+
+pub Gave-too_long : (text left : Option (List ℕ)) (last : Option (List ℕ)) (bytes cut : List ℕ)
+    → Consumes text left bytes → size_limit < length bytes → cut ≡ take size_limit bytes
+    → IfSome text (λ t. Gave t last cut (Some TooLong))
+Gave-too_long None left last bytes cut given more is = tt
+Gave-too_long (Some t) None last bytes cut given more is = absurd given
+Gave-too_long (Some t) (Some rest) last bytes cut given more is =
+    let h = past size_limit t bytes rest given more in
+    (is ∙ h.0, h.1)
+
+pub take-behind : (xs ys : List ℕ) (k : ℕ) → take (length xs + k) (xs ++ ys) ≡ xs ++ take k ys
+take-behind [] ys k = let same : 0 + k ≡ k = omega arith in ap (λ n. take n ys) same
+take-behind (x ∷ xs) ys k =
+    let more : length (x ∷ xs) + k ≡ suc (length xs + k) = omega arith in
+    ap (λ n. take n (x ∷ (xs ++ ys))) more ∙ ap (λ l. x ∷ l) (take-behind xs ys k)
+
+-- the last byte of those that came was one too many
+pub Fills-too_long : (old_left left : Option (List ℕ)) (old items cut came : List ℕ) (taken n : ℕ)
+    → items ≡ old ++ came → cut ≡ take n items → n + 1 ≡ length items → taken + length came ≡ 16777217 → 0 < length came
+    → ((text : Option (List ℕ)) (bytes : List ℕ) → Consumes text old_left bytes → Consumes text left (bytes ++ came))
+    → (kept : List ℕ) × (cut ≡ old ++ kept)
+    × ((text : Option (List ℕ)) (bytes : List ℕ) → Consumes text old_left bytes → taken ≡ length bytes → IfSome text (λ t. Gave t left (bytes ++ kept) (Some TooLong)))
+Fills-too_long old_left left old items cut came taken n same is one count some consumes = (
+  take (length came - 1) came,
+  is ∙ ap (take n) same ∙ cut_at old n (omega (arith, one, ap length same, length-append old came, some)),
+  (λ text bytes given counted.
+      Gave-too_long text left left (bytes ++ came) (bytes ++ take (length came - 1) came) (consumes text bytes given)
+      (omega (arith, length-append bytes came, count, counted)) (sym (cut_at bytes 16777216 (omega (arith, count, counted, some))))),
+)
+  where
+    cut_at : (xs : List ℕ) (n : ℕ) → n ≡ length xs + (length came - 1) → take n (xs ++ came) ≡ xs ++ take (length came - 1) came
+    cut_at xs n at = ap (λ k. take k (xs ++ came)) at ∙ take-behind xs came (length came - 1)

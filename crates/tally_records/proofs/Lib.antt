@@ -1,0 +1,11 @@
+pub mod FieldLemmas
+pub mod InputLemmas
+pub mod RecordLemmas
+pub mod FrontLemmas
+pub mod PassedLemmas
+pub mod PieceLemmas
+pub mod ComingLemmas
+pub mod StoppedLemmas
+pub mod GivenLemmas
+pub mod WorkLemmas
+pub mod ReadingLemmas

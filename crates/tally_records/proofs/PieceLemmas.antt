@@ -1,0 +1,532 @@
+-- What a piece of a text tells of the text's records.
+use Rattle.std.proofs.Common.{◌≡◌, ◌<◌, ◌≤◌, ◌+◌, ◌-◌, ◌++◌, ◌∷◌, ◌∙◌, ℕ, zero, suc, List, [], Bool, true, false, Option, Some, None, length, take, drop, get_or, refl, sym, ap, subst, arith, add-one, length-append}
+use Rattle.std.specs.Prelude.{◌==◌, ◌||◌, ◌⊎◌, if◌then◌else◌, is_some, nat_le}
+use Rattle.std.proofs.Common.{inl, inr}
+use Rattle.std.proofs.lemmas.Bool.{eqb-true, leb-true}
+use Rattle.std.proofs.lemmas.Bool.Decides.{nat_tests}
+use Rattle.std.proofs.lemmas.List.{append-nil}
+use Rattle.csv.specs.Machine.{Read, step, is_end, ends_at_end, ends_with, after_end, in_field, start_field, start_record, next_record, fields_after, field_after, carriage_return}
+use Rattle.csv.specs.Reading.{records_from, records_next}
+use Rattle.csv.specs.declared.parser.Action.{Action}
+use Rattle.csv.specs.declared.parser.Config.{Config}
+use Rattle.csv.specs.declared.parser.State.{State}
+use Rattle.csv.specs.declared.parser.State.TheVariants as st
+use Rattle.csv.specs.declared.parser.Terminator.TheVariants as term
+use Rattle.tally_records.specs.Pieces.{is_line_end, ends_line, IsPiece}
+use Rattle.tally_records.specs.declared.end.End.{End}
+use Rattle.tally_records.specs.Separator.{separator, config}
+use Rattle.tally_records.specs.declared.separator.Sep.{Sep}
+use Rattle.tally_records.specs.declared.separator.Sep.TheVariants.{Comma, Semicolon}
+use Rattle.tally_records.proofs.RecordLemmas.{next_record-after, next_record-takes, records_from-enough}
+use Rattle.tally_records.proofs.FrontLemmas.{next_record-ends_before, records_from-nothing}
+
+-- ---- lists
+
+-- the text ends as the whole of it does
+ends_line-behind : (ws zs : List ℕ) → ends_line (ws ++ zs) ≡ true → ends_line zs ≡ true
+ends_line-behind [] zs e = e
+ends_line-behind (w ∷ ws) [] e = refl
+ends_line-behind (w ∷ []) (z ∷ zs) e = e
+ends_line-behind (w ∷ v ∷ ws) (z ∷ zs) e = ends_line-behind (v ∷ ws) (z ∷ zs) e
+
+pub drop-nothing : {X : Type 0} (k : ℕ) → drop {A = X} k [] ≡ []
+drop-nothing zero = refl
+drop-nothing (suc k) = refl
+
+-- ---- records in turn
+
+-- every record from a state
+abbrev pub all : Config → State → List ℕ → List (List (List ℕ))
+all cfg s xs = records_from cfg (length xs + 1) s xs
+
+pub all-next : (cfg : Config) (s : State) (xs : List ℕ) → ends_at_end s ≡ false → all cfg s xs ≡ records_next (all cfg) (next_record cfg s [] [] xs)
+unfolding records_from
+all-next cfg s xs between = rw (add-one (length xs)) (go (next_record cfg s [] [] xs) refl)
+  where
+    go : (o : Option Read) → next_record cfg s [] [] xs ≡ o → records_next (records_from cfg (length xs)) o ≡ records_next (all cfg) o
+    go None e = refl
+    go (Some p) e =
+        let less = next_record-takes cfg s xs p between e in
+        let after = next_record-after cfg s [] [] xs p e in
+        ap (λ rest. p.0 ∷ rest) (records_from-enough cfg (length xs) (length p.2 + 1) p.1 p.2 after.1 less (omega arith))
+
+all-nothing : (cfg : Config) (s : State) → ends_at_end s ≡ false → all cfg s [] ≡ []
+all-nothing cfg s between = records_from-nothing cfg 1 s between
+
+-- what is left after a record is the end of the text
+next_record-behind : (cfg : Config) (s : State) (fields : List (List ℕ)) (field xs : List ℕ) (p : Read)
+    → next_record cfg s fields field xs ≡ Some p → (ws : List ℕ) × (xs ≡ ws ++ p.2)
+unfolding next_record
+next_record-behind cfg s fields field [] p e = at_end (ends_at_end s) e
+  where
+    at_end : (b : Bool) → ◌≡◌ {A = Option Read} (if b then Some (fields ++ (field ∷ []), st.StartRecord, []) else None) (Some p) → (ws : List ℕ) × ([] ≡ ws ++ p.2)
+    at_end true e = let is : ◌≡◌ {A = Read} (fields ++ (field ∷ []), st.StartRecord, []) p = cc in ([], ap (λ r. r.2) is)
+    at_end false e = cc
+next_record-behind cfg s fields field (c ∷ rest) p e =
+    in_text (is_end (step cfg s c).1) e (next_record-behind cfg (step cfg s c).0 (fields_after (step cfg s c).1 fields field) (field_after (step cfg s c).1 c field) rest p)
+  where
+    more : Option Read
+    more = next_record cfg (step cfg s c).0 (fields_after (step cfg s c).1 fields field) (field_after (step cfg s c).1 c field) rest
+
+    in_text : (b : Bool)
+        → (if b then Some (fields_after (step cfg s c).1 fields field, (step cfg s c).0, rest)
+        else next_record cfg (step cfg s c).0 (fields_after (step cfg s c).1 fields field) (field_after (step cfg s c).1 c field) rest) ≡ Some p
+        → (more ≡ Some p → (ws : List ℕ) × (rest ≡ ws ++ p.2))
+        → (ws : List ℕ) × (c ∷ rest ≡ ws ++ p.2)
+    in_text true e later =
+        let is : ◌≡◌ {A = Read} (fields_after (step cfg s c).1 fields field, (step cfg s c).0, rest) p = cc in
+        (c ∷ [], ap (λ r. c ∷ r.2) is)
+    in_text false e later = let behind = later e in (c ∷ behind.0, ap (λ l. c ∷ l) behind.1)
+
+-- A record in front of another one is the first of the text whatever follows; behind it stand these bytes.
+abbrev pub Steps : Config → State → List ℕ → ℕ → List (List ℕ) → List (List (List ℕ)) → Type 0
+Steps cfg s ys d a others = (s2 : State) × (zs : List ℕ) × (ends_at_end s2 ≡ false) × (ends_line ys ≡ true → ends_line zs ≡ true)
+    × (all cfg s2 (zs ++ d ∷ []) ≡ others) × ((rest : List ℕ) → all cfg s (ys ++ rest) ≡ a ∷ all cfg s2 (zs ++ rest))
+
+pub all-steps : (cfg : Config) (s : State) (ys : List ℕ) (d : ℕ) (a b : List (List ℕ)) (more : List (List (List ℕ)))
+    → ends_at_end s ≡ false → all cfg s (ys ++ d ∷ []) ≡ a ∷ b ∷ more → Steps cfg s ys d a (b ∷ more)
+all-steps cfg s ys d a b more between is = go (next_record cfg s [] [] (ys ++ d ∷ [])) refl
+  where
+    first : (p : Read) → next_record cfg s [] [] (ys ++ d ∷ []) ≡ Some p → p.0 ∷ all cfg p.1 p.2 ≡ a ∷ b ∷ more
+    first p e = sym (all-next cfg s (ys ++ d ∷ []) between ∙ ap (records_next (all cfg)) e) ∙ is
+
+    under : (p : Read) → next_record cfg s [] [] (ys ++ d ∷ []) ≡ Some p → 0 < length p.2 → Steps cfg s ys d a (b ∷ more)
+    under p e some =
+        let ends = next_record-ends_before cfg s [] [] ys d p e some in
+        let zs = ends.0 in
+        let after = next_record-after cfg s [] [] (ys ++ d ∷ []) p e in
+        let same = first p e in
+        let is_first : p.0 ≡ a = cc same in
+        let others : all cfg p.1 p.2 ≡ b ∷ more = cc same in
+        let behind = next_record-behind cfg s [] [] (ys ++ []) (p.0, p.1, zs ++ []) (ends.2 []) in
+        let split : ys ≡ behind.0 ++ zs = sym (append-nil ys) ∙ behind.1 ∙ ap (λ l. behind.0 ++ l) (append-nil zs) in (
+          p.1,
+          zs,
+          after.1,
+          (λ line. ends_line-behind behind.0 zs (ap ends_line (sym split) ∙ line)),
+          ap (all cfg p.1) (sym ends.1) ∙ others,
+          (λ rest. all-next cfg s (ys ++ rest) between ∙ ap (records_next (all cfg)) (ends.2 rest) ∙ ap (λ r. r ∷ all cfg p.1 (zs ++ rest)) is_first),
+        )
+
+    left : (p : Read) (behind : List ℕ) → p.2 ≡ behind → next_record cfg s [] [] (ys ++ d ∷ []) ≡ Some p → Steps cfg s ys d a (b ∷ more)
+    left p [] none e =
+        let after = next_record-after cfg s [] [] (ys ++ d ∷ []) p e in
+        let last : all cfg p.1 p.2 ≡ [] = ap (all cfg p.1) none ∙ all-nothing cfg p.1 after.1 in
+        let same = first p e in
+        let others : all cfg p.1 p.2 ≡ b ∷ more = cc same in
+        let no : [] ≡ b ∷ more = sym last ∙ others in
+        cc no
+    left p (c ∷ behind) some e = under p e (subst (λ l. 0 < length l) (sym some) (omega arith))
+
+    go : (o : Option Read) → next_record cfg s [] [] (ys ++ d ∷ []) ≡ o → Steps cfg s ys d a (b ∷ more)
+    go None e =
+        let none : all cfg s (ys ++ d ∷ []) ≡ [] = all-next cfg s (ys ++ d ∷ []) between ∙ ap (records_next (all cfg)) e in
+        let no : [] ≡ a ∷ b ∷ more = sym none ∙ is in
+        cc no
+    go (Some p) e = left p p.2 refl e
+
+-- Behind so many records of a text these bytes stand, whatever follows.
+abbrev pub Passes : Config → State → List ℕ → ℕ → ℕ → List (List (List ℕ)) → Type 0
+Passes cfg s ys d k others = (s2 : State) × (zs : List ℕ) × (ends_at_end s2 ≡ false) × (ends_line ys ≡ true → ends_line zs ≡ true)
+    × (all cfg s2 (zs ++ d ∷ []) ≡ others) × ((rest : List ℕ) → drop k (all cfg s (ys ++ rest)) ≡ all cfg s2 (zs ++ rest))
+
+pub all-passes : (cfg : Config) (k : ℕ) (s : State) (ys : List ℕ) (d : ℕ) (a : List (List ℕ)) (more : List (List (List ℕ)))
+    → ends_at_end s ≡ false → drop k (all cfg s (ys ++ d ∷ [])) ≡ a ∷ more → Passes cfg s ys d k (a ∷ more)
+all-passes cfg zero s ys d a more between is = (s, ys, between, (λ line. line), is, (λ rest. refl))
+all-passes cfg (suc k) s ys d a more between is =
+    go (λ s2 zs. all-passes cfg k s2 zs d a more) (all cfg s (ys ++ d ∷ [])) refl is
+  where
+    Later : Type 0
+    Later = (s2 : State) (zs : List ℕ) → ends_at_end s2 ≡ false → drop k (all cfg s2 (zs ++ d ∷ [])) ≡ a ∷ more → Passes cfg s2 zs d k (a ∷ more)
+
+    go : Later → (rows : List (List (List ℕ))) → all cfg s (ys ++ d ∷ []) ≡ rows → drop (suc k) rows ≡ a ∷ more → Passes cfg s ys d (suc k) (a ∷ more)
+    go later [] e same = cc same
+    go later (r ∷ []) e same = let no : [] ≡ a ∷ more = sym (drop-nothing k) ∙ same in cc no
+    go later (r ∷ q ∷ rows) e same =
+        let one = all-steps cfg s ys d r q rows between e in
+        let others = later one.0 one.1 one.2 (ap (drop k) one.4 ∙ same) in
+        (others.0, others.1, others.2, (λ line. others.3 (one.3 line)), others.4, (λ rest. ap (drop (suc k)) (one.5 rest) ∙ others.5 rest))
+
+-- ---- the records of a returns' text
+
+-- with a field begun behind it each text has a record
+next-found : (sep : Sep) (s : State) (fields : List (List ℕ)) (field xs : List ℕ)
+    → next_record (config sep) s fields field (xs ++ separator sep ∷ []) ≡ None → ⊥
+unfolding next_record
+next-found Comma st.StartRecord fields field [] e = cc e
+next-found Comma st.StartField fields field [] e = cc e
+next-found Comma st.InField fields field [] e = cc e
+next-found Comma st.InQuoted fields field [] e = cc e
+next-found Comma st.AfterQuote fields field [] e = cc e
+next-found Comma st.InEscape fields field [] e = cc e
+next-found Comma st.InComment fields field [] e = cc e
+next-found Comma st.AfterCr fields field [] e = cc e
+next-found Semicolon st.StartRecord fields field [] e = cc e
+next-found Semicolon st.StartField fields field [] e = cc e
+next-found Semicolon st.InField fields field [] e = cc e
+next-found Semicolon st.InQuoted fields field [] e = cc e
+next-found Semicolon st.AfterQuote fields field [] e = cc e
+next-found Semicolon st.InEscape fields field [] e = cc e
+next-found Semicolon st.InComment fields field [] e = cc e
+next-found Semicolon st.AfterCr fields field [] e = cc e
+next-found sep s fields field (c ∷ xs) e =
+    go (is_end (step (config sep) s c).1) e
+    (next-found sep (step (config sep) s c).0 (fields_after (step (config sep) s c).1 fields field) (field_after (step (config sep) s c).1 c field) xs)
+  where
+    more : Option Read
+    more = next_record (config sep) (step (config sep) s c).0 (fields_after (step (config sep) s c).1 fields field) (field_after (step (config sep) s c).1 c field) (xs ++ separator sep ∷ [])
+
+    go : (b : Bool) → (if b then Some (fields_after (step (config sep) s c).1 fields field, (step (config sep) s c).0, xs ++ separator sep ∷ []) else more) ≡ None
+        → (more ≡ None → ⊥) → ⊥
+    go true same later = cc same
+    go false same later = later same
+
+-- there is a first one
+abbrev pub HasFirst : List (List (List ℕ)) → Type 0
+HasFirst rows = (a : List (List ℕ)) × (more : List (List (List ℕ))) × (rows ≡ a ∷ more)
+
+pub all-found : (sep : Sep) (s : State) (xs : List ℕ) → ends_at_end s ≡ false → HasFirst (all (config sep) s (xs ++ separator sep ∷ []))
+all-found sep s xs between = go (next_record (config sep) s [] [] (xs ++ separator sep ∷ [])) refl
+  where
+    go : (o : Option Read) → next_record (config sep) s [] [] (xs ++ separator sep ∷ []) ≡ o → HasFirst (all (config sep) s (xs ++ separator sep ∷ []))
+    go None e = absurd (next-found sep s [] [] xs e)
+    go (Some p) e = (p.0, all (config sep) p.1 p.2, all-next (config sep) s (xs ++ separator sep ∷ []) between ∙ ap (records_next (all (config sep))) e)
+
+-- ---- where a line ends
+
+abbrev pub is_plain : State → Bool
+is_plain st.InComment = false
+is_plain st.StartRecord = true
+is_plain st.StartField = true
+is_plain st.InField = true
+is_plain st.InQuoted = true
+is_plain st.AfterQuote = true
+is_plain st.InEscape = true
+is_plain st.AfterCr = true
+
+plain-choose : (b : Bool) (x y : State × Action) → is_plain x.0 ≡ true → is_plain y.0 ≡ true → is_plain (if b then x else y).0 ≡ true
+plain-choose true x y p q = p
+plain-choose false x y p q = q
+
+plain-end : (c : ℕ) → is_plain (after_end term.CRLF c) ≡ true
+plain-end c = go (c == carriage_return)
+  where
+    go : (b : Bool) → is_plain (if b then st.AfterCr else st.StartRecord) ≡ true
+    go true = refl
+    go false = refl
+
+plain-field : (sep : Sep) (c : ℕ) → is_plain (in_field (config sep) c).0 ≡ true
+plain-field sep c = plain-choose (c == separator sep) _ _ refl (plain-choose (ends_with term.CRLF c) _ _ (plain-end c) refl)
+
+plain-start : (sep : Sep) (c : ℕ) → is_plain (start_field (config sep) c).0 ≡ true
+plain-start sep c = plain-choose (c == 34) _ _ refl (plain-field sep c)
+
+plain-record : (sep : Sep) (c : ℕ) → is_plain (start_record (config sep) c).0 ≡ true
+plain-record sep c = plain-choose (ends_with term.CRLF c) _ _ refl (plain-start sep c)
+
+-- no text of returns has a comment
+plain-step : (sep : Sep) (s : State) (c : ℕ) → is_plain s ≡ true → is_plain (step (config sep) s c).0 ≡ true
+plain-step sep st.StartRecord c plain = plain-record sep c
+plain-step sep st.StartField c plain = plain-start sep c
+plain-step sep st.InField c plain = plain-field sep c
+plain-step sep st.InQuoted c plain = plain-choose (c == 34) _ _ refl refl
+plain-step sep st.InEscape c plain = refl
+plain-step sep st.AfterQuote c plain = plain-choose (c == 34) _ _ refl (plain-field sep c)
+plain-step sep st.InComment c plain = cc plain
+plain-step sep st.AfterCr c plain = plain-choose (c == 10) _ _ refl (plain-record sep c)
+
+plain-between : (s : State) → ends_at_end s ≡ false → is_plain s ≡ true
+plain-between st.StartRecord between = refl
+plain-between st.StartField between = cc
+plain-between st.InField between = cc
+plain-between st.InQuoted between = cc
+plain-between st.AfterQuote between = cc
+plain-between st.InEscape between = cc
+plain-between st.InComment between = cc between
+plain-between st.AfterCr between = refl
+
+-- a record of two empty fields, which a separator began
+abbrev pub nothing : List (List ℕ)
+nothing = [] ∷ [] ∷ []
+
+two-fields : (fields : List (List ℕ)) (field : List ℕ) → (fields ++ field ∷ []) ++ [] ∷ [] ≡ nothing → (fields ≡ []) × (field ≡ [])
+two-fields [] field e = (refl, cc e)
+two-fields (x ∷ fields) field e = absurd (omega (arith, ap length e, length-append (fields ++ field ∷ []) ([] ∷ []), length-append fields (field ∷ [])))
+
+no-quote : (fields : List (List ℕ)) (field : List ℕ) (c d : ℕ) → fields ++ ((field ++ c ∷ []) ++ d ∷ []) ∷ [] ≡ nothing → ⊥
+no-quote [] field c d e = omega (arith, ap length e)
+no-quote (x ∷ []) field c d e = let last : (field ++ c ∷ []) ++ d ∷ [] ≡ [] = cc e in some field c last
+  where
+    some : (xs : List ℕ) (c : ℕ) → (xs ++ c ∷ []) ++ d ∷ [] ≡ [] → ⊥
+    some [] c same = cc same
+    some (y ∷ xs) c same = cc same
+no-quote (x ∷ y ∷ fields) field c d e = omega (arith, ap length e, length-append fields (((field ++ c ∷ []) ++ d ∷ []) ∷ []))
+
+-- Behind a line end that a separator would begin nothing behind the machine begins anew.
+abbrev pub BeginsAnew : Sep → State → List (List ℕ) → List ℕ → List ℕ → Type 0
+BeginsAnew sep s fields field xs = (rest : List ℕ) → next_record (config sep) s fields field (xs ++ rest) ≡ next_record (config sep) st.StartRecord [] [] rest
+
+begins : (sep : Sep) (s : State) (fields : List (List ℕ)) (field xs rest : List ℕ)
+    → (fields ++ field ∷ []) ++ [] ∷ [] ≡ nothing
+    → next_record (config sep) s fields field xs ≡ next_record (config sep) st.StartRecord fields field rest
+    → next_record (config sep) s fields field xs ≡ next_record (config sep) st.StartRecord [] [] rest
+begins sep s fields field xs rest same e =
+    let are = two-fields fields field same in
+    e ∙ ap (λ f. next_record (config sep) st.StartRecord f field rest) are.0 ∙ ap (λ f. next_record (config sep) st.StartRecord [] f rest) are.1
+
+at-carriage : (sep : Sep) (s : State) (fields : List (List ℕ)) (field : List ℕ) (p : Read)
+    → is_plain s ≡ true → next_record (config sep) s fields field (13 ∷ separator sep ∷ []) ≡ Some p → p.2 ≡ [] → p.0 ≡ nothing
+    → BeginsAnew sep s fields field (13 ∷ [])
+unfolding next_record
+at-carriage Comma st.StartRecord fields field p plain e last none = λ rest.
+    let is : ◌≡◌ {A = Read} ((fields ++ (field ∷ [])) ++ ([] ∷ []), st.StartRecord, []) p = cc in
+    begins Comma st.StartRecord fields field (13 ∷ rest) rest (ap (λ r. r.0) is ∙ none) refl
+at-carriage Comma st.AfterCr fields field p plain e last none = λ rest.
+    let is : ◌≡◌ {A = Read} ((fields ++ (field ∷ [])) ++ ([] ∷ []), st.StartRecord, []) p = cc in
+    begins Comma st.AfterCr fields field (13 ∷ rest) rest (ap (λ r. r.0) is ∙ none) refl
+at-carriage Comma st.StartField fields field p plain e last none =
+    let is : ◌≡◌ {A = Read} (fields ++ (field ∷ []), st.AfterCr, 44 ∷ []) p = cc in
+    let no : 44 ∷ [] ≡ [] = ap (λ r. r.2) is ∙ last in cc no
+at-carriage Comma st.InField fields field p plain e last none =
+    let is : ◌≡◌ {A = Read} (fields ++ (field ∷ []), st.AfterCr, 44 ∷ []) p = cc in
+    let no : 44 ∷ [] ≡ [] = ap (λ r. r.2) is ∙ last in cc no
+at-carriage Comma st.AfterQuote fields field p plain e last none =
+    let is : ◌≡◌ {A = Read} (fields ++ (field ∷ []), st.AfterCr, 44 ∷ []) p = cc in
+    let no : 44 ∷ [] ≡ [] = ap (λ r. r.2) is ∙ last in cc no
+at-carriage Comma st.InQuoted fields field p plain e last none =
+    let is : ◌≡◌ {A = Read} (fields ++ (((field ++ (13 ∷ [])) ++ (44 ∷ [])) ∷ []), st.StartRecord, []) p = cc in
+    absurd (no-quote fields field 13 44 (ap (λ r. r.0) is ∙ none))
+at-carriage Comma st.InEscape fields field p plain e last none =
+    let is : ◌≡◌ {A = Read} (fields ++ (((field ++ (13 ∷ [])) ++ (44 ∷ [])) ∷ []), st.StartRecord, []) p = cc in
+    absurd (no-quote fields field 13 44 (ap (λ r. r.0) is ∙ none))
+at-carriage Comma st.InComment fields field p plain e last none = cc plain
+at-carriage Semicolon st.StartRecord fields field p plain e last none = λ rest.
+    let is : ◌≡◌ {A = Read} ((fields ++ (field ∷ [])) ++ ([] ∷ []), st.StartRecord, []) p = cc in
+    begins Semicolon st.StartRecord fields field (13 ∷ rest) rest (ap (λ r. r.0) is ∙ none) refl
+at-carriage Semicolon st.AfterCr fields field p plain e last none = λ rest.
+    let is : ◌≡◌ {A = Read} ((fields ++ (field ∷ [])) ++ ([] ∷ []), st.StartRecord, []) p = cc in
+    begins Semicolon st.AfterCr fields field (13 ∷ rest) rest (ap (λ r. r.0) is ∙ none) refl
+at-carriage Semicolon st.StartField fields field p plain e last none =
+    let is : ◌≡◌ {A = Read} (fields ++ (field ∷ []), st.AfterCr, 59 ∷ []) p = cc in
+    let no : 59 ∷ [] ≡ [] = ap (λ r. r.2) is ∙ last in cc no
+at-carriage Semicolon st.InField fields field p plain e last none =
+    let is : ◌≡◌ {A = Read} (fields ++ (field ∷ []), st.AfterCr, 59 ∷ []) p = cc in
+    let no : 59 ∷ [] ≡ [] = ap (λ r. r.2) is ∙ last in cc no
+at-carriage Semicolon st.AfterQuote fields field p plain e last none =
+    let is : ◌≡◌ {A = Read} (fields ++ (field ∷ []), st.AfterCr, 59 ∷ []) p = cc in
+    let no : 59 ∷ [] ≡ [] = ap (λ r. r.2) is ∙ last in cc no
+at-carriage Semicolon st.InQuoted fields field p plain e last none =
+    let is : ◌≡◌ {A = Read} (fields ++ (((field ++ (13 ∷ [])) ++ (59 ∷ [])) ∷ []), st.StartRecord, []) p = cc in
+    absurd (no-quote fields field 13 59 (ap (λ r. r.0) is ∙ none))
+at-carriage Semicolon st.InEscape fields field p plain e last none =
+    let is : ◌≡◌ {A = Read} (fields ++ (((field ++ (13 ∷ [])) ++ (59 ∷ [])) ∷ []), st.StartRecord, []) p = cc in
+    absurd (no-quote fields field 13 59 (ap (λ r. r.0) is ∙ none))
+at-carriage Semicolon st.InComment fields field p plain e last none = cc plain
+
+at-feed : (sep : Sep) (s : State) (fields : List (List ℕ)) (field : List ℕ) (p : Read)
+    → is_plain s ≡ true → next_record (config sep) s fields field (10 ∷ separator sep ∷ []) ≡ Some p → p.2 ≡ [] → p.0 ≡ nothing
+    → BeginsAnew sep s fields field (10 ∷ [])
+unfolding next_record
+at-feed Comma st.StartRecord fields field p plain e last none = λ rest.
+    let is : ◌≡◌ {A = Read} ((fields ++ (field ∷ [])) ++ ([] ∷ []), st.StartRecord, []) p = cc in
+    begins Comma st.StartRecord fields field (10 ∷ rest) rest (ap (λ r. r.0) is ∙ none) refl
+at-feed Comma st.AfterCr fields field p plain e last none = λ rest.
+    let is : ◌≡◌ {A = Read} ((fields ++ (field ∷ [])) ++ ([] ∷ []), st.StartRecord, []) p = cc in
+    begins Comma st.AfterCr fields field (10 ∷ rest) rest (ap (λ r. r.0) is ∙ none) refl
+at-feed Comma st.StartField fields field p plain e last none =
+    let is : ◌≡◌ {A = Read} (fields ++ (field ∷ []), st.StartRecord, 44 ∷ []) p = cc in
+    let no : 44 ∷ [] ≡ [] = ap (λ r. r.2) is ∙ last in cc no
+at-feed Comma st.InField fields field p plain e last none =
+    let is : ◌≡◌ {A = Read} (fields ++ (field ∷ []), st.StartRecord, 44 ∷ []) p = cc in
+    let no : 44 ∷ [] ≡ [] = ap (λ r. r.2) is ∙ last in cc no
+at-feed Comma st.AfterQuote fields field p plain e last none =
+    let is : ◌≡◌ {A = Read} (fields ++ (field ∷ []), st.StartRecord, 44 ∷ []) p = cc in
+    let no : 44 ∷ [] ≡ [] = ap (λ r. r.2) is ∙ last in cc no
+at-feed Comma st.InQuoted fields field p plain e last none =
+    let is : ◌≡◌ {A = Read} (fields ++ (((field ++ (10 ∷ [])) ++ (44 ∷ [])) ∷ []), st.StartRecord, []) p = cc in
+    absurd (no-quote fields field 10 44 (ap (λ r. r.0) is ∙ none))
+at-feed Comma st.InEscape fields field p plain e last none =
+    let is : ◌≡◌ {A = Read} (fields ++ (((field ++ (10 ∷ [])) ++ (44 ∷ [])) ∷ []), st.StartRecord, []) p = cc in
+    absurd (no-quote fields field 10 44 (ap (λ r. r.0) is ∙ none))
+at-feed Comma st.InComment fields field p plain e last none = cc plain
+at-feed Semicolon st.StartRecord fields field p plain e last none = λ rest.
+    let is : ◌≡◌ {A = Read} ((fields ++ (field ∷ [])) ++ ([] ∷ []), st.StartRecord, []) p = cc in
+    begins Semicolon st.StartRecord fields field (10 ∷ rest) rest (ap (λ r. r.0) is ∙ none) refl
+at-feed Semicolon st.AfterCr fields field p plain e last none = λ rest.
+    let is : ◌≡◌ {A = Read} ((fields ++ (field ∷ [])) ++ ([] ∷ []), st.StartRecord, []) p = cc in
+    begins Semicolon st.AfterCr fields field (10 ∷ rest) rest (ap (λ r. r.0) is ∙ none) refl
+at-feed Semicolon st.StartField fields field p plain e last none =
+    let is : ◌≡◌ {A = Read} (fields ++ (field ∷ []), st.StartRecord, 59 ∷ []) p = cc in
+    let no : 59 ∷ [] ≡ [] = ap (λ r. r.2) is ∙ last in cc no
+at-feed Semicolon st.InField fields field p plain e last none =
+    let is : ◌≡◌ {A = Read} (fields ++ (field ∷ []), st.StartRecord, 59 ∷ []) p = cc in
+    let no : 59 ∷ [] ≡ [] = ap (λ r. r.2) is ∙ last in cc no
+at-feed Semicolon st.AfterQuote fields field p plain e last none =
+    let is : ◌≡◌ {A = Read} (fields ++ (field ∷ []), st.StartRecord, 59 ∷ []) p = cc in
+    let no : 59 ∷ [] ≡ [] = ap (λ r. r.2) is ∙ last in cc no
+at-feed Semicolon st.InQuoted fields field p plain e last none =
+    let is : ◌≡◌ {A = Read} (fields ++ (((field ++ (10 ∷ [])) ++ (59 ∷ [])) ∷ []), st.StartRecord, []) p = cc in
+    absurd (no-quote fields field 10 59 (ap (λ r. r.0) is ∙ none))
+at-feed Semicolon st.InEscape fields field p plain e last none =
+    let is : ◌≡◌ {A = Read} (fields ++ (((field ++ (10 ∷ [])) ++ (59 ∷ [])) ∷ []), st.StartRecord, []) p = cc in
+    absurd (no-quote fields field 10 59 (ap (λ r. r.0) is ∙ none))
+at-feed Semicolon st.InComment fields field p plain e last none = cc plain
+
+pub line-end : (c : ℕ) → is_line_end c ≡ true → (c ≡ 13) ⊎ (c ≡ 10)
+line-end c e = go (c == 13) refl
+  where
+    go : (b : Bool) → (c == 13) ≡ b → (c ≡ 13) ⊎ (c ≡ 10)
+    go true is = inl (eqb-true _ _ is)
+    go false is = inr (eqb-true _ _ (sym (ap (λ b. b || (c == 10)) is) ∙ e))
+
+at-line-end : (sep : Sep) (s : State) (fields : List (List ℕ)) (field : List ℕ) (p : Read) (c : ℕ)
+    → is_line_end c ≡ true → is_plain s ≡ true → next_record (config sep) s fields field (c ∷ separator sep ∷ []) ≡ Some p → p.2 ≡ [] → p.0 ≡ nothing
+    → BeginsAnew sep s fields field (c ∷ [])
+at-line-end sep s fields field p c line plain e last none = go (line-end c line)
+  where
+    go : (c ≡ 13) ⊎ (c ≡ 10) → BeginsAnew sep s fields field (c ∷ [])
+    go (inl is) = subst (λ b. BeginsAnew sep s fields field (b ∷ [])) (sym is)
+        (at-carriage sep s fields field p plain (subst (λ b. next_record (config sep) s fields field (b ∷ separator sep ∷ []) ≡ Some p) is e) last none)
+    go (inr is) = subst (λ b. BeginsAnew sep s fields field (b ∷ [])) (sym is)
+        (at-feed sep s fields field p plain (subst (λ b. next_record (config sep) s fields field (b ∷ separator sep ∷ []) ≡ Some p) is e) last none)
+
+-- So it does behind all bytes that end with a line, where a separator behind them begins nothing and no record ended in them.
+anew-inside : (sep : Sep) (s : State) (fields : List (List ℕ)) (field : List ℕ) (p : Read) (c : ℕ) (ys : List ℕ)
+    → ends_line (c ∷ ys) ≡ true → is_plain s ≡ true → next_record (config sep) s fields field (c ∷ (ys ++ separator sep ∷ [])) ≡ Some p → p.2 ≡ [] → p.0 ≡ nothing
+    → BeginsAnew sep s fields field (c ∷ ys)
+unfolding next_record
+anew-inside sep s fields field p c [] line plain e last none = at-line-end sep s fields field p c line plain e last none
+anew-inside sep s fields field p c (d ∷ ys) line plain e last none =
+    go (is_end (step (config sep) s c).1) e
+    (λ same. anew-inside sep (step (config sep) s c).0 (fields_after (step (config sep) s c).1 fields field) (field_after (step (config sep) s c).1 c field) p d ys
+    line (plain-step sep s c plain) same last none)
+  where
+    now : List ℕ → Option Read
+    now text = Some (fields_after (step (config sep) s c).1 fields field, (step (config sep) s c).0, text)
+
+    more : List ℕ → Option Read
+    more text = next_record (config sep) (step (config sep) s c).0 (fields_after (step (config sep) s c).1 fields field) (field_after (step (config sep) s c).1 c field) text
+
+    go : (b : Bool) → (if b then now (d ∷ (ys ++ separator sep ∷ [])) else more (d ∷ (ys ++ separator sep ∷ []))) ≡ Some p
+        → (more (d ∷ (ys ++ separator sep ∷ [])) ≡ Some p → BeginsAnew sep (step (config sep) s c).0 (fields_after (step (config sep) s c).1 fields field) (field_after (step (config sep) s c).1 c field) (d ∷ ys))
+        → (rest : List ℕ) → (if b then now (d ∷ (ys ++ rest)) else more (d ∷ (ys ++ rest))) ≡ next_record (config sep) st.StartRecord [] [] rest
+    go true same later =
+        let is : ◌≡◌ {A = Read} (fields_after (step (config sep) s c).1 fields field, (step (config sep) s c).0, d ∷ (ys ++ separator sep ∷ [])) p = cc in
+        let no : d ∷ (ys ++ separator sep ∷ []) ≡ [] = ap (λ r. r.2) is ∙ last in
+        cc no
+    go false same later = later same
+
+-- between two records a text reads alike
+next-between : (sep : Sep) (s : State) (rest : List ℕ) → ends_at_end s ≡ false → next_record (config sep) s [] [] rest ≡ next_record (config sep) st.StartRecord [] [] rest
+unfolding next_record
+next-between sep st.StartRecord rest between = refl
+next-between sep st.StartField rest between = cc
+next-between sep st.InField rest between = cc
+next-between sep st.InQuoted rest between = cc
+next-between sep st.AfterQuote rest between = cc
+next-between sep st.InEscape rest between = cc
+next-between sep st.InComment rest between = cc
+next-between sep st.AfterCr [] between = refl
+next-between sep st.AfterCr (c ∷ rest) between = go (c == 10) refl
+  where
+    go : (b : Bool) → (c == 10) ≡ b
+        → next_record (config sep) st.AfterCr [] [] (c ∷ rest) ≡ next_record (config sep) st.StartRecord [] [] (c ∷ rest)
+    go true is = let same = eqb-true _ _ is in rw same refl
+    go false is = rw is refl
+
+-- Behind a piece that ends with a line, and all of whose records but one that a separator begins were passed over, the text begins anew.
+pub all-anew : (sep : Sep) (k : ℕ) (s : State) (ys : List ℕ)
+    → ends_at_end s ≡ false → ends_line ys ≡ true → drop k (all (config sep) s (ys ++ separator sep ∷ [])) ≡ nothing ∷ []
+    → (rest : List ℕ) → drop k (all (config sep) s (ys ++ rest)) ≡ all (config sep) st.StartRecord rest
+all-anew sep k s ys between line is rest =
+    passed.5 rest ∙ all-next cfg s2 (zs ++ rest) passed.2 ∙ ap (records_next (all cfg)) anew ∙ sym (all-next cfg st.StartRecord rest refl)
+  where
+    cfg : Config
+    cfg = config sep
+
+    passed : Passes cfg s ys (separator sep) k (nothing ∷ [])
+    passed = all-passes cfg k s ys (separator sep) nothing [] between is
+
+    s2 : State
+    s2 = passed.0
+
+    zs : List ℕ
+    zs = passed.1
+
+    last : (p : Read) → next_record cfg s2 [] [] (zs ++ separator sep ∷ []) ≡ Some p → (p.2 ≡ []) × (p.0 ≡ nothing)
+    last p e = (go p.2 refl, cc same)
+      where
+        same : p.0 ∷ all cfg p.1 p.2 ≡ nothing ∷ []
+        same = sym (all-next cfg s2 (zs ++ separator sep ∷ []) passed.2 ∙ ap (records_next (all cfg)) e) ∙ passed.4
+
+        none : all cfg p.1 p.2 ≡ []
+        none = cc same
+
+        after : ends_at_end p.1 ≡ false
+        after = (next_record-after cfg s2 [] [] (zs ++ separator sep ∷ []) p e).1
+
+        go : (left : List ℕ) → p.2 ≡ left → p.2 ≡ []
+        go [] is = is
+        go (c ∷ left) is =
+            let some : 0 < length p.2 = subst (λ l. 0 < length l) (sym is) (omega arith) in
+            let ends = next_record-ends_before cfg s2 [] [] zs (separator sep) p e some in
+            let first = all-found sep p.1 ends.0 after in
+            let found : all cfg p.1 p.2 ≡ first.0 ∷ first.1 = ap (all cfg p.1) ends.1 ∙ first.2 in
+            let not : [] ≡ first.0 ∷ first.1 = sym none ∙ found in
+            cc not
+
+    inside : (xs : List ℕ) → ends_line xs ≡ true → ((p : Read) → next_record cfg s2 [] [] (xs ++ separator sep ∷ []) ≡ Some p → (p.2 ≡ []) × (p.0 ≡ nothing))
+        → next_record cfg s2 [] [] (xs ++ rest) ≡ next_record cfg st.StartRecord [] [] rest
+    inside [] ends were = next-between sep s2 rest passed.2
+    inside (c ∷ xs) ends were = go (next_record cfg s2 [] [] (c ∷ (xs ++ separator sep ∷ []))) refl
+      where
+        go : (o : Option Read) → next_record cfg s2 [] [] (c ∷ (xs ++ separator sep ∷ [])) ≡ o
+            → next_record cfg s2 [] [] (c ∷ (xs ++ rest)) ≡ next_record cfg st.StartRecord [] [] rest
+        go None e = absurd (next-found sep s2 [] [] (c ∷ xs) e)
+        go (Some p) e =
+            let is = were p e in
+            anew-inside sep s2 [] [] p c xs ends (plain-between s2 passed.2) e is.0 is.1 rest
+
+    anew : next_record cfg s2 [] [] (zs ++ rest) ≡ next_record cfg st.StartRecord [] [] rest
+    anew = inside zs (passed.3 line) last
+
+-- a line feed at the start of a text is no record
+pub all-line : (sep : Sep) (rest : List ℕ) → all (config sep) st.StartRecord (10 ∷ rest) ≡ all (config sep) st.StartRecord rest
+unfolding next_record
+all-line sep rest = all-next (config sep) st.StartRecord (10 ∷ rest) refl ∙ sym (all-next (config sep) st.StartRecord rest refl)
+
+-- ---- the end of a line within a text
+
+pub ends_line-take : (bytes : List ℕ) (n : ℕ) → n < length bytes → is_line_end (get_or bytes n 0) ≡ true → ends_line (take (suc n) bytes) ≡ true
+ends_line-take [] n within line = absurd (omega (arith, within))
+ends_line-take (c ∷ bytes) zero within line = line
+ends_line-take (c ∷ []) (suc n) within line = absurd (omega (arith, within))
+ends_line-take (c ∷ d ∷ bytes) (suc n) within line = ends_line-take (d ∷ bytes) n (omega (arith, within)) line
+
+pub IsPiece-open : (end : Option End) (bytes : List ℕ) (n k : ℕ) → is_some end ≡ false → n < length bytes → is_line_end (get_or bytes n 0) ≡ true → k ≡ n + 1 → IsPiece end bytes k
+IsPiece-open (Some end) bytes n k more within line at = cc
+IsPiece-open None bytes n k more within line at = ap (λ j. ends_line (take j bytes)) (at ∙ add-one n) ∙ ends_line-take bytes n within line
+
+-- the last line ends where no byte behind ends one
+pub last-line : (bytes : List ℕ) (n size : ℕ) → ((k : ℕ) → n ≤ k → k < length bytes → is_line_end (get_or bytes k 0) ≡ false)
+    → size ≤ length bytes → ends_line (take size bytes) ≡ true → size ≤ n
+last-line bytes n zero none within line = omega arith
+last-line bytes n (suc k) none within line = go (nat_le n k) refl
+  where
+    byte : (bytes : List ℕ) (k : ℕ) → suc k ≤ length bytes → ends_line (take (suc k) bytes) ≡ true → is_line_end (get_or bytes k 0) ≡ true
+    byte [] k within line = absurd (omega (arith, within))
+    byte (c ∷ bytes) zero within line = line
+    byte (c ∷ []) (suc k) within line = absurd (omega (arith, within))
+    byte (c ∷ d ∷ bytes) (suc k) within line = byte (d ∷ bytes) k (omega (arith, within)) line
+
+    go : (b : Bool) → nat_le n k ≡ b → suc k ≤ n
+    go true is =
+        let not : false ≡ true = sym (none k (leb-true n k is) (omega (arith, within))) ∙ byte bytes k within line in
+        cc not
+    go false is = grind (arith, nat_tests)
+
+pub ends_line-at : (bytes : List ℕ) (n : ℕ) → 0 < n → n ≤ length bytes → is_line_end (get_or bytes (n - 1) 0) ≡ true → ends_line (take n bytes) ≡ true
+ends_line-at bytes zero some within line = absurd (omega (arith, some))
+ends_line-at bytes (suc n) some within line =
+    let one : suc n - 1 ≡ n = omega arith in
+    ends_line-take bytes n (omega (arith, within)) (ap (λ k. is_line_end (get_or bytes k 0)) (sym one) ∙ line)

@@ -1,0 +1,4 @@
+pub mod Separator
+pub mod Input
+pub mod Reading
+pub mod Pieces

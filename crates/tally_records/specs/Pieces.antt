@@ -1,0 +1,110 @@
+-- A text that is read by pieces.
+use Rattle.std.specs.Prelude.{◌≡◌, ◌≤◌, ◌+◌, ◌-◌, ◌*◌, ◌==◌, ◌||◌, ◌++◌, if◌then◌else◌, ℕ, Bool, true, false, List, [], ◌∷◌, take, drop, length, Option, Some, None, is_none, IfSome, ⊤}
+use Rattle.std.specs.Io.KnownBytes.{Consumes}
+use Rattle.csv.specs.Reading.{records, strip_bom}
+use Rattle.csv.specs.Records.{fields_of}
+use Rattle.tally_records.specs.Input.{Gave, complete_records, size_limit}
+use Rattle.tally_records.specs.Reading.{IsReading, rows_left}
+use Rattle.tally_records.specs.Separator.{separator, config}
+use Rattle.tally_records.specs.declared.end.Stop.{Stop}
+use Rattle.tally_records.specs.declared.end.End.{End}
+use Rattle.tally_records.specs.declared.held.Held.{Held}
+use Rattle.tally_records.specs.declared.records.Records.{Records}
+use Rattle.tally_records.specs.declared.piece.Rest.{Rest}
+use Rattle.tally_records.specs.declared.separator.Sep.{Sep}
+
+-- a byte that ends a record, but within quotes
+abbrev pub is_line_end : ℕ → Bool
+is_line_end c = (c == 13) || (c == 10)
+
+-- the last byte, where there is one, ends a line
+abbrev pub ends_line : List ℕ → Bool
+ends_line [] = true
+ends_line (c ∷ []) = is_line_end c
+ends_line (c ∷ d ∷ rest) = ends_line (d ∷ rest)
+
+-- ---- the input
+
+-- These bytes came of a text, as many as were counted; where it ended, they are what it gave.
+abbrev pub Came : Option (List ℕ) → Option (List ℕ) → List ℕ → ℕ → Option End → Type 0
+Came text left bytes count None = Consumes text left bytes × (count ≡ length bytes) × (count ≤ size_limit)
+Came text left bytes count (Some end) = IfSome text (λ t. Gave t left bytes end.stop)
+
+-- What a read did: these bytes came, and are held behind those that were.
+abbrev pub Fills : Option (List ℕ) → Option (List ℕ) → Held → Held → Option End → Type 0
+Fills old_left left old new end = (came : List ℕ) × (new.bytes.items ≡ old.bytes.items ++ came)
+    × ((text : Option (List ℕ)) (bytes : List ℕ) → Consumes text old_left bytes → old.taken ≡ length bytes → Came text left (bytes ++ came) new.taken end)
+
+-- ---- the records of a piece
+
+-- the input ended of itself
+abbrev pub is_whole : Option End → Bool
+is_whole None = false
+is_whole (Some end) = is_none end.stop
+
+-- The records of a piece: behind it a further field is begun, unless the input ended of itself there.
+abbrev pub piece_rows : Sep → Option End → List ℕ → List (List (List ℕ))
+piece_rows sep end piece = records (config sep) (strip_bom (if is_whole end then piece else piece ++ separator sep ∷ []))
+
+-- what is left of records: the one ahead, which is not known to be complete, and those behind it
+abbrev pub IsRest : Bool → List (List (List ℕ)) → Rest → Type 0
+IsRest true rows rest = rows ≡ rows_left rest.reader
+IsRest false rows rest = rows ≡ fields_of rest.ahead ∷ rows_left rest.reader
+
+-- more may come behind the piece, which ends with a line; or the input ended behind it
+abbrev pub IsPiece : Option End → List ℕ → ℕ → Type 0
+IsPiece None bytes piece = ends_line (take piece bytes) ≡ true
+IsPiece (Some end) bytes piece = take piece bytes ≡ bytes
+
+-- the records of an input, at work
+pub record IsReadingOn (r : Records) : Type 0 where
+  pub reading : IsReading r.rest.reader
+  pub rest : IsRest (is_whole r.end) (drop r.given (piece_rows r.sep r.end (take r.piece r.held.bytes.items))) r.rest
+  pub piece : IsPiece r.end r.held.bytes.items r.piece
+  pub within : r.piece ≤ length r.held.bytes.items
+  pub limit : r.end ≡ None → r.held.taken ≤ size_limit
+
+-- What is left where the reader gives no more: the record ahead, or nothing where the input ended of itself.
+abbrev pub IsLast : Bool → List (List (List ℕ)) → Rest → Type 0
+IsLast true rows rest = rows ≡ []
+IsLast false rows rest = rows ≡ fields_of rest.ahead ∷ []
+
+-- the records of an input, behind all that their piece has
+pub record IsSpent (r : Records) : Type 0 where
+  pub last : IsLast (is_whole r.end) (drop r.given (piece_rows r.sep r.end (take r.piece r.held.bytes.items))) r.rest
+  pub piece : IsPiece r.end r.held.bytes.items r.piece
+  pub within : r.piece ≤ length r.held.bytes.items
+  pub limit : r.end ≡ None → r.held.taken ≤ size_limit
+
+-- These bytes are held since the last line behind which nothing was given, and so many of their records were given: another one is begun behind those.
+abbrev pub Begun : Sep → List ℕ → ℕ → Type 0
+Begun sep bytes given = (piece : ℕ) × (last : List (List ℕ)) × (piece ≤ length bytes) × (ends_line (take piece bytes) ≡ true)
+    × (drop given (piece_rows sep None (take piece bytes)) ≡ last ∷ [])
+
+-- It falls with each piece, and is 0 at the end.
+abbrev pub size_left : Option End → ℕ → ℕ → ℕ
+size_left None taken held = 2 * (16777217 - taken) + held + 1
+size_left (Some end) taken held = 0
+
+abbrev pub left_size : Records → ℕ
+left_size r = size_left r.end r.held.taken (length r.held.bytes.items)
+
+-- ---- the records of the input
+
+-- what may still come
+abbrev pub MayCome : Option End → List ℕ → Option Stop → Type 0
+MayCome None more stop = ⊤
+MayCome (Some end) more stop = (more ≡ []) × (stop ≡ end.stop)
+
+-- the records still to be given, where these bytes come and then the end, or what stops the input
+abbrev pub to_come : Records → List ℕ → Option Stop → List (List (List ℕ))
+to_come r more stop = drop r.given (complete_records r.sep (r.held.bytes.items ++ more) stop)
+
+-- Of this text the records given so far were given.
+abbrev pub HasGiven : Option (List ℕ) → Option (List ℕ) → List (List (List ℕ)) → Records → Type 0
+HasGiven text left given r = (bytes : List ℕ) × Came text left bytes r.held.taken r.end
+    × ((more : List ℕ) (stop : Option Stop) → MayCome r.end more stop → complete_records r.sep (bytes ++ more) stop ≡ given ++ to_come r more stop)
+
+-- what stands between two fields
+abbrev pub sep_of : Records → Sep
+sep_of r = r.sep

@@ -1,0 +1,129 @@
+//! Where an input is cut into pieces.
+
+ghost use Rattle.std.specs.Prelude.{◌≡◌, ◌≤◌, ◌<◌, ◌++◌, ◌∷◌, [], List, ℕ, None, Some, true, false, drop, take, length, IfOk, if◌then◌else◌};
+ghost use Rattle.csv.specs.Records.{fields_of};
+ghost use Rattle.tally_records.specs.Separator.{separator};
+ghost use Rattle.tally_records.specs.Pieces.{IsPiece, ends_line, is_line_end, is_whole, piece_rows};
+
+use crate::end::End;
+use crate::fields::field;
+use crate::reading::{next_record, pass_over, records_in};
+use crate::separator::Sep;
+use csv::ByteRecord;
+use std::alloc::{AllocError, Global};
+
+/// Whether an input ended of itself.
+pub(crate) fn ended_itself(end: Option<End>) -> bool
+    ensures { result ≡ is_whole end }
+{
+    match end {
+        None => false,
+        Some(end) => end.stop.is_none(),
+    }
+}
+
+/// How many of these bytes stand in a piece: those up to their last line end, or all of them where
+/// no more come.
+pub(crate) fn piece_size(bytes: &[u8], end: Option<End>) -> usize
+    ensures within { result ≤ length bytes.now }
+    ensures piece { IsPiece end bytes.now result }
+    ensures last { (size : ℕ) → size ≤ length bytes.now → ends_line (take size bytes.now) ≡ true → size ≤ result }
+{
+    let len = bytes.len();
+    if end.is_some() {
+        return len;
+    }
+    for behind in 0..len {
+        if is_line_end(bytes[len - behind - 1]) {
+            return len - behind;
+        }
+    }
+    0
+}
+
+/// Whether a byte ends a line.
+pub(crate) fn is_line_end(byte: u8) -> bool
+    ensures { result ≡ is_line_end byte }
+{
+    byte == b'\r' || byte == b'\n'
+}
+
+/// Whether a record is the one that a separator begins behind the end of a line.
+pub(crate) fn is_nothing(row: &ByteRecord) -> bool
+    ensures nothing { result ≡ true → fields_of row.now ≡ [] ∷ [] ∷ [] }
+    ensures found { fields_of row.now ≡ [] ∷ [] ∷ [] → result ≡ true }
+{
+    row.len() == 2 && field(row, 0).is_empty() && field(row, 1).is_empty()
+}
+
+/// How many bytes of a piece come before its last record, as the reader tells.
+fn start_of(row: &ByteRecord) -> usize {
+    match row.position() {
+        Some(position) => position.byte() as usize,
+        None => 0,
+    }
+}
+
+/// How many bytes of a piece need not be held: they end with the last of the records that were
+/// given. None, where this cannot be told.
+pub(crate) fn given_size(
+    alloc: Global,
+    piece: &[u8],
+    sep: Sep,
+    given: usize,
+    last: &ByteRecord,
+) -> Result<usize, AllocError>
+    requires piece { ends_line piece.now ≡ true }
+    requires last { drop given (piece_rows sep None piece.now) ≡ fields_of last.now ∷ [] }
+    ensures within { IfOk result (λ size. size ≤ length piece.now) }
+    ensures whole { fields_of last.now ≡ [] ∷ [] ∷ [] → IfOk result (λ size. size ≡ length piece.now) }
+    ensures given { IfOk result (λ size. 0 < size → (ends_line (take size piece.now) ≡ true) × (drop given (piece_rows sep None (take size piece.now)) ≡ ([] ∷ [] ∷ []) ∷ [])) }
+{
+    if is_nothing(last) {
+        return Ok(piece.len());
+    }
+    let start = start_of(last);
+    if start == 0 || start > piece.len() || !is_line_end(piece[start - 1]) {
+        return Ok(0);
+    }
+    if is_given(alloc, &piece[..start], sep, given)? {
+        Ok(start)
+    } else {
+        Ok(0)
+    }
+}
+
+/// The text of a piece. Unless the input ended of itself, a field is begun behind it, so that the
+/// last record is the one that may go on.
+pub(crate) fn piece_text(
+    alloc: Global,
+    piece: &[u8],
+    sep: Sep,
+    is_whole: bool,
+) -> Result<Vec<u8>, AllocError>
+    ensures { IfOk result (λ text. text.items ≡ (if is_whole then piece.now else piece.now ++ separator sep ∷ [])) }
+{
+    let mut text = Vec::with_capacity(alloc, piece.len().saturating_add(1))?;
+    text.extend_from_slice(piece)?;
+    if is_whole {
+        return Ok(text);
+    }
+    text.push(sep.byte())?;
+    Ok(text)
+}
+
+/// Whether the first `given` records of a text are all that it has, and a line ended behind them.
+fn is_given(alloc: Global, front: &[u8], sep: Sep, given: usize) -> Result<bool, AllocError>
+    ensures given { IfOk result (λ all. all ≡ true → drop given (piece_rows sep None front.now) ≡ ([] ∷ [] ∷ []) ∷ []) }
+    ensures found { IfOk result (λ all. drop given (piece_rows sep None front.now) ≡ ([] ∷ [] ∷ []) ∷ [] → all ≡ true) }
+{
+    let mut reader = records_in(alloc, piece_text(alloc, front, sep, false)?, sep);
+    let mut record = ByteRecord::new(alloc);
+    if !pass_over(&mut reader, &mut record, given)? {
+        return Ok(false);
+    }
+    if !next_record(&mut reader, &mut record)? || !is_nothing(&record) {
+        return Ok(false);
+    }
+    Ok(!next_record(&mut reader, &mut record)?)
+}

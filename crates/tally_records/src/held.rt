@@ -1,0 +1,92 @@
+//! The bytes of an input that are still needed.
+
+ghost use Rattle.std.specs.Prelude.{◌≡◌, ◌+◌, ◌<◌, ◌≤◌, ◌∷◌, [], drop, length, vec_len, IfOk, OnOk, None, Some};
+
+use crate::end::{End, Stop};
+use std::alloc::{AllocError, Global};
+use std::io::Read;
+
+/// The most bytes that an input may have: 16 MiB.
+const SIZE_LIMIT: usize = 16_777_216;
+
+/// How many bytes are asked for at a time.
+const READ_SIZE: usize = 65_536;
+
+/// Bytes of an input that are still needed.
+#[derive(Drop)]
+pub(crate) struct Held {
+    /// The bytes.
+    pub(crate) bytes: Vec<u8>,
+    /// How many bytes the input gave.
+    taken: usize,
+    ghost counted: { (vec_len bytes ≤ taken + 1) × (taken ≤ 16777217) },
+}
+
+impl Held {
+    ghost use Rattle.tally_records.specs.Pieces.{Fills};
+
+    /// No byte.
+    pub(crate) fn new(alloc: Global) -> Held
+        ensures bytes { result.bytes.items ≡ [] }
+        ensures taken { result.taken ≡ 0 }
+    {
+        Held {
+            bytes: Vec::new(alloc),
+            taken: 0,
+        }
+    }
+
+    /// Reads until so many bytes are held or the input ends, of itself or stopped. An
+    /// input that goes on past 16 MiB is stopped there.
+    pub(crate) fn fill<R: Read>(
+        &mut self,
+        input: &mut R,
+        size: usize,
+    ) -> Result<Option<End>, AllocError>
+        requires { self.old.taken ≤ 16777216 }
+        ensures fills { IfOk result (λ end. Fills (R.remaining input.old) (R.remaining input.new) self.old self.new end) }
+        ensures size { IfOk result (λ end. end ≡ None → size ≤ length self.new.bytes.items) }
+        ensures count { IfOk result (λ end. end ≡ None → self.new.taken + length self.old.bytes.items ≡ self.old.taken + length self.new.bytes.items) }
+        ensures limit { IfOk result (λ end. end ≡ None → self.new.taken ≤ 16777216) }
+    {
+        let mut buffer = [0; READ_SIZE];
+        while self.bytes.len() < size && self.taken <= SIZE_LIMIT {
+            let wanted = READ_SIZE
+                .min(size - self.bytes.len())
+                .min(SIZE_LIMIT + 1 - self.taken);
+            match input.read(&mut buffer[..wanted]) {
+                Ok(0) => return Ok(Some(End { stop: None })),
+                Ok(came) => {
+                    self.bytes.extend_from_slice(&buffer[..came])?;
+                    self.taken += came;
+                }
+                Err(_) => {
+                    return Ok(Some(End {
+                        stop: Some(Stop::Read),
+                    }));
+                }
+            }
+        }
+        if self.taken <= SIZE_LIMIT {
+            return Ok(None);
+        }
+        self.bytes.pop();
+        Ok(Some(End {
+            stop: Some(Stop::TooLong),
+        }))
+    }
+
+    /// Puts a line feed in place of so many bytes at the front.
+    pub(crate) fn drop_front(&mut self, alloc: Global, count: usize) -> Result<(), AllocError>
+        requires some { 0 < count }
+        requires within { count ≤ length self.old.bytes.items }
+        ensures bytes { OnOk result (self.new.bytes.items ≡ 10 ∷ drop count self.old.bytes.items) }
+        ensures taken { OnOk result (self.new.taken ≡ self.old.taken) }
+    {
+        let mut bytes = Vec::with_capacity(alloc, READ_SIZE)?;
+        bytes.push(b'\n')?;
+        bytes.extend_from_slice(&self.bytes[count..])?;
+        self.bytes = bytes;
+        Ok(())
+    }
+}

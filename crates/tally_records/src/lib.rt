@@ -1,0 +1,17 @@
+//! The records of a CSV text that a reader gives, of which a piece is held at a time.
+#![tactic(auto)]
+
+mod cut;
+mod end;
+mod fields;
+mod held;
+pub mod laws;
+mod piece;
+mod reading;
+mod records;
+mod separator;
+
+pub use end::{End, Stop};
+pub use fields::field;
+pub use records::Records;
+pub use separator::Sep;

@@ -1,0 +1,59 @@
+//! Reading the records of a text in memory.
+
+ghost use Rattle.std.specs.Prelude.{◌≡◌, ◌≤◌, ◌∷◌, [], true, drop, length, IfOk, if◌then◌else◌};
+ghost use Rattle.csv.specs.Reading.{records, strip_bom};
+ghost use Rattle.csv.specs.Records.{fields_of};
+ghost use Rattle.tally_records.specs.Reading.{IsReading, rows_left};
+ghost use Rattle.tally_records.specs.Separator.{config};
+
+use crate::separator::Sep;
+use csv::{ByteRecord, Reader, ReaderBuilder};
+use std::alloc::{AllocError, Global};
+use std::io::Cursor;
+
+/// A reader of a text's records, of any length, as they stand in it.
+pub(crate) fn records_in(alloc: Global, text: Vec<u8>, sep: Sep) -> Reader<Cursor<Vec<u8>>>
+    ensures reading { IsReading result }
+    ensures rows { rows_left result ≡ records (config sep) (strip_bom text.items) }
+{
+    ReaderBuilder::new()
+        .delimiter(sep.byte())
+        .has_headers(false)
+        .flexible(true)
+        .from_reader(alloc, Cursor::new(text))
+}
+
+/// Reads the next record, if there is one. A text in memory can always be read, and its records
+/// may have any length and any bytes, so what the reader refuses is for want of memory.
+pub(crate) fn next_record(
+    reader: &mut Reader<Cursor<Vec<u8>>>,
+    into: &mut ByteRecord,
+) -> Result<bool, AllocError>
+    requires { IsReading reader.old }
+    ensures reading { IfOk result (λ found. found ≡ true → IsReading reader.new) }
+    ensures record { IfOk result (λ found. rows_left reader.old ≡ (if found then fields_of into.new ∷ rows_left reader.new else [])) }
+{
+    let Ok(found) = reader.read_byte_record(into) else {
+        return Err(AllocError);
+    };
+    Ok(found)
+}
+
+/// Passes over so many records, and tells whether there are so many.
+pub(crate) fn pass_over(
+    reader: &mut Reader<Cursor<Vec<u8>>>,
+    row: &mut ByteRecord,
+    count: usize,
+) -> Result<bool, AllocError>
+    requires { IsReading reader.old }
+    ensures reading { IfOk result (λ all. all ≡ true → IsReading reader.new) }
+    ensures rows { IfOk result (λ all. all ≡ true → rows_left reader.new ≡ drop count (rows_left reader.old)) }
+    ensures all { IfOk result (λ all. count ≤ length (rows_left reader.old) → all ≡ true) }
+{
+    for passed in 0..count {
+        if !next_record(reader, row)? {
+            return Ok(false);
+        }
+    }
+    Ok(true)
+}

@@ -1,0 +1,5 @@
+pub mod CountsLemmas
+pub mod DecideLemmas
+pub mod LifeLemmas
+pub mod StateLemmas
+pub mod ClosedLemmas

@@ -1,0 +1,59 @@
+use Rattle.std.proofs.Common.{rules, ◌≡◌, Some, Err, ap, sym, subst, ◌∙◌}
+use Rattle.std.specs.Option.{option_copied}
+use Rattle.tally_returns.specs.Decide.{IsUnlessMemory, decided_return, limits_of}
+use Rattle.tally_returns.proofs.DecideLemmas.{answered-lawful, lawful-last, correct-passed, correct-refused}
+use Rattle.tally_returns.proofs.decide.decide_at.Goals as goal
+
+pub decide_query-requires : goal.decide_query-requires
+decide_query-requires c = lawful-last (limits_of c.args.con.now c.args.station.now) (option_copied c.args.found) c.requires.lawful
+
+pub decide_correct-requires : goal.decide_correct-requires
+decide_correct-requires c = lawful-last (limits_of c.args.con.now c.args.station.now) (option_copied c.args.found) c.requires.lawful
+
+pub decide_close-requires : goal.decide_close-requires
+decide_close-requires c = lawful-last (limits_of c.args.con.now c.args.station.now) (option_copied c.args.found) c.requires.lawful
+
+pub returns-in-Lodge-clause-lawful : goal.returns-in-Lodge-clause-lawful
+returns-in-Lodge-clause-lawful c =
+    let limits = limits_of c.args.con.now c.args.station.now in
+    let is : IsUnlessMemory c.decide_first.result (decided_return (Some limits) c.args.certified (option_copied c.args.found) c.args.ask.now) = search rules in
+    answered-lawful limits c.args.certified (option_copied c.args.found) c.args.ask.now c.decide_first.result c.requires.lawful is
+
+pub returns-in-Query-clause-lawful : goal.returns-in-Query-clause-lawful
+returns-in-Query-clause-lawful c =
+    let limits = limits_of c.args.con.now c.args.station.now in
+    let is : IsUnlessMemory c.decide_query.result (decided_return (Some limits) c.args.certified (option_copied c.args.found) c.args.ask.now) = search rules in
+    answered-lawful limits c.args.certified (option_copied c.args.found) c.args.ask.now c.decide_query.result c.requires.lawful is
+
+pub returns-in_err-check_counts-in-Correct-clause-decided :
+    goal.returns-in_err-check_counts-in-Correct-clause-decided
+returns-in_err-check_counts-in-Correct-clause-decided c =
+    let way = c.in-Correct in
+    let limits = limits_of c.args.con.now c.args.station.now in
+    let found = option_copied c.args.found in
+    let e = c.in_err-check_counts-in-Correct.field-0.0 in
+    let is : c.from_residual.result ≡ Err e = search rules in
+    let refused = correct-refused limits c.args.certified found way.rev way.slip way.counts e c.in_err-check_counts-in-Correct.ensures.refused in
+    subst (λ r. IsUnlessMemory r (decided_return (Some limits) c.args.certified found c.args.ask.now)) (sym is)
+    (λ other. ap (decided_return (Some limits) c.args.certified found) way.is ∙ refused)
+
+pub returns-in_ok-check_counts-in-Correct-clause-decided :
+    goal.returns-in_ok-check_counts-in-Correct-clause-decided
+returns-in_ok-check_counts-in-Correct-clause-decided c =
+    let way = c.in-Correct in
+    let limits = limits_of c.args.con.now c.args.station.now in
+    let found = option_copied c.args.found in
+    let passed = correct-passed limits c.args.certified found way.rev way.slip way.counts c.in_ok-check_counts-in-Correct.ensures.passed in
+    subst (IsUnlessMemory c.decide_correct.result) (sym (ap (decided_return (Some limits) c.args.certified found) way.is ∙ passed)) c.decide_correct.ensures
+
+pub returns-in-Close-clause-lawful : goal.returns-in-Close-clause-lawful
+returns-in-Close-clause-lawful c =
+    let limits = limits_of c.args.con.now c.args.station.now in
+    let is : IsUnlessMemory c.decide_close.result (decided_return (Some limits) c.args.certified (option_copied c.args.found) c.args.ask.now) = search rules in
+    answered-lawful limits c.args.certified (option_copied c.args.found) c.args.ask.now c.decide_close.result c.requires.lawful is
+
+pub returns-in_ok-check_counts-in-Correct-clause-lawful :
+    goal.returns-in_ok-check_counts-in-Correct-clause-lawful
+returns-in_ok-check_counts-in-Correct-clause-lawful c =
+    let limits = limits_of c.args.con.now c.args.station.now in
+    answered-lawful limits c.args.certified (option_copied c.args.found) c.args.ask.now c.decide_correct.result c.requires.lawful (returns-in_ok-check_counts-in-Correct-clause-decided c)

@@ -1,0 +1,15 @@
+pub mod Counts
+pub mod Return
+pub mod Refusals
+pub mod Reply
+pub mod Checks
+pub mod Named
+pub mod Lodge
+pub mod Moves
+pub mod Lawful
+pub mod Decide
+pub mod State
+pub mod Step
+pub mod Progress
+pub mod GoneCandidate
+pub mod View

@@ -1,0 +1,64 @@
+-- Lodging a return: what is answered, and the returns that then stand.
+use Rattle.std.specs.Prelude.{◌&&◌, if◌then◌else◌, ℕ, nat_eq, nat_le, List, [], ◌∷◌, Option, Some, None, Result, Ok, Err}
+use Rattle.std.specs.Cmp.Lexicographic.{pointwise}
+use Rattle.std.specs.FinMap.{get, insert}
+use Rattle.tally_returns.specs.Counts.{VoteCounts, are_counts, all_votes, same_counts}
+use Rattle.tally_returns.specs.Return.{StationReturn, Returns, first_return}
+use Rattle.tally_returns.specs.Checks.{check, first_refusal}
+use Rattle.tally_returns.specs.declared.refusal.Refusal.{Refusal}
+use Rattle.tally_returns.specs.declared.refusal.Refusal.TheVariants.{NoStation, BadCounts, TooManyVotes, Differs}
+use Rattle.tally_returns.specs.declared.reply.LodgeReply.{LodgeReply}
+use Rattle.tally_returns.specs.declared.reply.LodgeReply.TheVariants.{Lodged, Same}
+
+-- what a setup says of a station: how many lists stand in its constituency, and how many electors it has
+pub record StationLimits : Type 0 where
+  pub lists : ℕ
+  pub electors : ℕ
+
+-- the same of each code that is a station
+abbrev pub Stations : Type 0
+Stations = List ℕ → Option StationLimits
+
+-- the checks on what was counted, in their order
+abbrev pub counts_checks : StationLimits → VoteCounts → List (Option Refusal)
+counts_checks station counts =
+    check (are_counts station.lists counts) BadCounts
+    ∷ check (nat_le (all_votes counts) station.electors) TooManyVotes
+    ∷ []
+
+-- a return that comes where one stands: the same slip and counts again, or another return
+abbrev pub again : StationReturn → List ℕ → VoteCounts → Result LodgeReply Refusal
+again standing slip counts =
+    if pointwise nat_eq standing.slip slip && same_counts standing.counts counts then Ok (Same standing.rev) else Err (Differs standing.rev)
+
+-- what is answered where the counts pass their checks, by the return that stands
+abbrev pub admitted : Option StationReturn → List ℕ → VoteCounts → Result LodgeReply Refusal
+admitted None slip counts = Ok (Lodged 1)
+admitted (Some standing) slip counts = again standing slip counts
+
+abbrev pub unless_refused : Option Refusal → Result LodgeReply Refusal → Result LodgeReply Refusal
+unless_refused None answer = answer
+unless_refused (Some refusal) answer = Err refusal
+
+-- what is answered at a station
+abbrev pub decided_at : StationLimits → Option StationReturn → List ℕ → VoteCounts → Result LodgeReply Refusal
+decided_at station found slip counts = unless_refused (first_refusal (counts_checks station counts)) (admitted found slip counts)
+
+-- what is answered at a code, which may be no station
+abbrev pub decided : Option StationLimits → Option StationReturn → List ℕ → VoteCounts → Result LodgeReply Refusal
+decided None found slip counts = Err NoStation
+decided (Some station) found slip counts = decided_at station found slip counts
+
+-- the returns after an answer: one more where it was lodged
+abbrev pub after_lodge : Returns → List ℕ → List ℕ → VoteCounts → Result LodgeReply Refusal → Returns
+after_lodge returns station slip counts (Ok (Lodged rev)) = insert returns station (first_return slip counts)
+after_lodge returns station slip counts (Ok (Same rev)) = returns
+after_lodge returns station slip counts (Err refusal) = returns
+
+-- what Lodge answers
+abbrev pub lodge_answer : Stations → Returns → List ℕ → List ℕ → VoteCounts → Result LodgeReply Refusal
+lodge_answer stations returns station slip counts = decided (stations station) (get returns station) slip counts
+
+-- the returns that Lodge leaves
+abbrev pub lodge : Stations → Returns → List ℕ → List ℕ → VoteCounts → Returns
+lodge stations returns station slip counts = after_lodge returns station slip counts (lodge_answer stations returns station slip counts)

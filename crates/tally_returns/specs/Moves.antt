@@ -1,0 +1,79 @@
+-- Query, Correct and Close: the checks of each in their order, and the return that it leaves.
+use Rattle.std.specs.Prelude.{◌+◌, ◌==◌, not, ℕ, Bool, true, false, List, [], ◌∷◌, ◌++◌, Option, nat_le, is_some}
+use Rattle.tally_rules.specs.Text.{is_note}
+use Rattle.tally_returns.specs.Counts.{VoteCounts, are_counts, all_votes}
+use Rattle.tally_returns.specs.Return.{StationReturn}
+use Rattle.tally_returns.specs.Lodge.{StationLimits}
+use Rattle.tally_returns.specs.Checks.{check, check_found}
+use Rattle.tally_returns.specs.declared.returns.Status.{Status}
+use Rattle.tally_returns.specs.declared.returns.Status.TheVariants.{Received, Queried, Corrected, Closed}
+use Rattle.tally_returns.specs.declared.refusal.Refusal.{Refusal}
+use Rattle.tally_returns.specs.declared.refusal.Refusal.TheVariants.{NoStation, BadCounts, BadNote, TooManyVotes, NoReturn, Certified, Stale, Exhausted, WrongStatus}
+
+-- the last revision that a return can have
+abbrev pub last_revision : ℕ
+last_revision = 9999
+
+-- the statuses that each command starts from
+abbrev pub may_query : Status → Bool
+may_query Received = true
+may_query Queried = false
+may_query Corrected = true
+may_query Closed = true
+
+abbrev pub may_correct : Status → Bool
+may_correct Received = false
+may_correct Queried = true
+may_correct Corrected = false
+may_correct Closed = false
+
+abbrev pub may_close : Status → Bool
+may_close Received = true
+may_close Queried = false
+may_close Corrected = true
+may_close Closed = false
+
+-- the checks on a return that is to move: it is there, its constituency is not certified, the revision named is the one that
+-- stands and is not the last, and the command starts from its status
+abbrev pub move_checks : Bool → Option StationReturn → ℕ → (Status → Bool) → List (Option Refusal)
+move_checks certified found rev may_start =
+    check (is_some found) NoReturn
+    ∷ check (not certified) Certified
+    ∷ check_found found (λ standing. standing.rev == rev) (λ standing. Stale standing.rev)
+    ∷ check_found found (λ standing. not (standing.rev == last_revision)) (λ standing. Exhausted)
+    ∷ check_found found (λ standing. may_start standing.status) (λ standing. WrongStatus standing.status)
+    ∷ []
+
+abbrev pub query_checks : Option StationLimits → Bool → Option StationReturn → ℕ → List ℕ → List (Option Refusal)
+query_checks station certified found rev note =
+    check (is_some station) NoStation
+    ∷ check (is_note note) BadNote
+    ∷ move_checks certified found rev may_query
+
+-- the checks on the counts that come to a station
+abbrev pub counts_checks_at : Option StationLimits → VoteCounts → List (Option Refusal)
+counts_checks_at station counts =
+    check (is_some station) NoStation
+    ∷ check_found station (λ limits. are_counts limits.lists counts) (λ limits. BadCounts)
+    ∷ check_found station (λ limits. nat_le (all_votes counts) limits.electors) (λ limits. TooManyVotes)
+    ∷ []
+
+abbrev pub correct_checks : Option StationLimits → Bool → Option StationReturn → ℕ → VoteCounts → List (Option Refusal)
+correct_checks station certified found rev counts = counts_checks_at station counts ++ move_checks certified found rev may_correct
+
+abbrev pub close_checks : Option StationLimits → Bool → Option StationReturn → ℕ → List (Option Refusal)
+close_checks station certified found rev =
+    check (is_some station) NoStation
+    ∷ move_checks certified found rev may_close
+
+-- the note replaces the old one
+abbrev pub queried : List ℕ → StationReturn → StationReturn
+queried note standing = record standing { rev = standing.rev + 1; status = Queried; note = note }
+
+-- slip and counts are replaced, the note is kept
+abbrev pub corrected : List ℕ → VoteCounts → StationReturn → StationReturn
+corrected slip counts standing = record standing { rev = standing.rev + 1; slip = slip; status = Corrected; counts = counts }
+
+-- the note is kept
+abbrev pub closed : StationReturn → StationReturn
+closed standing = record standing { rev = standing.rev + 1; status = Closed }

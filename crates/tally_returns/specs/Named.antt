@@ -1,0 +1,32 @@
+-- What a command names.
+use Rattle.std.specs.Prelude.{ℕ, List, Option, Some, None}
+use Rattle.tally_returns.specs.declared.ask.Ask.{Ask}
+use Rattle.tally_returns.specs.declared.ask.Ask.TheVariants.{Lodge, Query, Correct, Close, ShowReturn, Draw, Certify, Reopen, Vacate, ShowCon, ShowProgress}
+
+-- the station that a command on a return names
+abbrev pub station_named : Ask → Option (List ℕ)
+station_named (Lodge station slip counts) = Some station
+station_named (Query station rev note) = Some station
+station_named (Correct station rev slip counts) = Some station
+station_named (Close station rev) = Some station
+station_named (ShowReturn station) = Some station
+station_named (Draw con edition order) = None
+station_named (Certify con edition) = None
+station_named (Reopen con edition note) = None
+station_named (Vacate con list place note) = None
+station_named (ShowCon con) = None
+station_named ShowProgress = None
+
+-- the constituency that a command on one names
+abbrev pub con_named : Ask → Option (List ℕ)
+con_named (Lodge station slip counts) = None
+con_named (Query station rev note) = None
+con_named (Correct station rev slip counts) = None
+con_named (Close station rev) = None
+con_named (ShowReturn station) = None
+con_named (Draw con edition order) = Some con
+con_named (Certify con edition) = Some con
+con_named (Reopen con edition note) = Some con
+con_named (Vacate con list place note) = Some con
+con_named (ShowCon con) = Some con
+con_named ShowProgress = None

@@ -1,0 +1,23 @@
+-- The return of a polling station, and the returns that stand.
+use Rattle.std.specs.Prelude.{ℕ, List, []}
+use Rattle.std.specs.FinMap.{FinMap}
+use Rattle.tally_rules.specs.Code.{code_cmp}
+use Rattle.tally_returns.specs.Counts.{VoteCounts}
+use Rattle.tally_returns.specs.declared.returns.Status.{Status}
+use Rattle.tally_returns.specs.declared.returns.Status.TheVariants.{Received}
+
+-- its revision (from 1), the code of the slip that it was lodged with, its status, the note of its last query (empty at first) and its counts
+pub record StationReturn : Type 0 where
+  pub rev : ℕ
+  pub slip : List ℕ
+  pub status : Status
+  pub note : List ℕ
+  pub counts : VoteCounts
+
+-- the return of each station that has one, by the station's code
+abbrev pub Returns : Type 0
+Returns = FinMap code_cmp StationReturn
+
+-- a return as it is lodged
+abbrev pub first_return : List ℕ → VoteCounts → StationReturn
+first_return slip counts = record { rev = 1; slip = slip; status = Received; note = []; counts = counts }

@@ -1,0 +1,179 @@
+//! What is decided of a command on the return of a station.
+
+ghost use Rattle.std.specs.Prelude.{◌≡◌, ◌≤◌, ◌∷◌, [], Some, None, Ok, IfOk, IfErr, IsSome, is_some, option_map};
+ghost use Rattle.std.specs.Option.{ForSome, option_copied};
+ghost use Rattle.tally_rules.specs.Text.{is_note};
+ghost use Rattle.tally_returns.specs.Checks.{check, first_refusal, refused_or};
+ghost use Rattle.tally_returns.specs.Decide.{IsUnlessMemory, decided_return, limits_named, limits_of, lodge_change, moved, station_in};
+ghost use Rattle.tally_returns.specs.Lawful.{IsLawful, PutsLawful};
+ghost use Rattle.tally_returns.specs.Lodge.{decided_at};
+ghost use Rattle.tally_returns.specs.declared.change.Change.TheVariants.{Same};
+ghost use Rattle.tally_returns.specs.Moves.{closed, corrected, counts_checks_at, last_revision, may_close, may_correct, may_query, move_checks, queried};
+ghost use Rattle.tally_returns.specs.declared.refusal.Refusal.TheVariants.{BadNote, NoReturn};
+
+use crate::ask::Ask;
+use crate::change::Change;
+use crate::counts::Counts;
+use crate::lodge::decide_lodge;
+use crate::moves::{check_move, may_close, may_correct, may_query};
+use crate::refusal::Refusal;
+use crate::reply::LodgeReply;
+use crate::returns::Return;
+use std::alloc::Global;
+use tally_rules::{Code, Constituency, Station, good_note};
+
+/// What a command on a return changes, or why it is refused: at a station of this constituency,
+/// which is certified or not, where this return or none stands.
+pub fn decide_return(
+    alloc: Global,
+    con: &Constituency,
+    certified: bool,
+    found: Option<&Return>,
+    ask: &Ask,
+) -> Result<Change, Refusal>
+    requires station { IsSome (limits_named con.now ask.now) }
+    requires lawful { ForSome (limits_named con.now ask.now) (λ station. ForSome (option_copied found) (IsLawful station)) }
+    ensures decided { IsUnlessMemory result (decided_return (limits_named con.now ask.now) certified (option_copied found.entry) ask.now) }
+    ensures lawful { IfOk result (λ change. ForSome (limits_named con.now ask.now) (λ station. PutsLawful station change)) }
+{
+    let Some(code) = ask.station() else {
+        return Ok(Change::Same);
+    };
+    let Some(station) = station_in(con, code) else {
+        return Err(Refusal::NoStation);
+    };
+    decide_at(alloc, con, station, certified, found, ask)
+}
+
+/// The same of a command on this station, for a caller who has looked it up.
+pub fn decide_at(
+    alloc: Global,
+    con: &Constituency,
+    station: &Station,
+    certified: bool,
+    found: Option<&Return>,
+    ask: &Ask,
+) -> Result<Change, Refusal>
+    requires lawful { ForSome (option_copied found) (IsLawful (limits_of con.now station.now)) }
+    ensures decided { IsUnlessMemory result (decided_return (Some (limits_of con.now station.now)) certified (option_copied found.entry) ask.now) }
+    ensures lawful { IfOk result (PutsLawful (limits_of con.now station.now)) }
+{
+    match ask {
+        Ask::Lodge { slip, counts, .. } => decide_first(alloc, con, station, found, *slip, counts),
+        Ask::Query { rev, note, .. } => decide_query(alloc, certified, found, *rev, note),
+        Ask::Correct {
+            rev,
+            slip,
+            counts,
+            ..
+        } => {
+            check_counts(con, station, counts)?;
+            decide_correct(alloc, certified, found, *rev, *slip, counts)
+        }
+        Ask::Close { rev, .. } => decide_close(alloc, certified, found, *rev),
+        Ask::ShowReturn { .. } => decide_show(found),
+        _ => Ok(Change::Same),
+    }
+}
+
+fn decide_first(
+    alloc: Global,
+    con: &Constituency,
+    station: &Station,
+    found: Option<&Return>,
+    slip: Code,
+    counts: &Counts,
+) -> Result<Change, Refusal>
+    ensures { IsUnlessMemory result (lodge_change slip counts.now (decided_at (limits_of con.now station.now) (option_copied found.entry) slip counts.now)) }
+{
+    match decide_lodge(con.lists.len(), station.electors, found, slip, counts)? {
+        LodgeReply::Lodged { .. } => {
+            let counts = counts.try_copy(alloc)?;
+            Ok(Change::PutReturn(Return::lodged(alloc, slip, counts)))
+        }
+        LodgeReply::Same { .. } => Ok(Change::Same),
+    }
+}
+
+fn decide_query(
+    alloc: Global,
+    certified: bool,
+    found: Option<&Return>,
+    rev: u32,
+    note: &str,
+) -> Result<Change, Refusal>
+    requires { ForSome (option_copied found) (λ standing. standing.rev ≤ last_revision) }
+    ensures { IsUnlessMemory result (moved (check (is_note note.now) BadNote ∷ move_checks certified (option_copied found.entry) rev may_query) (option_copied found.entry) (queried note.now)) }
+{
+    if !good_note(note) {
+        return Err(Refusal::BadNote);
+    }
+    let Some(standing) = found else {
+        return Err(Refusal::NoReturn);
+    };
+    check_move(standing, certified, rev, may_query(standing.status))?;
+    Ok(Change::PutReturn(standing.queried(alloc, note)?))
+}
+
+fn decide_correct(
+    alloc: Global,
+    certified: bool,
+    found: Option<&Return>,
+    rev: u32,
+    slip: Code,
+    counts: &Counts,
+) -> Result<Change, Refusal>
+    requires { ForSome (option_copied found) (λ standing. standing.rev ≤ last_revision) }
+    ensures { IsUnlessMemory result (moved (move_checks certified (option_copied found.entry) rev may_correct) (option_copied found.entry) (corrected slip counts.now)) }
+{
+    let Some(standing) = found else {
+        return Err(Refusal::NoReturn);
+    };
+    check_move(standing, certified, rev, may_correct(standing.status))?;
+    Ok(Change::PutReturn(standing.corrected(alloc, slip, counts)?))
+}
+
+fn decide_close(
+    alloc: Global,
+    certified: bool,
+    found: Option<&Return>,
+    rev: u32,
+) -> Result<Change, Refusal>
+    requires { ForSome (option_copied found) (λ standing. standing.rev ≤ last_revision) }
+    ensures { IsUnlessMemory result (moved (move_checks certified (option_copied found.entry) rev may_close) (option_copied found.entry) closed) }
+{
+    let Some(standing) = found else {
+        return Err(Refusal::NoReturn);
+    };
+    check_move(standing, certified, rev, may_close(standing.status))?;
+    Ok(Change::PutReturn(standing.closed(alloc)?))
+}
+
+fn decide_show(found: Option<&Return>) -> Result<Change, Refusal>
+    ensures { result ≡ refused_or (first_refusal (check (is_some found.entry) NoReturn ∷ [])) (Ok Same) }
+{
+    match found {
+        Some(_) => Ok(Change::Same),
+        None => Err(Refusal::NoReturn),
+    }
+}
+
+/// The checks on the counts that come to a station.
+fn check_counts(con: &Constituency, station: &Station, counts: &Counts) -> Result<(), Refusal>
+    ensures passed { IfOk result (λ _. first_refusal (counts_checks_at (Some (limits_of con.now station.now)) counts.now) ≡ None) }
+    ensures refused { IfErr result (λ refusal. first_refusal (counts_checks_at (Some (limits_of con.now station.now)) counts.now) ≡ Some refusal) }
+{
+    if !counts.are_for(con.lists.len()) {
+        return Err(Refusal::BadCounts);
+    }
+    if counts.all_votes() > u64::from(station.electors) {
+        return Err(Refusal::TooManyVotes);
+    }
+    Ok(())
+}
+
+fn station_in(con: &Constituency, station: Code) -> Option<&Station>
+    ensures { option_copied result ≡ station_in con.now station }
+{
+    con.stations.iter().find(|place| station == place.code)
+}

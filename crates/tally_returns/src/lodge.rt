@@ -1,0 +1,47 @@
+//! What is decided of a Lodge.
+
+ghost use Rattle.std.specs.Prelude.{◌≡◌, ◌≤◌};
+ghost use Rattle.std.specs.Option.{option_copied};
+ghost use Rattle.tally_returns.specs.Lodge.{decided_at, again};
+
+use crate::counts::Counts;
+use crate::refusal::Refusal;
+use crate::reply::LodgeReply;
+use crate::returns::Return;
+use tally_rules::Code;
+
+/// What a Lodge is answered at a station of so many lists (at most 60) and electors, where this
+/// return or none stands. Where the reply is `Lodged`, `Return::lodged` is the return that is then
+/// to stand.
+pub fn decide_lodge(
+    lists: usize,
+    electors: u32,
+    found: Option<&Return>,
+    slip: Code,
+    counts: &Counts,
+) -> Result<LodgeReply, Refusal>
+    requires { lists ≤ 60 }
+    ensures { result ≡ decided_at (record { lists = lists; electors = electors }) (option_copied found.entry) slip counts.now }
+{
+    if !counts.are_for(lists) {
+        return Err(Refusal::BadCounts);
+    }
+    if counts.all_votes() > u64::from(electors) {
+        return Err(Refusal::TooManyVotes);
+    }
+    match found {
+        Some(standing) => decide_again(standing, slip, counts),
+        None => Ok(LodgeReply::Lodged { rev: 1 }),
+    }
+}
+
+fn decide_again(standing: &Return, slip: Code, counts: &Counts) -> Result<LodgeReply, Refusal>
+    ensures { result ≡ again standing.now slip counts.now }
+{
+    let rev = standing.rev;
+    if standing.slip == slip && standing.counts == *counts {
+        Ok(LodgeReply::Same { rev })
+    } else {
+        Err(Refusal::Differs { rev })
+    }
+}

@@ -1,0 +1,105 @@
+//! Refusals. A refused command changes nothing.
+
+ghost use Rattle.std.specs.Prelude.{◌≡◌};
+
+use crate::returns::Status;
+use std::alloc::AllocError;
+use tally_contest::ListSet;
+
+/// Why a command was refused: the first of its checks that failed. `Memory` and `Store` stand
+/// outside that order.
+#[derive(Clone, Copy, Debug, PartialEq, Eq)]
+pub enum Refusal {
+    /// No station has the code.
+    NoStation,
+    /// No constituency has the code.
+    NoConstituency,
+    /// The constituency has no such list, or the list no candidate at that place (from 1).
+    NoCandidate,
+    /// There is not one number for each list, or a number is above 1,000,000.
+    BadCounts,
+    /// The note is not of 1 to 200 bytes, or has a control byte.
+    BadNote,
+    /// The votes, blank and spoiled ones with them, are more than the station's electors.
+    TooManyVotes,
+    /// Another return of the station stands, at this revision.
+    Differs { rev: u32 },
+    /// The station has no return.
+    NoReturn,
+    /// The constituency is certified.
+    Certified,
+    /// The constituency is not certified.
+    NotCertified,
+    /// The revision or edition named is not the one that stands, which is this.
+    Stale { now: u32 },
+    /// The return stands at the last revision, or the constituency at the last edition: 9,999.
+    Exhausted,
+    /// The command does not start from this status.
+    WrongStatus { status: Status },
+    /// So many stations, 1 or more, have no closed return.
+    NotAllClosed { left: u32 },
+    /// No list is eligible (LOREG article 163.1 a)).
+    NoEligible,
+    /// A lot stands already.
+    LotStands,
+    /// The votes decide, so that no lot is needed.
+    LotNotNeeded,
+    /// The order does not name each list of this group once and no other.
+    LotWrongGroup { group: ListSet },
+    /// A lot among these lists is needed, for so many seats, and none stands (LOREG article
+    /// 163.1 d)).
+    LotMissing { group: ListSet, seats: u32 },
+    /// The candidate is gone already.
+    AlreadyGone,
+    /// The candidate holds no seat now.
+    NotHolder,
+    /// An allocation of this request was refused.
+    Memory,
+    /// A database call of this request was refused, for another cause than memory.
+    Store,
+}
+
+impl Refusal {
+    ghost use Rattle.tally_returns.specs.Refusals.{number};
+
+    /// The refusal's number, by which the office's answers and texts name it.
+    pub fn number(&self) -> u32
+        ensures { result ≡ number self.now }
+    {
+        match self {
+            Refusal::NoStation => 1,
+            Refusal::NoConstituency => 2,
+            Refusal::NoCandidate => 3,
+            Refusal::BadCounts => 4,
+            Refusal::BadNote => 5,
+            Refusal::TooManyVotes => 6,
+            Refusal::Differs { .. } => 7,
+            Refusal::NoReturn => 8,
+            Refusal::Certified => 9,
+            Refusal::NotCertified => 10,
+            Refusal::Stale { .. } => 11,
+            Refusal::Exhausted => 12,
+            Refusal::WrongStatus { .. } => 13,
+            Refusal::NotAllClosed { .. } => 14,
+            Refusal::NoEligible => 15,
+            Refusal::LotStands => 16,
+            Refusal::LotNotNeeded => 17,
+            Refusal::LotWrongGroup { .. } => 18,
+            Refusal::LotMissing { .. } => 19,
+            Refusal::AlreadyGone => 20,
+            Refusal::NotHolder => 21,
+            Refusal::Memory => 22,
+            Refusal::Store => 23,
+        }
+    }
+}
+
+impl From<AllocError> for Refusal {
+    ghost use Rattle.tally_returns.specs.declared.refusal.Refusal.TheVariants.{Memory};
+
+    ghost from_gives = { λ _ refusal. refusal ≡ Memory };
+
+    fn from(_refused: AllocError) -> Refusal {
+        Refusal::Memory
+    }
+}

@@ -1,0 +1,96 @@
+//! Returns of polling stations.
+
+ghost use Rattle.std.specs.Prelude.{◌≡◌, ◌≤◌, IfOk, IsTrue};
+ghost use Rattle.tally_returns.specs.Lawful.{IsLawful, may_stand};
+ghost use Rattle.tally_returns.specs.Return.{first_return};
+
+use crate::counts::Counts;
+use crate::moves::LAST_REVISION;
+use std::alloc::{AllocError, Global};
+use std::marker::Model;
+use tally_rules::{Code, good_note};
+
+/// How far the office has come with a return.
+#[derive(Clone, Copy, Debug, PartialEq, Eq)]
+pub enum Status {
+    /// Lodged, and not yet looked at.
+    Received,
+    /// Called in question.
+    Queried,
+    /// Corrected after a query.
+    Corrected,
+    /// Closed: its votes count.
+    Closed,
+}
+
+/// The return of a polling station.
+#[derive(Debug, Drop)]
+pub struct Return {
+    /// The revision, from 1.
+    pub rev: u32,
+    /// The code of the slip that it was lodged or last corrected with.
+    pub slip: Code,
+    pub status: Status,
+    /// The note of its last query, empty where there was none.
+    pub note: String,
+    pub counts: Counts,
+}
+
+impl Model for Return {
+    ghost use Rattle.std.specs.Prelude.{string_bytes};
+    ghost use Rattle.tally_returns.specs.Return.{StationReturn};
+
+    ghost Value = { StationReturn };
+
+    ghost view = { λ r. record { rev = r.rev; slip = r.slip; status = r.status; note = string_bytes r.note; counts = r.counts } };
+}
+
+impl Return {
+    /// A return as it is lodged: revision 1, received, with no note.
+    pub fn lodged(alloc: Global, slip: Code, counts: Counts) -> Return
+        ensures { result ≡ first_return slip counts }
+    {
+        Return {
+            rev: 1,
+            slip,
+            status: Status::Received,
+            note: String::new(alloc),
+            counts,
+        }
+    }
+
+    /// A copy with the same content.
+    pub fn try_copy(&self, alloc: Global) -> Result<Return, AllocError>
+        ensures { IfOk result (λ copy. copy ≡ self.now) }
+    {
+        Ok(Return {
+            rev: self.rev,
+            slip: self.slip,
+            status: self.status,
+            note: String::from_str(alloc, self.note.as_str())?,
+            counts: self.counts.try_copy(alloc)?,
+        })
+    }
+
+    /// Whether the return may stand at a station of so many lists (at most 60) and electors: by its
+    /// revision, note and counts.
+    pub fn is_lawful(&self, lists: usize, electors: u32) -> bool
+        requires { lists ≤ 60 }
+        ensures lawful { IsTrue result → IsLawful (record { lists = lists; electors = electors }) self.now }
+        ensures otherwise { IsLawful (record { lists = lists; electors = electors }) self.now → IsTrue result }
+    {
+        if !self.counts.are_for(lists) {
+            return false;
+        }
+        self.rev >= 1
+            && self.rev <= LAST_REVISION
+            && may_stand(self.note.as_str())
+            && self.counts.all_votes() <= u64::from(electors)
+    }
+}
+
+fn may_stand(note: &str) -> bool
+    ensures { result ≡ may_stand note.now }
+{
+    note.is_empty() || good_note(note)
+}
