@@ -4,12 +4,14 @@ ghost use Rattle.std.specs.Prelude.{◌≡◌, ◌≤◌, ◌<◌, [], Some, fal
 ghost use Rattle.tally_returns.specs.Named.{con_named};
 ghost use Rattle.tally_machine.specs.Outcome.{IsLawfulView};
 
-use crate::setups::{code, number, twin_town};
+use crate::answers::told_refusal;
+use crate::commands::command;
+use crate::setups::{code, setup, twin_town};
 use std::alloc::{AllocError, Global};
 use std::test::*;
 use tally_allot::allot;
 use tally_core::{Ask, Change, ConView, Gone, Refusal, decide_con};
-use tally_rules::{Code, Constituency};
+use tally_rules::Constituency;
 
 /// What is seen where the station is closed with these votes.
 fn open_view(alloc: Global, votes: &[u64]) -> Result<ConView, AllocError> {
@@ -108,58 +110,11 @@ fn decided(
     decide_con(alloc, con, view, ask)
 }
 
-/// `certify EDITION`, `draw EDITION LISTS`, `reopen EDITION NOTE`, `vacate LIST PLACE NOTE` or
-/// `show 0`.
-fn command(alloc: Global, line: &str) -> Result<Ask, Fail> {
-    let con = code("c1")?;
-    let (verb, rest) = line.split_once(" ").ok_or("no verb")?;
-    let (first, rest) = rest.split_once(" ").unwrap_or((rest, ""));
-    if verb == "vacate" {
-        return vacate_command(alloc, con, first, rest);
-    }
-    let edition = number(first)?;
-    if verb == "certify" {
-        return Ok(Ask::Certify { con, edition });
-    }
-    if verb == "draw" {
-        let order = lists(alloc, rest)?;
-        return Ok(Ask::Draw {
-            con,
-            edition,
-            order,
-        });
-    }
-    if verb == "show" {
-        return Ok(Ask::ShowCon { con });
-    }
-    let note = String::from_str(alloc, rest)?;
-    Ok(Ask::Reopen { con, edition, note })
-}
-
-fn vacate_command(alloc: Global, con: Code, list: &str, rest: &str) -> Result<Ask, Fail> {
-    let (place, note) = rest.split_once(" ").ok_or("no place")?;
-    Ok(Ask::Vacate {
-        con,
-        list: code(list)?,
-        place: number(place)?,
-        note: String::from_str(alloc, note)?,
-    })
-}
-
-/// The codes of lists, of one letter each.
-fn lists(alloc: Global, letters: &str) -> Result<Vec<Code>, Fail> {
-    let mut codes = Vec::new(alloc);
-    for letter in letters.as_bytes() {
-        codes.push(Code::new(&[*letter]).ok_or("no code")?)?;
-    }
-    Ok(codes)
-}
-
 /// A text for what was decided.
 fn shown(alloc: Global, decided: &Result<Change, Refusal>) -> Result<String, Fail> {
     match decided {
         Ok(change) => shown_change(alloc, change),
-        Err(refusal) => shown_refusal(alloc, refusal),
+        Err(refusal) => told_refusal(alloc, refusal),
     }
 }
 
@@ -177,143 +132,129 @@ fn shown_change(alloc: Global, change: &Change) -> Result<String, Fail> {
     })
 }
 
-fn shown_refusal(alloc: Global, refusal: &Refusal) -> Result<String, Fail> {
-    Ok(match refusal {
-        Refusal::LotMissing { group, seats } => {
-            let (a, b, c) = (group.has(1), group.has(2), group.has(3));
-            format!(in alloc; "lot of {a} {b} {c} for {seats}")?
-        }
-        Refusal::Stale { now } => format!(in alloc; "stale {now}")?,
-        Refusal::NotAllClosed { left } => format!(in alloc; "left {left}")?,
-        _ => format!(in alloc; "refused {}", refusal.number())?,
-    })
-}
-
-/// The first of these lines, `COMMAND = ANSWER`, whose answer is another.
+/// In a setup of this method and so many seats, the first of these lines, `COMMAND = TEXT`, of which
+/// something else is decided.
 fn first_wrong<'a>(
-    alloc: Global,
-    con: &Constituency,
-    view: &ConView,
-    lines: &'a str,
-) -> Result<Option<&'a str>, Fail> {
-    for line in lines.lines() {
-        let (ask, wanted) = line.split_once(" = ").ok_or("no answer")?;
-        let answer = decided(alloc, con, view, &command(alloc, ask)?);
-        if shown(alloc, &answer)?.as_str() != wanted {
-            return Ok(Some(line));
-        }
-    }
-    Ok(None)
-}
-
-/// The same in a setup of this method and so many seats.
-fn wrong<'a>(
     alloc: Global,
     method: &str,
     seats: u32,
     view: &ConView,
-    lines: &'a str,
-) -> Result<Option<&'a str>, Fail> {
-    let setup = twin_town(alloc, method, seats)?;
+    script: &'a str,
+) -> Result<&'a str, Fail> {
+    let setup = setup(alloc, twin_town(alloc, method, seats)?.as_str())?;
     let con = setup.con(code("c1")?).ok_or("c1 is there")?;
-    first_wrong(alloc, con, view, lines)
+    for line in script.lines() {
+        let (ask, wanted) = line.split_once(" = ").ok_or("no text")?;
+        let decided = decided(alloc, con, view, &command(alloc, ask)?);
+        if shown(alloc, &decided)?.as_str() != wanted {
+            return Ok(line);
+        }
+    }
+    Ok("")
 }
 
-// 3 seats and the quotients 100, 100, 50 and 50; 18 is LotWrongGroup.
-const LOT_MISSING: &str = "certify 1 = lot of true true false for 1
-draw 1 A = refused 18
-draw 1 AA = refused 18
-draw 1 ABB = refused 18
-draw 1 AZ = refused 18
-draw 1 = refused 18
-draw 1 BA = lot [2, 1]
-certify 2 = stale 1
-draw 2 BA = stale 1
-show 0 = same";
+// 3 seats and the quotients 100, 100, 50 and 50.
+const LOT_MISSING: &str = "certify c1 1 = lot of 1 2 for 1
+draw c1 1 A = no order of 1 2
+draw c1 1 A,A = no order of 1 2
+draw c1 1 A,B,B = no order of 1 2
+draw c1 1 A,Z = no order of 1 2
+draw c1 1 = no order of 1 2
+draw c1 1 B,A = lot [2, 1]
+certify c1 2 = stale 1
+draw c1 2 B,A = stale 1
+show c1 = same";
 
 #[test]
 fn a_lot_names_each_list_of_its_group_once(rt: HostRuntime) -> Result<(), Fail> {
     let view = open_view(rt.alloc(), &[100, 100])?;
-    assert!(rt; wrong(rt.alloc(), "dhondt", 3, &view, LOT_MISSING)?.is_none());
+    let wrong = first_wrong(rt.alloc(), "dhondt", 3, &view, LOT_MISSING)?;
+    assert!(rt; wrong.is_empty(), "{wrong}");
     Ok(())
 }
 
 // The quota is 100, and each list has a remainder of 50.
-const LOT_MISSING_BY_HARE: &str = "certify 1 = lot of true true false for 1
-draw 1 AB = lot [1, 2]";
+const LOT_MISSING_BY_HARE: &str = "certify c1 1 = lot of 1 2 for 1
+draw c1 1 A,B = lot [1, 2]";
 
 #[test]
 fn a_lot_is_drawn_by_hare_too(rt: HostRuntime) -> Result<(), Fail> {
     let view = open_view(rt.alloc(), &[50, 50])?;
-    assert!(rt; wrong(rt.alloc(), "hare", 1, &view, LOT_MISSING_BY_HARE)?.is_none());
+    let wrong = first_wrong(rt.alloc(), "hare", 1, &view, LOT_MISSING_BY_HARE)?;
+    assert!(rt; wrong.is_empty(), "{wrong}");
     Ok(())
 }
 
 // 16 is LotStands.
-const LOT_STANDS: &str = "draw 1 AB = refused 16
-certify 1 = certified [1, 2]";
+const LOT_STANDS: &str = "draw c1 1 A,B = refused 16
+certify c1 1 = certified [1, 2]";
 
 #[test]
 fn a_lot_that_stands_gives_the_seats(rt: HostRuntime) -> Result<(), Fail> {
     let mut view = open_view(rt.alloc(), &[100, 100])?;
     view.lot = [2, 1].to_vec(rt.alloc())?;
-    assert!(rt; wrong(rt.alloc(), "dhondt", 3, &view, LOT_STANDS)?.is_none());
+    let wrong = first_wrong(rt.alloc(), "dhondt", 3, &view, LOT_STANDS)?;
+    assert!(rt; wrong.is_empty(), "{wrong}");
     Ok(())
 }
 
 // All four quotients have a seat; 17 is LotNotNeeded.
-const VOTES_DECIDE: &str = "draw 1 BA = refused 17
-draw 1 Z = refused 17
-certify 1 = certified [2, 2]";
+const VOTES_DECIDE: &str = "draw c1 1 B,A = refused 17
+draw c1 1 Z = refused 17
+certify c1 1 = certified [2, 2]";
 
 #[test]
 fn no_lot_is_drawn_where_the_votes_decide(rt: HostRuntime) -> Result<(), Fail> {
     let view = open_view(rt.alloc(), &[100, 100])?;
-    assert!(rt; wrong(rt.alloc(), "dhondt", 4, &view, VOTES_DECIDE)?.is_none());
+    let wrong = first_wrong(rt.alloc(), "dhondt", 4, &view, VOTES_DECIDE)?;
+    assert!(rt; wrong.is_empty(), "{wrong}");
     Ok(())
 }
 
 // 15 is NoEligible.
-const NO_VOTES: &str = "draw 1 BA = refused 15
-certify 1 = refused 15";
+const NO_VOTES: &str = "draw c1 1 B,A = refused 15
+certify c1 1 = refused 15";
 
 #[test]
 fn no_list_without_votes_is_eligible(rt: HostRuntime) -> Result<(), Fail> {
     let view = open_view(rt.alloc(), &[0, 0])?;
-    assert!(rt; wrong(rt.alloc(), "dhondt", 3, &view, NO_VOTES)?.is_none());
+    let wrong = first_wrong(rt.alloc(), "dhondt", 3, &view, NO_VOTES)?;
+    assert!(rt; wrong.is_empty(), "{wrong}");
     Ok(())
 }
 
 // An open constituency with an open station; 10 is NotCertified, 5 BadNote, 3 NoCandidate.
-const OPEN: &str = "draw 1 BA = left 1
-certify 1 = left 1
-certify 2 = stale 1
-reopen 1 = refused 5
-reopen 2 = refused 5
-reopen 2 count again = refused 10
-vacate B 1 resigned = refused 10
-vacate B 1  = refused 5
-vacate Z 1  = refused 3";
+const OPEN: &str = "draw c1 1 B,A = left 1
+certify c1 1 = left 1
+certify c1 2 = stale 1
+reopen c1 1 = refused 5
+reopen c1 2 = refused 5
+reopen c1 2 count again = refused 10
+vacate c1 B 1 resigned = refused 10
+vacate c1 B 1 = refused 5
+vacate c1 Z 1 = refused 3";
 
 #[test]
 fn what_is_refused_while_a_station_is_open(rt: HostRuntime) -> Result<(), Fail> {
     let mut view = open_view(rt.alloc(), &[100, 100])?;
     view.closed = 0;
-    assert!(rt; wrong(rt.alloc(), "dhondt", 3, &view, OPEN)?.is_none());
+    let wrong = first_wrong(rt.alloc(), "dhondt", 3, &view, OPEN)?;
+    assert!(rt; wrong.is_empty(), "{wrong}");
     Ok(())
 }
 
 // 12 is Exhausted.
-const LAST_EDITION_OPEN: &str = "draw 9999 BA = refused 12
-certify 9999 = refused 12
-certify 9998 = stale 9999";
+const LAST_EDITION_OPEN: &str = "draw c1 9999 B,A = refused 12
+certify c1 9999 = refused 12
+certify c1 9998 = stale 9999";
 
 #[test]
 fn nothing_follows_the_last_edition(rt: HostRuntime) -> Result<(), Fail> {
     let mut view = open_view(rt.alloc(), &[100, 100])?;
     view.edition = 9_999;
     view.closed = 0;
-    assert!(rt; wrong(rt.alloc(), "dhondt", 3, &view, LAST_EDITION_OPEN)?.is_none());
+    let wrong = first_wrong(rt.alloc(), "dhondt", 3, &view, LAST_EDITION_OPEN)?;
+    assert!(rt; wrong.is_empty(), "{wrong}");
     Ok(())
 }
 
@@ -327,23 +268,24 @@ fn certified_view(alloc: Global) -> Result<ConView, AllocError> {
 }
 
 // 9 is Certified, 21 NotHolder. B has one candidate, so that its second seat is empty.
-const CERTIFIED: &str = "draw 1 BA = refused 9
-draw 2 BA = refused 9
-certify 2 = refused 9
-reopen 1 = refused 5
-reopen 2 count again = stale 1
-reopen 1 count again = open, count again
-vacate B 1 resigned = gone 2 1 resigned, next None
-vacate A 2 resigned = refused 21
-vacate A 0 resigned = refused 3
-vacate A 3 resigned = refused 3
-vacate Z 1 resigned = refused 3
-vacate A 2  = refused 5";
+const CERTIFIED: &str = "draw c1 1 B,A = refused 9
+draw c1 2 B,A = refused 9
+certify c1 2 = refused 9
+reopen c1 1 = refused 5
+reopen c1 2 count again = stale 1
+reopen c1 1 count again = open, count again
+vacate c1 B 1 resigned = gone 2 1 resigned, next None
+vacate c1 A 2 resigned = refused 21
+vacate c1 A 0 resigned = refused 3
+vacate c1 A 3 resigned = refused 3
+vacate c1 Z 1 resigned = refused 3
+vacate c1 A 2 = refused 5";
 
 #[test]
 fn what_is_decided_where_it_is_certified(rt: HostRuntime) -> Result<(), Fail> {
     let view = certified_view(rt.alloc())?;
-    assert!(rt; wrong(rt.alloc(), "dhondt", 3, &view, CERTIFIED)?.is_none());
+    let wrong = first_wrong(rt.alloc(), "dhondt", 3, &view, CERTIFIED)?;
+    assert!(rt; wrong.is_empty(), "{wrong}");
     Ok(())
 }
 
@@ -351,8 +293,9 @@ fn what_is_decided_where_it_is_certified(rt: HostRuntime) -> Result<(), Fail> {
 fn the_last_edition_is_not_opened_again(rt: HostRuntime) -> Result<(), Fail> {
     let mut view = certified_view(rt.alloc())?;
     view.edition = 9_999;
-    let lines = "reopen 9999 count again = refused 12";
-    assert!(rt; wrong(rt.alloc(), "dhondt", 3, &view, lines)?.is_none());
+    let lines = "reopen c1 9999 count again = refused 12";
+    let wrong = first_wrong(rt.alloc(), "dhondt", 3, &view, lines)?;
+    assert!(rt; wrong.is_empty(), "{wrong}");
     Ok(())
 }
 
@@ -366,8 +309,9 @@ fn nobody_goes_twice(rt: HostRuntime) -> Result<(), Fail> {
         place: 1,
         note,
     })?;
-    let lines = "vacate B 1 resigned = refused 20";
-    assert!(rt; wrong(rt.alloc(), "dhondt", 3, &view, lines)?.is_none());
+    let lines = "vacate c1 B 1 resigned = refused 20";
+    let wrong = first_wrong(rt.alloc(), "dhondt", 3, &view, lines)?;
+    assert!(rt; wrong.is_empty(), "{wrong}");
     Ok(())
 }
 
@@ -376,7 +320,8 @@ fn the_next_candidate_moves_in(rt: HostRuntime) -> Result<(), Fail> {
     let mut view = open_view(rt.alloc(), &[100, 50])?;
     view.certified = true;
     view.seats = [1, 0].to_vec(rt.alloc())?;
-    let lines = "vacate A 1 resigned = gone 1 1 resigned, next Some(2)";
-    assert!(rt; wrong(rt.alloc(), "dhondt", 1, &view, lines)?.is_none());
+    let lines = "vacate c1 A 1 resigned = gone 1 1 resigned, next Some(2)";
+    let wrong = first_wrong(rt.alloc(), "dhondt", 1, &view, lines)?;
+    assert!(rt; wrong.is_empty(), "{wrong}");
     Ok(())
 }

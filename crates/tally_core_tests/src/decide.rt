@@ -5,51 +5,13 @@ ghost use Rattle.std.specs.Option.{ForSome, option_copied};
 ghost use Rattle.tally_returns.specs.Decide.{limits_named, station_in};
 ghost use Rattle.tally_returns.specs.Lawful.{IsLawful};
 
+use crate::answers::told_refusal;
+use crate::commands::command;
 use crate::setups::{TWIN_TOWN, code, setup};
-use std::alloc::{AllocError, Global};
+use std::alloc::Global;
 use std::test::*;
-use tally_core::{Ask, Change, Counts, Refusal, Return, decide_return};
+use tally_core::{Ask, Change, Return, decide_return};
 use tally_rules::{Code, Constituency, Station};
-
-fn counts(alloc: Global, votes: &[u32], blank: u32) -> Result<Counts, AllocError> {
-    Ok(Counts {
-        votes: votes.to_vec(alloc)?,
-        blank,
-        spoiled: 0,
-    })
-}
-
-fn lodge(alloc: Global, slip: &str, votes: &[u32], blank: u32) -> Result<Ask, Fail> {
-    Ok(Ask::Lodge {
-        station: code("s1")?,
-        slip: code(slip)?,
-        counts: counts(alloc, votes, blank)?,
-    })
-}
-
-fn query(alloc: Global, rev: u32, note: &str) -> Result<Ask, Fail> {
-    Ok(Ask::Query {
-        station: code("s1")?,
-        rev,
-        note: String::from_str(alloc, note)?,
-    })
-}
-
-fn correct(alloc: Global, rev: u32, slip: &str, votes: &[u32]) -> Result<Ask, Fail> {
-    Ok(Ask::Correct {
-        station: code("s1")?,
-        rev,
-        slip: code(slip)?,
-        counts: counts(alloc, votes, 0)?,
-    })
-}
-
-fn close(rev: u32) -> Result<Ask, Fail> {
-    Ok(Ask::Close {
-        station: code("s1")?,
-        rev,
-    })
-}
 
 /// Whether a command may be decided: its station is one of the constituency, and the return that
 /// stands is lawful there.
@@ -75,63 +37,71 @@ fn station_of(con: &Constituency, station: Code) -> Option<&Station>
     con.stations.iter().find(|place| station == place.code)
 }
 
-/// Decides a command and carries out what it changes: the new revision, or None where nothing
-/// changes. A command that may not be decided is answered NoStation.
+/// Decides a command and carries out what it changes. What was decided, as text.
 fn carry_out(
     alloc: Global,
     con: &Constituency,
     certified: bool,
     standing: &mut Option<Return>,
     ask: &Ask,
-) -> Result<Option<u32>, Refusal> {
+) -> Result<String, Fail> {
     let found = standing.as_ref();
     if !may_decide(con, found, ask) {
-        return Err(Refusal::NoStation);
+        return Err(Fail::from("it may not be decided"));
     }
-    let change = decide_return(alloc, con, certified, found, ask)?;
-    let Change::PutReturn(put) = change else {
-        return Ok(None);
-    };
-    let rev = put.rev;
-    *standing = Some(put);
-    Ok(Some(rev))
+    match decide_return(alloc, con, certified, found, ask) {
+        Ok(Change::PutReturn(put)) => {
+            let text = format!(in alloc; "revision {}", put.rev)?;
+            *standing = Some(put);
+            Ok(text)
+        }
+        Ok(_) => Ok(String::from_str(alloc, "nothing changes")?),
+        Err(refusal) => told_refusal(alloc, &refusal),
+    }
 }
 
-#[test]
-fn a_return_is_lodged_and_closed(rt: HostRuntime) -> Result<(), Fail> {
-    let alloc = rt.alloc();
+/// The first of these lines, `COMMAND = TEXT`, of which something else is decided.
+fn first_wrong<'a>(alloc: Global, certified: bool, script: &'a str) -> Result<&'a str, Fail> {
     let setup = setup(alloc, TWIN_TOWN)?;
     let con = setup.con(code("c1")?).ok_or("c1 is there")?;
     let mut standing = None;
-    let first = lodge(alloc, "p1", &[100, 100], 0)?;
-    assert!(rt; carry_out(alloc, con, false, &mut standing, &first) == Ok(Some(1)));
-    assert!(rt; carry_out(alloc, con, false, &mut standing, &close(1)?) == Ok(Some(2)));
+    for line in script.lines() {
+        let (ask, wanted) = line.split_once(" = ").ok_or("no text")?;
+        let ask = command(alloc, ask)?;
+        let decided = carry_out(alloc, con, certified, &mut standing, &ask)?;
+        if decided.as_str() != wanted {
+            return Ok(line);
+        }
+    }
+    Ok("")
+}
+
+// A station of 300 electors; 6 is TooManyVotes.
+const OPEN: &str = "lodge s1 p1 150,150 1 = refused 6
+lodge s1 p1 150,150 = revision 1
+lodge s1 p1 150,150 = nothing changes
+return s1 = nothing changes
+query s1 1 sum = revision 2
+correct s1 2 p2 1,1 = revision 3
+close s1 3 = revision 4
+close s1 4 = status Closed";
+
+#[test]
+fn what_is_decided_while_the_constituency_is_open(rt: HostRuntime) -> Result<(), Fail> {
+    let wrong = first_wrong(rt.alloc(), false, OPEN)?;
+    assert!(rt; wrong.is_empty(), "{wrong}");
     Ok(())
 }
 
-#[test]
-fn a_return_is_queried_and_corrected(rt: HostRuntime) -> Result<(), Fail> {
-    let alloc = rt.alloc();
-    let setup = setup(alloc, TWIN_TOWN)?;
-    let con = setup.con(code("c1")?).ok_or("c1 is there")?;
-    let mut standing = Some(Return::lodged(alloc, code("p1")?, counts(alloc, &[100, 100], 0)?));
-    let asked = query(alloc, 1, "sum")?;
-    assert!(rt; carry_out(alloc, con, false, &mut standing, &asked) == Ok(Some(2)));
-    let right = correct(alloc, 2, "p2", &[1, 1])?;
-    assert!(rt; carry_out(alloc, con, false, &mut standing, &right) == Ok(Some(3)));
-    Ok(())
-}
+// 9 is Certified.
+const CERTIFIED: &str = "lodge s1 p1 100,100 = revision 1
+query s1 1 sum = refused 9
+correct s1 1 p2 1,1 = refused 9
+close s1 1 = refused 9";
 
-// A station of 300 electors.
 #[test]
-fn votes_and_blank_votes_fit_the_electors(rt: HostRuntime) -> Result<(), Fail> {
-    let alloc = rt.alloc();
-    let setup = setup(alloc, TWIN_TOWN)?;
-    let con = setup.con(code("c1")?).ok_or("c1 is there")?;
-    let mut standing = None;
-    let many = lodge(alloc, "p1", &[150, 150], 1)?;
-    assert!(rt; carry_out(alloc, con, false, &mut standing, &many) == Err(Refusal::TooManyVotes));
-    let most = lodge(alloc, "p1", &[150, 150], 0)?;
-    assert!(rt; carry_out(alloc, con, false, &mut standing, &most) == Ok(Some(1)));
+fn what_is_decided_where_it_is_certified(rt: HostRuntime) -> Result<(), Fail> {
+    let wrong = first_wrong(rt.alloc(), true, CERTIFIED)?;
+    assert!(rt; wrong.is_empty(), "{wrong}");
     Ok(())
 }

@@ -1,10 +1,11 @@
 //! Imports into a keeper in memory.
 
-use crate::commands::{command, is_shown};
-use crate::setups::{TWIN_TOWN, fresh, setup};
+use crate::answers::first_wrong;
+use crate::commands::command;
+use crate::setups::{TWIN_TOWN, fresh};
 use std::alloc::Global;
 use std::test::*;
-use tally_core::{FirstRow, ImportCount, ImportFault, Keeper, Row, RowSource};
+use tally_core::{Book, ImportCount, ImportFault, Keeper, Row, RowSource};
 
 /// Gives these rows, the last first; then it ends, or its reads fail.
 #[derive(Drop)]
@@ -42,47 +43,57 @@ fn rows_of_text(alloc: Global, text: &str, fails: bool) -> Result<Script, Fail> 
     Ok(Script { rows, fails })
 }
 
+/// What an import of these rows into a keeper comes to, as text.
+fn imported(alloc: Global, book: &mut Book, text: &str, fails: bool) -> Result<String, Fail> {
+    let mut rows = rows_of_text(alloc, text, fails)?;
+    match book.lodge_from(&mut rows) {
+        Ok(count) => told_count(alloc, count),
+        Err(fault) => Ok(format!(in alloc; "{fault:?}")?),
+    }
+}
+
+/// How many rows were lodged, the same, differing, refused and bad, and the first that was none of the
+/// former two.
+fn told_count(alloc: Global, count: ImportCount) -> Result<String, Fail> {
+    let mut text = format!(in alloc; "{} {} {}", count.lodged, count.same, count.differs)?;
+    write!(text, " {} {}", count.refused, count.bad)?;
+    if let Some(first) = count.first {
+        write!(text, ", first {} {}", first.row, first.number)?;
+    }
+    Ok(text)
+}
+
 #[test]
 fn an_import_passes_over_refused_and_bad_rows(rt: HostRuntime) -> Result<(), Fail> {
-    let alloc = rt.alloc();
-    let mut book = fresh(alloc, setup(alloc, TWIN_TOWN)?)?;
+    let mut book = fresh(rt.alloc(), TWIN_TOWN)?;
     let text =
         "bad;lodge s1 p1 100,100;lodge s1 p1 100,100;lodge s1 p2 1,1;lodge zz p1 1,1;close s1 1";
-    let found = book.lodge_from(&mut rows_of_text(alloc, text, false)?);
-    let wanted = ImportCount {
-        lodged: 1,
-        same: 1,
-        differs: 1,
-        refused: 1,
-        bad: 2,
-        first: Some(FirstRow { row: 1, number: 0 }),
-    };
-    assert!(rt; found == Ok(wanted));
-    let answer = book.answer(&command(alloc, "close s1 1")?);
-    assert!(rt; is_shown(&answer, "moved 2")?);
+    let told = imported(rt.alloc(), &mut book, text, false)?;
+    assert!(rt; told.as_str() == "1 1 1 1 2, first 1 0", "{told}");
+    let wrong = first_wrong(rt.alloc(), &mut book, "close s1 1 = moved 2")?;
+    assert!(rt; wrong.is_empty(), "{wrong}");
     Ok(())
 }
 
 #[test]
 fn an_import_with_a_fault_leaves_nothing(rt: HostRuntime) -> Result<(), Fail> {
-    let alloc = rt.alloc();
-    let mut book = fresh(alloc, setup(alloc, TWIN_TOWN)?)?;
-    let mut rows = rows_of_text(alloc, "lodge s1 p1 100,100;bad", true)?;
-    assert!(rt; book.lodge_from(&mut rows) == Err(ImportFault::Read));
-    let answer = book.answer(&command(alloc, "close s1 1")?);
-    assert!(rt; is_shown(&answer, "refused 8")?);
+    let mut book = fresh(rt.alloc(), TWIN_TOWN)?;
+    let told = imported(rt.alloc(), &mut book, "lodge s1 p1 100,100;bad", true)?;
+    assert!(rt; told.as_str() == "Read", "{told}");
+    let wrong = first_wrong(rt.alloc(), &mut book, "close s1 1 = refused 8")?;
+    assert!(rt; wrong.is_empty(), "{wrong}");
     Ok(())
 }
 
 #[test]
 fn a_return_that_stood_is_there_after_a_fault(rt: HostRuntime) -> Result<(), Fail> {
-    let alloc = rt.alloc();
-    let mut book = fresh(alloc, setup(alloc, TWIN_TOWN)?)?;
-    assert!(rt; book.answer(&command(alloc, "lodge s1 p1 1,1")?).is_ok());
-    let mut rows = rows_of_text(alloc, "lodge s1 p1 1,1;bad", true)?;
-    assert!(rt; book.lodge_from(&mut rows) == Err(ImportFault::Read));
-    let answer = book.answer(&command(alloc, "close s1 1")?);
-    assert!(rt; is_shown(&answer, "moved 2")?);
+    let mut book = fresh(rt.alloc(), TWIN_TOWN)?;
+    let wrong = first_wrong(rt.alloc(), &mut book, "lodge s1 p1 1,1 = lodged 1")?;
+    assert!(rt; wrong.is_empty(), "{wrong}");
+    let told = imported(rt.alloc(), &mut book, "lodge s1 p1 1,1;bad", true)?;
+    assert!(rt; told.as_str() == "Read", "{told}");
+    let wrong = first_wrong(rt.alloc(), &mut book, "close s1 1 = moved 2")?;
+    assert!(rt; wrong.is_empty(), "{wrong}");
     Ok(())
 }
 
@@ -104,7 +115,7 @@ impl RowSource for Endless {
 
 #[test]
 fn an_import_ends_after_20_000_rows(rt: HostRuntime) -> Result<(), Fail> {
-    let mut book = fresh(rt.alloc(), setup(rt.alloc(), TWIN_TOWN)?)?;
+    let mut book = fresh(rt.alloc(), TWIN_TOWN)?;
     assert!(rt; book.lodge_from(&mut Endless) == Err(ImportFault::TooLong));
     Ok(())
 }

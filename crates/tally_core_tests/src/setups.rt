@@ -39,17 +39,17 @@ pub(crate) fn setup(alloc: Global, text: &str) -> Result<Setup, Fail> {
 }
 
 /// The setup above by another rule, and with another number of seats.
-pub(crate) fn twin_town(alloc: Global, method: &str, seats: u32) -> Result<Setup, Fail> {
+pub(crate) fn twin_town(alloc: Global, method: &str, seats: u32) -> Result<String, Fail> {
     let (front, rest) = TWIN_TOWN
         .split_once("dhondt")
         .ok_or("the rule stands there")?;
     let (middle, back) = rest.split_once("seats = 3").ok_or("seats stand there")?;
-    let text = format!(in alloc; "{front}{method}{middle}seats = {seats}{back}")?;
-    setup(alloc, text.as_str())
+    Ok(format!(in alloc; "{front}{method}{middle}seats = {seats}{back}")?)
 }
 
-/// A keeper of a setup, in which no return stands.
-pub(crate) fn fresh(alloc: Global, setup: Setup) -> Result<Book, Fail> {
+/// A keeper of the setup of a text, in which no return stands.
+pub(crate) fn fresh(alloc: Global, text: &str) -> Result<Book, Fail> {
+    let setup = setup(alloc, text)?;
     Ok(Book::new(alloc, setup)?)
 }
 

@@ -1,5 +1,5 @@
 -- The count of an import, by the count of one more row alone.
-use Rattle.std.proofs.Common.{◌≡◌, ◌+◌, ◌++◌, ◌∷◌, ◌∙◌, ℕ, List, [], cond, Option, Some, None, length, refl, sym, ap, arith}
+use Rattle.std.proofs.Common.{◌≡◌, ◌+◌, ◌++◌, ◌∷◌, ◌∙◌, ℕ, List, [], cond, Option, Some, None, length, refl, ap, arith}
 use Rattle.tally_core.specs.Import.{Answer, is_lodged, is_same, is_differing, is_refused, is_bad, noted, note_at, or_else, count_of, counted}
 use Rattle.tally_core.specs.declared.import.FirstRow.{FirstRow}
 use Rattle.tally_core.specs.declared.import.ImportCount.{ImportCount}

@@ -1,9 +1,7 @@
 -- What comes of a text, by the records that were given of it.
-use Rattle.std.proofs.Common.{◌≡◌, ◌<◌, ◌≤◌, ◌+◌, ◌-◌, ◌++◌, ◌∷◌, ◌∙◌, ℕ, zero, suc, List, [], Bool, true, false, Option, Some, None, length, take, drop, map, refl, sym, ap, subst, arith, add-one, length-append, append_assoc, inl, inr}
+use Rattle.std.proofs.Common.{◌≡◌, ◌<◌, ◌≤◌, ◌+◌, ◌++◌, ◌∷◌, ◌∙◌, ℕ, zero, suc, List, [], true, false, Option, Some, None, length, take, drop, map, refl, sym, ap, subst, arith, add-one, length-append, append_assoc, inl, inr}
 use Rattle.std.specs.Prelude.{◌≢◌, if◌then◌else◌, nat_lt, option_map, is_some, IfSome, Result, Ok, Err}
-use Rattle.std.specs.Io.KnownBytes.{Consumes}
 use Rattle.std.proofs.lemmas.Bool.{lt-ltb, le-ltb}
-use Rattle.std.proofs.lemmas.List.{append-nil, take_all, take-append-le}
 use Rattle.std.specs.BTreeSet.{contains}
 use Rattle.std.specs.List.{list_any}
 use Rattle.std.specs.Str.{bytes_eq}
@@ -15,7 +13,7 @@ use Rattle.tally_core.specs.declared.import.Row.{Row}
 use Rattle.tally_core.specs.declared.source.ImportFault.{ImportFault}
 use Rattle.tally_core.specs.declared.source.ImportFault.TheVariants as cause
 use Rattle.tally_import.specs.Check.{row_limit}
-use Rattle.tally_records.specs.Input.{AreAll, BeginsWith, text_records, text_stop}
+use Rattle.tally_records.specs.Input.{AreAll, text_records, text_stop}
 use Rattle.tally_records.specs.Pieces.{HasGiven, IsReadingOn, sep_of}
 use Rattle.tally_import.specs.ReturnRows.{Advances, GivesRow, IsAt, IsNext, IsReadingRows, at_end, behind, coming_of, import_fault, is_header, no_header, came_by, ending, only, rows_coming, stations_in, still_coming, text_coming}
 use Rattle.tally_import.specs.ReturnRowsValue.{coming_at, own_fault}

@@ -1,15 +1,13 @@
 -- The rounds of a check: one record more, or the last.
-use Rattle.std.proofs.Common.{◌≡◌, ◌≤◌, ◌<◌, ◌+◌, ◌++◌, ◌∷◌, ◌∙◌, ℕ, suc, List, [], Bool, true, false, length, take, drop, get_or, refl, sym, ap, subst, arith, add-one, length-drop}
+use Rattle.std.proofs.Common.{◌≡◌, ◌≤◌, ◌++◌, ◌∷◌, ◌∙◌, ℕ, List, [], false, length, refl, sym, ap, subst, arith}
 use Rattle.std.specs.Prelude.{if◌then◌else◌}
-use Rattle.std.proofs.Math.Seq.{drop-cons}
 use Rattle.std.proofs.lemmas.Bool.Decides.{nat_tests}
-use Rattle.std.proofs.lemmas.List.{take_all, take_more, map-append, length-take-le, length-map}
+use Rattle.std.proofs.lemmas.List.{map-append, length-map}
 use Rattle.tally_core.specs.declared.import.Row.{Row}
-use Rattle.std.proofs.Common.{Option, Some, None, Result, Ok, Err, min}
-use Rattle.std.specs.Prelude.{is_some, option_map, nat_lt, ◌==◌}
+use Rattle.std.proofs.Common.{Option, Some, None, Ok, Err}
+use Rattle.std.specs.Prelude.{is_some, option_map, nat_lt}
 use Rattle.tally_import.specs.Header.{header_lists}
-use Rattle.tally_import.specs.declared.check.CheckFault.{CheckFault}
-use Rattle.tally_import.specs.declared.check.CheckFault.TheVariants.{BadHeader, TooLong}
+use Rattle.tally_import.specs.declared.check.CheckFault.TheVariants.{TooLong}
 use Rattle.tally_import.specs.Check.{rows_of_records, every_code, row_limit, examined, under_header, check_text}
 use Rattle.tally_import.specs.Rows.{row_of}
 use Rattle.tally_import.specs.Progress.{HasTaken}

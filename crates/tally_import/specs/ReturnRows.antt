@@ -1,10 +1,9 @@
 -- The rows of a constituency's returns: what comes of a text, and how far they have come.
-use Rattle.std.specs.Prelude.{◌≡◌, ◌≢◌, ◌≤◌, ◌<◌, ◌+◌, ◌++◌, ◌⊎◌, if◌then◌else◌, nat_lt, ℕ, Bool, true, List, [], ◌∷◌, map, length, take, drop, Option, Some, None, option_map, is_some, IfSome, Result, Ok, Err, codes, ⊤}
+use Rattle.std.specs.Prelude.{◌≡◌, ◌≢◌, ◌≤◌, ◌⊎◌, if◌then◌else◌, nat_lt, ℕ, Bool, true, List, [], ◌∷◌, map, length, take, drop, Option, Some, None, option_map, is_some, IfSome, Result, Ok, Err, codes, ⊤}
 use Rattle.std.specs.BTreeSet.{BTreeSet, contains}
 use Rattle.std.specs.Cmp.Lexicographic.{pointwise}
-use Rattle.csv.specs.Records.{fields_of}
 use Rattle.tally_rules.specs.Code.{code_cmp}
-use Rattle.tally_rules.specs.Constituency.{Constituency, ListEntry, list_codes}
+use Rattle.tally_rules.specs.Constituency.{Constituency, list_codes}
 use Rattle.tally_returns.specs.Lodge.{Stations}
 use Rattle.tally_returns.specs.Decide.{station_in, limits_of}
 use Rattle.tally_core.specs.Keeper.{Coming, GivesNext, IsSudden}

@@ -12,5 +12,6 @@ mod summary;
 mod totals;
 
 pub use check::{CheckFault, check_csv};
+pub use output::write_text;
 pub use return_rows::ReturnRows;
 pub use tally_records::Sep;

@@ -378,27 +378,34 @@ fn a_read_that_was_interrupted_has_failed(rt: HostRuntime) {
     assert!(rt; found.has_failed(CheckFault::Read));
 }
 
+// The check of the example into a writer of so much room, which then fails or takes nothing.
+fn check_into(alloc: Global, left: usize, fails: bool) -> Outcome {
+    let mut reader = RETURNS.as_bytes();
+    let mut writer = Room {
+        taken: Vec::new(alloc),
+        left,
+        fails,
+    };
+    let answer = check_csv(alloc, &mut reader, &mut writer, Sep::Comma);
+    Outcome {
+        answer,
+        output: writer.taken,
+    }
+}
+
 #[test]
 fn a_write_that_fails_or_takes_nothing_at_any_byte(rt: HostRuntime) {
     let expected = CHECKED.as_bytes();
     for left in 0..=expected.len() {
         for fails in [true, false] {
-            let mut reader = RETURNS.as_bytes();
-            let mut writer = Room {
-                taken: Vec::new(rt.alloc()),
-                left,
-                fails,
-            };
-            let found = check_csv(rt.alloc(), &mut reader, &mut writer, Sep::Comma);
+            let found = check_into(rt.alloc(), left, fails);
+            assert!(rt; found.output.as_slice() == &expected[..left], "at {left}");
             // a writer that fails once it is full fails to flush too
-            let whole = left == expected.len() && !fails;
-            let wanted = if whole {
-                Ok(())
+            if left == expected.len() && !fails {
+                assert!(rt; found.answer.is_ok());
             } else {
-                Err(CheckFault::Write)
-            };
-            assert!(rt; found == wanted, "at {left}");
-            assert!(rt; writer.taken.as_slice() == &expected[..left], "at {left}");
+                assert!(rt; found.answer == Err(CheckFault::Write), "at {left}");
+            }
         }
     }
 }

@@ -1,11 +1,9 @@
 //! Texts of returns that come to a keeper in memory.
 
-use crate::return_rows::{SETUP, TEXT, separated_rows, text_by_reads};
+use crate::return_rows::{SETUP, TEXT, next_rows, separated_rows, text_by_reads};
 use std::alloc::Global;
 use std::test::*;
-use tally_core::{
-    Ask, Book, FirstRow, ImportCount, ImportFault, Keeper, Refusal, Reply, RowSource, Status,
-};
+use tally_core::{Ask, Book, ImportCount, Keeper, Refusal, Reply, Return, RowSource};
 use tally_import::Sep;
 use tally_rules::{Code, read_setup};
 
@@ -23,12 +21,12 @@ const QUOTED: &str = "\u{feff}\"station\";\"slip\";\"blank\";\"spoiled\";\"A\";\
 \"s3\";\"p3\";\"0\";\"2\";\"50\";\"60\"\r
 ";
 
-// The station and the slip of each return of the text, its blank and spoiled votes and those of A and B.
-const RETURNS: [(&str, &str, [u32; 4]); 3] = [
-    ("s1", "p1", [0, 0, 10, 20]),
-    ("s2", "p2", [1, 0, 30, 40]),
-    ("s3", "p3", [0, 2, 50, 60]),
-];
+// What stands after the text: of s1, s2 and s3 the revision, slip, status, votes, blank and spoiled votes.
+const LODGED: &str = "\
+1 p1 Received [10, 20] 0 0
+1 p2 Received [30, 40] 1 0
+1 p3 Received [50, 60] 0 2
+";
 
 // A keeper of the setup in which no return stands.
 fn fresh(alloc: Global) -> Result<Book, Fail> {
@@ -38,79 +36,69 @@ fn fresh(alloc: Global) -> Result<Book, Fail> {
     Ok(Book::new(alloc, setup)?)
 }
 
-fn import(
-    alloc: Global,
-    book: &mut Book,
-    text: &str,
-    sep: Sep,
-) -> Result<Result<ImportCount, ImportFault>, Fail> {
+/// What an import of rows comes to, as text: how many were lodged, the same, differing, refused and bad,
+/// and the first that was none of the former two; or the fault.
+fn import_rows<S: RowSource>(alloc: Global, book: &mut Book, rows: &mut S) -> Result<String, Fail> {
+    match book.lodge_from(rows) {
+        Ok(count) => told_count(alloc, count),
+        Err(fault) => Ok(format!(in alloc; "{fault:?}")?),
+    }
+}
+
+fn told_count(alloc: Global, count: ImportCount) -> Result<String, Fail> {
+    let mut text = format!(in alloc; "{} {} {}", count.lodged, count.same, count.differs)?;
+    write!(text, " {} {}", count.refused, count.bad)?;
+    if let Some(first) = count.first {
+        write!(text, ", first {} {}", first.row, first.number)?;
+    }
+    Ok(text)
+}
+
+fn import(alloc: Global, book: &mut Book, text: &str, sep: Sep) -> Result<String, Fail> {
     let mut rows = separated_rows(alloc, text.as_bytes(), sep)?;
-    Ok(book.lodge_from(&mut rows))
+    import_rows(alloc, book, &mut rows)
 }
 
-// A count of rows: lodged, same, differs, refused and bad, and the first that was neither of the first two.
-fn count(rows: [u32; 5], first: Option<(u32, u32)>) -> ImportCount {
-    let [lodged, same, differs, refused, bad] = rows;
-    ImportCount {
-        lodged,
-        same,
-        differs,
-        refused,
-        bad,
-        first: first.map(|(row, number)| FirstRow { row, number }),
+/// The returns of the three stations, a line each.
+fn returns(alloc: Global, book: &mut Book) -> Result<String, Fail> {
+    let mut text = String::new(alloc);
+    for station in ["s1", "s2", "s3"] {
+        let station = Code::new(station.as_bytes()).ok_or("no code")?;
+        push_answer(&mut text, &book.answer(&Ask::ShowReturn { station }))?;
     }
+    Ok(text)
 }
 
-fn code(text: &str) -> Result<Code, Fail> {
-    Ok(Code::new(text.as_bytes()).ok_or("no code")?)
-}
-
-fn has_none(book: &mut Book, station: &str) -> Result<bool, Fail> {
-    let station = code(station)?;
-    let answer = book.answer(&Ask::ShowReturn { station });
-    Ok(matches!(&answer, Err(Refusal::NoReturn)))
-}
-
-// Whether a station has the return of the text, as it was lodged.
-fn has_return(book: &mut Book, station: &str) -> Result<bool, Fail> {
-    for (wanted, slip, numbers) in RETURNS {
-        if wanted == station {
-            return is_lodged(book, code(station)?, code(slip)?, numbers);
-        }
+fn push_answer(text: &mut String, answer: &Result<Reply, Refusal>) -> Result<(), Fail> {
+    if let Ok(Reply::Return(standing)) = answer {
+        return push_return(text, standing);
     }
-    Ok(false)
+    text.push_str("none\n")?;
+    Ok(())
 }
 
-fn is_lodged(book: &mut Book, station: Code, slip: Code, numbers: [u32; 4]) -> Result<bool, Fail> {
-    let Ok(Reply::Return(standing)) = book.answer(&Ask::ShowReturn { station }) else {
-        return Ok(false);
-    };
-    let [blank, spoiled, votes_of_a, votes_of_b] = numbers;
-    let counts = &standing.counts;
-    let votes = [votes_of_a, votes_of_b];
-    Ok(
-        standing.rev == 1
-            && standing.status == Status::Received
-            && standing.slip == slip
-            && counts.blank == blank
-            && counts.spoiled == spoiled
-            && counts.votes.as_slice() == votes.as_slice(),
-    )
+fn push_return(text: &mut String, standing: &Return) -> Result<(), Fail> {
+    write!(text, "{} {}", standing.rev, standing.slip)?;
+    write!(text, " {:?} {:?}", standing.status, standing.counts.votes)?;
+    let (blank, spoiled) = (standing.counts.blank, standing.counts.spoiled);
+    writeln!(text, " {blank} {spoiled}")?;
+    Ok(())
 }
 
 #[test]
 fn an_import_again_and_with_other_votes(rt: HostRuntime) -> Result<(), Fail> {
     let mut book = fresh(rt.alloc())?;
-    let cases = [
-        (TEXT, count([3, 0, 0, 0, 0], None)),
-        (TEXT, count([0, 3, 0, 0, 0], None)),
-        (OTHER_VOTES, count([0, 2, 1, 0, 0], Some((2, 7)))),
-    ];
-    for (text, wanted) in cases {
-        assert!(rt; import(rt.alloc(), &mut book, text, Sep::Comma)? == Ok(wanted));
-        for station in ["s1", "s2", "s3"] {
-            assert!(rt; has_return(&mut book, station)?, "at {station}");
-        }
+    for (text, wanted) in [
+        (TEXT, "3 0 0 0 0"),
+        (TEXT, "0 3 0 0 0"),
+        (OTHER_VOTES, "0 2 1 0 0, first 2 7"),
+    ] {
+        let found = import(rt.alloc(), &mut book, text, Sep::Comma)?;
+        assert!(rt; found.as_str() == wanted, "{found}");
+        assert!(rt;
+            returns(rt.alloc(), &mut book)?.as_str() == LODGED,
+            "{wanted}"
+        );
     }
     Ok(())
 }
@@ -119,10 +107,9 @@ fn an_import_again_and_with_other_votes(rt: HostRuntime) -> Result<(), Fail> {
 fn a_bad_row_is_passed_over(rt: HostRuntime) -> Result<(), Fail> {
     let mut book = fresh(rt.alloc())?;
     let found = import(rt.alloc(), &mut book, NO_NUMBER, Sep::Comma)?;
-    assert!(rt; found == Ok(count([2, 0, 0, 0, 1], Some((2, 0)))));
-    assert!(rt; has_return(&mut book, "s1")?);
-    assert!(rt; has_none(&mut book, "s2")?);
-    assert!(rt; has_return(&mut book, "s3")?);
+    assert!(rt; found.as_str() == "2 0 0 0 1, first 2 0", "{found}");
+    let wanted = "1 p1 Received [10, 20] 0 0\nnone\n1 p3 Received [50, 60] 0 2\n";
+    assert!(rt; returns(rt.alloc(), &mut book)?.as_str() == wanted);
     Ok(())
 }
 
@@ -130,9 +117,8 @@ fn a_bad_row_is_passed_over(rt: HostRuntime) -> Result<(), Fail> {
 fn a_text_with_a_mark_semicolons_and_quotes(rt: HostRuntime) -> Result<(), Fail> {
     let mut book = fresh(rt.alloc())?;
     let found = import(rt.alloc(), &mut book, QUOTED, Sep::Semicolon)?;
-    assert!(rt; found == Ok(count([3, 0, 0, 0, 0], None)));
-    assert!(rt; has_return(&mut book, "s1")?);
-    assert!(rt; has_return(&mut book, "s3")?);
+    assert!(rt; found.as_str() == "3 0 0 0 0", "{found}");
+    assert!(rt; returns(rt.alloc(), &mut book)?.as_str() == LODGED);
     Ok(())
 }
 
@@ -142,9 +128,12 @@ fn small_reads_lodge_the_same(rt: HostRuntime) -> Result<(), Fail> {
         let mut book = fresh(rt.alloc())?;
         let reader = text_by_reads(TEXT.as_bytes(), piece, false);
         let mut rows = separated_rows(rt.alloc(), reader, Sep::Comma)?;
-        let found = book.lodge_from(&mut rows);
-        assert!(rt; found == Ok(count([3, 0, 0, 0, 0], None)), "at {piece}");
-        assert!(rt; has_return(&mut book, "s2")?, "at {piece}");
+        let found = import_rows(rt.alloc(), &mut book, &mut rows)?;
+        assert!(rt; found.as_str() == "3 0 0 0 0", "at {piece}");
+        assert!(rt;
+            returns(rt.alloc(), &mut book)?.as_str() == LODGED,
+            "at {piece}"
+        );
     }
     Ok(())
 }
@@ -155,11 +144,10 @@ fn what_was_lodged_before_a_failed_read_is_taken_out(rt: HostRuntime) -> Result<
     // the return of s1 came whole, and a part of that of s2
     let reader = text_by_reads(&TEXT.as_bytes()[..60], 7, true);
     let mut rows = separated_rows(rt.alloc(), reader, Sep::Comma)?;
-    assert!(rt; book.lodge_from(&mut rows) == Err(ImportFault::Read));
-    for station in ["s1", "s2", "s3"] {
-        assert!(rt; has_none(&mut book, station)?, "at {station}");
-    }
-    assert!(rt; rows.next_row().err() == Some(ImportFault::Read));
+    let found = import_rows(rt.alloc(), &mut book, &mut rows)?;
+    assert!(rt; found.as_str() == "Read", "{found}");
+    assert!(rt; returns(rt.alloc(), &mut book)?.as_str() == "none\nnone\nnone\n");
+    assert!(rt; next_rows(rt.alloc(), &mut rows, 1)?.as_str() == "Read;");
     Ok(())
 }
 
@@ -172,12 +160,13 @@ fn twenty_thousand_rows_and_one_more(rt: HostRuntime) -> Result<(), Fail> {
     }
     let mut book = fresh(rt.alloc())?;
     let found = import(rt.alloc(), &mut book, text.as_str(), Sep::Comma)?;
-    assert!(rt; found == Ok(count([1, 0, 0, 0, 19_999], Some((2, 0)))));
-    assert!(rt; has_return(&mut book, "s1")?);
+    assert!(rt; found.as_str() == "1 0 0 0 19999, first 2 0", "{found}");
+    let first_alone = "1 p1 Received [10, 20] 0 0\nnone\nnone\n";
+    assert!(rt; returns(rt.alloc(), &mut book)?.as_str() == first_alone);
     text.push_str("s9,p9,0,0,10,20\n")?;
     let mut book = fresh(rt.alloc())?;
     let found = import(rt.alloc(), &mut book, text.as_str(), Sep::Comma)?;
-    assert!(rt; found == Err(ImportFault::TooLong));
-    assert!(rt; has_none(&mut book, "s1")?);
+    assert!(rt; found.as_str() == "TooLong", "{found}");
+    assert!(rt; returns(rt.alloc(), &mut book)?.as_str() == "none\nnone\nnone\n");
     Ok(())
 }

@@ -71,23 +71,38 @@ pub(crate) fn separated_rows<R: Read + Drop>(
     Ok(ReturnRows::new(alloc, reader, sep, con.try_copy(alloc)?))
 }
 
-fn is_lodge(row: Result<Option<Row>, ImportFault>) -> bool {
-    matches!(&row, Ok(Some(Row::Lodge(_))))
+/// The next rows, each in a word: `lodge`, `bad`, `end` or the fault.
+pub(crate) fn next_rows<R: Read + Drop>(
+    alloc: Global,
+    rows: &mut ReturnRows<R>,
+    count: u32,
+) -> Result<String, Fail> {
+    let mut text = String::new(alloc);
+    for _row in 0..count {
+        push_row(&mut text, rows.next_row())?;
+    }
+    Ok(text)
 }
 
-fn is_end(row: Result<Option<Row>, ImportFault>) -> bool {
-    matches!(&row, Ok(None))
+fn push_row(text: &mut String, row: Result<Option<Row>, ImportFault>) -> Result<(), Fail> {
+    match row {
+        Ok(Some(Row::Lodge(_))) => text.push_str("lodge;")?,
+        Ok(Some(Row::Bad)) => text.push_str("bad;")?,
+        Ok(None) => text.push_str("end;")?,
+        Err(fault) => write!(text, "{fault:?};")?,
+    }
+    Ok(())
 }
 
 #[test]
 fn the_rows_of_a_text_however_it_is_read(rt: HostRuntime) -> Result<(), Fail> {
     for piece in [1, 2, 7] {
         let mut rows = rows_from(rt.alloc(), text_by_reads(TEXT.as_bytes(), piece, false))?;
-        assert!(rt; is_lodge(rows.next_row()));
-        assert!(rt; is_lodge(rows.next_row()));
-        assert!(rt; is_lodge(rows.next_row()));
-        assert!(rt; is_end(rows.next_row()));
-        assert!(rt; is_end(rows.next_row()));
+        let found = next_rows(rt.alloc(), &mut rows, 5)?;
+        assert!(rt;
+            found.as_str() == "lodge;lodge;lodge;end;end;",
+            "at {piece}"
+        );
     }
     Ok(())
 }
@@ -95,24 +110,28 @@ fn the_rows_of_a_text_however_it_is_read(rt: HostRuntime) -> Result<(), Fail> {
 #[test]
 fn a_failed_read_behind_complete_rows(rt: HostRuntime) -> Result<(), Fail> {
     let mut rows = rows_from(rt.alloc(), text_by_reads(&TEXT.as_bytes()[..60], 7, true))?;
-    assert!(rt; is_lodge(rows.next_row()));
-    assert!(rt; rows.next_row().err() == Some(ImportFault::Read));
-    assert!(rt; rows.next_row().err() == Some(ImportFault::Read));
+    let found = next_rows(rt.alloc(), &mut rows, 3)?;
+    assert!(rt; found.as_str() == "lodge;Read;Read;");
     Ok(())
 }
 
 #[test]
 fn texts_whose_first_row_is_none(rt: HostRuntime) -> Result<(), Fail> {
-    let mut none = rows_from(rt.alloc(), text_by_reads(b"", 7, false))?;
-    assert!(rt; none.next_row().err() == Some(ImportFault::BadHeader));
-    assert!(rt; none.next_row().err() == Some(ImportFault::BadHeader));
-    let other = b"station,slip,blank,spoiled,B,A\ns1,p1,0,0,10,20\n";
-    let mut swapped = rows_from(rt.alloc(), text_by_reads(other, 7, false))?;
-    assert!(rt; swapped.next_row().err() == Some(ImportFault::BadHeader));
-    let strange = b"station,slip,blank,spoiled,A,B\ns9,p1,0,0,10,20\n";
-    let mut rows = rows_from(rt.alloc(), text_by_reads(strange, 7, false))?;
-    assert!(rt; matches!(&rows.next_row(), Ok(Some(Row::Bad))));
-    assert!(rt; is_end(rows.next_row()));
+    for (text, wanted) in [
+        ("", "BadHeader;BadHeader;"),
+        (
+            "station,slip,blank,spoiled,B,A\ns1,p1,0,0,10,20\n",
+            "BadHeader;BadHeader;",
+        ),
+        (
+            "station,slip,blank,spoiled,A,B\ns9,p1,0,0,10,20\n",
+            "bad;end;",
+        ),
+    ] {
+        let mut rows = rows_from(rt.alloc(), text_by_reads(text.as_bytes(), 7, false))?;
+        let found = next_rows(rt.alloc(), &mut rows, 2)?;
+        assert!(rt; found.as_str() == wanted, "{text}");
+    }
     Ok(())
 }
 
@@ -125,7 +144,8 @@ fn a_long_text_is_not_read_at_once(rt: HostRuntime) -> Result<(), Fail> {
     }
     let mut reader = text_by_reads(text.as_slice(), 4096, false);
     let mut rows = rows_from(rt.alloc(), &mut reader)?;
-    assert!(rt; is_lodge(rows.next_row()));
+    let found = next_rows(rt.alloc(), &mut rows, 1)?;
+    assert!(rt; found.as_str() == "lodge;");
     drop(rows);
     assert!(rt; reader.text.len() > 200_000);
     Ok(())

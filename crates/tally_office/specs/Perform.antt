@@ -1,5 +1,6 @@
 -- What the program does for a command line.
-use Rattle.std.specs.Prelude.{◌≡◌, ℕ, List, Option, IfSome, Result, Ok, Err}
+use Rattle.std.specs.Prelude.{◌≡◌, ℕ, List, Option, IfSome, Result, Ok, Err, codes, take}
+use Rattle.std.specs.Io.KnownBytes.{Appends, Keeps}
 use Rattle.tally_import.specs.Check.{Checks, IsSilent}
 use Rattle.tally_records.specs.declared.separator.Sep.{Sep}
 use Rattle.tally_import.specs.declared.CheckFault.{CheckFault}
@@ -21,10 +22,29 @@ abbrev pub fault_status : LineFault → ℕ
 fault_status (Usage error) = 2
 fault_status Memory = 3
 
--- One check takes the input from its bytes to the rest, and the output from what it held to what it holds: these are
--- those of its outcome, and so is the status. A text that is not known is one of which nothing is said.
-pub record ChecksInput (sep : Sep) (bytes rest held holds : Option (List ℕ)) (status : ℕ) : Type 0 where
+-- the line on the standard error for a fault of a check
+abbrev pub fault_words : CheckFault → List ℕ
+fault_words check.BadHeader = codes "refused: bad_header\n"
+fault_words check.TooLong = codes "refused: too_long\n"
+fault_words check.Read = codes "failed: read\n"
+fault_words check.Memory = codes "failed: memory\n"
+fault_words check.Write = codes "failed: write\n"
+
+-- Words were written, or, where a write failed, a front of them.
+abbrev pub Told : Option (List ℕ) → Option (List ℕ) → List ℕ → Type 0
+Told held holds words = (n : ℕ) × Appends held holds (take n words)
+
+-- what is told of a check: nothing where it is done, and the line of its fault where it has one
+abbrev pub IsTold : Option (List ℕ) → Option (List ℕ) → Result (Unit {0}) CheckFault → Type 0
+IsTold held holds (Ok done) = Keeps held holds
+IsTold held holds (Err fault) = Told held holds (fault_words fault)
+
+-- One check takes the input from its bytes to the rest, the output from what it held to what it holds, and the errors
+-- from what was told to what is told: these are those of its outcome, and so is the status. A text that is not known is
+-- one of which nothing is said.
+pub record ChecksInput (sep : Sep) (bytes rest held holds told tells : Option (List ℕ)) (status : ℕ) : Type 0 where
   pub outcome : Result (Unit {0}) CheckFault
   pub checks : IfSome bytes (λ text. Checks sep text rest held holds outcome)
   pub silent : IsSilent held holds outcome
+  pub errors : IsTold told tells outcome
   pub gives : status ≡ check_status outcome

@@ -1,14 +1,14 @@
 //! What the program does for a command line, and the statuses and words that it answers with.
 
-ghost use Rattle.std.specs.Prelude.{◌≡◌, ◌≢◌, ◌⊎◌, Some, None, map, string_bytes};
+ghost use Rattle.std.specs.Prelude.{◌≡◌, ◌≢◌, ◌⊎◌, Some, None, OnErr, codes, map, string_bytes};
 ghost use Rattle.std.specs.IoError.{error_kind};
 ghost use Rattle.tally_records.specs.declared.separator.Sep.{Sep};
 ghost use Rattle.tally_office.specs.Line.{line_of};
-ghost use Rattle.tally_office.specs.Perform.{ChecksInput, check_status, fault_status};
+ghost use Rattle.tally_office.specs.Perform.{ChecksInput, IsTold, Told, check_status, fault_status, fault_words};
 
 use crate::line::{Line, LineFault, read_line};
 use std::io::{self, ErrorKind, Read, Write};
-use tally_import::{CheckFault, check_csv};
+use tally_import::{CheckFault, check_csv, write_text};
 
 /// The exit status where all was done.
 pub const DONE: u8 = 0;
@@ -32,10 +32,11 @@ pub fn perform<T: AllocGlobal, R: Read, W: Write, E: Write>(
     errors: &mut E,
 ) -> u8
     ensures check { (sep : Sep) → line_of (map string_bytes words.now) ≡ Some (Line.Check sep)
-        → ((result ≡ FAILED) × (input.new ≡ input.old) × (output.new ≡ output.old))
-        ⊎ ChecksInput sep (R.remaining input.old) (R.remaining input.new) (W.contents output.old) (W.contents output.new) result }
+        → ((result ≡ FAILED) × (input.new ≡ input.old) × (output.new ≡ output.old) × Told (E.contents errors.old) (E.contents errors.new) (codes "failed: memory\n"))
+        ⊎ ChecksInput sep (R.remaining input.old) (R.remaining input.new) (W.contents output.old) (W.contents output.new) (E.contents errors.old) (E.contents errors.new) result }
     ensures no_line { line_of (map string_bytes words.now) ≡ None
-        → ((result ≡ USAGE) ⊎ (result ≡ FAILED)) × (input.new ≡ input.old) × (output.new ≡ output.old) }
+        → ((result ≡ USAGE) ⊎ ((result ≡ FAILED) × Told (E.contents errors.old) (E.contents errors.new) (codes "failed: memory\n")))
+        × (input.new ≡ input.old) × (output.new ≡ output.old) }
     ensures quiet { result ≡ DONE → errors.new ≡ errors.old }
 {
     match read_line(rt.alloc(), words) {
@@ -49,53 +50,76 @@ pub fn perform<T: AllocGlobal, R: Read, W: Write, E: Write>(
 
 fn report_check<E: Write>(outcome: Result<(), CheckFault>, errors: &mut E) -> u8
     ensures status { result ≡ check_status outcome }
+    ensures told { IsTold (E.contents errors.old) (E.contents errors.new) outcome }
     ensures quiet { result ≡ DONE → errors.new ≡ errors.old }
 {
     match outcome {
         Ok(()) => DONE,
-        Err(CheckFault::BadHeader) => refuse("bad_header", errors),
-        Err(CheckFault::TooLong) => refuse("too_long", errors),
-        Err(CheckFault::Read) => fail("read", errors),
-        Err(CheckFault::Memory) => fail("memory", errors),
-        Err(CheckFault::Write) => fail("write", errors),
+        Err(fault) => {
+            tell(words_of(fault), errors);
+            status_of(fault)
+        }
+    }
+}
+
+fn words_of(fault: CheckFault) -> &'static str
+    ensures { result.now ≡ fault_words fault }
+{
+    match fault {
+        CheckFault::BadHeader => "refused: bad_header\n",
+        CheckFault::TooLong => "refused: too_long\n",
+        CheckFault::Read => "failed: read\n",
+        CheckFault::Memory => "failed: memory\n",
+        CheckFault::Write => "failed: write\n",
+    }
+}
+
+fn status_of(fault: CheckFault) -> u8
+    ensures { result ≡ check_status (Err fault) }
+{
+    match fault {
+        CheckFault::BadHeader | CheckFault::TooLong => REFUSED,
+        CheckFault::Read | CheckFault::Memory | CheckFault::Write => FAILED,
     }
 }
 
 fn report_fault<E: Write>(fault: LineFault, errors: &mut E) -> u8
-    ensures { result ≡ fault_status fault }
+    ensures status { result ≡ fault_status fault }
+    ensures told { result ≡ FAILED → Told (E.contents errors.old) (E.contents errors.new) (codes "failed: memory\n") }
 {
     match fault {
         LineFault::Usage(error) => {
             let _ = write!(errors, "{error}");
             USAGE
         }
-        LineFault::Memory => fail("memory", errors),
+        LineFault::Memory => {
+            tell("failed: memory\n", errors);
+            FAILED
+        }
     }
 }
 
-fn refuse<E: Write>(word: &str, errors: &mut E) -> u8
-    ensures { result ≡ REFUSED }
+/// Writes words on the errors. A write that fails is passed over.
+fn tell<E: Write>(words: &str, errors: &mut E)
+    ensures { Told (E.contents errors.old) (E.contents errors.new) words.now }
 {
-    let _ = writeln!(errors, "refused: {word}");
-    REFUSED
-}
-
-fn fail<E: Write>(word: &str, errors: &mut E) -> u8
-    ensures { result ≡ FAILED }
-{
-    let _ = writeln!(errors, "failed: {word}");
-    FAILED
+    let _ = write_text(errors, words.as_bytes());
 }
 
 /// Reports why no command line could be begun: its arguments are not all text, or memory ran out.
 pub fn report_start<E: Write>(error: &io::Error, errors: &mut E) -> u8
-    ensures memory { error_kind error.now ≡ ErrorKind.OutOfMemory → result ≡ FAILED }
-    ensures other { error_kind error.now ≢ ErrorKind.OutOfMemory → result ≡ USAGE }
+    ensures memory { error_kind error.now ≡ ErrorKind.OutOfMemory
+        → (result ≡ FAILED) × Told (E.contents errors.old) (E.contents errors.new) (codes "failed: memory\n") }
+    ensures other { error_kind error.now ≢ ErrorKind.OutOfMemory
+        → (result ≡ USAGE) × Told (E.contents errors.old) (E.contents errors.new) (codes "error: the arguments are not all UTF-8 text\n") }
 {
     match error.kind() {
-        ErrorKind::OutOfMemory => fail("memory", errors),
+        ErrorKind::OutOfMemory => {
+            tell("failed: memory\n", errors);
+            FAILED
+        }
         _ => {
-            let _ = writeln!(errors, "error: the arguments are not all UTF-8 text");
+            tell("error: the arguments are not all UTF-8 text\n", errors);
             USAGE
         }
     }

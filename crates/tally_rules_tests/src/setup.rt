@@ -184,6 +184,11 @@ fn push_list(text: &mut String, list: &ListEntry) -> Result<(), Fail> {
     Ok(())
 }
 
+fn shown_copy(alloc: Global, con: &Constituency) -> Result<String, Fail> {
+    let copy = con.try_copy(alloc)?;
+    shown(alloc, &copy)
+}
+
 fn setup(alloc: Global, text: &str) -> Result<Setup, Fail> {
     let setup = read_setup(alloc, text.as_bytes());
     Ok(setup.ok().ok_or("a setup")?)
@@ -203,8 +208,7 @@ fn the_example_is_read(rt: HostRuntime) -> Result<(), Fail> {
     let setup = setup(alloc, example(alloc)?.as_str())?;
     let mut text = String::new(alloc);
     for con in setup.cons() {
-        let copy = con.try_copy(alloc)?;
-        text.push_str(shown(alloc, &copy)?.as_str())?;
+        text.push_str(shown_copy(alloc, con)?.as_str())?;
     }
     assert!(rt; text.as_str() == SHOWN);
     Ok(())

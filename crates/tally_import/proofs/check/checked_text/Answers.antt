@@ -1,10 +1,9 @@
-use Rattle.std.proofs.Common.{rules, ◌≡◌, ◌∙◌, ◌++◌, ◌∷◌, [], None, Some, sym, ap, subst, length, arith}
-use Rattle.std.specs.Prelude.{option_map, IfOk, string_bytes}
+use Rattle.std.proofs.Common.{rules, ◌≡◌, ◌∙◌, ◌∷◌, [], None, Some, sym, ap, subst, length, arith}
+use Rattle.std.specs.Prelude.{option_map}
 use Rattle.csv.specs.Records.{fields_of}
 use Rattle.tally_import.specs.Check.{check_text, rows_of_records}
 use Rattle.tally_import.specs.Header.{header_lists}
 use Rattle.tally_records.specs.Input.{AreAll}
-use Rattle.tally_records.specs.Pieces.{HasGiven, sep_of}
 use Rattle.tally_import.specs.Rounds.{AreBehind}
 use Rattle.tally_import.specs.declared.check.CheckFault.TheVariants.{BadHeader}
 use Rattle.tally_import.proofs.FoundLemmas.{Found-fault, Found-rows, Found-text, no-lists}

@@ -1,11 +1,10 @@
-use Rattle.std.proofs.Common.{rules, ◌≡◌, ◌<◌, ◌≤◌, ◌+◌, ◌++◌, ◌∷◌, ◌∙◌, [], List, ℕ, Option, Some, None, Ok, Err, length, refl, sym, ap, subst, arith, length-append, append_assoc, inl, inr}
+use Rattle.std.proofs.Common.{rules, ◌≡◌, ◌+◌, ◌++◌, ◌∷◌, ◌∙◌, [], None, length, refl, sym, subst, arith, length-append, append_assoc, inl, inr}
 use Rattle.std.proofs.lemmas.List.{append-nil}
 use Rattle.csv.specs.Records.{fields_of}
-use Rattle.tally_import.specs.Check.{rows_of_records, row_limit}
+use Rattle.tally_import.specs.Check.{rows_of_records}
 use Rattle.tally_records.specs.Input.{AreAll}
 use Rattle.tally_records.specs.Pieces.{HasGiven, sep_of}
 use Rattle.tally_import.specs.Rounds.{AreBehind, Imports}
-use Rattle.tally_records.specs.declared.end.End.{End}
 use Rattle.tally_import.proofs.FoundLemmas.{Imports-ended}
 use Rattle.tally_import.proofs.RoundsLemmas.{more-taken, length-rows}
 use Rattle.tally_records.proofs.WorkLemmas.{HasGiven-partly}

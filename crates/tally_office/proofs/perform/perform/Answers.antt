@@ -14,4 +14,6 @@ memory_alone words (Usage e) line refusal is = let never = sym refusal.0 ∙ is 
 memory_alone words Memory line refusal is = refl
 
 pub returns-in-Err-clause-check : goal.returns-in-Err-clause-check
-returns-in-Err-clause-check g c = λ sep is. inl (c.report_fault.ensures ∙ memory_alone (map string_bytes c.args.words.now) c.in-Err.fault (Check sep) c.in-Err.ensures.fault is, refl, refl)
+returns-in-Err-clause-check g c = λ sep is.
+    let failed = c.report_fault.ensures.status ∙ memory_alone (map string_bytes c.args.words.now) c.in-Err.fault (Check sep) c.in-Err.ensures.fault is in
+    inl (failed, refl, refl, c.report_fault.ensures.told failed)

@@ -1,11 +1,10 @@
-use Rattle.std.proofs.Common.{◌≡◌, ◌≤◌, ◌∙◌, [], Option, Some, None, List, ℕ, length, refl, rules, true, false, subst, sym, ap}
+use Rattle.std.proofs.Common.{◌≡◌, ◌≤◌, ◌∙◌, [], length, refl, rules, true, false, subst, sym, ap}
 use Rattle.std.specs.List.{list_any}
 use Rattle.std.specs.Str.{bytes_eq}
 use Rattle.csv.specs.Records.{fields_of}
 use Rattle.tally_rules.specs.Constituency.{list_codes, station_codes}
 use Rattle.tally_records.specs.Input.{AreAll}
 use Rattle.tally_import.specs.ReturnRows.{IsNext, is_header, text_coming}
-use Rattle.tally_import.specs.declared.check.CheckFault.{CheckFault}
 use Rattle.tally_import.specs.declared.return_rows.Rows.{Rows}
 use Rattle.tally_import.proofs.ReturnRowsLemmas.{rows-opened, header-stop, header-bad}
 use Rattle.tally_import.proofs.return_rows.Rows.new.Goals as goal

@@ -1,0 +1,116 @@
+//! Answers as text.
+
+use crate::commands::command;
+use std::alloc::Global;
+use std::test::Fail;
+use tally_core::{Book, ConView, Keeper, ListSet, ProgressRow, Refusal, Reply, Return};
+
+/// What is answered, as text: a word for it, and its numbers.
+pub(crate) fn told(alloc: Global, answer: &Result<Reply, Refusal>) -> Result<String, Fail> {
+    match answer {
+        Ok(reply) => told_reply(alloc, reply),
+        Err(refusal) => told_refusal(alloc, refusal),
+    }
+}
+
+fn told_reply(alloc: Global, reply: &Reply) -> Result<String, Fail> {
+    match reply {
+        Reply::Lodged { rev } => Ok(format!(in alloc; "lodged {rev}")?),
+        Reply::Same { rev } => Ok(format!(in alloc; "same {rev}")?),
+        Reply::Moved { rev } => Ok(format!(in alloc; "moved {rev}")?),
+        Reply::Return(standing) => told_return(alloc, standing),
+        Reply::Edition { edition } => Ok(format!(in alloc; "edition {edition}")?),
+        Reply::Vacated { next } => Ok(format!(in alloc; "vacated {next:?}")?),
+        Reply::Con(view) => told_view(alloc, view),
+        Reply::Progress(rows) => told_progress(alloc, rows),
+    }
+}
+
+/// The revision, slip, status, votes, blank and spoiled votes, and the note.
+fn told_return(alloc: Global, standing: &Return) -> Result<String, Fail> {
+    let Return {
+        rev,
+        slip,
+        status,
+        note,
+        counts,
+    } = standing;
+    let mut text = format!(in alloc; "{rev} {slip} {status:?}")?;
+    let (blank, spoiled) = (counts.blank, counts.spoiled);
+    write!(text, " {:?} {blank} {spoiled} {note}", counts.votes)?;
+    Ok(text)
+}
+
+/// Whether it is certified, the edition, how many of the stations are closed, the votes, the lot, the
+/// seats; the note of the last reopening, and who is gone, in the order of lists and places.
+fn told_view(alloc: Global, view: &ConView) -> Result<String, Fail> {
+    let certified = if view.certified { "certified" } else { "open" };
+    let mut text = format!(in alloc; "{certified} {}", view.edition)?;
+    write!(text, " {}/{}", view.closed, view.stations)?;
+    write!(text, " {:?} {:?} {:?}", view.votes, view.lot, view.seats)?;
+    if !view.note.is_empty() {
+        write!(text, " {}", view.note)?;
+    }
+    for gone in &view.gone {
+        write!(text, " {}.{} {}", gone.list, gone.place, gone.note)?;
+    }
+    Ok(text)
+}
+
+fn told_progress(alloc: Global, rows: &[ProgressRow]) -> Result<String, Fail> {
+    let mut text = String::from_str(alloc, "progress")?;
+    for row in rows {
+        push_row(&mut text, *row)?;
+    }
+    Ok(text)
+}
+
+/// The constituency, its stations, the returns of each status, the edition, whether it is certified.
+fn push_row(text: &mut String, row: ProgressRow) -> Result<(), Fail> {
+    write!(text, " {} {}:", row.con, row.stations)?;
+    write!(text, " {} {}", row.received, row.queried)?;
+    write!(text, " {} {}", row.corrected, row.closed)?;
+    write!(text, " {} {}", row.edition, row.certified)?;
+    Ok(())
+}
+
+/// What a refusal says, or its number.
+pub(crate) fn told_refusal(alloc: Global, refusal: &Refusal) -> Result<String, Fail> {
+    match refusal {
+        Refusal::WrongStatus { status } => Ok(format!(in alloc; "status {status:?}")?),
+        Refusal::Stale { now } => Ok(format!(in alloc; "stale {now}")?),
+        Refusal::Differs { rev } => Ok(format!(in alloc; "differs {rev}")?),
+        Refusal::NotAllClosed { left } => Ok(format!(in alloc; "left {left}")?),
+        Refusal::LotWrongGroup { group } => told_group(alloc, "no order of", group),
+        Refusal::LotMissing { group, seats } => {
+            let mut text = told_group(alloc, "lot of", group)?;
+            write!(text, " for {seats}")?;
+            Ok(text)
+        }
+        _ => Ok(format!(in alloc; "refused {}", refusal.number())?),
+    }
+}
+
+/// The places of a group behind a text.
+fn told_group(alloc: Global, front: &str, group: &ListSet) -> Result<String, Fail> {
+    let mut text = String::from_str(alloc, front)?;
+    for place in 1..=60u32 {
+        if group.has(place) {
+            write!(text, " {place}")?;
+        }
+    }
+    Ok(text)
+}
+
+/// The first of these lines, `COMMAND = ANSWER`, whose answer is another, with that answer.
+pub(crate) fn first_wrong(alloc: Global, book: &mut Book, script: &str) -> Result<String, Fail> {
+    for line in script.lines() {
+        let (ask, wanted) = line.split_once(" = ").ok_or("no answer")?;
+        let answer = book.answer(&command(alloc, ask)?);
+        let told = told(alloc, &answer)?;
+        if told.as_str() != wanted {
+            return Ok(format!(in alloc; "{line}, and not {told}")?);
+        }
+    }
+    Ok(String::new(alloc))
+}
