@@ -16,7 +16,7 @@ use Rattle.tally_machine.proofs.StayLemmas.{Stay, answered-stays, run-stays, lod
 use Rattle.tally_core.proofs.HeldLemmas.{lodge-step}
 use Rattle.tally_core.specs.Import.{row_answer, after_row, answers, imported, is_lodged, count_of}
 use Rattle.tally_core.specs.Keeper.{Coming, IsImport}
-use Rattle.tally_core.specs.Events.{lodges, as_answer, lodge_answers, Event, request, whole_import, failed_import, AreEvents, asks_of}
+use Rattle.tally_core.specs.Events.{lodges, as_answer, lodge_answers, Event, request, whole_import, failed_import, AreEvents, AreAnswersOf, asks_of}
 use Rattle.tally_core.specs.declared.import.ImportCount.{ImportCount}
 use Rattle.tally_core.specs.declared.import.Row.{Row}
 use Rattle.tally_core.specs.declared.import.Row.TheVariants as row
@@ -118,13 +118,16 @@ run-append setup s mid t [] more (r ∷ rs) others is rest = absurd is
 run-append setup s mid t (ask ∷ asks) more [] others is rest = absurd is
 run-append setup s mid t (ask ∷ asks) more (r ∷ rs) others is rest = (is.0, is.1, run-append setup is.0 mid t asks more rs others is.2 rest)
 
--- requests and imports are a run
-pub events-run : (setup : List Constituency) (s t : State) (events : List Event) → AreEvents setup s events t → (rs : List (Result Reply Refusal)) × IsRun setup s (asks_of events) rs t
-events-run setup s t [] is = ([], is)
+-- requests and imports are a run, with the answers that they got
+pub events-run : (setup : List Constituency) (s t : State) (events : List Event) → AreEvents setup s events t
+    → (rs : List (Result Reply Refusal)) × AreAnswersOf events rs × IsRun setup s (asks_of events) rs t
+events-run setup s t [] is = ([], refl, is)
 events-run setup s t (request ask r ∷ events) is =
-    let later = events-run setup is.0 t events is.2 in (r ∷ later.0, (is.0, is.1, later.1))
+    let later = events-run setup is.0 t events is.2 in (r ∷ later.0, (later.0, refl, later.1), (is.0, is.1, later.2))
 events-run setup s t (whole_import coming count ∷ events) is =
     let later = events-run setup is.0 t events is.2 in
-    let lodged = lodge_answers (answers (stations_of setup) s.returns coming.rows) in
-    (lodged ++ later.0, run-append setup s is.0 t (lodges coming.rows) (asks_of events) lodged later.0 (import-run setup coming s is.0 count is.1).1 later.1)
+    let answered = answers (stations_of setup) s.returns coming.rows in
+    let lodged = lodge_answers answered in
+    let run = import-run setup coming s is.0 count is.1 in
+    (lodged ++ later.0, (answered, later.0, run.0, refl, later.1), run-append setup s is.0 t (lodges coming.rows) (asks_of events) lodged later.0 run.1 later.2)
 events-run setup s t (failed_import ∷ events) is = events-run setup s t events is

@@ -9,7 +9,7 @@ use Rattle.tally_returns.specs.declared.ask.Ask.TheVariants.{Lodge}
 use Rattle.tally_returns.specs.declared.refusal.Refusal.{Refusal}
 use Rattle.tally_returns.specs.declared.reply.LodgeReply.{LodgeReply}
 use Rattle.tally_returns.specs.declared.reply.Reply.{Reply}
-use Rattle.tally_core.specs.Import.{Answer}
+use Rattle.tally_core.specs.Import.{Answer, count_of}
 use Rattle.tally_core.specs.Keeper.{Coming, IsImport}
 use Rattle.tally_core.specs.declared.import.ImportCount.{ImportCount}
 use Rattle.tally_core.specs.declared.import.Row.{Row}
@@ -51,3 +51,10 @@ asks_of [] = []
 asks_of (request ask r ∷ events) = ask ∷ asks_of events
 asks_of (whole_import coming count ∷ events) = lodges coming.rows ++ asks_of events
 asks_of (failed_import ∷ events) = asks_of events
+
+-- The answers of these requests, in order: a request has its own, and those of an import come to its count.
+abbrev pub AreAnswersOf : List Event → List (Result Reply Refusal) → Type 0
+AreAnswersOf [] rs = rs ≡ []
+AreAnswersOf (request ask r ∷ events) rs = (rest : List (Result Reply Refusal)) × (rs ≡ r ∷ rest) × AreAnswersOf events rest
+AreAnswersOf (whole_import coming count ∷ events) rs = (answered : List Answer) × (rest : List (Result Reply Refusal)) × (count ≡ count_of answered) × (rs ≡ lodge_answers answered ++ rest) × AreAnswersOf events rest
+AreAnswersOf (failed_import ∷ events) rs = AreAnswersOf events rs

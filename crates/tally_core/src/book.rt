@@ -59,6 +59,8 @@ impl Keeper for Book {
 
     ghost HasDatabase = { λ _. ⊥ };
 
+    ghost memory_is_trusted = { λ _ _. tt };
+
     fn setup(&self) -> &Setup {
         self.ledger.setup()
     }

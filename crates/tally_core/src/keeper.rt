@@ -1,8 +1,9 @@
 //! Keepers of the office's state.
 
-ghost use Rattle.std.specs.Prelude.{◌≡◌, List, Option, IfErr, IfOk, OnErr};
+ghost use Rattle.std.specs.Prelude.{◌≡◌, ◌⊎◌, List, Option, None, IfErr, IfOk, IfSome, OnErr};
 ghost use Rattle.tally_rules.specs.Constituency.{Constituency};
 ghost use Rattle.tally_returns.specs.State.{State};
+ghost use Rattle.tally_machine.specs.LawfulState.{IsLawfulState};
 ghost use Rattle.tally_core.specs.Keeper.{Steps, Runs, Imports};
 ghost use Rattle.tally_core.specs.declared.source.ImportFault.TheVariants as fault;
 ghost use Rattle.tally_returns.specs.declared.refusal.Refusal.TheVariants as refusal;
@@ -27,16 +28,22 @@ pub trait Keeper {
     /// It stands on a database, which may fail.
     ghost HasDatabase: { Self → Type 0 };
 
-    /// The setup, which never changes.
+    /// Without a database there is no disk to trust.
+    ghost memory_is_trusted: { (keeper : Self) → (HasDatabase keeper → ⊥) → IsTrusted keeper };
+
+    /// The setup, which never changes. What the keeper has is a lawful state of it.
     fn setup(&self) -> &Setup
-        ensures { result.now ≡ constituencies self.now };
+        ensures setup { result.now ≡ constituencies self.now }
+        ensures lawful { IsTrusted self.now → IfSome (content self.now) (IsLawfulState (constituencies self.now)) };
 
     /// Answers a request. One that is refused has changed nothing.
     fn answer(&mut self, ask: &Ask) -> Result<Reply, Refusal>
         ensures setup { constituencies self.new ≡ constituencies self.old }
         ensures trusted { IsTrusted self.new → IsTrusted self.old }
         ensures step { IsTrusted self.new → Steps (constituencies self.old) (content self.old) ask.now result (content self.new) }
-        ensures store { IfErr result (λ e. e ≡ refusal.Store → HasDatabase self.old) };
+        ensures store { IfErr result (λ e. e ≡ refusal.Store → HasDatabase self.old) }
+        ensures shut { content self.new ≡ None → (content self.old ≡ None) ⊎ HasDatabase self.old }
+        ensures database { HasDatabase self.new → HasDatabase self.old };
 
     /// Lodges the rows of a source one by one; refused and bad ones are passed over. With a fault
     /// nothing has changed.
@@ -44,7 +51,9 @@ pub trait Keeper {
         ensures setup { constituencies self.new ≡ constituencies self.old }
         ensures trusted { IsTrusted self.new → IsTrusted self.old }
         ensures imported { IsTrusted self.new → Imports (constituencies self.old) (content self.old) (R.coming rows.old) result (content self.new) }
-        ensures store { IfErr result (λ e. e ≡ fault.Store → HasDatabase self.old) };
+        ensures store { IfErr result (λ e. e ≡ fault.Store → HasDatabase self.old) }
+        ensures shut { content self.new ≡ None → (content self.old ≡ None) ⊎ HasDatabase self.old }
+        ensures database { HasDatabase self.new → HasDatabase self.old };
 }
 
 /// Answers requests in order. Where the list of answers finds no room, none was asked.
@@ -56,6 +65,7 @@ pub fn run<K: Keeper>(
     ensures setup { K.constituencies keeper.new ≡ K.constituencies keeper.old }
     ensures trusted { K.IsTrusted keeper.new → K.IsTrusted keeper.old }
     ensures runs { K.IsTrusted keeper.new → IfOk result (λ answers. Runs (K.constituencies keeper.old) (K.content keeper.old) asks.now answers.items (K.content keeper.new)) }
+    ensures shut { K.content keeper.new ≡ None → (K.content keeper.old ≡ None) ⊎ K.HasDatabase keeper.old }
     ensures kept { OnErr result (keeper.new ≡ keeper.old) }
 {
     let mut answers = Vec::with_capacity(alloc, asks.len())?;

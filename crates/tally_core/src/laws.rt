@@ -1,7 +1,7 @@
 //! The laws of runs and imports. The functions do nothing: each contract is a law.
 
 ghost use Rattle.std.specs.Prelude.{◌≡◌, ◌↔◌, List, Some, None, Result};
-ghost use Rattle.tally_core.specs.Events.{Event, AreEvents, asks_of, lodges, lodge_answers};
+ghost use Rattle.tally_core.specs.Events.{Event, AreAnswersOf, AreEvents, asks_of, lodges, lodge_answers};
 ghost use Rattle.tally_core.specs.Import.{answers, count_of};
 ghost use Rattle.tally_core.specs.Keeper.{Coming, IsImport, Runs};
 ghost use Rattle.tally_machine.specs.Replies.{IsRun};
@@ -25,10 +25,10 @@ pub fn an_import_is_a_run()
     ensures { (setup : List Constituency) (coming : Coming) (s t : State) (count : ImportCount) → IsImport setup s (Some coming) count t → (count ≡ count_of (answers (stations_of setup) s.returns coming.rows)) × IsRun setup s (lodges coming.rows) (lodge_answers (answers (stations_of setup) s.returns coming.rows)) t }
 {}
 
-/// Requests and imports in any order are a run of the machine, so that the laws of the machine hold
-/// of them.
+/// Requests and imports in any order are a run of the machine with the answers that they got, so
+/// that the laws of the machine hold of them.
 pub fn requests_and_imports_are_a_run()
-    ensures { (setup : List Constituency) (s t : State) (events : List Event) → AreEvents setup s events t → (rs : List (Result Reply Refusal)) × IsRun setup s (asks_of events) rs t }
+    ensures { (setup : List Constituency) (s t : State) (events : List Event) → AreEvents setup s events t → (rs : List (Result Reply Refusal)) × AreAnswersOf events rs × IsRun setup s (asks_of events) rs t }
 {}
 
 /// An import lodges nothing when the same rows come again, whatever came between: a run of

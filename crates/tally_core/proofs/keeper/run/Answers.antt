@@ -1,7 +1,12 @@
-use Rattle.std.proofs.Common.{◌∙◌, arith, subst}
+use Rattle.std.proofs.Common.{◌⊎◌, ◌∙◌, inl, inr, arith, subst}
 use Rattle.tally_core.specs.Keeper.{Steps}
 use Rattle.tally_core.proofs.RunLemmas.{runs_more}
 use Rattle.tally_core.proofs.keeper.run.Goals as goal
+
+-- a request shuts what was not shut before only where it is on a database
+still : {Shut ShutBefore Database DatabaseBefore : Type 0} → Shut ⊎ Database → (Shut → ShutBefore ⊎ DatabaseBefore) → (Database → DatabaseBefore) → ShutBefore ⊎ DatabaseBefore
+still (inl shut) before was_on = before shut
+still (inr on) before was_on = inr (was_on on)
 
 pub loop-ask-preserved : goal.loop-ask-preserved
 loop-ask-preserved g c =
@@ -12,6 +17,8 @@ loop-ask-preserved g c =
       count = omega (arith, was.count, c.in-Ok.ensures.len);
       setup = c.answer-answer.ensures.setup ∙ was.setup;
       trusted = λ sure. was.trusted (c.answer-answer.ensures.trusted sure);
+      shut = λ none. still (c.answer-answer.ensures.shut none) was.shut was.database;
+      database = λ has. was.database (c.answer-answer.ensures.database has);
       runs = λ sure. rw c.in-Ok.ensures.items (runs_more (k.constituencies c.args.keeper.now) (k.content c.args.keeper.now) (k.content c.loop-ask.keeper) (k.content c.answer-answer.new.self) c.args.asks.now c.loop-ask.answers.items c.loop-ask.ask-index c.ask-item.result c.answer-answer.result
           (omega (arith, c.loop-ask-test.true)) c.ask-item.is (was.runs (c.answer-answer.ensures.trusted sure))
           (subst (λ setup. Steps setup (k.content c.loop-ask.keeper) c.ask-item.result c.answer-answer.result (k.content c.answer-answer.new.self)) was.setup (c.answer-answer.ensures.step sure)));

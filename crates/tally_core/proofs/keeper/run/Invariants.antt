@@ -1,4 +1,4 @@
-use Rattle.std.proofs.Common.{◌≡◌, ◌≤◌, take, length}
+use Rattle.std.proofs.Common.{◌≡◌, ◌⊎◌, ◌≤◌, None, take, length}
 use Rattle.std.specs.Vec.{vec_len, vec_capacity}
 use Rattle.tally_core.specs.Keeper.{Runs}
 use Rattle.tally_core.proofs.keeper.run.Given as goal
@@ -12,5 +12,7 @@ invariant-loop-ask g l =
       count : vec_len l.answers ≡ l.ask-index;
       setup : k.constituencies l.keeper ≡ k.constituencies l.fn.keeper;
       trusted : k.IsTrusted l.keeper → k.IsTrusted l.fn.keeper;
+      shut : k.content l.keeper ≡ None → (k.content l.fn.keeper ≡ None) ⊎ k.HasDatabase l.fn.keeper;
+      database : k.HasDatabase l.keeper → k.HasDatabase l.fn.keeper;
       runs : k.IsTrusted l.keeper → Runs (k.constituencies l.fn.keeper) (k.content l.fn.keeper) (take l.ask-index l.asks) l.answers.items (k.content l.keeper);
     }
