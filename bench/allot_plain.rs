@@ -13,6 +13,33 @@ struct Next {
     divisor: u64,
     votes: u64,
     place: usize,
+    seat: u32,
+}
+
+/// A divisor rule: its first divisor, how far the second is above it, and how far each later one is
+/// above the one before. Hare's rule has a first divisor of 0.
+struct Rule {
+    first: u64,
+    second: u64,
+    later: u64,
+    alternating: bool,
+}
+
+fn rule_of(name: &str) -> Option<Rule> {
+    let (name, lots) = name.split_once('/').unwrap_or((name, ""));
+    let (first, second, later) = match name {
+        "hare" => (0, 0, 0),
+        "dhondt" => (1, 1, 1),
+        "sainte-lague" => (1, 2, 2),
+        "modified-sainte-lague" => (7, 8, 10),
+        _ => return None,
+    };
+    Some(Rule {
+        first,
+        second,
+        later,
+        alternating: lots == "alternating",
+    })
 }
 
 impl Ord for Next {
@@ -31,18 +58,20 @@ impl PartialOrd for Next {
     }
 }
 
-/// The seats of each list by divisors that rise by `step`, or by Hare's rule where `step` is 0.
-fn allot(step: u64, seats: u32, votes: &[u64], lot: &[u32]) -> Vec<u32> {
+/// The seats of each list.
+fn allot(rule: &Rule, seats: u32, votes: &[u64], lot: &[u32]) -> Vec<u32> {
     let total = votes.iter().sum::<u64>().max(1);
     let mut given = vec![0; votes.len()];
     let mut places: Vec<usize> = (1..=votes.len()).collect();
+    let mut turns = vec![false; votes.len()];
     for (i, place) in lot.iter().enumerate() {
         places[*place as usize - 1] = i + 1;
+        turns[*place as usize - 1] = rule.alternating;
     }
     let mut heap = BinaryHeap::with_capacity(votes.len());
     for (list, &count) in votes.iter().enumerate().filter(|(_, count)| **count > 0) {
         let product = count * u64::from(seats);
-        let (whole, share) = if step == 0 {
+        let (whole, share) = if rule.first == 0 {
             (product / total, product % total)
         } else {
             (0, count)
@@ -51,16 +80,22 @@ fn allot(step: u64, seats: u32, votes: &[u64], lot: &[u32]) -> Vec<u32> {
         heap.push(Next {
             list,
             share,
-            divisor: 1,
+            divisor: rule.first.max(1),
             votes: count,
             place: places[list],
+            seat: 1,
         });
     }
     for _ in given.iter().sum::<u32>()..seats {
         let Some(mut next) = heap.pop() else { break };
         given[next.list] += 1;
-        if step > 0 {
-            next.divisor += step;
+        if rule.first > 0 {
+            next.divisor += if next.seat == 1 { rule.second } else { rule.later };
+            next.seat += 1;
+            next.place = places[next.list];
+            if turns[next.list] && next.seat % 2 == 0 {
+                next.place = 61 - next.place;
+            }
             heap.push(next);
         }
     }
@@ -95,10 +130,7 @@ fn main() -> Result<()> {
     let [_, rule, seats, rounds] = words.as_slice() else {
         return Err(Error::other("a rule, the seats and the rounds"));
     };
-    let step = ["hare", "dhondt", "sainte-lague"]
-        .iter()
-        .position(|name| name == rule);
-    let step = step.ok_or(Error::other("a wrong rule"))? as u64;
+    let rule = rule_of(rule).ok_or(Error::other("a wrong rule"))?;
     let [seats, rounds] = [seats, rounds].map(|word| word.parse::<u32>().unwrap_or(1));
     let mut text = String::new();
     std::io::stdin().read_to_string(&mut text)?;
@@ -110,7 +142,7 @@ fn main() -> Result<()> {
         given = Vec::with_capacity(polls.len());
         let begun = used();
         for (votes, lot) in &polls {
-            given.push(allot(step, seats, votes, lot));
+            given.push(allot(&rule, seats, votes, lot));
         }
         println!("allot {}", used() - begun);
     }

@@ -1,7 +1,7 @@
 #!/usr/bin/env python3
-"""Measures the time and the memory of `office check` against a plain Python program.
+"""Measures the time and the memory of `office check` against plain programs in Python and in Rust.
 
-The workloads are made in a temporary folder, the same ones on every run. The two programs run in
+The workloads are made in a temporary folder, the same ones on every run. The programs run in
 turn, and what they write is compared byte for byte. A time is the processor's, for the program and
 for the system on its behalf, so that other work on the machine disturbs it little. Times are given
 as medians and as the ratio of the medians, since a ratio says the same on a faster or a slower
@@ -21,6 +21,7 @@ from pathlib import Path
 
 # What is imported from here is not to be left beside it in compiled form.
 sys.dont_write_bytecode = True
+from building import build_plain
 from measuring import Numbers, run
 
 HERE = Path(__file__).resolve().parent
@@ -120,6 +121,15 @@ WORKLOADS = {
 }
 
 
+# Texts of one long record, none of which has a header, by name.
+HOSTILE = {
+    "an unclosed quote": lambda: b'"' + b"x" * (MOST_BYTES - 1),
+    "a quote over lines": lambda: b'"' + (b"x" * 63 + b"\n") * (MOST_BYTES // 64 - 1),
+    "one field": lambda: b"x" * MOST_BYTES,
+    "commas": lambda: b"," * MOST_BYTES,
+}
+
+
 def write(path, rows):
     """Writes the text of these rows, and answers its size in MiB."""
     path.write_bytes(text_of(rows).encode("ascii"))
@@ -127,42 +137,64 @@ def write(path, rows):
 
 
 def peak_of(command, path):
-    """The peak memory of a command on a file, in MiB as text, or `-` where GNU time is not there.
+    """The peak memory of a command on a file, in MiB, or None where GNU time is not there.
 
     A process that this script starts counts the script's own memory at first, so GNU time starts it.
     """
     timer = shutil.which("time")
     if timer is None:
-        return "-"
+        return None
     with open(path, "rb") as text:
         timed = [timer, "-f", "%M"] + command
         ended = subprocess.run(timed, stdin=text, stdout=subprocess.DEVNULL, stderr=subprocess.PIPE)
-    return f"{int(ended.stderr.split()[-1]) / 1024:.1f}"
+    return int(ended.stderr.split()[-1]) / 1024
 
 
-def medians(commands, path, rounds):
+def told(number):
+    """A number as text, or `-` where there is none."""
+    return "-" if number is None else f"{number:.1f}"
+
+
+def medians(commands, path, rounds, status=0):
     """The median time of each command, run in turn on one file."""
     times = [[] for _ in commands]
     for _ in range(rounds):
         outputs = set()
         for command, taken in zip(commands, times):
-            milliseconds, output = run(command, path)
+            milliseconds, output = run(command, path, status)
             taken.append(milliseconds)
             outputs.add(output)
         if len(outputs) != 1:
-            sys.exit("the two programs write different texts")
+            sys.exit("the programs write different texts")
     return [statistics.median(taken) for taken in times]
 
 
-def compare(office, path, rounds):
-    """Prints the times and the memory of both programs on each workload."""
-    plain = [sys.executable, str(PLAIN)]
-    print("workload             MiB   office ms   Python ms   ratio   office MiB   Python MiB")
+def compare(office, rust, path, rounds):
+    """Prints the times and the memory of the programs on each workload."""
+    python = [sys.executable, str(PLAIN)]
+    print("workload             MiB   office ms   Python ms   ratio   Rust ms   ratio   office MiB   a byte   Python MiB   Rust MiB")
     for name, make in WORKLOADS.items():
         size = write(path, make())
-        fast, slow = medians([office, plain], path, rounds)
-        low, high = peak_of(office, path), peak_of(plain, path)
-        print(f"{name:18} {size:5.2f} {fast:11.1f} {slow:11.1f} {slow / fast:7.1f} {low:>12} {high:>12}")
+        own, slow, fast = medians([office, python, rust], path, rounds)
+        low, high, least = (peak_of(command, path) for command in (office, python, rust))
+        print(
+            f"{name:18} {size:5.2f} {own:11.1f} {slow:11.1f} {slow / own:7.1f} {fast:9.1f} {fast / own:7.2f}"
+            f" {told(low):>12} {told(low and low / size):>8} {told(high):>12} {told(least):>10}"
+        )
+
+
+def hold(office, rust, path, rounds):
+    """Prints the time and the memory on texts of one long record, which are refused."""
+    print("\nhostile text          MiB   office ms   Rust ms   ratio   office MiB   a byte   Rust MiB")
+    for name, make in HOSTILE.items():
+        path.write_bytes(make())
+        size = path.stat().st_size / 2**20
+        own, fast = medians([office, rust], path, rounds, status=1)
+        low, least = peak_of(office, path), peak_of(rust, path)
+        print(
+            f"{name:18} {size:6.2f} {own:11.1f} {fast:9.1f} {fast / own:7.2f}"
+            f" {told(low):>12} {told(low and low / size):>8} {told(least):>10}"
+        )
 
 
 def grow(office, path, rounds):
@@ -171,11 +203,11 @@ def grow(office, path, rounds):
     for rows in (1_500, 5_000, 10_000, 20_000):
         size = write(path, distinct_rows(rows, long_row))
         (taken,) = medians([office], path, rounds)
-        print(f"{rows:6} {size:7.2f} {taken:11.2f} {taken / rows * 1000:10.2f} {peak_of(office, path):>12}")
+        print(f"{rows:6} {size:7.2f} {taken:11.2f} {taken / rows * 1000:10.2f} {told(peak_of(office, path)):>12}")
 
 
 def main():
-    parser = argparse.ArgumentParser(description="Measures `office check` against a plain Python program.")
+    parser = argparse.ArgumentParser(description="Measures `office check` against plain programs in Python and in Rust.")
     parser.add_argument("--program", type=Path, default=PROGRAM, help="the built program")
     parser.add_argument("--rounds", type=int, default=9, help="how often each program runs on a file")
     args = parser.parse_args()
@@ -185,7 +217,9 @@ def main():
     print(f"{os.cpu_count()} processors, Python {sys.version.split()[0]}, {args.rounds} rounds\n")
     with tempfile.TemporaryDirectory() as folder:
         path = Path(folder) / "returns.csv"
-        compare(office, path, args.rounds)
+        rust = [str(build_plain(Path(folder), "check_plain"))]
+        compare(office, rust, path, args.rounds)
+        hold(office, rust, path, args.rounds)
         grow(office, path, args.rounds)
 
 

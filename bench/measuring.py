@@ -17,13 +17,15 @@ class Numbers:
         return (self.state >> 33) % limit
 
 
-def run(command, path):
-    """Runs a command on a file: its processor time in milliseconds, and what it wrote."""
+def run(command, path, status=0):
+    """Runs a command on a file, which has to end with this status: its processor time in
+    milliseconds, and what it wrote."""
     with open(path, "rb") as text, tempfile.TemporaryFile() as output:
-        child = subprocess.Popen(command, stdin=text, stdout=output)
-        _, status, usage = os.wait4(child.pid, 0)
-        child.returncode = os.waitstatus_to_exitcode(status)
-        if child.returncode != 0:
+        errors = None if status == 0 else subprocess.DEVNULL
+        child = subprocess.Popen(command, stdin=text, stdout=output, stderr=errors)
+        _, ended, usage = os.wait4(child.pid, 0)
+        child.returncode = os.waitstatus_to_exitcode(ended)
+        if child.returncode != status:
             sys.exit(f"{command[0]} answered the exit status {child.returncode}")
         output.seek(0)
         return (usage.ru_utime + usage.ru_stime) * 1000, output.read()

@@ -1,40 +1,30 @@
 -- The laws of the allotment.
-use Rattle.std.proofs.Common.{◌≡◌, ℕ, ◌+◌, ◌-◌, ◌<◌, ◌≤◌, ◌≢◌, ◌⊎◌, ◌↔◌, List, [], Bool, true, false, length, get_or, sum, refl, sym, ap, ◌∙◌, subst, inl, inr, arith, map}
+use Rattle.std.proofs.Common.{◌≡◌, ℕ, ◌+◌, ◌-◌, ◌%◌, ◌<◌, ◌≤◌, ◌≢◌, ◌⊎◌, ◌↔◌, List, [], Bool, true, false, length, get_or, sum, refl, sym, ap, ◌∙◌, subst, inl, inr, arith, map}
 use Rattle.std.specs.List.{range_with_len}
 use Rattle.std.proofs.lemmas.Bool.{cases_lt, cases_eq}
 use Rattle.std.proofs.lemmas.List.{get_or_past, length-map}
 use Rattle.std.proofs.lemmas.List.FromFn.{get_or-map-range_with_len, length-range_with_len}
 use Rattle.tally_contest.specs.Poll.{Poll, IsEligible, votes_of}
-use Rattle.tally_contest.specs.Lot.{place_of, IsOrderOf}
-use Rattle.tally_contest.specs.Allotment.{Rule, divisors, hare, IsAllotment, IsAllotmentByVotes}
+use Rattle.tally_rules.specs.declared.profile.LotRule.{LotRule}
+use Rattle.tally_rules.specs.declared.profile.LotRule.TheVariants.{Fixed, Alternating}
+use Rattle.tally_contest.specs.Lot.{place_of, is_named, IsTurned, ComesFirst, IsOrderOf}
+use Rattle.tally_contest.specs.Allotment.{Rule, IsAllotment, IsAllotmentByVotes}
 use Rattle.tally_contest.specs.Poll.{HasEligible}
-use Rattle.tally_contest.specs.DivisorAllotment.{IsDivisorAllotment}
-use Rattle.tally_contest.specs.HareAllotment.{IsHareAllotment}
-use Rattle.tally_contest.specs.LotNeed.{IsDecidedByVotes, IsLotNeeded, IsLotTaken, IsNeed, IsInGroup}
+use Rattle.tally_contest.specs.LotNeed.{IsNeed, IsInGroup}
 use Rattle.tally_contest.specs.Race.{IsFair, IsTie, CanHold}
 use Rattle.tally_contest.specs.Sums.{sum_before}
-use Rattle.tally_contest.specs.Terms.{Terms, IsRule, IsSound, AreDivisors, ArePlacedApart, vote_race, placed_race}
-use Rattle.tally_contest.proofs.Vectors.{equal_or_apart}
+use Rattle.tally_contest.specs.Terms.{Terms, IsRule, IsSound, IsProperLot, lot_rule_of, vote_race, placed_race}
 use Rattle.tally_contest.proofs.AwardStep.{further}
 use Rattle.tally_contest.proofs.Sums.{sum-is, sum_before-same}
 use Rattle.tally_contest.proofs.Ties.{IsMoved, loses, gains, moved, tie_alike, class_differs, ties_are_one}
 use Rattle.tally_contest.proofs.DivisorRace.{eligible_or_not}
-use Rattle.tally_contest.proofs.TermsRace.{AreRaces, are_races, one_allotment, fair_by_votes, within_placed}
+use Rattle.tally_contest.proofs.TermsRace.{AreRaces, are_races, from_placed, within_placed}
 use Rattle.tally_contest.proofs.Room.{room_of, floors_of}
 use Rattle.tally_allot.proofs.OrderOfChoice.{order_before, in_order, order_of_group, first_placed}
-use Rattle.tally_allot.proofs.LotLaws.{apart_if_taken, decided_not_needed, group_is_class, setup_apart, some_in_group}
+use Rattle.tally_allot.proofs.LotLaws.{group_is_class, named_if_marked, some_in_group}
 
 abbrev terms_of : Rule → Poll → List ℕ → ℕ → Terms
 terms_of rule poll lot seats = record { rule = rule; poll = poll; lot = lot; seats = seats }
-
-pub unique_by_divisors : (nth : ℕ → ℕ) (poll : Poll) (lot : List ℕ) (seats : ℕ) (a b : List ℕ) → AreDivisors nth → IsSound poll → 1 ≤ seats → ArePlacedApart poll lot → IsDivisorAllotment nth poll lot seats a → IsDivisorAllotment nth poll lot seats b → a ≡ b
-unique_by_divisors nth poll lot seats a b d s some apart wa wb = one_allotment (terms_of (divisors nth) poll lot seats) (are_races (divisors nth) poll lot seats d s some) apart a b wa wb
-
-pub unique_by_quotas : (poll : Poll) (lot : List ℕ) (seats : ℕ) (a b : List ℕ) → IsSound poll → 1 ≤ seats → ArePlacedApart poll lot → IsHareAllotment poll lot seats a → IsHareAllotment poll lot seats b → a ≡ b
-unique_by_quotas poll lot seats a b s some apart wa wb = one_allotment (terms_of hare poll lot seats) (are_races hare poll lot seats tt s some) apart a b wa wb
-
-pub placed_apart : (rule : Rule) (poll : Poll) (lot : List ℕ) (seats : ℕ) → IsRule rule → IsSound poll → 1 ≤ seats → IsLotTaken rule poll seats lot → ArePlacedApart poll lot
-placed_apart rule poll lot seats d s some taken = apart_if_taken (terms_of rule poll lot seats) (are_races rule poll lot seats d s some) taken
 
 -- one number for each list
 abbrev each_of : (ℕ → ℕ) → ℕ → List ℕ
@@ -90,35 +80,14 @@ module _ (terms : Terms) (r : AreRaces terms) (s : IsSound terms.poll) where
       let P : ℕ → Type 0 = λ k. IsFair (placed_race terms) k more.0 in
       (more.0, subst P whole more.1)
 
-pub exists : (rule : Rule) (poll : Poll) (lot : List ℕ) (seats : ℕ) → IsRule rule → IsSound poll → 1 ≤ seats → HasEligible poll → ArePlacedApart poll lot → (a : List ℕ) × IsAllotment rule poll lot seats a
-exists rule poll lot seats d s some e apart =
+pub exists : (rule : Rule) (poll : Poll) (lot : List ℕ) (seats : ℕ) → IsRule rule → IsSound poll → 1 ≤ seats → HasEligible poll → IsProperLot poll lot → (a : List ℕ) × IsAllotment rule poll lot seats a
+exists rule poll lot seats d s some e proper =
     let r = are_races rule poll lot seats d s some in
     let w = exists_fair (terms_of rule poll lot seats) r s seats (floors_of rule poll lot seats e.0 s e.1) (room_of rule poll lot seats e.0 s e.1) in
-    (w.0, r.from_placed apart w.0 w.1)
-
-pub needed_where_choice : (rule : Rule) (poll : Poll) (seats : ℕ) → IsRule rule → IsSound poll → 1 ≤ seats → (a : List ℕ) → IsAllotmentByVotes rule poll seats a → IsDecidedByVotes rule poll seats ↔ ¬ (IsLotNeeded rule poll seats)
-needed_where_choice rule poll seats d s some a w = (λ dec needed. decided_not_needed (terms_of rule poll [] seats) dec needed, λ none. (a, w, λ b wb. same b wb none))
-  where
-    r : AreRaces (terms_of rule poll [] seats)
-    r = are_races rule poll [] seats d s some
-
-    same : (b : List ℕ) → IsAllotmentByVotes rule poll seats b → ¬ (IsLotNeeded rule poll seats) → b ≡ a
-    same b wb none = by_cases (equal_or_apart b a (omega (arith, (r.to_fair b wb).one_each, (r.to_fair a w).one_each)))
-      where
-        by_cases : (b ≡ a) ⊎ ((l : ℕ) × (get_or b l 0 ≢ get_or a l 0)) → b ≡ a
-        by_cases (inl e) = e
-        by_cases (inr x) = absurd (none (b, a, wb, w, λ e. x.1 (ap (λ v. get_or v x.0 0) e)))
+    (w.0, from_placed (terms_of rule poll lot seats) r proper w.0 w.1)
 
 pub by_votes : (rule : Rule) (poll : Poll) (lot : List ℕ) (seats : ℕ) (a : List ℕ) → IsRule rule → IsSound poll → 1 ≤ seats → IsAllotment rule poll lot seats a → IsAllotmentByVotes rule poll seats a
-by_votes rule poll lot seats a d s some w =
-    let terms = terms_of rule poll lot seats in
-    let r = are_races rule poll lot seats d s some in
-    r.from_fair a (fair_by_votes terms r seats a (r.to_placed a w))
-
-pub decided_or_needed : (rule : Rule) (poll : Poll) (seats : ℕ) → IsRule rule → IsSound poll → 1 ≤ seats → HasEligible poll → IsDecidedByVotes rule poll seats ↔ ¬ (IsLotNeeded rule poll seats)
-decided_or_needed rule poll seats d s some e =
-    let w = exists rule poll [] seats d s some e (λ l m _ _ ne _. setup_apart l m ne) in
-    needed_where_choice rule poll seats d s some w.0 (by_votes rule poll [] seats w.0 d s some w.1)
+by_votes rule poll lot seats a d s some w = (are_races rule poll lot seats d s some).to_by_votes a w
 
 -- where the seats of two lists differ between allotments by the votes alone, the lists have equal votes
 module _ (terms : Terms) (r : AreRaces terms) where
@@ -157,16 +126,16 @@ module _ (terms : Terms) (r : AreRaces terms) (group : List Bool) (in_question :
       let v = moved_votes terms r a b.0 wa l x y t b.1 in
       (v.0, v.1 ∙ sym same)
 
-  group_votes : (votes : ℕ) × ((l : ℕ) → (get_or group l false ≡ true) ↔ (IsEligible terms.poll l × (votes_of terms.poll l ≡ votes)))
+  group_votes : (l : ℕ) × IsEligible terms.poll l × ((m : ℕ) → (get_or group m false ≡ true) ↔ (IsEligible terms.poll m × (votes_of terms.poll m ≡ votes_of terms.poll l)))
   group_votes =
       let some_list = some_in_group terms r group in_question need in
       let w = (need.group_is some_list.0).0 some_list.1 in
       let m = move_of terms r w.0 w.1 w.2 w.3 some_list.0 (λ e. w.4 (sym e)) in
       let t = tie_of terms r w.0 w.1 some_list.0 m in
       let v = moved_votes terms r w.0 w.1 w.2 some_list.0 t.0 t.1 t.2 m in
-      (votes_of terms.poll some_list.0, λ l. (in_class w.0 w.2 t.0 t.1 some_list.0 t.2 v.1 l, λ e. group_is_class terms r group in_question need some_list.0 l e.0 (sym e.1) some_list.1))
+      (some_list.0, v.0, λ l. (in_class w.0 w.2 t.0 t.1 some_list.0 t.2 v.1 l, λ e. group_is_class terms r group in_question need some_list.0 l e.0 (sym e.1) some_list.1))
 
-pub group_of_votes : (rule : Rule) (poll : Poll) (seats : ℕ) (group : List Bool) (in_question : ℕ) → IsRule rule → IsSound poll → 1 ≤ seats → IsNeed rule poll seats group in_question → (votes : ℕ) × ((l : ℕ) → (get_or group l false ≡ true) ↔ (IsEligible poll l × (votes_of poll l ≡ votes)))
+pub group_of_votes : (rule : Rule) (poll : Poll) (seats : ℕ) (group : List Bool) (in_question : ℕ) → IsRule rule → IsSound poll → 1 ≤ seats → IsNeed rule poll seats group in_question → (l : ℕ) × IsEligible poll l × ((m : ℕ) → (get_or group m false ≡ true) ↔ (IsEligible poll m × (votes_of poll m ≡ votes_of poll l)))
 group_of_votes rule poll seats group in_question d s some need = group_votes (terms_of rule poll [] seats) (are_races rule poll [] seats d s some) group in_question need
 
 -- Each allotment by the votes alone comes from an order of the group, at a tie of its: lists x and y.
@@ -185,22 +154,24 @@ module _ (terms : Terms) (r : AreRaces terms) (group : List Bool) (in_question :
       let ml : get_or group l false ≡ true = (need.group_is l).1 (dl.0, a, r.from_fair dl.0 dl.1, wa, dl.2) in
       (ml, group_is_class terms r group in_question need l m em alike.0 ml, one.1, omega (arith, alike.1, one.1))
 
-  -- the places of a lot in which those that hold the seat in question come first give these seats
-  choice_fair : ((l m : ℕ) → get_or group l false ≡ true → get_or group m false ≡ true → get_or a l 0 ≡ get_or a x 0 → get_or a m 0 ≢ get_or a x 0 → place_of terms.lot l < place_of terms.lot m) → IsFair (placed_race terms) terms.seats a
-  choice_fair placed =
-      record {
-        one_each = omega (arith, fa.one_each, r.same_count);
-        low = λ l. omega (arith, fa.low l, r.same_floor l);
-        high = λ l. omega (arith, fa.high l, r.same_cap l);
-        total = fa.total;
-        last_not_below_next = λ l m ne win room ab. by_rank l m ne (omega (arith, r.same_floor l)) (omega (arith, r.same_cap m)) (r.placed_is _ _ _ _ ab);
-      }
+  -- a lot under which those that hold the seat in question come first gives these seats
+  choice_is : ((l m : ℕ) → get_or group l false ≡ true → get_or group m false ≡ true → get_or a l 0 ≡ get_or a x 0 → get_or a m 0 + 1 ≡ get_or a x 0 → ComesFirst (lot_rule_of terms.rule) terms.lot l m (get_or a x 0)) → IsAllotment terms.rule terms.poll terms.lot terms.seats a
+  choice_is first = r.from_choice a fa choice
     where
-      by_rank : (l m : ℕ) → l ≢ m → (vote_race terms).floor l < get_or a l 0 → get_or a m 0 < (vote_race terms).cap m → (vote_race terms).Above m (get_or a m 0 + 1) l (get_or a l 0) ⊎ ((¬ (vote_race terms).Above l (get_or a l 0) m (get_or a m 0 + 1)) × (place_of terms.lot m < place_of terms.lot l)) → ⊥
-      by_rank l m ne win room (inl ab) = fa.last_not_below_next l m ne win room ab
-      by_rank l m ne win room (inr e) =
-          let g = tied_in_group l m (record { apart = ne; wins = win; runs = room; tied = e.0 }) in
-          omega (arith, placed l m g.0 g.1 g.2 (omega (arith, g.3)), e.1)
+      choice : (l m : ℕ) → IsTie (vote_race terms) a l m → ComesFirst (lot_rule_of terms.rule) terms.lot l m (get_or a l 0)
+      choice l m u =
+          let g = tied_in_group l m u in
+          let P : ℕ → Type 0 = λ k. ComesFirst (lot_rule_of terms.rule) terms.lot l m k in
+          subst P (sym g.2) (first l m g.0 g.1 g.2 g.3)
+
+-- whether a lot of this rule, in which both lists are named, is turned round at the k-th seat
+turned_at : (lot_rule : LotRule) (k : ℕ) → ((lot : List ℕ) (l m : ℕ) → is_named lot l ≡ true → is_named lot m ≡ true → IsTurned lot_rule lot l m k) ⊎ ((lot : List ℕ) (l m : ℕ) → ¬ IsTurned lot_rule lot l m k)
+turned_at Fixed k = inr (λ lot l m t. t)
+turned_at Alternating k = by_test (cases_eq (k % 2) 0)
+  where
+    by_test : (k % 2 ≡ 0) ⊎ (k % 2 ≡ 0 → ⊥) → ((lot : List ℕ) (l m : ℕ) → is_named lot l ≡ true → is_named lot m ≡ true → IsTurned Alternating lot l m k) ⊎ ((lot : List ℕ) (l m : ℕ) → ¬ IsTurned Alternating lot l m k)
+    by_test (inl even) = inl (λ lot l m nl nm. (nl, nm, even))
+    by_test (inr odd) = inr (λ lot l m t. odd t.2)
 
 pub choice_of_order : (rule : Rule) (poll : Poll) (seats : ℕ) (group : List Bool) (in_question : ℕ) (a : List ℕ) → IsRule rule → IsSound poll → 1 ≤ seats → IsNeed rule poll seats group in_question → IsAllotmentByVotes rule poll seats a → (lot : List ℕ) × IsOrderOf group lot × IsAllotment rule poll lot seats a
 choice_of_order rule poll seats group in_question a d s some need w =
@@ -211,19 +182,27 @@ choice_of_order rule poll seats group in_question a d s some need w =
     from_tie t.0 t.1 t.2
   where
     inside : (x : ℕ) → get_or group x false ≡ true → x < length poll.votes
-    inside x marked = let v = group_of_votes rule poll seats group in_question d s some need in s.listed x ((v.1 x).0 marked).0
+    inside x marked = let v = group_of_votes rule poll seats group in_question d s some need in s.listed x ((v.2 x).0 marked).0
 
+    n : ℕ
+    n = length poll.votes
+
+    same_tie : (rule : Rule) (x y : ℕ) → IsTie (vote_race (terms_of rule poll [] seats)) a x y → (lot : List ℕ) → IsTie (vote_race (terms_of rule poll lot seats)) a x y
+    same_tie rule x y t lot = t
+
+    -- where the order is turned round the lists that hold one seat less come first in the lot
     from_tie : (x y : ℕ) → IsTie (vote_race (terms_of rule poll [] seats)) a x y → (lot : List ℕ) × IsOrderOf group lot × IsAllotment rule poll lot seats a
-    from_tie x y t =
-        let n = length poll.votes in
-        let lot = order_before group a (get_or a x 0) n in
-        let o = in_order group a (get_or a x 0) n in
-        let order = order_of_group group a (get_or a x 0) n inside lot o in
-        let r = are_races rule poll lot seats d s some in
-        let taken : IsLotTaken rule poll seats lot = inr (group, in_question, need, order) in
-        let same : IsTie (vote_race (terms_of rule poll lot seats)) a x y = same_tie rule x y t lot in
-        let fair = choice_fair (terms_of rule poll lot seats) r group in_question need a w x y same (λ l m ml mm hl hm. first_placed group a (get_or a x 0) n inside lot o l m ml mm hl hm) in
-        (lot, order, r.from_placed (apart_if_taken (terms_of rule poll lot seats) r taken) a fair)
+    from_tie x y t = by_turn (turned_at (lot_rule_of rule) (get_or a x 0))
       where
-        same_tie : (rule : Rule) (x y : ℕ) → IsTie (vote_race (terms_of rule poll [] seats)) a x y → (lot : List ℕ) → IsTie (vote_race (terms_of rule poll lot seats)) a x y
-        same_tie rule x y t lot = t
+        with_first : (k : ℕ) → ((lot : List ℕ) → IsOrderOf group lot → ((l m : ℕ) → get_or group l false ≡ true → get_or group m false ≡ true → get_or a l 0 ≡ k → get_or a m 0 ≢ k → place_of lot l < place_of lot m) → (l m : ℕ) → get_or group l false ≡ true → get_or group m false ≡ true → get_or a l 0 ≡ get_or a x 0 → get_or a m 0 + 1 ≡ get_or a x 0 → ComesFirst (lot_rule_of rule) lot l m (get_or a x 0)) → (lot : List ℕ) × IsOrderOf group lot × IsAllotment rule poll lot seats a
+        with_first k first =
+            let lot = order_before group a k n in
+            let o = in_order group a k n in
+            let order = order_of_group group a k n inside lot o in
+            let r = are_races rule poll lot seats d s some in
+            (lot, order, choice_is (terms_of rule poll lot seats) r group in_question need a w x y (same_tie rule x y t lot) (first lot order (λ l m ml mm hl hm. first_placed group a k n inside lot o l m ml mm hl hm)))
+
+        by_turn : ((lot : List ℕ) (l m : ℕ) → is_named lot l ≡ true → is_named lot m ≡ true → IsTurned (lot_rule_of rule) lot l m (get_or a x 0)) ⊎ ((lot : List ℕ) (l m : ℕ) → ¬ IsTurned (lot_rule_of rule) lot l m (get_or a x 0)) → (lot : List ℕ) × IsOrderOf group lot × IsAllotment rule poll lot seats a
+        by_turn (inr straight) = with_first (get_or a x 0) (λ lot order placed l m ml mm hl hm. inl (straight lot l m, placed l m ml mm hl (omega (arith, hm))))
+        by_turn (inl round) =
+            with_first (get_or a x 0 - 1) (λ lot order placed l m ml mm hl hm. inr (round lot l m (named_if_marked group lot order l ml) (named_if_marked group lot order m mm), placed m l mm ml (omega (arith, hm)) (omega (arith, hl, hm))))

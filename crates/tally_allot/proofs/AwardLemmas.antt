@@ -5,13 +5,16 @@ use Rattle.tally_frac.specs.Rank.{RanksAbove}
 use Rattle.tally_contest.specs.declared.won.Won.{Won}
 use Rattle.tally_allot.specs.declared.award.Award.{Award}
 use Rattle.tally_contest.specs.Poll.{Poll}
-use Rattle.tally_allot.specs.Awards.{award_of, IsAwardOf, AreAwardsOf, pair_of_award}
-use Rattle.tally_contest.specs.DivisorAllotment.{pair_of}
-use Rattle.tally_contest.specs.Terms.{placed_divisor_race}
-use Rattle.tally_contest.specs.Won.{AreWon}
-use Rattle.tally_contest.proofs.DivisorRace.{runs_if_eligible}
+use Rattle.tally_allot.specs.Awards.{award_of, IsAwardOf, AreAwardsOf, IsAwardAbove}
+use Rattle.tally_rules.specs.declared.profile.LotRule.{LotRule}
+use Rattle.tally_contest.specs.DivisorAllotment.{IsAbove}
+use Rattle.tally_contest.specs.Pairs.{pair_of}
+use Rattle.tally_contest.specs.Race.{IsPair}
+use Rattle.tally_contest.specs.Terms.{AreDivisors, IsProperLot, IsSound, placed_divisor_race}
+use Rattle.tally_contest.specs.Won.{AreRows, AreWon}
+use Rattle.tally_contest.proofs.DivisorRace.{above_from_placed, runs_if_eligible, seats_for-le}
 
-module _ (nth : ℕ → ℕ) (unit : ℕ) (poll : Poll) (lot : List ℕ) (seats : ℕ) (a : List ℕ) (rows : List Won) (w : AreWon (placed_divisor_race nth poll lot seats) a rows) where
+module _ (nth : ℕ → ℕ) (unit : ℕ) (lot_rule : LotRule) (d : AreDivisors nth) (some_unit : 1 ≤ unit) (poll : Poll) (sound : IsSound poll) (lot : List ℕ) (proper : IsProperLot poll lot) (seats : ℕ) (a : List ℕ) (rows : List Won) (w : AreWon (placed_divisor_race nth lot_rule poll lot seats) a rows) where
   abbrev awards : List Award
   awards = map (award_of nth unit poll) rows
 
@@ -24,7 +27,7 @@ module _ (nth : ℕ → ℕ) (unit : ℕ) (poll : Poll) (lot : List ℕ) (seats 
   long : length (map (award_of nth unit poll) rows) ≡ length rows
   long = length-map rows (award_of nth unit poll)
 
-  pub awards_of_won : AreAwardsOf nth unit poll lot a (map (award_of nth unit poll) rows)
+  pub awards_of_won : AreAwardsOf nth unit lot_rule poll lot a (map (award_of nth unit poll) rows)
   awards_of_won = record { each = each; all = all; falling = falling }
     where
       each : (i : ℕ) (d : Award) → i < length (map (award_of nth unit poll) rows) → (l : ℕ) × IsAwardOf nth unit poll a l (get_or (map (award_of nth unit poll) rows) i d)
@@ -45,15 +48,29 @@ module _ (nth : ℕ → ℕ) (unit : ℕ) (poll : Poll) (lot : List ℕ) (seats 
                 (ap (λ (y : Award). y.list) e ∙ ap (λ (y : Won). y.list + 1) f, ap (λ (y : Award). y.k) e ∙ ap (λ (y : Won). y.seat) f),
           )
 
-      falling : (i j : ℕ) (d : Award) → i < j → j < length (map (award_of nth unit poll) rows) → RanksAbove (pair_of_award nth poll lot (get_or (map (award_of nth unit poll) rows) i d)) (pair_of_award nth poll lot (get_or (map (award_of nth unit poll) rows) j d))
-      falling i j d lt end =
+      -- what is above with its place is above in the strict rank
+      strict : (x y : Won) → IsPair (placed_divisor_race nth lot_rule poll lot seats) x.list x.seat → IsPair (placed_divisor_race nth lot_rule poll lot seats) y.list y.seat → RanksAbove (pair_of nth lot_rule poll lot x.list x.seat) (pair_of nth lot_rule poll lot y.list y.seat) → IsAbove nth unit lot_rule poll lot x.list x.seat y.list y.seat
+      strict x y p q above =
+          above_from_placed nth d poll sound seats unit some_unit lot_rule lot proper x.list x.seat y.list y.seat p q above
+
+      falling : (i j : ℕ) (e : Award) → i < j → j < length (map (award_of nth unit poll) rows) → IsAwardAbove nth unit lot_rule poll lot (get_or (map (award_of nth unit poll) rows) i e) (get_or (map (award_of nth unit poll) rows) j e)
+      falling i j e lt end =
           let inside : j < length rows = omega (arith, long) in
           let before : i < length rows = omega arith in
-          let P : Award → Award → Type 0 = λ x y. RanksAbove (pair_of_award nth poll lot x) (pair_of_award nth poll lot y) in
+          let P : Award → Award → Type 0 = λ x y. IsAwardAbove nth unit lot_rule poll lot x y in
           let li = (get_or rows i none).list in
           let lj = (get_or rows j none).list in
           let ei : li ≡ li + 1 - 1 = omega arith in
           let ej : lj ≡ lj + 1 - 1 = omega arith in
-          let Q : ℕ → ℕ → Type 0 = λ x y. RanksAbove (pair_of nth poll lot x (get_or rows i none).seat) (pair_of nth poll lot y (get_or rows j none).seat) in
-          let f : Q (li + 1 - 1) (lj + 1 - 1) = subst (Q (li + 1 - 1)) ej (subst (λ x. Q x lj) ei (w.falling i j none lt inside)) in
-          subst (P (get_or (map (award_of nth unit poll) rows) i d)) (sym (at j d none inside)) (subst (λ x. P x (award_of nth unit poll (get_or rows j none))) (sym (at i d none before)) f)
+          let Q : ℕ → ℕ → Type 0 = λ x y. IsAbove nth unit lot_rule poll lot x (get_or rows i none).seat y (get_or rows j none).seat in
+          let ranked : Q li lj = strict (get_or rows i none) (get_or rows j none) (w.each i none before).0 (w.each j none inside).0 (w.falling i j none lt inside) in
+          let f : Q (li + 1 - 1) (lj + 1 - 1) = subst (Q (li + 1 - 1)) ej (subst (λ x. Q x lj) ei ranked) in
+          subst (P (get_or (map (award_of nth unit poll) rows) i e)) (sym (at j e none inside)) (subst (λ x. P x (award_of nth unit poll (get_or rows j none))) (sym (at i e none before)) f)
+
+-- each seat won is one of a list of the poll
+pub rows_of_won : (nth : ℕ → ℕ) (lot_rule : LotRule) (poll : Poll) → IsSound poll → (lot : List ℕ) (seats : ℕ) → seats ≤ 500 → (a : List ℕ) (rows : List Won) → AreWon (placed_divisor_race nth lot_rule poll lot seats) a rows → AreRows (length poll.votes) rows
+rows_of_won nth lot_rule poll s lot seats few a rows w i d lt =
+    let x = w.each i d lt in
+    let l = (get_or rows i d).list in
+    let e = runs_if_eligible poll seats l 0 (omega (arith, x.0)) in
+    (s.listed l e, omega (arith, x.0), omega (arith, x.0, seats_for-le poll seats l, few))

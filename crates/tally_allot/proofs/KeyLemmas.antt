@@ -1,6 +1,6 @@
 -- The pairs of eligible lists have keys, under the setup's places and under the lot that is to be taken.
-use Rattle.std.proofs.Common.{◌≡◌, ℕ, zero, suc, ◌+◌, ◌<◌, ◌≤◌, ◌≢◌, ◌⊎◌, List, ◌∷◌, Bool, true, eqb, length, get_or, AllPairs, sum, sym, ap, ◌∙◌, inl, inr, arith}
-use Rattle.std.proofs.lemmas.Bool.{cases_lt, eqb-true, false≢true}
+use Rattle.std.proofs.Common.{◌≡◌, ℕ, zero, suc, ◌+◌, ◌-◌, ◌%◌, ◌<◌, ◌≤◌, ◌≢◌, ◌⊎◌, ◌&&◌, List, ◌∷◌, Bool, true, false, cond, eqb, length, get_or, AllPairs, sum, sym, ap, ◌∙◌, inl, inr, arith}
+use Rattle.std.proofs.lemmas.Bool.{cases_lt, cases_Bool, eqb-true, false≢true}
 use Rattle.std.proofs.lemmas.Bool.Decides.{Decides-eqb}
 use Rattle.std.proofs.lemmas.List.{get_or_default, get_or_past}
 use Rattle.std.proofs.lemmas.List.Folds.{Any-from_list_any}
@@ -11,6 +11,8 @@ use Rattle.tally_contest.specs.ListSet.{has_place}
 use Rattle.tally_contest.specs.Lot.{place_of}
 use Rattle.tally_contest.specs.LotNeed.{IsInGroup, IsLotTaken, IsNeed}
 use Rattle.tally_contest.specs.NextPairs.{HaveKeys}
+use Rattle.tally_contest.specs.Pairs.{last_place, turns, place_at}
+use Rattle.tally_rules.specs.declared.profile.LotRule.{LotRule}
 use Rattle.tally_contest.specs.Poll.{Poll}
 use Rattle.tally_contest.specs.Terms.{Terms, AreDivisors, IsSound}
 use Rattle.tally_allot.proofs.LotLaws.{IsPlaced, at_name, at_setup, placed_at}
@@ -70,13 +72,25 @@ place_up_to lot l n few listed = by_cases (placed_at 1 lot l)
     by_cases (at_name i lt at place) = omega (arith, place)
     by_cases (at_setup none place) = omega (arith, place)
 
-pub have_keys : (nth : ℕ → ℕ) → AreDivisors nth → ((k : ℕ) → 1 ≤ k → k ≤ 501 → nth k ≤ 5005) → (poll : Poll) → IsSound poll → sum poll.votes ≤ 5000000000 → length poll.votes ≤ 60 → (lot : List ℕ) → length lot ≤ length poll.votes → HaveKeys nth poll lot
-have_keys nth d most poll sound few_votes few_lists lot few l k e one last =
+place_at-limits : (lot_rule : LotRule) (lot : List ℕ) (l k : ℕ) → length lot ≤ 60 → 1 ≤ place_of lot l → place_of lot l ≤ 60 → (1 ≤ place_at lot_rule lot l k) × (place_at lot_rule lot l k ≤ 60)
+place_at-limits lot_rule lot l k few one last = by_turn (cases_Bool (turns lot_rule lot l && eqb (k % 2) 0))
+  where
+    by_turn : (turns lot_rule lot l && eqb (k % 2) 0 ≡ true) ⊎ (turns lot_rule lot l && eqb (k % 2) 0 ≡ false) → (1 ≤ place_at lot_rule lot l k) × (place_at lot_rule lot l k ≤ 60)
+    by_turn (inl e) =
+        let at : place_at lot_rule lot l k ≡ last_place lot + 1 - place_of lot l = ap (λ b. cond b (last_place lot + 1 - place_of lot l) (place_of lot l)) e in
+        (omega (arith, at, few, one, last), omega (arith, at, few, one, last))
+    by_turn (inr e) =
+        let at : place_at lot_rule lot l k ≡ place_of lot l = ap (λ b. cond b (last_place lot + 1 - place_of lot l) (place_of lot l)) e in
+        (omega (arith, at, one), omega (arith, at, last))
+
+pub have_keys : (nth : ℕ → ℕ) (lot_rule : LotRule) → AreDivisors nth → ((k : ℕ) → 1 ≤ k → k ≤ 501 → nth k ≤ 5005) → (poll : Poll) → IsSound poll → sum poll.votes ≤ 5000000000 → length poll.votes ≤ 60 → (lot : List ℕ) → length lot ≤ length poll.votes → HaveKeys nth lot_rule poll lot
+have_keys nth lot_rule d most poll sound few_votes few_lists lot few l k e one last =
+    let place = place_at-limits lot_rule lot l k (omega (arith, few, few_lists)) (place_from_one lot l) (omega (arith, place_up_to lot l (length poll.votes) few (sound.listed l e), few_lists)) in
     record {
       some_votes = sound.with_votes l e;
       votes_limit = omega (arith, get_or-le-sum poll.votes l, few_votes);
       some_divisor = d.positive k one;
       divisor_limit = most k one last;
-      some_place = place_from_one lot l;
-      place_limit = omega (arith, place_up_to lot l (length poll.votes) few (sound.listed l e), few_lists);
+      some_place = place.0;
+      place_limit = place.1;
     }

@@ -5,3 +5,6 @@ pub mod AwardLemmas
 pub mod OrderOfChoice
 pub mod Reordered
 pub mod KeyLemmas
+pub mod DecidedOrNeeded
+pub mod ProfileLaws
+pub mod ShortLemmas

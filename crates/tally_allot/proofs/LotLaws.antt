@@ -1,13 +1,16 @@
 -- What holds of lots: places, groups, and which lot is to be taken.
 use Rattle.std.proofs.Common.{◌≡◌, ℕ, zero, suc, ◌+◌, ◌<◌, ◌≤◌, ◌≢◌, ◌⊎◌, List, [], ◌∷◌, Bool, true, false, cond, eqb, length, get_or, refl, sym, ap, ◌∙◌, subst, inl, inr, arith}
-use Rattle.std.proofs.lemmas.Bool.{cases_lt, cases_Bool, eqb-true, eqb-false}
-use Rattle.tally_contest.specs.Poll.{IsEligible, votes_of}
+use Rattle.std.proofs.lemmas.Bool.{cases_lt, cases_Bool, eqb-true, eqb-false, eq-eqb}
+use Rattle.std.proofs.lemmas.List.{get_or_default}
+use Rattle.std.proofs.lemmas.List.Folds.{Any-from_list_any, list_any_at}
+use Rattle.std.specs.Cmp.{both_ways}
+use Rattle.tally_contest.specs.Poll.{Poll, IsEligible, votes_of}
 use Rattle.tally_contest.specs.ListSet.{has_place}
-use Rattle.tally_contest.specs.Lot.{place_from, place_of, IsOrderOf}
+use Rattle.tally_contest.specs.Lot.{place_from, place_of, is_named, IsOrderOf}
 use Rattle.tally_contest.specs.Allotment.{IsAllotmentByVotes}
 use Rattle.tally_contest.specs.LotNeed.{IsLotNeeded, IsDecidedByVotes, IsNeed, IsLotTaken, IsLotWrong}
 use Rattle.tally_contest.specs.Race.{IsFair, IsTie}
-use Rattle.tally_contest.specs.Terms.{Terms, ArePlacedApart, vote_race}
+use Rattle.tally_contest.specs.Terms.{Terms, ArePlacedApart, IsProperLot, vote_race}
 use Rattle.tally_contest.proofs.Vectors.{equal_or_apart}
 use Rattle.tally_contest.proofs.Ties.{IsMoved, loses, gains, moved, tie_alike, class_differs}
 use Rattle.tally_contest.proofs.TermsRace.{AreRaces}
@@ -133,6 +136,37 @@ apart_if_taken terms r taken l m el em ne same = by_cases taken
     by_cases : IsLotTaken terms.rule terms.poll terms.seats terms.lot → place_of terms.lot l ≢ place_of terms.lot m
     by_cases (inl w) = let P : List ℕ → Type 0 = λ lot. place_of lot l ≢ place_of lot m in subst P (sym w.1) (setup_apart l m ne)
     by_cases (inr w) = order_apart w.0 terms.lot w.3 l m ne (group_is_class terms r w.0 w.1 w.2 l m em same) (group_is_class terms r w.0 w.1 w.2 m l el (sym same))
+
+-- a lot names a list exactly where the list is in the group that it orders
+named-marked : (group : List Bool) (lot : List ℕ) → IsOrderOf group lot → (l : ℕ) → is_named lot l ≡ get_or group l false
+named-marked group lot o l = both_ways (is_named lot l) (get_or group l false) there back
+  where
+    there : is_named lot l ≡ true → get_or group l false ≡ true
+    there named =
+        let w = Any-from_list_any (λ place. eqb place (l + 1)) lot named in
+        let at : get_or lot w.0 0 ≡ l + 1 = get_or_default lot w.0 0 w.1 w.2 ∙ w.3 ∙ eqb-true w.1 (l + 1) w.4 in
+        has_place-marked group (get_or lot w.0 0) l at (o.no_other w.0 w.2)
+
+    back : get_or group l false ≡ true → is_named lot l ≡ true
+    back marked =
+        let w = o.all l marked in
+        list_any_at (λ place. eqb place (l + 1)) lot w.0 0 w.1 (eq-eqb (get_or lot w.0 0) (l + 1) w.2)
+
+pub named_if_marked : (group : List Bool) (lot : List ℕ) → IsOrderOf group lot → (l : ℕ) → get_or group l false ≡ true → is_named lot l ≡ true
+named_if_marked group lot o l marked = named-marked group lot o l ∙ marked
+
+-- the lot that is to be taken is a proper one, and so is none
+pub proper_without_lot : (poll : Poll) → IsProperLot poll []
+proper_without_lot poll = record { apart = λ l m _ _ ne _. setup_apart l m ne; together = λ l m _ _ _. refl }
+
+pub proper_if_taken : (terms : Terms) → AreRaces terms → IsLotTaken terms.rule terms.poll terms.seats terms.lot → IsProperLot terms.poll terms.lot
+proper_if_taken terms r taken = record { apart = apart_if_taken terms r taken; together = λ l m el em same. by_cases l m el em same taken }
+  where
+    by_cases : (l m : ℕ) → IsEligible terms.poll l → IsEligible terms.poll m → votes_of terms.poll l ≡ votes_of terms.poll m → IsLotTaken terms.rule terms.poll terms.seats terms.lot → is_named terms.lot l ≡ is_named terms.lot m
+    by_cases l m el em same (inl w) = let P : List ℕ → Type 0 = λ lot. is_named lot l ≡ is_named lot m in subst P (sym w.1) refl
+    by_cases l m el em same (inr w) =
+        let marks : get_or w.0 l false ≡ get_or w.0 m false = both_ways (get_or w.0 l false) (get_or w.0 m false) (group_is_class terms r w.0 w.1 w.2 l m em same) (group_is_class terms r w.0 w.1 w.2 m l el (sym same)) in
+        named-marked w.0 terms.lot w.3 l ∙ marks ∙ sym (named-marked w.0 terms.lot w.3 m)
 
 -- a lot that is to be taken is not wrong, and is not missing
 pub taken_not_wrong : (terms : Terms) → AreRaces terms → IsLotTaken terms.rule terms.poll terms.seats terms.lot → IsLotWrong terms.rule terms.poll terms.seats terms.lot → ⊥

@@ -10,14 +10,20 @@ use Rattle.tally_contest.specs.Poll.{Poll, IsEligible, votes_of, eligible_votes}
 use Rattle.tally_contest.specs.Allotment.{Rule, divisors, hare, IsAllotment}
 use Rattle.tally_contest.specs.LotNeed.{IsDecidedByVotes}
 use Rattle.tally_contest.specs.Race.{Race, IsFair, IsTie}
-use Rattle.tally_allot.specs.Reordering.{IsReordering, reordered_poll, reordered}
+use Rattle.tally_allot.specs.Reordering.{IsReordering, reordered}
 use Rattle.tally_contest.specs.Sums.{sum_before}
 use Rattle.tally_contest.specs.Terms.{Terms, IsRule, IsSound, vote_race, placed_race}
-use Rattle.tally_contest.proofs.Vectors.{two-le-sum}
+use Rattle.tally_contest.proofs.Vectors.{two-le-sum, Exchange, equal_or_exchange}
+use Rattle.tally_contest.proofs.Race.{one_seat}
+use Rattle.tally_contest.specs.Allotment.{IsAllotmentByVotes}
 use Rattle.tally_contest.proofs.Sums.{sum-is, sum_before-same, sum_marked-is, marked_at}
 use Rattle.tally_contest.proofs.Ties.{exchange, exchanged, exchanged_at_l}
-use Rattle.tally_contest.proofs.TermsRace.{AreRaces, are_races, fair_by_votes}
-use Rattle.tally_allot.proofs.LotLaws.{setup_apart}
+use Rattle.tally_contest.proofs.TermsRace.{AreRaces, are_races, fair_by_votes, from_placed}
+use Rattle.tally_allot.proofs.LotLaws.{proper_without_lot}
+
+-- the poll with its lists in another order
+abbrev pub reordered_poll : Poll → List ℕ → Poll
+reordered_poll poll order = record { votes = map (votes_of poll) order; eligible = map (λ l. get_or poll.eligible l false) order }
 
 terms_of : Rule → Poll → ℕ → Terms
 terms_of rule poll seats = record { rule = rule; poll = poll; lot = []; seats = seats }
@@ -38,12 +44,12 @@ one_at v n = (both n).1
             let now : ◌≡◌ {A = ℕ} (cond (eqb n v) 1 0) 0 = ap (λ b. cond b 1 0) (ne_eqb n v ne) in
             ((λ le. omega (arith, h.0 (omega arith))), omega (arith, h.1))
 
-module _ (poll : Poll) (order : List ℕ) (perm : IsReordering poll order) where
+module _ (poll : Poll) (order : List ℕ) (perm : IsReordering (length poll.votes) order) where
   long : length order ≡ length poll.votes
   long = length_permutation (range_with_len 0 (length poll.votes)) order perm ∙ length-range_with_len 0 (length poll.votes)
 
   -- a sum in another order
-  sum_over : (f : ℕ → ℕ) → sum (map f order) ≡ sum_before f (length poll.votes)
+  pub sum_over : (f : ℕ → ℕ) → sum (map f order) ≡ sum_before f (length poll.votes)
   sum_over f =
       let n = length poll.votes in
       let listed = map f (range_with_len 0 n) in
@@ -101,7 +107,7 @@ module _ (poll : Poll) (order : List ℕ) (perm : IsReordering poll order) where
     pub above_is : (l k m j : ℕ) → l < length poll.votes → m < length poll.votes → old.Above (get_or order l 0) k (get_or order m 0) j → race.Above l k m j
 
   alike : (rule : Rule) (seats : ℕ) → AreAlike (vote_race (record { rule = rule; poll = reordered_poll poll order; lot = []; seats = seats })) (vote_race (record { rule = rule; poll = poll; lot = []; seats = seats }))
-  alike (divisors nth) seats =
+  alike (divisors nth unit lot_rule) seats =
       record {
         floor_is = λ l lt. refl;
         cap_is = λ l lt. ap (λ b. cond b seats 0) (at_mark l lt);
@@ -142,7 +148,7 @@ module _ (rule : Rule) (poll : Poll) (seats : ℕ) (d : IsRule rule) (s : IsSoun
       by_rank (inl ab) = ab
       by_rank (inr nb) = absurd (no_tie l m (record { apart = ne; wins = win; runs = room; tied = nb }))
 
-  module _ (order : List ℕ) (perm : IsReordering poll order) where
+  module _ (order : List ℕ) (perm : IsReordering (length poll.votes) order) where
     abbrev new : Terms
     new = record { rule = rule; poll = reordered_poll poll order; lot = []; seats = seats }
 
@@ -193,9 +199,31 @@ module _ (rule : Rule) (poll : Poll) (seats : ℕ) (d : IsRule rule) (s : IsSoun
         }
 
     pub reordered_allotment : IsAllotment rule (reordered_poll poll order) [] seats (reordered a order)
-    reordered_allotment = r'.from_placed (λ l m _ _ ne _. setup_apart l m ne) (reordered a order) reordered_fair
+    reordered_allotment = from_placed new r' (proper_without_lot (reordered_poll poll order)) (reordered a order) reordered_fair
 
-pub setup_order_is_nothing : (rule : Rule) (poll : Poll) (seats : ℕ) (order a : List ℕ) → IsRule rule → IsSound poll → 1 ≤ seats → IsReordering poll order → IsDecidedByVotes rule poll seats → IsAllotment rule poll [] seats a → IsAllotment rule (reordered_poll poll order) [] seats (reordered a order)
+    new_fair : IsFair (vote_race new) seats (reordered a order)
+    new_fair = fair_by_votes new r' seats (reordered a order) reordered_fair
+
+    same_as : (b : List ℕ) → IsAllotmentByVotes rule (reordered_poll poll order) seats b → b ≡ reordered a order
+    same_as b wb =
+        let fb = r'.to_fair b wb in
+        by_cases fb (equal_or_exchange (reordered a order) b (omega (arith, new_fair.one_each, fb.one_each)) (omega (arith, new_fair.total, fb.total)))
+      where
+        by_cases : IsFair (vote_race new) seats b → (reordered a order ≡ b) ⊎ Exchange (reordered a order) b → b ≡ reordered a order
+        by_cases fb (inl e) = sym e
+        by_cases fb (inr x) =
+            let w = one_seat (vote_race new) r'.by_votes seats (reordered a order) b new_fair fb x.l x.m x.more x.less in
+            absurd (w.below (new_above x.l x.m w.apart w.wins.0 (omega (arith, w.is_next))))
+
+    pub reordered_decided : IsDecidedByVotes rule (reordered_poll poll order) seats
+    reordered_decided = (reordered a order, r'.from_fair (reordered a order) new_fair, same_as)
+
+pub setup_order_decides : (rule : Rule) (poll : Poll) (seats : ℕ) (order a : List ℕ) → IsRule rule → IsSound poll → 1 ≤ seats → IsReordering (length poll.votes) order → IsDecidedByVotes rule poll seats → IsAllotment rule poll [] seats a → IsDecidedByVotes rule (reordered_poll poll order) seats
+setup_order_decides rule poll seats order a d s some perm decided w =
+    let r = are_races rule poll [] seats d s some in
+    reordered_decided rule poll seats d s some decided a (r.to_fair a (r.to_by_votes a w)) order perm
+
+pub setup_order_is_nothing : (rule : Rule) (poll : Poll) (seats : ℕ) (order a : List ℕ) → IsRule rule → IsSound poll → 1 ≤ seats → IsReordering (length poll.votes) order → IsDecidedByVotes rule poll seats → IsAllotment rule poll [] seats a → IsAllotment rule (reordered_poll poll order) [] seats (reordered a order)
 setup_order_is_nothing rule poll seats order a d s some perm decided w =
     let r = are_races rule poll [] seats d s some in
-    reordered_allotment rule poll seats d s some decided a (fair_by_votes (record { rule = rule; poll = poll; lot = []; seats = seats }) r seats a (r.to_placed a w)) order perm
+    reordered_allotment rule poll seats d s some decided a (r.to_fair a (r.to_by_votes a w)) order perm

@@ -5,29 +5,28 @@ use Rattle.tally_allot.specs.AllotFault.{IsAllotmentUnderLot}
 use Rattle.tally_contest.specs.LotNeed.{IsLotTaken, IsLotWrong, IsNeed}
 use Rattle.tally_contest.specs.Race.{IsFair}
 use Rattle.tally_contest.specs.Terms.{Terms, AreSound, placed_race}
-use Rattle.tally_contest.proofs.TermsRace.{races}
-use Rattle.tally_allot.proofs.LotLaws.{apart_if_taken, taken_not_wrong, taken_not_missing}
-use Rattle.tally_contest.proofs.Scan.{count_is}
+use Rattle.tally_contest.proofs.TermsRace.{races, from_placed, to_placed}
+use Rattle.tally_allot.proofs.LotLaws.{proper_if_taken, taken_not_wrong, taken_not_missing}
 
 module _ (terms : Terms) (sound : AreSound terms) (a : List ℕ) where
   pub is_under_lot : HasEligible terms.poll → IsFair (placed_race terms) (sum a) a → sum a ≡ terms.seats → IsLotTaken terms.rule terms.poll terms.seats terms.lot → IsAllotmentUnderLot terms.rule terms.poll terms.lot terms.seats a
   is_under_lot e f whole taken =
       let r = races terms sound in
       let P : ℕ → Type 0 = λ n. IsFair (placed_race terms) n a in
-      (e, taken, r.from_placed (apart_if_taken terms r taken) a (subst P whole f))
+      (e, taken, from_placed terms r (proper_if_taken terms r taken) a (subst P whole f))
 
   pub fair_under_lot : IsAllotmentUnderLot terms.rule terms.poll terms.lot terms.seats a → IsFair (placed_race terms) (sum a) a
   fair_under_lot u =
       let r = races terms sound in
-      let f = r.to_placed a u.2 in
+      let f = to_placed terms r (proper_if_taken terms r u.1) a u.2 in
       let P : ℕ → Type 0 = λ n. IsFair (placed_race terms) n a in
       subst P (sym f.total) f
 
   pub whole_under_lot : IsAllotmentUnderLot terms.rule terms.poll terms.lot terms.seats a → sum a ≡ terms.seats
-  whole_under_lot u = let r = races terms sound in (r.to_placed a u.2).total
+  whole_under_lot u = let r = races terms sound in (r.to_fair a (r.to_by_votes a u.2)).total
 
   pub long_under_lot : IsAllotmentUnderLot terms.rule terms.poll terms.lot terms.seats a → length a ≡ length terms.poll.votes
-  long_under_lot u = let r = races terms sound in omega (arith, (r.to_placed a u.2).one_each, count_is terms sound)
+  long_under_lot u = let r = races terms sound in omega (arith, (r.to_fair a (r.to_by_votes a u.2)).one_each, r.count_is)
 
   pub wrong_under_lot : IsLotWrong terms.rule terms.poll terms.seats terms.lot → IsAllotmentUnderLot terms.rule terms.poll terms.lot terms.seats a → ⊥
   wrong_under_lot w u = taken_not_wrong terms (races terms sound) u.1 w

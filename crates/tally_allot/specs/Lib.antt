@@ -3,3 +3,7 @@ pub mod AllotFault
 pub mod QuotaRows
 pub mod Awards
 pub mod Reordering
+pub mod LawStatements
+pub mod AwardTable
+pub mod VotesShort
+pub mod ShortSteps

@@ -18,10 +18,10 @@ use crate::verdict::{LotVerdict, verdict_on_lot};
 use std::alloc::Global;
 use tally_contest::{
     Contest, DivisorContest, HareContest, Need, Poll, contested_seats, has_eligible, is_fair,
-    need_of, places_under, quotas_of,
+    need_of, places_under, quotas_of, turning_under,
 };
-use tally_frac::{DHondt, Divisors, SainteLague};
-use tally_rules::{Method, Profile};
+use tally_frac::{DHondt, Divisors, ModifiedSainteLague, SainteLague};
+use tally_rules::{LotRule, Method, Profile};
 
 /// The seats of each list, in order of place (LOREG article 163.1). `lot` has the places of the
 /// lists that a lot was drawn among, in its order, and is empty where no lot was drawn. It refuses
@@ -35,34 +35,40 @@ pub fn allot(
     lot: &[u32],
 ) -> Result<Vec<u32>, AllotFault>
     requires { AreLimitsKept profile.now seats votes.now blank }
-    ensures allotment { IfOk result (λ given. IsAllotment (rule_of profile.now.method) (poll_of profile.now votes.now blank) lot.now seats given.items) }
-    ensures lot_taken { OnOk result (IsLotTaken (rule_of profile.now.method) (poll_of profile.now votes.now blank) seats lot.now) }
+    ensures allotment { IfOk result (λ given. IsAllotment (rule_of profile.now) (poll_of profile.now votes.now blank) lot.now seats given.items) }
+    ensures lot_taken { OnOk result (IsLotTaken (rule_of profile.now) (poll_of profile.now votes.now blank) seats lot.now) }
     ensures eligible { OnOk result (HasEligible (poll_of profile.now votes.now blank)) }
-    ensures fault { IfErr result (IsFaultOf (rule_of profile.now.method) (poll_of profile.now votes.now blank) seats lot.now) }
+    ensures fault { IfErr result (IsFaultOf (rule_of profile.now) (poll_of profile.now votes.now blank) seats lot.now) }
 {
     let poll = Poll::new(profile, votes, blank);
     match profile.method {
-        Method::DHondt => seats_by_divisors(alloc, DHondt, &poll, seats, lot),
-        Method::SainteLague => seats_by_divisors(alloc, SainteLague, &poll, seats, lot),
+        Method::DHondt => seats_by_divisors(alloc, DHondt, profile.lot, &poll, seats, lot),
+        Method::SainteLague => {
+            seats_by_divisors(alloc, SainteLague, profile.lot, &poll, seats, lot)
+        }
+        Method::ModifiedSainteLague => {
+            seats_by_divisors(alloc, ModifiedSainteLague, profile.lot, &poll, seats, lot)
+        }
         Method::Hare => seats_by_quotas(alloc, &poll, seats, lot),
     }
 }
 
-fn seats_by_divisors<D: Divisors + Copy>(
+pub(crate) fn seats_by_divisors<D: Divisors + Copy>(
     alloc: Global,
     divisors: D,
+    lot_rule: LotRule,
     poll: &Poll,
     seats: u32,
     lot: &[u32],
 ) -> Result<Vec<u32>, AllotFault>
     requires some_seat { 1 ≤ seats }
     requires few_seats { seats ≤ 500 }
-    ensures allotment { IfOk result (λ given. IsAllotment (by_divisors (D.divisor divisors)) (poll_under poll.now.threshold poll.now.base poll.now.votes.now) lot.now seats given.items) }
-    ensures lot_taken { OnOk result (IsLotTaken (by_divisors (D.divisor divisors)) (poll_under poll.now.threshold poll.now.base poll.now.votes.now) seats lot.now) }
+    ensures allotment { IfOk result (λ given. IsAllotment (by_divisors (D.divisor divisors) (D.unit_of divisors) lot_rule) (poll_under poll.now.threshold poll.now.base poll.now.votes.now) lot.now seats given.items) }
+    ensures lot_taken { OnOk result (IsLotTaken (by_divisors (D.divisor divisors) (D.unit_of divisors) lot_rule) (poll_under poll.now.threshold poll.now.base poll.now.votes.now) seats lot.now) }
     ensures eligible { OnOk result (HasEligible (poll_under poll.now.threshold poll.now.base poll.now.votes.now)) }
-    ensures fault { IfErr result (IsFaultOf (by_divisors (D.divisor divisors)) (poll_under poll.now.threshold poll.now.base poll.now.votes.now) seats lot.now) }
+    ensures fault { IfErr result (IsFaultOf (by_divisors (D.divisor divisors) (D.unit_of divisors) lot_rule) (poll_under poll.now.threshold poll.now.base poll.now.votes.now) seats lot.now) }
 {
-    let given = award_under_lot(alloc, divisors, poll, seats, lot)?;
+    let given = award_under_lot(alloc, divisors, lot_rule, poll, seats, lot)?;
     Ok(given.seats)
 }
 
@@ -99,14 +105,17 @@ pub fn lot_need(
     blank: u64,
 ) -> Result<Option<Need>, AllotFault>
     requires { AreLimitsKept profile.now seats votes.now blank }
-    ensures need { IfOk result (IsNeedOrNone (rule_of profile.now.method) (poll_of profile.now votes.now blank) seats) }
+    ensures need { IfOk result (IsNeedOrNone (rule_of profile.now) (poll_of profile.now votes.now blank) seats) }
     ensures eligible { OnOk result (HasEligible (poll_of profile.now votes.now blank)) }
     ensures fault { IfErr result (IsNeedFaultOf (poll_of profile.now votes.now blank)) }
 {
     let poll = Poll::new(profile, votes, blank);
     match profile.method {
-        Method::DHondt => need_by_divisors(alloc, DHondt, &poll, seats),
-        Method::SainteLague => need_by_divisors(alloc, SainteLague, &poll, seats),
+        Method::DHondt => need_by_divisors(alloc, DHondt, profile.lot, &poll, seats),
+        Method::SainteLague => need_by_divisors(alloc, SainteLague, profile.lot, &poll, seats),
+        Method::ModifiedSainteLague => {
+            need_by_divisors(alloc, ModifiedSainteLague, profile.lot, &poll, seats)
+        }
         Method::Hare => need_by_quotas(alloc, &poll, seats),
     }
 }
@@ -114,21 +123,24 @@ pub fn lot_need(
 fn need_by_divisors<D: Divisors + Drop>(
     alloc: Global,
     divisors: D,
+    lot_rule: LotRule,
     poll: &Poll,
     seats: u32,
 ) -> Result<Option<Need>, AllotFault>
     requires some_seat { 1 ≤ seats }
     requires few_seats { seats ≤ 500 }
-    ensures need { IfOk result (IsNeedOrNone (by_divisors (D.divisor divisors)) (poll_under poll.now.threshold poll.now.base poll.now.votes.now) seats) }
+    ensures need { IfOk result (IsNeedOrNone (by_divisors (D.divisor divisors) (D.unit_of divisors) lot_rule) (poll_under poll.now.threshold poll.now.base poll.now.votes.now) seats) }
     ensures eligible { OnOk result (HasEligible (poll_under poll.now.threshold poll.now.base poll.now.votes.now)) }
     ensures fault { IfErr result (IsNeedFaultOf (poll_under poll.now.threshold poll.now.base poll.now.votes.now)) }
 {
     let contest = DivisorContest {
         divisors,
+        lot_rule,
         poll: *poll,
         lot: &[],
         seats,
         places: places_under(&[]),
+        turning: turning_under(lot_rule, &[]),
     };
     need_in(alloc, &contest)
 }
@@ -175,18 +187,24 @@ pub fn is_allotment(
     given: &[u32],
 ) -> bool
     requires { AreLimitsKept profile.now seats votes.now blank }
-    ensures { IsTrue result ↔ IsAllotmentUnderLot (rule_of profile.now.method) (poll_of profile.now votes.now blank) lot.now seats given.now }
+    ensures { IsTrue result ↔ IsAllotmentUnderLot (rule_of profile.now) (poll_of profile.now votes.now blank) lot.now seats given.now }
 {
     let poll = Poll::new(profile, votes, blank);
     match profile.method {
-        Method::DHondt => is_allotment_by_divisors(DHondt, &poll, seats, lot, given),
-        Method::SainteLague => is_allotment_by_divisors(SainteLague, &poll, seats, lot, given),
+        Method::DHondt => is_allotment_by_divisors(DHondt, profile.lot, &poll, seats, lot, given),
+        Method::SainteLague => {
+            is_allotment_by_divisors(SainteLague, profile.lot, &poll, seats, lot, given)
+        }
+        Method::ModifiedSainteLague => {
+            is_allotment_by_divisors(ModifiedSainteLague, profile.lot, &poll, seats, lot, given)
+        }
         Method::Hare => is_allotment_by_quotas(&poll, seats, lot, given),
     }
 }
 
 fn is_allotment_by_divisors<D: Divisors + Drop>(
     divisors: D,
+    lot_rule: LotRule,
     poll: &Poll,
     seats: u32,
     lot: &[u32],
@@ -194,14 +212,16 @@ fn is_allotment_by_divisors<D: Divisors + Drop>(
 ) -> bool
     requires some_seat { 1 ≤ seats }
     requires few_seats { seats ≤ 500 }
-    ensures { IsTrue result ↔ IsAllotmentUnderLot (by_divisors (D.divisor divisors)) (poll_under poll.now.threshold poll.now.base poll.now.votes.now) lot.now seats given.now }
+    ensures { IsTrue result ↔ IsAllotmentUnderLot (by_divisors (D.divisor divisors) (D.unit_of divisors) lot_rule) (poll_under poll.now.threshold poll.now.base poll.now.votes.now) lot.now seats given.now }
 {
     let contest = DivisorContest {
         divisors,
+        lot_rule,
         poll: *poll,
         lot,
         seats,
         places: places_under(lot),
+        turning: turning_under(lot_rule, lot),
     };
     is_allotment_in(&contest, given)
 }

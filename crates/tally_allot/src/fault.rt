@@ -5,14 +5,17 @@ ghost use Rattle.tally_allot.specs.declared.fault.AllotFault.TheVariants.{Memory
 
 use std::alloc::{AllocError, AllocFailed};
 use tally_contest::ListSet;
+use thiserror::Error;
 
 /// Why the seats of a poll are not allotted, in the order in which it is looked at. Memory may
 /// come at any time.
-#[derive(Clone, Copy, Debug, PartialEq, Eq)]
+#[derive(Clone, Copy, Debug, PartialEq, Eq, Error)]
 pub enum AllotFault {
     /// No list is eligible.
+    #[error("no list is eligible")]
     NoEligible,
     /// A lot is needed and none is given.
+    #[error("a lot is needed and none is given")]
     LotMissing {
         /// The lists among which the lot decides.
         group: ListSet,
@@ -21,8 +24,10 @@ pub enum AllotFault {
     },
     /// A lot is given where the votes decide, or one that does not name each list of the group
     /// once and no other.
+    #[error("the lot is not the one to be taken")]
     WrongLot,
     /// An allocation was refused.
+    #[error("out of memory")]
     Memory,
 }
 

@@ -9,6 +9,7 @@ mod fault;
 pub mod laws;
 mod quota_row;
 mod quota_table;
+mod short;
 mod under_lot;
 mod verdict;
 
@@ -18,4 +19,5 @@ pub use award_table::awards;
 pub use fault::AllotFault;
 pub use quota_row::QuotaRow;
 pub use quota_table::quotas;
+pub use short::votes_short;
 pub use tally_contest::{ListSet, Need};

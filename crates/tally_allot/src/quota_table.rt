@@ -1,6 +1,6 @@
 //! Quotas and remainders.
 
-ghost use Rattle.std.specs.Prelude.{◌≡◌, ◌≤◌, ◌<◌, IfOk, IfErr, length};
+ghost use Rattle.std.specs.Prelude.{◌≡◌, ◌≤◌, ◌<◌, IfOk, IfErr, OnOk, length};
 ghost use Rattle.tally_rules.specs.declared.profile.Method.TheVariants.{Hare as by_hare};
 ghost use Rattle.tally_contest.specs.Allotment.{hare};
 ghost use Rattle.tally_allot.specs.AllotFault.{IsFaultOf};
@@ -9,12 +9,14 @@ ghost use Rattle.tally_contest.specs.HareTerms as terms;
 ghost use Rattle.tally_allot.specs.QuotaRows.{quota_rows, AreQuotaRows};
 ghost use Rattle.tally_contest.specs.Rules.{poll_of};
 ghost use Rattle.tally_contest.specs.Terms.{poll_under};
+ghost use Rattle.tally_contest.specs.LotNeed.{IsLotTaken};
+ghost use Rattle.tally_contest.specs.Poll.{HasEligible};
 
 use crate::fault::AllotFault;
 use crate::quota_row::QuotaRow;
 use crate::under_lot::seats_by_remainders;
 use std::alloc::{AllocError, Global};
-use tally_contest::{HareContest, Poll, places_under, quotas_of};
+use tally_contest::{Contest, HareContest, Poll, places_under, quotas_of};
 use tally_rules::Profile;
 
 /// The whole quotas and remainders of the eligible lists, in order of place, for a profile by
@@ -30,6 +32,8 @@ pub fn quotas(
     requires limits { AreLimitsKept profile.now seats votes.now blank }
     requires by_quotas { profile.now.method ≡ by_hare }
     ensures rows { IfOk result (λ rows. AreQuotaRows (poll_of profile.now votes.now blank) lot.now seats rows.items) }
+    ensures lot_taken { OnOk result (IsLotTaken hare (poll_of profile.now votes.now blank) seats lot.now) }
+    ensures eligible { OnOk result (HasEligible (poll_of profile.now votes.now blank)) }
     ensures fault { IfErr result (IsFaultOf hare (poll_of profile.now votes.now blank) seats lot.now) }
 {
     let poll = Poll::new(profile, votes, blank);
@@ -45,6 +49,8 @@ fn quotas_in(
     requires some_seat { 1 ≤ seats }
     requires few_seats { seats ≤ 500 }
     ensures rows { IfOk result (λ rows. AreQuotaRows (poll_under poll.now.threshold poll.now.base poll.now.votes.now) lot.now seats rows.items) }
+    ensures lot_taken { OnOk result (IsLotTaken hare (poll_under poll.now.threshold poll.now.base poll.now.votes.now) seats lot.now) }
+    ensures eligible { OnOk result (HasEligible (poll_under poll.now.threshold poll.now.base poll.now.votes.now)) }
     ensures fault { IfErr result (IsFaultOf hare (poll_under poll.now.threshold poll.now.base poll.now.votes.now) seats lot.now) }
 {
     let contest = HareContest {
@@ -65,7 +71,7 @@ fn rows_of(alloc: Global, contest: &HareContest, given: &[u32]) -> Result<Vec<Qu
 {
     let mut rows = Vec::new(alloc);
     for list in 0..given.len() {
-        if contest.poll.is_eligible(list) {
+        if contest.is_eligible(list) {
             let whole = contest.whole_quotas(list);
             rows.push(QuotaRow {
                 list: list as u32 + 1,

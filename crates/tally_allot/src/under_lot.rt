@@ -1,53 +1,47 @@
 //! The award under the lot that is to be taken.
 
-ghost use Rattle.std.specs.Prelude.{◌≡◌, ◌≤◌, IfOk, IfErr, OnOk};
-ghost use Rattle.tally_allot.specs.AllotFault.{IsFaultOf};
+ghost use Rattle.std.specs.Prelude.{◌≡◌, ◌≤◌, [], IfOk, IfErr, OnOk, length};
+ghost use Rattle.tally_allot.specs.AllotFault.{IsFaultOf, IsNeedFaultOf, IsNeedOrNone};
 ghost use Rattle.tally_contest.specs.Allotment.{IsAllotment, divisors as by_divisors, hare};
 ghost use Rattle.tally_contest.specs.HareTerms.{poll_of, terms_of};
 ghost use Rattle.tally_contest.specs.LotNeed.{IsLotTaken};
 ghost use Rattle.tally_contest.specs.Poll.{HasEligible};
-ghost use Rattle.tally_contest.specs.Race.{IsFair};
-ghost use Rattle.tally_contest.specs.Terms.{AreSound, placed_divisor_race, poll_under};
-ghost use Rattle.tally_contest.specs.Won.{AreWon};
+ghost use Rattle.tally_contest.specs.DivisorAllotment.{IsDivisorAllotment};
+ghost use Rattle.tally_contest.specs.Terms.{AreSound, IsProperLot, placed_divisor_race, poll_under};
+ghost use Rattle.tally_contest.specs.Won.{AreRows, AreWon};
 
 use crate::fault::AllotFault;
 use crate::verdict::{LotVerdict, verdict_on_lot, verdict_where};
 use std::alloc::Global;
 use tally_contest::{
-    DivisorContest, Given, HareContest, Poll, award_from_heap, award_remainders, has_eligible,
-    need_of, places_under,
+    DivisorContest, Given, HareContest, Need, Poll, award_from_heap, award_remainders,
+    has_eligible, need_of, places_under, turning_under,
 };
 use tally_frac::Divisors;
+use tally_rules::LotRule;
 
 /// Gives all the seats under the lot that is to be taken. It refuses in the order of `AllotFault`.
 pub(crate) fn award_under_lot<D: Divisors + Copy>(
     alloc: Global,
     divisors: D,
+    lot_rule: LotRule,
     poll: &Poll,
     seats: u32,
     lot: &[u32],
 ) -> Result<Given, AllotFault>
     requires some_seat { 1 ≤ seats }
     requires few_seats { seats ≤ 500 }
-    ensures fair { IfOk result (λ given. IsFair (placed_divisor_race (D.divisor divisors) (poll_under poll.now.threshold poll.now.base poll.now.votes.now) lot.now seats) seats given.seats.items) }
-    ensures won { IfOk result (λ given. AreWon (placed_divisor_race (D.divisor divisors) (poll_under poll.now.threshold poll.now.base poll.now.votes.now) lot.now seats) given.seats.items given.rows.items) }
-    ensures lot_taken { OnOk result (IsLotTaken (by_divisors (D.divisor divisors)) (poll_under poll.now.threshold poll.now.base poll.now.votes.now) seats lot.now) }
+    ensures allotment { IfOk result (λ given. IsDivisorAllotment (D.divisor divisors) (D.unit_of divisors) lot_rule (poll_under poll.now.threshold poll.now.base poll.now.votes.now) lot.now seats given.seats.items) }
+    ensures won { IfOk result (λ given. AreWon (placed_divisor_race (D.divisor divisors) lot_rule (poll_under poll.now.threshold poll.now.base poll.now.votes.now) lot.now seats) given.seats.items given.rows.items) }
+    ensures rows { IfOk result (λ given. AreRows (length poll.now.votes.now) given.rows.items) }
+    ensures proper { OnOk result (IsProperLot (poll_under poll.now.threshold poll.now.base poll.now.votes.now) lot.now) }
+    ensures lot_taken { OnOk result (IsLotTaken (by_divisors (D.divisor divisors) (D.unit_of divisors) lot_rule) (poll_under poll.now.threshold poll.now.base poll.now.votes.now) seats lot.now) }
     ensures eligible { OnOk result (HasEligible (poll_under poll.now.threshold poll.now.base poll.now.votes.now)) }
-    ensures fault { IfErr result (IsFaultOf (by_divisors (D.divisor divisors)) (poll_under poll.now.threshold poll.now.base poll.now.votes.now) seats lot.now) }
+    ensures fault { IfErr result (IsFaultOf (by_divisors (D.divisor divisors) (D.unit_of divisors) lot_rule) (poll_under poll.now.threshold poll.now.base poll.now.votes.now) seats lot.now) }
 {
     // Whether a lot is needed shows in any award, so the first one has the places of the setup.
-    let without_lot = DivisorContest {
-        divisors,
-        poll: *poll,
-        lot: &[],
-        seats,
-        places: places_under(&[]),
-    };
-    if !has_eligible(&without_lot) {
-        return Err(AllotFault::NoEligible);
-    }
-    let by_setup = award_from_heap(alloc, &without_lot)?;
-    match verdict_where(need_of(&without_lot, &by_setup.seats), lot) {
+    let by_setup = award_by_setup(alloc, divisors, lot_rule, poll, seats)?;
+    match verdict_where(by_setup.need, lot) {
         LotVerdict::Right => {}
         LotVerdict::Missing(need) => {
             return Err(AllotFault::LotMissing {
@@ -58,17 +52,60 @@ pub(crate) fn award_under_lot<D: Divisors + Copy>(
         LotVerdict::Wrong => return Err(AllotFault::WrongLot),
     }
     if lot.is_empty() {
-        return Ok(by_setup);
+        return Ok(by_setup.given);
     }
     let contest = DivisorContest {
         divisors,
+        lot_rule,
         poll: *poll,
         lot,
         seats,
         places: places_under(lot),
+        turning: turning_under(lot_rule, lot),
     };
     let given = award_from_heap(alloc, &contest)?;
     Ok(given)
+}
+
+/// The seats with the places of the setup, and the lot that is needed, if one is.
+#[derive(Drop)]
+pub(crate) struct BySetup {
+    pub(crate) given: Given,
+    pub(crate) need: Option<Need>,
+}
+
+/// Gives all the seats with the places of the setup, whether or not a lot is needed.
+pub(crate) fn award_by_setup<D: Divisors + Copy>(
+    alloc: Global,
+    divisors: D,
+    lot_rule: LotRule,
+    poll: &Poll,
+    seats: u32,
+) -> Result<BySetup, AllotFault>
+    requires some_seat { 1 ≤ seats }
+    requires few_seats { seats ≤ 500 }
+    ensures allotment { IfOk result (λ by_setup. IsDivisorAllotment (D.divisor divisors) (D.unit_of divisors) lot_rule (poll_under poll.now.threshold poll.now.base poll.now.votes.now) [] seats by_setup.given.seats.items) }
+    ensures won { IfOk result (λ by_setup. AreWon (placed_divisor_race (D.divisor divisors) lot_rule (poll_under poll.now.threshold poll.now.base poll.now.votes.now) [] seats) by_setup.given.seats.items by_setup.given.rows.items) }
+    ensures rows { IfOk result (λ by_setup. AreRows (length poll.now.votes.now) by_setup.given.rows.items) }
+    ensures need { IfOk result (λ by_setup. IsNeedOrNone (by_divisors (D.divisor divisors) (D.unit_of divisors) lot_rule) (poll_under poll.now.threshold poll.now.base poll.now.votes.now) seats by_setup.need) }
+    ensures eligible { OnOk result (HasEligible (poll_under poll.now.threshold poll.now.base poll.now.votes.now)) }
+    ensures fault { IfErr result (IsNeedFaultOf (poll_under poll.now.threshold poll.now.base poll.now.votes.now)) }
+{
+    let contest = DivisorContest {
+        divisors,
+        lot_rule,
+        poll: *poll,
+        lot: &[],
+        seats,
+        places: places_under(&[]),
+        turning: turning_under(lot_rule, &[]),
+    };
+    if !has_eligible(&contest) {
+        return Err(AllotFault::NoEligible);
+    }
+    let given = award_from_heap(alloc, &contest)?;
+    let need = need_of(&contest, &given.seats);
+    Ok(BySetup { given, need })
 }
 
 /// The seats of each list under the lot that is to be taken. It refuses in the order of

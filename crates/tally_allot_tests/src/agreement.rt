@@ -4,7 +4,19 @@ ghost use Rattle.std.specs.Prelude.{◌≤◌};
 
 use std::alloc::Global;
 use tally_allot::{AllotFault, allot, is_allotment, lot_need};
-use tally_rules::{Base, Method, Profile};
+use tally_rules::{Base, LotRule, Method, Profile};
+
+/// The methods with fixed lots, and with alternating ones.
+const RULES: [(Method, LotRule); 8] = [
+    (Method::DHondt, LotRule::Fixed),
+    (Method::DHondt, LotRule::Alternating),
+    (Method::SainteLague, LotRule::Fixed),
+    (Method::SainteLague, LotRule::Alternating),
+    (Method::ModifiedSainteLague, LotRule::Fixed),
+    (Method::ModifiedSainteLague, LotRule::Alternating),
+    (Method::Hare, LotRule::Fixed),
+    (Method::Hare, LotRule::Alternating),
+];
 
 /// What `allot` answers agrees with `lot_need`, which has seats from a scan, and with
 /// `is_allotment`, which tests the inequality.
@@ -29,15 +41,15 @@ fn the_calls_agree(rt: HostRuntime) {
                 [3, 1, 2].as_slice(),
                 [6, 4, 5].as_slice(),
             ] {
-                for method in [Method::DHondt, Method::SainteLague, Method::Hare] {
-                    assert!(rt; agree(rt.alloc(), method, seats, votes, lot));
+                for rule in RULES {
+                    assert!(rt; agree(rt.alloc(), rule, seats, votes, lot));
                 }
             }
         }
     }
 }
 
-fn agree(alloc: Global, method: Method, seats: u32, votes: [u16; 6], lot: &[u32]) -> bool
+fn agree(alloc: Global, rule: (Method, LotRule), seats: u32, votes: [u16; 6], lot: &[u32]) -> bool
     requires some_seat { 1 ≤ seats }
     requires few_seats { seats ≤ 500 }
 {
@@ -51,9 +63,10 @@ fn agree(alloc: Global, method: Method, seats: u32, votes: [u16; 6], lot: &[u32]
         u64::from(f),
     ];
     let profile = Profile {
-        method,
+        method: rule.0,
         threshold: 0,
         base: Base::Valid,
+        lot: rule.1,
     };
     let need = lot_need(alloc, &profile, seats, &votes, 0);
     match (&allot(alloc, &profile, seats, &votes, 0, lot), &need) {

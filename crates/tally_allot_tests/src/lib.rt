@@ -11,4 +11,6 @@ mod polls;
 #[cfg(test)]
 mod seats;
 #[cfg(test)]
+mod short;
+#[cfg(test)]
 mod tables;

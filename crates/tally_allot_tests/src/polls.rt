@@ -3,10 +3,12 @@
 ghost use Rattle.std.specs.Prelude.{◌+◌, ◌≤◌, IsTrue, sum};
 ghost use Rattle.tally_allot.specs.Conditions.{AreLimitsKept};
 
+use crate::short::short_text;
+use crate::tables::{awards_text, quotas_text};
 use std::alloc::Global;
 use std::test::Fail;
 use tally_allot::{AllotFault, ListSet, allot, is_allotment, lot_need};
-use tally_rules::{Base, Method, Profile};
+use tally_rules::{Base, LotRule, Method, Profile};
 
 /// A poll, and the places of a lot.
 #[derive(Drop)]
@@ -19,17 +21,20 @@ pub(crate) struct Poll {
 }
 
 /// The poll of a line such as `dhondt 300 8 0: 104000 72000: 2 1`: the rule, the threshold, of the
-/// valid votes, the seats, the blank votes; the votes of the lists; the lot.
+/// valid votes, the seats, the blank votes; the votes of the lists; the lot. Lots alternate where the
+/// rule says so, as `dhondt/alternating`.
 pub(crate) fn poll_of(alloc: Global, line: &str) -> Result<Poll, Fail> {
     let (terms, rest) = line.split_once(": ").ok_or("no votes")?;
     let (votes, lot) = rest.split_once(": ").unwrap_or((rest, ""));
     let (rule, terms) = terms.split_once(" ").ok_or("no threshold")?;
     let (threshold, terms) = terms.split_once(" ").ok_or("no seats")?;
     let (seats, blank) = terms.split_once(" ").ok_or("no blank votes")?;
+    let (rule, lots) = rule.split_once("/").unwrap_or((rule, "fixed"));
     let profile = Profile {
         method: method(rule)?,
         threshold: number(threshold)?,
         base: Base::Valid,
+        lot: lot_rule(lots)?,
     };
     Ok(Poll {
         profile,
@@ -44,8 +49,17 @@ fn method(rule: &str) -> Result<Method, Fail> {
     match rule {
         "dhondt" => Ok(Method::DHondt),
         "sainte-lague" => Ok(Method::SainteLague),
+        "modified-sainte-lague" => Ok(Method::ModifiedSainteLague),
         "hare" => Ok(Method::Hare),
         _ => Err(Fail::from("no rule")),
+    }
+}
+
+fn lot_rule(lots: &str) -> Result<LotRule, Fail> {
+    match lots {
+        "fixed" => Ok(LotRule::Fixed),
+        "alternating" => Ok(LotRule::Alternating),
+        _ => Err(Fail::from("no rule of lots")),
     }
 }
 
@@ -137,7 +151,7 @@ pub(crate) fn need_text(alloc: Global, poll: &Poll) -> Result<String, Fail> {
     }
 }
 
-fn fault_text(alloc: Global, fault: &AllotFault) -> Result<String, Fail> {
+pub(crate) fn fault_text(alloc: Global, fault: &AllotFault) -> Result<String, Fail> {
     match fault {
         AllotFault::LotMissing { group, seats } => lot_text(alloc, group, *seats),
         AllotFault::WrongLot => Ok(String::from_str(alloc, "wrong lot")?),
@@ -174,7 +188,8 @@ pub(crate) fn is_right(poll: &Poll, seats: &[u32]) -> Result<bool, Fail> {
 }
 
 /// The first of these lines, `CALL POLL = ANSWER`, whose answer is another. The calls are `allot`,
-/// `need` and `right`; to `right` its seats are given in front, `right SEATS: POLL`.
+/// `awards`, `quotas`, `need`, `short` and `right`; to `right` its seats are given in front,
+/// `right SEATS: POLL`.
 pub(crate) fn first_wrong<'a>(alloc: Global, lines: &'a str) -> Result<Option<&'a str>, Fail> {
     for line in lines.lines() {
         let (call, wanted) = line.split_once(" = ").ok_or("no answer")?;
@@ -193,8 +208,12 @@ fn answer(alloc: Global, name: &str, rest: &str) -> Result<String, Fail> {
         return Ok(format!(in alloc; "{is_right}")?);
     }
     let poll = poll_of(alloc, rest)?;
-    if name == "need" {
-        return need_text(alloc, &poll);
+    match name {
+        "allot" => seats_text(alloc, &poll),
+        "awards" => awards_text(alloc, &poll),
+        "quotas" => quotas_text(alloc, &poll),
+        "need" => need_text(alloc, &poll),
+        "short" => short_text(alloc, &poll),
+        _ => Err(Fail::from("no call")),
     }
-    seats_text(alloc, &poll)
 }

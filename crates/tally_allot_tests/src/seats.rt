@@ -3,7 +3,8 @@
 use crate::polls::first_wrong;
 use std::test::Fail;
 
-// The example of LOREG, article 163: 480,000 votes and 8 seats.
+// The example of LOREG, article 163: 480,000 votes and 8 seats. By D'Hondt its seats are the law's own; by the
+// other two rules the last seat is A's fourth no more but E's first.
 const LOREG: &str = "\
 allot dhondt 300 8 0: 168000 104000 72000 64000 40000 32000 = [4, 2, 1, 1, 0, 0]
 need dhondt 300 8 0: 168000 104000 72000 64000 40000 32000 = no lot
@@ -36,49 +37,32 @@ fn seats_where_the_votes_decide(rt: HostRuntime) -> Result<(), Fail> {
     Ok(())
 }
 
-// Elections of the European Parliament in the United Kingdom, by D'Hondt: the lists that came first, in
-// order of votes. London, Scotland and Wales, each 2014 and 2019; North East England, 2019. Written from
-// memory, not compared with the declarations.
-const KINGDOM: &str = "\
-allot dhondt 0 8 0: 806959 495639 371133 196419 148013 = [4, 2, 1, 1, 0]
-allot dhondt 0 8 0: 608725 536810 400257 278957 177964 117635 = [3, 2, 2, 1, 0, 0]
-allot dhondt 0 6 0: 389503 348219 231330 140534 108305 95319 = [2, 2, 1, 1, 0, 0]
-allot dhondt 0 6 0: 594553 233006 218285 182476 146724 129603 = [3, 1, 1, 1, 0, 0]
-allot dhondt 0 4 0: 206332 201983 127742 111864 = [1, 1, 1, 1]
-allot dhondt 0 4 0: 271404 163928 127833 113885 = [2, 1, 1, 0]
-allot dhondt 0 3 0: 240056 119931 104330 = [2, 1, 0]";
+// A's second quotient, 53 by 3, is below B's 24; by the modified rule it is above B's 24 by 1.4, though
+// both have the whole part 17.
+const FIRST_DIVISOR: &str = "\
+allot sainte-lague 0 2 0: 53 24 23 = [1, 1, 0]
+allot modified-sainte-lague 0 2 0: 53 24 23 = [2, 0, 0]
+awards modified-sainte-lague 0 2 0: 53 24 23 = 1 1 265/7;1 2 265/15;";
 
 #[test]
-fn european_elections_in_the_united_kingdom(rt: HostRuntime) -> Result<(), Fail> {
-    assert!(rt; first_wrong(rt.alloc(), KINGDOM)?.is_none());
+fn the_first_divisor_is_modified(rt: HostRuntime) -> Result<(), Fail> {
+    assert!(rt; first_wrong(rt.alloc(), FIRST_DIVISOR)?.is_none());
     Ok(())
 }
 
-// General elections of New Zealand in 2014, 2017 and 2020, by Sainte-Laguë: the party votes of the
-// parties that came in, and their share of the 120 seats. Written from memory, not compared with the
-// declarations.
-const NEW_ZEALAND: &str = "\
-allot sainte-lague 0 120 0: 1131501 604535 257359 208300 31849 16689 = [60, 32, 14, 11, 2, 1]
-allot sainte-lague 0 120 0: 1152075 956184 186706 162443 13075 = [56, 46, 9, 8, 1]
-allot sainte-lague 0 120 0: 1443545 738275 226757 219031 33630 = [65, 33, 10, 10, 2]";
+// Votes in the proportion of whole numbers of seats, a thousand votes a seat: each rule gives these seats.
+const PROPORTIONS: &str = "\
+allot dhondt 0 120 0: 60000 32000 14000 11000 2000 1000 = [60, 32, 14, 11, 2, 1]
+allot sainte-lague 0 120 0: 60000 32000 14000 11000 2000 1000 = [60, 32, 14, 11, 2, 1]
+allot hare 0 120 0: 60000 32000 14000 11000 2000 1000 = [60, 32, 14, 11, 2, 1]";
 
 #[test]
-fn general_elections_of_new_zealand(rt: HostRuntime) -> Result<(), Fail> {
-    assert!(rt; first_wrong(rt.alloc(), NEW_ZEALAND)?.is_none());
+fn whole_proportions_are_met(rt: HostRuntime) -> Result<(), Fail> {
+    assert!(rt; first_wrong(rt.alloc(), PROPORTIONS)?.is_none());
     Ok(())
 }
 
-// The election of the Constituent Assembly of Namibia in 1989, by Hare's quota with the largest
-// remainders: 670,830 valid votes and 72 seats. Written from memory, not compared with a source.
-const NAMIBIA: &str = "\
-allot hare 0 72 0: 384567 191532 37874 23728 10693 10452 5344 3161 2495 984 = [41, 21, 4, 3, 1, 1, 1, 0, 0, 0]";
-
-#[test]
-fn the_constituent_assembly_of_namibia(rt: HostRuntime) -> Result<(), Fail> {
-    assert!(rt; first_wrong(rt.alloc(), NAMIBIA)?.is_none());
-    Ok(())
-}
-
+// Two lists without votes among blank ones.
 const NOBODY: &str = "\
 allot dhondt 0 3 50: 0 0 = no eligible list
 need dhondt 0 3 50: 0 0 = no eligible list

@@ -2,10 +2,11 @@
 use Rattle.std.proofs.Common.{◌≡◌, ℕ, ◌+◌, ◌*◌, ◌/◌, ◌%◌, ◌<◌, ◌≤◌, ◌≢◌, ◌⊎◌, List, [], Bool, true, false, cond, length, get_or, sum, refl, sym, inl, inr, ap, arith}
 use Rattle.std.proofs.lemmas.Bool.{cases_lt, cases_eq}
 use Rattle.tally_contest.specs.Poll.{Poll, IsEligible, votes_of, SharesOut, eligible_votes}
-use Rattle.tally_contest.specs.Lot.{place_of}
+use Rattle.tally_rules.specs.declared.profile.LotRule.TheVariants.{Fixed}
+use Rattle.tally_contest.specs.Lot.{place_of, ComesFirst}
 use Rattle.tally_contest.specs.HareAllotment.{Claim, claim_of, ClaimsAbove, ClaimsAboveByVotes, whole_quotas, remainder, IsHareAllotment, IsHareAllotmentByVotes}
-use Rattle.tally_contest.specs.Race.{IsPair, NotBelow, IsFair}
-use Rattle.tally_contest.specs.Terms.{IsSound, ArePlacedApart, quotas_for, most_for, remainder_race, placed_remainder_race}
+use Rattle.tally_contest.specs.Race.{IsPair, NotBelow, IsFair, IsTie}
+use Rattle.tally_contest.specs.Terms.{IsSound, quotas_for, most_for, remainder_race, placed_remainder_race}
 use Rattle.tally_contest.proofs.Race.{IsOrderly}
 use Rattle.tally_contest.proofs.Ties.{IsInClasses}
 use Rattle.tally_contest.proofs.DivisorRace.{eligible_or_not}
@@ -110,18 +111,6 @@ chain x y z h k =
           omega (arith, v.place_le a (omega arith), w.place_le b (omega arith));
     })
 
-pub total : (x y : Claim) → (x.votes ≡ y.votes → x.place ≢ y.place) → ClaimsAbove x y ⊎ ClaimsAbove y x
-total x y ne = by_rank (decide x y) (decide y x)
-  where
-    by_rank : ClaimsAbove x y ⊎ ¬ ClaimsAbove x y → ClaimsAbove y x ⊎ ¬ ClaimsAbove y x → ClaimsAbove x y ⊎ ClaimsAbove y x
-    by_rank (inl h) _ = inl h
-    by_rank (inr _) (inl h) = inr h
-    by_rank (inr h) (inr k) =
-        let level = level_from_neither x y (λ ab. h (inl ab)) (λ ab. k (inl ab)) in
-        let w = from_not_above_placed y x h in
-        let v = from_not_above_placed x y k in
-        absurd (ne level.1 (omega (arith, w.place_le (sym level.0) (sym level.1), v.place_le level.0 level.1)))
-
 pub quotas_for-eligible : (poll : Poll) (seats l : ℕ) → IsEligible poll l → quotas_for poll seats l ≡ whole_quotas poll seats l
 quotas_for-eligible poll seats l e = ap (λ b. cond b (whole_quotas poll seats l) 0) e
 
@@ -181,8 +170,11 @@ module _ (poll : Poll) (sound : IsSound poll) (seats : ℕ) where
         falling = λ l j k p q lt. absurd (one_pair l j k p q lt);
       }
 
-  pub placed_remainder_race-total : (lot : List ℕ) → ArePlacedApart poll lot → (l k m j : ℕ) → l ≢ m → IsPair (placed_remainder_race poll lot seats) l k → IsPair (placed_remainder_race poll lot seats) m j → ClaimsAbove (claim_of poll lot seats l) (claim_of poll lot seats m) ⊎ ClaimsAbove (claim_of poll lot seats m) (claim_of poll lot seats l)
-  placed_remainder_race-total lot apart l k m j ne p q = total (claim_of poll lot seats l) (claim_of poll lot seats m) (λ same. apart l m (eligible_of l k p) (eligible_of m j q) ne same)
+  -- of claims that are level the one of the lower place is above
+  pub remainder_race-tie_placed : (lot : List ℕ) (l m : ℕ) → ¬ ClaimsAboveByVotes (claim_of poll [] seats l) (claim_of poll [] seats m) → ¬ ClaimsAboveByVotes (claim_of poll [] seats m) (claim_of poll [] seats l) → place_of lot l < place_of lot m → ClaimsAbove (claim_of poll lot seats l) (claim_of poll lot seats m)
+  remainder_race-tie_placed lot l m h h' lower =
+      let level = level_from_neither (claim_of poll [] seats l) (claim_of poll [] seats m) h h' in
+      inr (level.0, level.1, lower)
 
   pub remainder_race-classes : IsInClasses (remainder_race poll seats) (votes_of poll)
   remainder_race-classes = record { tied_alike = tied_alike; alike_tied = alike_tied; alike_runs = alike_runs }
@@ -270,27 +262,44 @@ module _ (poll : Poll) (sound : IsSound poll) (seats : ℕ) where
         more_not_below_without = λ l m el em p q. f.last_not_below_next l m (apart_by_seats a l m p q) (omega (arith, quotas_for-eligible poll seats l el)) (omega (arith, most_for-eligible poll seats m em));
       }
 
-  pub fair_from_allotment : (lot : List ℕ) (a : List ℕ) → IsHareAllotment poll lot seats a → IsFair (placed_remainder_race poll lot seats) seats a
-  fair_from_allotment lot a w =
-      let b = bounds_from a w.shares w.whole_or_one_more in
-      record {
-        one_each = w.shares.one_each;
-        low = λ l. (b l).0;
-        high = λ l. (b l).1;
-        total = w.shares.whole;
-        last_not_below_next = λ l m ne win room.
-            let x = has_more a (λ i. (b i).1) l win in let y = has_no_more a (λ i. (b i).0) m room in asym (claim_of poll lot seats l) (claim_of poll lot seats m) (w.more_above_without l m x.0 y.0 x.1 y.1);
-      }
+  -- an allotment is one by the votes alone in which each tie goes to the list that comes first
+  pub by_votes_from_allotment : (lot : List ℕ) (a : List ℕ) → IsHareAllotment poll lot seats a → IsHareAllotmentByVotes poll seats a
+  by_votes_from_allotment lot a w =
+      record { shares = w.shares; whole_or_one_more = w.whole_or_one_more; more_not_below_without = λ l m el em p q back. asym (claim_of poll lot seats l) (claim_of poll lot seats m) (w.more_above_without l m el em p q) (inl back) }
 
-  pub allotment_from_fair : (lot : List ℕ) → ArePlacedApart poll lot → (a : List ℕ) → IsFair (placed_remainder_race poll lot seats) seats a → IsHareAllotment poll lot seats a
-  allotment_from_fair lot apart a f = record { shares = shares_from a f.one_each f.high f.total; whole_or_one_more = whole_or_more_from a f.low f.high; more_above_without = above }
+  pub choice_from_allotment : (lot : List ℕ) (a : List ℕ) → IsHareAllotment poll lot seats a → (l m : ℕ) → IsTie (remainder_race poll seats) a l m → ComesFirst Fixed lot l m (get_or a l 0)
+  choice_from_allotment lot a w l m t =
+      let b = bounds_from a w.shares w.whole_or_one_more in
+      let x = has_more a (λ i. (b i).1) l t.wins in
+      let y = has_no_more a (λ i. (b i).0) m t.runs in
+      by_rank (w.more_above_without l m x.0 y.0 x.1 y.1)
+    where
+      by_rank : ClaimsAbove (claim_of poll lot seats l) (claim_of poll lot seats m) → ComesFirst Fixed lot l m (get_or a l 0)
+      by_rank (inl ab) = absurd (t.tied ab)
+      by_rank (inr u) = inl ((λ x. x), u.2)
+
+  pub allotment_from_choice : (lot : List ℕ) (a : List ℕ) → IsFair (remainder_race poll seats) seats a → ((l m : ℕ) → IsTie (remainder_race poll seats) a l m → ComesFirst Fixed lot l m (get_or a l 0)) → IsHareAllotment poll lot seats a
+  allotment_from_choice lot a f choice = record { shares = shares_from a f.one_each f.high f.total; whole_or_one_more = whole_or_more_from a f.low f.high; more_above_without = above }
     where
       above : (l m : ℕ) → IsEligible poll l → IsEligible poll m → get_or a l 0 ≡ whole_quotas poll seats l + 1 → get_or a m 0 ≡ whole_quotas poll seats m → ClaimsAbove (claim_of poll lot seats l) (claim_of poll lot seats m)
-      above l m el em p q = by_rank (total (claim_of poll lot seats l) (claim_of poll lot seats m) (λ same. apart l m el em (apart_by_seats a l m p q) same))
+      above l m el em p q = by_rank (decide_by_votes (claim_of poll [] seats l) (claim_of poll [] seats m))
         where
-          by_rank : ClaimsAbove (claim_of poll lot seats l) (claim_of poll lot seats m) ⊎ ClaimsAbove (claim_of poll lot seats m) (claim_of poll lot seats l) → ClaimsAbove (claim_of poll lot seats l) (claim_of poll lot seats m)
-          by_rank (inl h) = h
-          by_rank (inr h) = absurd (f.last_not_below_next l m (apart_by_seats a l m p q) (omega (arith, quotas_for-eligible poll seats l el)) (omega (arith, most_for-eligible poll seats m em)) h)
+          apart : l ≢ m
+          apart = apart_by_seats a l m p q
+
+          wins : quotas_for poll seats l < get_or a l 0
+          wins = omega (arith, quotas_for-eligible poll seats l el)
+
+          room : get_or a m 0 < most_for poll seats m
+          room = omega (arith, most_for-eligible poll seats m em)
+
+          earlier : ComesFirst Fixed lot l m (get_or a l 0) → place_of lot l < place_of lot m
+          earlier (inl c) = c.1
+          earlier (inr c) = absurd c.0
+
+          by_rank : ClaimsAboveByVotes (claim_of poll [] seats l) (claim_of poll [] seats m) ⊎ ¬ ClaimsAboveByVotes (claim_of poll [] seats l) (claim_of poll [] seats m) → ClaimsAbove (claim_of poll lot seats l) (claim_of poll lot seats m)
+          by_rank (inl ab) = inl ab
+          by_rank (inr nb) = remainder_race-tie_placed lot l m nb (f.last_not_below_next l m apart wins room) (earlier (choice l m (record { apart = apart; wins = wins; runs = room; tied = nb })))
 
   pub fair_by_votes : (lot : List ℕ) (n : ℕ) (a : List ℕ) → IsFair (placed_remainder_race poll lot seats) n a → IsFair (remainder_race poll seats) n a
   fair_by_votes lot n a f =

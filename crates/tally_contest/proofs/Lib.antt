@@ -4,7 +4,7 @@ pub mod Sums
 pub mod NeedOfTie
 pub mod AwardStep
 pub mod Ties
-pub mod Ranks
+pub mod TurnLemmas
 pub mod DivisorRace
 pub mod HareRace
 pub mod TermsRace

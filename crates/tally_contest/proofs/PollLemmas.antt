@@ -5,6 +5,7 @@ use Rattle.std.proofs.lemmas.List.{get_or_past, get_or-map, length-map}
 use Rattle.tally_rules.specs.Threshold.{is_eligible}
 use Rattle.tally_contest.specs.Poll.{Poll, IsEligible, eligible_votes}
 use Rattle.tally_contest.specs.HareAllotment.{whole_quotas}
+use Rattle.tally_rules.specs.declared.profile.LotRule.{LotRule}
 use Rattle.tally_rules.specs.declared.profile.Method.{Method}
 use Rattle.tally_contest.specs.Allotment.{Rule, divisors}
 use Rattle.tally_contest.specs.Terms.{poll_under, IsSound, AreSound, AreDivisors}
@@ -45,6 +46,6 @@ pub carried_by_method : (P : Method → Poll → Type 0) → {method method' : M
 carried_by_method P {method = method} {method' = method'} e {poll = poll} {poll' = poll'} e' h = subst (P method') e' (subst (λ (x : Method). P x poll) e h)
 
 -- the terms of a contest under a divisor rule are sound
-pub sound_by_divisors : (nth : ℕ → ℕ) → AreDivisors nth → (threshold base : ℕ) (votes lot : List ℕ) (seats : ℕ) → 1 ≤ seats → seats ≤ 500 → length votes ≤ 60 → AreSound (record { rule = divisors nth; poll = poll_under threshold base votes; lot = lot; seats = seats })
-sound_by_divisors nth d threshold base votes lot seats some few lists =
-    record { rule = d; poll = sound_under threshold base votes; some_seat = some; few_seats = few; few_lists = lists }
+pub sound_by_divisors : (nth : ℕ → ℕ) (unit : ℕ) (lot_rule : LotRule) → AreDivisors nth → 1 ≤ unit → (threshold base : ℕ) (votes lot : List ℕ) (seats : ℕ) → 1 ≤ seats → seats ≤ 500 → length votes ≤ 60 → AreSound (record { rule = divisors nth unit lot_rule; poll = poll_under threshold base votes; lot = lot; seats = seats })
+sound_by_divisors nth unit lot_rule d some_unit threshold base votes lot seats some few lists =
+    record { rule = (d, some_unit); poll = sound_under threshold base votes; some_seat = some; few_seats = few; few_lists = lists }

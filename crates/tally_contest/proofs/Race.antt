@@ -2,7 +2,6 @@
 use Rattle.std.proofs.Common.{◌≡◌, ℕ, ◌+◌, ◌<◌, ◌≤◌, ◌≢◌, ◌⊎◌, List, get_or, sym, subst, inl, inr, ap, arith}
 use Rattle.std.proofs.lemmas.Bool.{cases_lt}
 use Rattle.tally_contest.specs.Race.{Race, IsPair, NotBelow, IsFair}
-use Rattle.tally_contest.proofs.Vectors.{Exchange, equal_or_exchange}
 
 -- The pairs are in a total preorder in which each list's pairs fall.
 pub record IsOrderly (race : Race) : Type 0 where
@@ -106,18 +105,3 @@ module _ (race : Race) (o : IsOrderly race) where
           by_cases : (get_or b l 0 + 1 < get_or a l 0) ⊎ (get_or a l 0 ≤ get_or b l 0 + 1) → get_or b l 0 + 1 ≡ get_or a l 0
           by_cases (inl lt) = absurd (wins_to_b_next (o.falling l _ _ b_next wins lt))
           by_cases (inr ge) = omega arith
-
-  -- Where no two pairs of different lists tie, at most one vector is allowed.
-  pub at_most_one : ((l k m j : ℕ) → l ≢ m → IsPair race l k → IsPair race m j → race.Above l k m j ⊎ race.Above m j l k) → (n : ℕ) (a b : List ℕ) → IsFair race n a → IsFair race n b → a ≡ b
-  at_most_one ties n a b fa fb = by_cases (equal_or_exchange a b (omega (arith, fa.one_each, fb.one_each)) (omega (arith, fa.total, fb.total)))
-    where
-      tied : (s : Exchange a b) → IsOneSeat race a b s.l s.m → ⊥
-      tied s w = by_rank (ties s.l _ s.m _ w.apart w.wins w.is_next)
-        where
-          by_rank : race.Above s.l (get_or a s.l 0) s.m (get_or a s.m 0 + 1) ⊎ race.Above s.m (get_or a s.m 0 + 1) s.l (get_or a s.l 0) → ⊥
-          by_rank (inl h) = w.below h
-          by_rank (inr h) = w.above h
-
-      by_cases : (a ≡ b) ⊎ Exchange a b → a ≡ b
-      by_cases (inl e) = e
-      by_cases (inr s) = absurd (tied s (one_seat n a b fa fb s.l s.m s.more s.less))

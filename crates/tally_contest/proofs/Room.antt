@@ -95,7 +95,7 @@ abbrev most_each : Poll → ℕ → List ℕ
 most_each poll seats = map (most_for poll seats) (range_with_len 0 (length poll.votes))
 
 pub room_of : (rule : Rule) (poll : Poll) (lot : List ℕ) (seats l : ℕ) → IsSound poll → IsEligible poll l → CanHold (placed_race (record { rule = rule; poll = poll; lot = lot; seats = seats })) seats
-room_of (divisors nth) poll lot seats l s e = ((all_to poll seats l), length-set (no_seats (length poll.votes)) l seats ∙ length-replicate {A = ℕ} (length poll.votes) 0, fits, enough)
+room_of (divisors nth unit lot_rule) poll lot seats l s e = ((all_to poll seats l), length-set (no_seats (length poll.votes)) l seats ∙ length-replicate {A = ℕ} (length poll.votes) 0, fits, enough)
   where
     inside : l < length (no_seats (length poll.votes))
     inside = omega (arith, length-replicate {A = ℕ} (length poll.votes) 0, s.listed l e)
@@ -137,7 +137,7 @@ pub room : (terms : Terms) → AreSound terms → (l : ℕ) → IsEligible terms
 room terms sound l e = room_of terms.rule terms.poll terms.lot terms.seats l sound.poll e
 
 pub floors_of : (rule : Rule) (poll : Poll) (lot : List ℕ) (seats l : ℕ) → IsSound poll → IsEligible poll l → sum_before (placed_race (record { rule = rule; poll = poll; lot = lot; seats = seats })).floor (length poll.votes) ≤ seats
-floors_of (divisors nth) poll lot seats l s e = omega (arith, none (length poll.votes))
+floors_of (divisors nth unit lot_rule) poll lot seats l s e = omega (arith, none (length poll.votes))
   where
     none : (n : ℕ) → sum_before (λ _. 0) n ≡ 0
     none zero = refl

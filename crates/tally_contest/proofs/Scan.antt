@@ -26,7 +26,7 @@ quotas-le-seats poll seats l s e =
     div-le_of_le-mul (eligible_votes poll) (mul-le-mul_right seats (votes-le-eligible poll l s e))
 
 cap_of : (rule : Rule) (poll : Poll) (lot : List ℕ) (seats l : ℕ) → IsSound poll → (placed_race (record { rule = rule; poll = poll; lot = lot; seats = seats })).cap l ≤ seats + 1
-cap_of (divisors nth) poll lot seats l s = omega (arith, seats_for-le poll seats l)
+cap_of (divisors nth unit lot_rule) poll lot seats l s = omega (arith, seats_for-le poll seats l)
 cap_of hare poll lot seats l s = by_test (eligible_or_not poll l)
   where
     by_test : IsEligible poll l ⊎ ¬ IsEligible poll l → most_for poll seats l ≤ seats + 1

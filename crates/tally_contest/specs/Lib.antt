@@ -1,6 +1,7 @@
 pub mod Poll
 pub mod Lot
 pub mod ListSet
+pub mod Pairs
 pub mod DivisorAllotment
 pub mod HareAllotment
 pub mod Allotment

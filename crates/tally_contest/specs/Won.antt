@@ -17,3 +17,7 @@ pub record AreWon (race : Race) (a : List ℕ) (rows : List Won) : Type 0 where
 -- a seat of one of so many lists, within the most that there are
 abbrev pub IsRow : ℕ → Won → Type 0
 IsRow count row = (row.list < count) × (1 ≤ row.seat) × (row.seat ≤ 501)
+
+-- each is such a seat
+abbrev pub AreRows : ℕ → List Won → Type 0
+AreRows count rows = (i : ℕ) (d : Won) → i < length rows → IsRow count (slice_index_or rows i d)

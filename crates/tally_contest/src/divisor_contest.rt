@@ -1,20 +1,25 @@
 //! Contests under a divisor rule.
 
-ghost use Rattle.std.specs.Prelude.{◌≡◌, ℕ, ◌*◌, ◌<◌, ◌≤◌, ◌⊎◌, ◌↔◌, IsTrue, slice_index};
+ghost use Rattle.std.specs.Prelude.{◌≡◌, ℕ, ◌*◌, ◌<◌, ◌≤◌, ◌⊎◌, ◌↔◌, IsTrue, false, slice_index, slice_index_or};
+ghost use Rattle.tally_frac.specs.Limits.{greatest_divisor, most_lists, most_seats, most_votes};
 ghost use Rattle.tally_contest.specs.Allotment.{divisors as by_divisors};
 ghost use Rattle.tally_contest.specs.Lot.{place_of};
+ghost use Rattle.tally_contest.specs.Pairs.{place_at, turns};
 ghost use Rattle.tally_contest.specs.Terms.{poll_under};
 
 use crate::contest::Contest;
-use crate::list_set::LIMIT;
+use crate::list_set::{LIMIT, ListSet};
 use crate::poll::Poll;
 use tally_frac::Divisors;
+use tally_rules::LotRule;
 
 /// The lists of a poll that contest its seats under a divisor rule (LOREG article 163.1 b) to d)).
 #[derive(Drop)]
 pub struct DivisorContest<'a, D> {
     /// The rule.
     pub divisors: D,
+    /// How the lot decides.
+    pub lot_rule: LotRule,
     /// The votes.
     pub poll: Poll<'a>,
     /// The lot: places of lists, from 1, in its order, and empty where none is given.
@@ -23,12 +28,31 @@ pub struct DivisorContest<'a, D> {
     pub seats: u32,
     /// The places of the lists under the lot, by their numbers from 0.
     pub places: [usize; LIMIT],
-    ghost few_seats: { seats ≤ 500 },
-    ghost places_are: { (l : ℕ) → l < 60 → slice_index places l ≡ place_of lot.now l },
+    /// The lists whose places are counted from the last for even seats.
+    pub turning: ListSet,
+    ghost few_seats: { seats ≤ most_seats },
+    ghost places_are: { (l : ℕ) → l < most_lists → slice_index places l ≡ place_of lot.now l },
+    ghost turning_is: { (l : ℕ) → l < most_lists → slice_index_or turning l false ≡ turns lot_rule lot.now l },
+}
+
+impl<D: Divisors> DivisorContest<'_, D> {
+    /// The place of a list for one of its seats: where its place turns and the seat is even, it is
+    /// counted from the last.
+    pub(crate) fn place_at(&self, list: usize, seat: u32) -> usize
+        requires { list < most_lists }
+        ensures { result ≡ place_at self.now.lot_rule self.now.lot.now list seat }
+    {
+        let place = self.places[list];
+        if self.turning.has_list(list) && seat % 2 == 0 {
+            (LIMIT.max(self.lot.len()) + 1).saturating_sub(place)
+        } else {
+            place
+        }
+    }
 }
 
 impl<D: Divisors> Contest for DivisorContest<'_, D> {
-    ghost terms = { λ c. record { rule = by_divisors (D.divisor c.divisors); poll = poll_under c.poll.threshold c.poll.base c.poll.votes.now; lot = c.lot.now; seats = c.seats } };
+    ghost terms = { λ c. record { rule = by_divisors (D.divisor c.divisors) (D.unit_of c.divisors) c.lot_rule; poll = poll_under c.poll.threshold c.poll.base c.poll.votes.now; lot = c.lot.now; seats = c.seats } };
 
     fn count(&self) -> usize {
         self.poll.votes.len()
@@ -73,7 +97,7 @@ impl<D: Divisors> Contest for DivisorContest<'_, D> {
         if votes != other_votes {
             return votes > other_votes;
         }
-        self.places[list] < self.places[other]
+        self.place_at(list, seat) < self.place_at(other, other_seat)
     }
 
     fn is_above_by_votes(&self, list: usize, seat: u32, other: usize, other_seat: u32) -> bool {
@@ -90,8 +114,8 @@ impl<D: Divisors> Contest for DivisorContest<'_, D> {
 
 /// Votes times a divisor: at most 5,000,000,000 * 5,005, which is below 2^64.
 fn product(votes: u64, divisor: u64) -> u64
-    requires votes { votes ≤ 5000000000 }
-    requires divisor { divisor ≤ 5005 }
+    requires votes { votes ≤ most_votes }
+    requires divisor { divisor ≤ greatest_divisor }
     ensures { result ≡ votes * divisor }
 {
     votes * divisor

@@ -1,6 +1,7 @@
 //! Contests under Hare's rule.
 
 ghost use Rattle.std.specs.Prelude.{◌≡◌, ℕ, ◌*◌, ◌<◌, ◌≤◌, ◌⊎◌, ◌↔◌, IsTrue, length, slice_index, slice_index_or};
+ghost use Rattle.tally_frac.specs.Limits.{most_lists, most_seats};
 ghost use Rattle.tally_contest.specs.Poll.{eligible_votes, IsEligible};
 ghost use Rattle.tally_contest.specs.HareAllotment as spec;
 ghost use Rattle.tally_contest.specs.Allotment.{hare};
@@ -27,9 +28,9 @@ pub struct HareContest<'a> {
     pub quotas: [Quota; LIMIT],
     /// The places of the lists under the lot, by their numbers from 0.
     pub places: [usize; LIMIT],
-    ghost few_seats: { seats ≤ 500 },
+    ghost few_seats: { seats ≤ most_seats },
     ghost quotas_are: { (l : ℕ) (d : row_type) → l < length poll.votes.now → slice_index_or quotas l d ≡ quota_of (poll_under poll.threshold poll.base poll.votes.now) seats l },
-    ghost places_are: { (l : ℕ) → l < 60 → slice_index places l ≡ place_of lot.now l },
+    ghost places_are: { (l : ℕ) → l < most_lists → slice_index places l ≡ place_of lot.now l },
 }
 
 impl HareContest<'_> {

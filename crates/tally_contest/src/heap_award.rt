@@ -2,13 +2,14 @@
 
 ghost use Rattle.std.specs.Prelude.{◌≡◌, ℕ, ◌+◌, ◌<◌, ◌≤◌, IfOk, IfErr, OnOk, length, slice_index, slice_set, sum};
 ghost use Rattle.std.specs.BinaryHeap.{IsHeap, heap_items};
+ghost use Rattle.tally_frac.specs.Limits.{last_divisor, most_lists};
 ghost use Rattle.tally_contest.specs.Allotment.{divisors as by_divisors};
 ghost use Rattle.tally_contest.specs.Poll.{HasEligible};
 ghost use Rattle.tally_contest.specs.LotNeed.{IsLotTaken};
 ghost use Rattle.tally_contest.specs.NextPairs.{AreNext, HaveKeys, keyed, keyed_cmp, poll_of, terms_of};
 ghost use Rattle.tally_contest.specs.Poll.{IsEligible};
 ghost use Rattle.tally_contest.specs.Race.{IsFair, IsHighestNext};
-ghost use Rattle.tally_contest.specs.Terms.{AreSound, ArePlacedApart, placed_divisor_race, placed_race, poll_under};
+ghost use Rattle.tally_contest.specs.Terms.{AreSound, IsProperLot, placed_divisor_race, placed_race, poll_under};
 ghost use Rattle.tally_contest.specs.Won.{AreWon, none_held};
 
 use crate::contest::Contest;
@@ -33,12 +34,12 @@ pub fn award_from_heap<D: Divisors>(
     alloc: Global,
     contest: &DivisorContest<D>,
 ) -> Result<Given, AllocError>
-    requires sound { AreSound (terms_of D.divisor contest.now) }
-    requires apart { ArePlacedApart (poll_of contest.now) contest.now.lot.now }
-    requires keys { HaveKeys (D.divisor contest.now.divisors) (poll_of contest.now) contest.now.lot.now }
+    requires sound { AreSound (terms_of D.divisor D.unit_of contest.now) }
+    requires proper { IsProperLot (poll_of contest.now) contest.now.lot.now }
+    requires keys { HaveKeys (D.divisor contest.now.divisors) contest.now.lot_rule (poll_of contest.now) contest.now.lot.now }
     requires eligible { HasEligible (poll_of contest.now) }
-    ensures fair { IfOk result (λ given. IsFair (placed_race (terms_of D.divisor contest.now)) contest.now.seats given.seats.items) }
-    ensures won { IfOk result (λ given. AreWon (placed_race (terms_of D.divisor contest.now)) given.seats.items given.rows.items) }
+    ensures fair { IfOk result (λ given. IsFair (placed_race (terms_of D.divisor D.unit_of contest.now)) contest.now.seats given.seats.items) }
+    ensures won { IfOk result (λ given. AreWon (placed_race (terms_of D.divisor D.unit_of contest.now)) given.seats.items given.rows.items) }
 {
     let mut next = first_pairs(alloc, contest)?;
     let mut seats = no_seats(alloc, contest.count())?;
@@ -55,18 +56,18 @@ fn award_next<D: Divisors>(
     next: &mut BinaryHeap<(RankKey, usize, u32)>,
     seats: &mut [u32],
 ) -> Result<Won, AllocError>
-    requires sound { AreSound (terms_of D.divisor contest.now) }
-    requires keys { HaveKeys (D.divisor contest.now.divisors) (poll_of contest.now) contest.now.lot.now }
+    requires sound { AreSound (terms_of D.divisor D.unit_of contest.now) }
+    requires keys { HaveKeys (D.divisor contest.now.divisors) contest.now.lot_rule (poll_of contest.now) contest.now.lot.now }
     requires eligible { HasEligible (poll_of contest.now) }
-    requires fair { IsFair (placed_race (terms_of D.divisor contest.now)) (sum seats.old) seats.old }
+    requires fair { IsFair (placed_race (terms_of D.divisor D.unit_of contest.now)) (sum seats.old) seats.old }
     requires room { sum seats.old < contest.now.seats }
     requires order { IsHeap keyed_cmp (heap_items next.old) }
-    requires next { AreNext (D.divisor contest.now.divisors) (poll_of contest.now) contest.now.lot.now (length contest.now.poll.votes.now) seats.old (heap_items next.old) }
-    ensures highest { IfOk result (λ won. IsHighestNext (placed_race (terms_of D.divisor contest.now)) seats.old won.list) }
+    requires next { AreNext (D.divisor contest.now.divisors) contest.now.lot_rule (poll_of contest.now) contest.now.lot.now (length contest.now.poll.votes.now) seats.old (heap_items next.old) }
+    ensures highest { IfOk result (λ won. IsHighestNext (placed_race (terms_of D.divisor D.unit_of contest.now)) seats.old won.list) }
     ensures seat { IfOk result (λ won. won.seat ≡ slice_index seats.old won.list + 1) }
     ensures seats { IfOk result (λ won. seats.new ≡ slice_set seats.old won.list won.seat) }
     ensures order { OnOk result (IsHeap keyed_cmp (heap_items next.new)) }
-    ensures next { OnOk result (AreNext (D.divisor contest.now.divisors) (poll_of contest.now) contest.now.lot.now (length contest.now.poll.votes.now) seats.new (heap_items next.new)) }
+    ensures next { OnOk result (AreNext (D.divisor contest.now.divisors) contest.now.lot_rule (poll_of contest.now) contest.now.lot.now (length contest.now.poll.votes.now) seats.new (heap_items next.new)) }
 {
     let (list, seat) = match next.pop() {
         Some((_key, list, seat)) => (list, seat),
@@ -83,10 +84,10 @@ fn first_pairs<D: Divisors>(
     alloc: Global,
     contest: &DivisorContest<D>,
 ) -> Result<BinaryHeap<(RankKey, usize, u32)>, AllocError>
-    requires sound { AreSound (terms_of D.divisor contest.now) }
-    requires keys { HaveKeys (D.divisor contest.now.divisors) (poll_of contest.now) contest.now.lot.now }
+    requires sound { AreSound (terms_of D.divisor D.unit_of contest.now) }
+    requires keys { HaveKeys (D.divisor contest.now.divisors) contest.now.lot_rule (poll_of contest.now) contest.now.lot.now }
     ensures order { IfOk result (λ next. IsHeap keyed_cmp (heap_items next)) }
-    ensures next { IfOk result (λ next. AreNext (D.divisor contest.now.divisors) (poll_of contest.now) contest.now.lot.now (length contest.now.poll.votes.now) (none_held (length contest.now.poll.votes.now)) (heap_items next)) }
+    ensures next { IfOk result (λ next. AreNext (D.divisor contest.now.divisors) contest.now.lot_rule (poll_of contest.now) contest.now.lot.now (length contest.now.poll.votes.now) (none_held (length contest.now.poll.votes.now)) (heap_items next)) }
 {
     let mut next = BinaryHeap::with_capacity(alloc, contest.count())?;
     for list in 0..contest.count() {
@@ -104,14 +105,14 @@ fn keyed_pair<D: Divisors>(
     seat: u32,
 ) -> (RankKey, usize, u32)
     requires listed { list < length contest.now.poll.votes.now }
-    requires few { length contest.now.poll.votes.now ≤ 60 }
+    requires few { length contest.now.poll.votes.now ≤ most_lists }
     requires eligible { IsEligible (poll_of contest.now) list }
     requires first { 1 ≤ seat }
-    requires last { seat ≤ 501 }
-    requires keys { HaveKeys (D.divisor contest.now.divisors) (poll_of contest.now) contest.now.lot.now }
-    ensures { result ≡ keyed (D.divisor contest.now.divisors) (poll_of contest.now) contest.now.lot.now list seat }
+    requires last { seat ≤ last_divisor }
+    requires keys { HaveKeys (D.divisor contest.now.divisors) contest.now.lot_rule (poll_of contest.now) contest.now.lot.now }
+    ensures { result ≡ keyed (D.divisor contest.now.divisors) contest.now.lot_rule (poll_of contest.now) contest.now.lot.now list seat }
 {
-    let place = contest.places[list] as u32;
+    let place = contest.place_at(list, seat) as u32;
     match RankKey::new(contest.votes(list), contest.divisors.nth(seat), place) {
         Some(key) => (key, list, seat),
         None => unreachable!(),

@@ -1,15 +1,18 @@
 //! Lots.
 
 ghost use Rattle.std.specs.Prelude.{◌≡◌, ◌≢◌, ℕ, ◌+◌, ◌<◌, ◌↔◌, IsTrue, true, false, length, slice_index, slice_index_or};
+ghost use Rattle.tally_frac.specs.Limits.{most_lists};
 ghost use Rattle.tally_contest.specs.ListSet.{has_place};
 ghost use Rattle.tally_contest.specs.Lot as spec;
+ghost use Rattle.tally_contest.specs.Pairs.{turns};
 
 use crate::list_set::{LIMIT, ListSet};
+use tally_rules::LotRule;
 
 /// The places of the lists, by their numbers from 0: in the lot where the lot names them, and else
 /// in the setup.
 pub fn places_under(lot: &[u32]) -> [usize; LIMIT]
-    ensures { (l : ℕ) → l < 60 → slice_index result l ≡ spec.place_of lot.now l }
+    ensures { (l : ℕ) → l < most_lists → slice_index result l ≡ spec.place_of lot.now l }
 {
     let mut places = places_in_setup();
     // From the end, so that the first of several entries for one list stays.
@@ -22,8 +25,31 @@ pub fn places_under(lot: &[u32]) -> [usize; LIMIT]
     places
 }
 
+/// The lists whose places are counted from the last for even seats: those that the lot names, where
+/// lots alternate.
+pub fn turning_under(lot_rule: LotRule, lot: &[u32]) -> ListSet
+    ensures { (l : ℕ) → l < most_lists → slice_index_or result l false ≡ turns lot_rule lot.now l }
+{
+    match lot_rule {
+        LotRule::Fixed => ListSet::empty(),
+        LotRule::Alternating => named_in(lot),
+    }
+}
+
+fn named_in(lot: &[u32]) -> ListSet
+    ensures { (l : ℕ) → l < most_lists → slice_index_or result l false ≡ spec.is_named lot.now l }
+{
+    let mut named = ListSet::empty();
+    for place in lot {
+        if *place >= 1 && *place as usize <= LIMIT {
+            named.insert(*place as usize - 1);
+        }
+    }
+    named
+}
+
 fn places_in_setup() -> [usize; LIMIT]
-    ensures { (l : ℕ) → l < 60 → slice_index result l ≡ l + 1 }
+    ensures { (l : ℕ) → l < most_lists → slice_index result l ≡ l + 1 }
 {
     let mut places = [0; LIMIT];
     for list in 0..LIMIT {

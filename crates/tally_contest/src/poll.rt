@@ -6,8 +6,7 @@ ghost use Rattle.tally_contest.specs.Poll.{eligible_votes};
 ghost use Rattle.tally_contest.specs.Rules.{poll_of};
 ghost use Rattle.tally_contest.specs.Terms.{poll_under};
 
-use tally_frac::is_at_least;
-use tally_rules::{Base, Profile};
+use tally_rules::{Profile, base_of, is_eligible};
 
 /// The votes of each list, and what a list needs to be eligible.
 #[derive(Clone, Copy)]
@@ -33,15 +32,10 @@ impl<'a> Poll<'a> {
         ensures votes { result.votes.now ≡ votes.now }
         ensures poll { poll_under result.threshold result.base result.votes.now ≡ poll_of profile.now votes.now blank }
     {
-        let total = votes.iter().sum::<u64>();
-        let base = match profile.base {
-            Base::Valid => total + blank,
-            Base::Lists => total,
-        };
         Poll {
             votes,
             threshold: profile.threshold,
-            base,
+            base: base_of(profile.base, votes, blank),
         }
     }
 
@@ -59,8 +53,7 @@ impl<'a> Poll<'a> {
         requires { list < length self.now.votes.now }
         ensures { result ≡ slice_index_or (poll_under self.now.threshold self.now.base self.now.votes.now).eligible list false }
     {
-        let votes = self.votes[list];
-        votes > 0 && is_at_least(votes, self.threshold, self.base)
+        is_eligible(self.votes[list], self.threshold, self.base)
     }
 
     /// The votes of the eligible lists together.

@@ -1,5 +1,6 @@
 pub mod AgainLemmas
 pub mod CarryLemmas
+pub mod EventLemmas
 pub mod HeldLemmas
 pub mod ImportLemmas
 pub mod KeeperLemmas

@@ -8,11 +8,13 @@ use Rattle.tally_returns.specs.State.{State, stations_of}
 use Rattle.tally_returns.specs.declared.ask.Ask.TheVariants.{Lodge}
 use Rattle.tally_core.specs.Held.{IsHeld}
 use Rattle.tally_core.specs.Import.{Answer, IsBelow, row_answer, after_row, answers, imported, count_of, counted}
-use Rattle.tally_core.specs.Keeper.{Coming, IsFault, IsImport, IsSudden, IsWithin, GivesNext, row_limit}
+use Rattle.tally_core.specs.Keeper.{IsFault, IsImportOf}
+use Rattle.tally_core.specs.Source.{Coming, Ending, IsSudden, IsWithin, GivesNext, row_limit}
 use Rattle.tally_core.specs.declared.import.ImportCount.{ImportCount}
 use Rattle.tally_core.specs.declared.import.Row.{Row}
 use Rattle.tally_core.specs.declared.import.Row.TheVariants as row
 use Rattle.tally_core.specs.declared.source.ImportFault.{ImportFault}
+use Rattle.tally_core.specs.declared.source.ImportFault.TheVariants.{TooLong}
 use Rattle.tally_core.proofs.HeldLemmas.{held-lodge}
 use Rattle.tally_core.proofs.ImportLemmas.{count_of-below, count_of-push}
 use Rattle.tally_core.proofs.RowsLemmas.{imported-push, answers-push, length-answers}
@@ -89,26 +91,31 @@ kept-next old mid new was is = is ∙ ap (λ (k : Kept). record k { returns = ne
 -- the import is done where its source ends
 pub SoFar-end : (old now : Kept) (all left next : Option Coming) (count : ImportCount) (many : ℕ)
     → SoFar (stations_of old.setup) old.returns now.returns all left count many → now ≡ record old { returns = now.returns } → many ≤ row_limit
-    → GivesNext left (Ok None) next → IsImport old.setup (state_in old) all count (state_in now)
-SoFar-end old now all left next count many h kept few given =
-    (h.rows, all-taken all left h.rows h.taken given.0, omega (arith, h.many_are), h.count_is, ap state_in kept ∙ ap (λ m. state_in (record old { returns = m })) h.now_is)
+    → GivesNext left (Ok None) next → IsImportOf old.setup (Some (state_in old)) all count (Some (state_in now))
+SoFar-end old now all left next count many h kept few given = (
+  h.rows,
+  answers (stations_of old.setup) old.returns h.rows,
+  all-taken all left h.rows h.taken given.0,
+  (omega (arith, h.many_are), refl, h.count_is, ap state_in kept ∙ ap (λ m. state_in (record old { returns = m })) h.now_is),
+)
 
 -- a fault of the source is one of the import
-pub SoFar-fault : (stations : Stations) (old now : Returns) (all left next : Option Coming) (count : ImportCount) (many : ℕ) (fault : ImportFault)
-    → SoFar stations old now all left count many → GivesNext left (Err fault) next → IsFault all fault
-SoFar-fault stations old now all left next count many fault h given = go all h.taken given.1
+pub SoFar-fault : (stations : Stations) (old now : Returns) (all left next : Option Coming) (ended : Ending) (count : ImportCount) (many : ℕ) (fault : ImportFault)
+    → SoFar stations old now all left count many → GivesNext left (Err fault) next → ended ≡ Some (Some fault) → IsFault all ended fault
+SoFar-fault stations old now all left next ended count many fault h given ends = inr (inl (ends, go all h.taken given.1))
   where
     go : (known : Option Coming) → AreTaken known h.rows left
-        → IsSudden fault ⊎ (IfSome left (λ (coming : Coming). (coming.rows ≡ []) × (coming.fault ≡ Some fault)) × (next ≡ left)) → IsFault known fault
-    go known taken (inl sudden) = inr (inl sudden)
-    go None taken (inr behind) = inr (inr tt)
-    go (Some known) taken (inr behind) = inr (inr (subst (λ l. IfSome l (λ (coming : Coming). (coming.rows ≡ []) × (coming.fault ≡ Some fault))) taken.1 behind.0).1)
+        → IsSudden fault ⊎ (IfSome left (λ (coming : Coming). (coming.rows ≡ []) × (coming.fault ≡ Some fault)) × (next ≡ left))
+        → IsSudden fault ⊎ IfSome known (λ coming. coming.fault ≡ Some fault)
+    go known taken (inl sudden) = inl sudden
+    go None taken (inr behind) = inr tt
+    go (Some known) taken (inr behind) = inr (subst (λ l. IfSome l (λ (coming : Coming). (coming.rows ≡ []) × (coming.fault ≡ Some fault))) taken.1 behind.0).1
 
 -- more rows than the limit come only of a source of which nothing is known
-pub SoFar-many : (stations : Stations) (old now : Returns) (all left : Option Coming) (count : ImportCount) (many : ℕ) (fault : ImportFault)
-    → SoFar stations old now all left count many → row_limit < many → IfSome all IsWithin → IsFault all fault
-SoFar-many stations old now None left count many fault h over within = inr (inr tt)
-SoFar-many stations old now (Some known) left count many fault h over within =
+pub SoFar-many : (stations : Stations) (old now : Returns) (all left : Option Coming) (ended : Ending) (count : ImportCount) (many : ℕ)
+    → SoFar stations old now all left count many → row_limit < many → IfSome all IsWithin → IsFault all ended TooLong
+SoFar-many stations old now None left ended count many h over within = inr (inr (refl, refl))
+SoFar-many stations old now (Some known) left ended count many h over within =
     absurd (omega (arith, over, within.0, h.many_are, ap length h.taken.2, length-append h.rows h.taken.0))
 
 -- an import leaves what a keeper in memory holds as it has to be
@@ -119,6 +126,6 @@ imported-held k (row.Lodge (Lodge station slip counts) ∷ rows) held =
 imported-held k (other ∷ rows) held = imported-held k rows held
 
 pub import-held : (old new : Kept) (known : Option Coming) (count : ImportCount) → IsHeld old → new ≡ record old { returns = new.returns }
-    → IsImport old.setup (state_in old) known count (state_in new) → IsHeld new
+    → IsImportOf old.setup (Some (state_in old)) known count (Some (state_in new)) → IsHeld new
 import-held old new known count held kept is =
-    subst IsHeld (sym (kept ∙ ap (λ (s : State). record old { returns = s.returns }) is.4)) (imported-held old is.0 held)
+    subst IsHeld (sym (kept ∙ ap (λ (s : State). record old { returns = s.returns }) is.3.3)) (imported-held old is.0 held)

@@ -1,7 +1,8 @@
 //! Sources of the rows of an import.
 
-ghost use Rattle.std.specs.Prelude.{◌≡◌, Option, IfSome};
-ghost use Rattle.tally_core.specs.Keeper.{Coming, GivesNext, IsWithin};
+ghost use Rattle.std.specs.Prelude.{◌≡◌, Option, Some, IfOk, IfSome};
+ghost use Rattle.tally_core.specs.Source.{Coming, Ending, GivesNext, IsLodgeOrBad, IsWithin, at_end, ends_by};
+ghost use Rattle.tally_core.specs.declared.source.ImportFault.{ImportFault};
 
 use crate::import::Row;
 use std::alloc::AllocError;
@@ -48,15 +49,22 @@ impl From<AllocError> for ImportFault {
     }
 }
 
-/// Gives the rows of an import one at a time: at most 20,000, and then its end or a fault, which it
-/// answers again for good.
+/// Gives the rows of an import one at a time, Lodge commands and bad rows: at most 20,000, and then
+/// its end or a fault, which it answers again for good.
 pub trait RowSource {
     /// The rows that it still gives and what comes behind them, where that is known.
     ghost coming: { Self → Option Coming };
 
+    /// How it ended, once it did: at its end, or with a fault.
+    ghost ended: { Self → Ending };
+
     /// The next row, or `None` at the end.
     fn next_row(&mut self) -> Result<Option<Row>, ImportFault>
-        ensures { GivesNext (coming self.old) result (coming self.new) };
+        ensures gives { GivesNext (coming self.old) result (coming self.new) }
+        ensures row { IfOk result (λ row. IfSome row IsLodgeOrBad) }
+        ensures ends { ended self.new ≡ ends_by result }
+        ensures again { (fault : Option ImportFault) → ended self.old ≡ Some fault
+            → (result ≡ at_end fault) × (self.new ≡ self.old) };
 
     ghost within: { (source : Self) → IfSome (coming source) IsWithin };
 }

@@ -1,5 +1,6 @@
 //! Tests of `tally_core` and of the crates that its names come from (`tally_machine` among them), which
-//! over their finished proofs are checked once. Nothing here is public, so there are no must-fail edits.
+//! over their finished proofs are checked once. Public is the keeper `Frail` alone, on which the must-fail
+//! edits turn.
 #![tactic(auto)]
 
 #[cfg(test)]
@@ -12,6 +13,7 @@ mod certification;
 mod commands;
 #[cfg(test)]
 mod decide;
+pub mod frail;
 #[cfg(test)]
 mod import;
 #[cfg(test)]

@@ -1,33 +1,66 @@
 //! Imports into a keeper in memory.
 
+ghost use Rattle.tally_core.specs.Source.{IsLodgeOrBad};
+
 use crate::answers::first_wrong;
 use crate::commands::command;
 use crate::setups::{TWIN_TOWN, fresh};
 use std::alloc::Global;
 use std::test::*;
-use tally_core::{Book, ImportCount, ImportFault, Keeper, Row, RowSource};
+use tally_core::{Ask, Book, ImportCount, ImportFault, Keeper, Row, RowSource};
 
 /// Gives these rows, the last first; then it ends, or its reads fail.
 #[derive(Drop)]
 struct Script {
     rows: Vec<Row>,
     fails: bool,
+    over: bool,
 }
 
 impl RowSource for Script {
-    ghost use Rattle.std.specs.Prelude.{None};
+    ghost use Rattle.std.specs.Prelude.{if◌then◌else◌, Some, None};
+    ghost use Rattle.tally_core.specs.declared.source.ImportFault.TheVariants.{Read};
 
     ghost coming = { λ _. None };
+
+    ghost ended = { λ s. if s.over then Some (if s.fails then Some Read else None) else None };
 
     ghost within = { λ _. tt };
 
     fn next_row(&mut self) -> Result<Option<Row>, ImportFault> {
-        match self.rows.pop() {
-            Some(row) => Ok(Some(row)),
-            None if self.fails => Err(ImportFault::Read),
-            None => Ok(None),
+        if !self.over {
+            if let Some(row) = self.rows.pop() {
+                return Ok(Some(lodge_or_bad(row)));
+            }
+            self.over = true;
         }
+        if self.fails {
+            return Err(ImportFault::Read);
+        }
+        Ok(None)
     }
+}
+
+/// The row, where it is a Lodge; else a bad one.
+fn lodge_or_bad(row: Row) -> Row
+    ensures { IsLodgeOrBad result }
+{
+    let Row::Lodge(ask) = row else {
+        return Row::Bad;
+    };
+    let Ask::Lodge {
+        station,
+        slip,
+        counts,
+    } = ask
+    else {
+        return Row::Bad;
+    };
+    Row::Lodge(Ask::Lodge {
+        station,
+        slip,
+        counts,
+    })
 }
 
 /// The rows of a text, of which each `bad` is a bad one.
@@ -40,7 +73,11 @@ fn rows_of_text(alloc: Global, text: &str, fails: bool) -> Result<Script, Fail> 
         })?;
     }
     rows.reverse();
-    Ok(Script { rows, fails })
+    Ok(Script {
+        rows,
+        fails,
+        over: false,
+    })
 }
 
 /// What an import of these rows into a keeper comes to, as text.
@@ -105,6 +142,8 @@ impl RowSource for Endless {
     ghost use Rattle.std.specs.Prelude.{None};
 
     ghost coming = { λ _. None };
+
+    ghost ended = { λ _. None };
 
     ghost within = { λ _. tt };
 

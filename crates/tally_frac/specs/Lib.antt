@@ -1,4 +1,6 @@
+pub mod Limits
 pub mod Divisors
+pub mod DivisorLaws
 pub mod Fraction
 pub mod FractionOrder
 pub mod Rank

@@ -1,6 +1,7 @@
 -- The order in which seats go to lists (LOREG article 163.1 c) and d)).
-use Rattle.std.specs.Prelude.{ℕ, ◌≡◌, ◌*◌, ◌<◌, ◌≤◌, ◌⊎◌}
+use Rattle.std.specs.Prelude.{ℕ, ◌≡◌, ◌+◌, ◌-◌, ◌*◌, ◌<◌, ◌≤◌, ◌⊎◌}
 use Rattle.tally_frac.specs.Fraction.{Fraction, IsGreater, IsLevel}
+use Rattle.tally_frac.specs.Limits.{most_votes, greatest_divisor, most_lists}
 
 -- A pair of a list and the number of one of its seats, as ranks see it: the list's votes, the divisor of that seat, the list's place (from 1).
 pub record Pair : Type 0 where
@@ -16,23 +17,39 @@ quotient p = record { num = p.votes; den = p.divisor }
 abbrev pub full_quotient : ℕ → Pair → Fraction
 full_quotient unit p = record { num = p.votes * unit; den = p.divisor }
 
--- the weak rank (LOREG 163.1 d), first half): by greater quotient, then by more votes
-abbrev pub RanksAboveByVotes : Pair → Pair → Type 0
-RanksAboveByVotes p q = IsGreater (quotient p) (quotient q) ⊎ (IsLevel (quotient p) (quotient q) × (q.votes < p.votes))
+-- the weak rank (LOREG 163.1 d), first half): the quotient x of a list with v votes is above the quotient y of one with w where it is greater, or where they are level and the list has more votes
+abbrev pub IsHigher : (x : Fraction) (v : ℕ) (y : Fraction) (w : ℕ) → Type 0
+IsHigher x v y w = IsGreater x y ⊎ (IsLevel x y × (w < v))
 
--- neither ranks above the other by votes
+-- neither is above the other
+abbrev pub IsTied : (x : Fraction) (v : ℕ) (y : Fraction) (w : ℕ) → Type 0
+IsTied x v y w = IsLevel x y × (v ≡ w)
+
+-- of two pairs one ranks above the other in the weak rank
+abbrev pub RanksAboveByVotes : Pair → Pair → Type 0
+RanksAboveByVotes p q = IsHigher (quotient p) p.votes (quotient q) q.votes
+
+-- .. or they tie
 abbrev pub TiesByVotes : Pair → Pair → Type 0
-TiesByVotes p q = IsLevel (quotient p) (quotient q) × (p.votes ≡ q.votes)
+TiesByVotes p q = IsTied (quotient p) p.votes (quotient q) q.votes
 
 -- the strict rank: as the weak rank, then by earlier place
 abbrev pub RanksAbove : Pair → Pair → Type 0
 RanksAbove p q = RanksAboveByVotes p q ⊎ (TiesByVotes p q × (p.place < q.place))
 
+-- the strict rank where the order of a lot is turned round: as the weak rank, then by later place
+abbrev pub RanksAboveTurned : Pair → Pair → Type 0
+RanksAboveTurned p q = RanksAboveByVotes p q ⊎ (TiesByVotes p q × (q.place < p.place))
+
+-- the pair with its place counted from the last: 61 less the place
+abbrev pub turned : Pair → Pair
+turned p = record { votes = p.votes; divisor = p.divisor; place = most_lists + 1 - p.place }
+
 -- the pairs that can be compared as keys: an eligible list has 1 to 5,000,000,000 votes, a divisor is 1 to 5,005, a constituency has at most 60 lists
 pub record IsWithinLimits (p : Pair) : Type 0 where
   pub some_votes : 1 ≤ p.votes
-  pub votes_limit : p.votes ≤ 5000000000
+  pub votes_limit : p.votes ≤ most_votes
   pub some_divisor : 1 ≤ p.divisor
-  pub divisor_limit : p.divisor ≤ 5005
+  pub divisor_limit : p.divisor ≤ greatest_divisor
   pub some_place : 1 ≤ p.place
-  pub place_limit : p.place ≤ 60
+  pub place_limit : p.place ≤ most_lists

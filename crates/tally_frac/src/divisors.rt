@@ -2,7 +2,9 @@
 
 ghost use Rattle.std.specs.Prelude.{◌≡◌, ℕ, ◌<◌, ◌≤◌};
 ghost use Rattle.std.proofs.Common.{arith};
-ghost use Rattle.tally_frac.specs.Divisors.{dhondt_divisor, sainte_lague_divisor};
+ghost use Rattle.tally_frac.specs.DivisorLaws.{modified-at_most, modified-positive, modified-rises};
+ghost use Rattle.tally_frac.specs.Divisors.{dhondt_divisor, modified_sainte_lague_divisor, sainte_lague_divisor};
+ghost use Rattle.tally_frac.specs.Limits.{greatest_divisor, last_divisor};
 
 /// The divisors of a divisor rule, counted from 1: the `k`th seat of a list has the quotient of its
 /// votes by `nth(k) / unit()`. The unit is 1 where the divisors are whole numbers, and otherwise
@@ -16,7 +18,7 @@ pub trait Divisors {
     /// constituency may have.
     fn nth(&self, k: u32) -> u64
         requires first { 1 ≤ k }
-        requires last { k ≤ 501 }
+        requires last { k ≤ last_divisor }
         ensures { result ≡ divisor self.now k };
 
     /// What each `nth(k)` is to be divided by, 1 to 5.
@@ -27,7 +29,7 @@ pub trait Divisors {
 
     ghost rises: { (rule : Self) (j k : ℕ) → 1 ≤ j → j < k → divisor rule j < divisor rule k };
 
-    ghost at_most: { (rule : Self) (k : ℕ) → 1 ≤ k → k ≤ 501 → divisor rule k ≤ 5005 };
+    ghost at_most: { (rule : Self) (k : ℕ) → 1 ≤ k → k ≤ last_divisor → divisor rule k ≤ greatest_divisor };
 
     ghost unit_from_one: { (rule : Self) → 1 ≤ unit_of rule };
 
@@ -90,6 +92,34 @@ impl Divisors for SainteLague {
     ghost unit_to_five = { λ _. Prim.omega arith };
 }
 
+/// The divisors 1.4, 3, 5, 7 and so on of the modified rule of Sainte-Laguë, in fifths.
+#[derive(Clone, Copy, Debug)]
+pub struct ModifiedSainteLague;
+
+impl Divisors for ModifiedSainteLague {
+    ghost divisor = { λ _ k. modified_sainte_lague_divisor k };
+
+    ghost unit_of = { λ _. 5 };
+
+    fn nth(&self, k: u32) -> u64 {
+        if k == 1 { 7 } else { 10 * u64::from(k) - 5 }
+    }
+
+    fn unit(&self) -> u64 {
+        5
+    }
+
+    ghost positive = { λ _ k first. modified-positive k first };
+
+    ghost rises = { λ _ j k first later. modified-rises j k first later };
+
+    ghost at_most = { λ _ k first last. modified-at_most k first last };
+
+    ghost unit_from_one = { λ _. Prim.omega arith };
+
+    ghost unit_to_five = { λ _. Prim.omega arith };
+}
+
 #[cfg(test)]
 mod tests {
     use super::*;
@@ -109,5 +139,6 @@ mod tests {
     fn the_rules_have_their_divisors(rt: HostRuntime) {
         assert!(rt; sample(&DHondt) == [1, 2, 3, 501, 1]);
         assert!(rt; sample(&SainteLague) == [1, 3, 5, 1001, 1]);
+        assert!(rt; sample(&ModifiedSainteLague) == [7, 15, 25, 5005, 5]);
     }
 }

@@ -3,7 +3,7 @@
 ghost use Rattle.std.specs.Prelude.{ℕ, ◌≡◌, ◌*◌, ◌<◌, ◌≤◌, ◌⊎◌, ◌↔◌};
 ghost use Rattle.std.specs.declared.cmp.Ordering.TheVariants.{Less, Equal, Greater};
 ghost use Rattle.tally_frac.specs.Fraction.{Fraction, IsGreater, IsLevel, whole_part};
-ghost use Rattle.tally_frac.specs.Rank.{Pair, quotient, full_quotient, RanksAboveByVotes, TiesByVotes, RanksAbove, IsWithinLimits};
+ghost use Rattle.tally_frac.specs.Rank.{Pair, quotient, full_quotient, RanksAboveByVotes, TiesByVotes, RanksAbove, RanksAboveTurned, IsWithinLimits, turned};
 
 use crate::RankKey;
 
@@ -86,4 +86,12 @@ pub fn keys_follow_the_strict_rank()
     ensures greater { (p q : Pair) → IsWithinLimits p → IsWithinLimits q → (⟦<RankKey as Ord>⟧.cmp p q ≡ Greater) ↔ RanksAbove p q }
     ensures less { (p q : Pair) → IsWithinLimits p → IsWithinLimits q → (⟦<RankKey as Ord>⟧.cmp p q ≡ Less) ↔ RanksAbove q p }
     ensures equal { (p q : Pair) → (⟦<RankKey as Ord>⟧.cmp p q ≡ Equal) ↔ (p ≡ q) }
+{}
+
+/// Keys made with 61 less the place follow the strict rank that is turned round, in which pairs that
+/// tie by votes go by later place. Such keys are made where a lot alternates and a seat is even.
+pub fn turned_keys_follow_the_turned_rank()
+    ensures has_key { (p : Pair) → IsWithinLimits p → IsWithinLimits (turned p) }
+    ensures greater { (p q : Pair) → IsWithinLimits p → IsWithinLimits q → (⟦<RankKey as Ord>⟧.cmp (turned p) (turned q) ≡ Greater) ↔ RanksAboveTurned p q }
+    ensures less { (p q : Pair) → IsWithinLimits p → IsWithinLimits q → (⟦<RankKey as Ord>⟧.cmp (turned p) (turned q) ≡ Less) ↔ RanksAboveTurned q p }
 {}

@@ -9,7 +9,7 @@ mod rank;
 mod share;
 mod threshold;
 
-pub use divisors::{DHondt, Divisors, SainteLague};
+pub use divisors::{DHondt, Divisors, ModifiedSainteLague, SainteLague};
 pub use rank::RankKey;
 pub use share::Share;
 pub use threshold::is_at_least;

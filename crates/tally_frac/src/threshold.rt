@@ -1,13 +1,14 @@
 //! The threshold that a list has to reach.
 
 ghost use Rattle.std.specs.Prelude.{◌*◌, ◌≤◌, ◌↔◌, IsTrue};
+ghost use Rattle.tally_frac.specs.Limits.{most_votes};
 
 /// Whether `votes` are at least `threshold` ten-thousandths of `base`. LOREG article 163.1 a) sets
 /// 3 per cent of the valid votes, a threshold of 300. Votes are up to 5,000,000,000 and the
 /// threshold up to 10,000, so that no product reaches 2^64.
 pub fn is_at_least(votes: u64, threshold: u32, base: u64) -> bool
-    requires few_votes { votes ≤ 5000000000 }
-    requires few_in_base { base ≤ 5000000000 }
+    requires few_votes { votes ≤ most_votes }
+    requires few_in_base { base ≤ most_votes }
     requires threshold { threshold ≤ 10000 }
     ensures { IsTrue result ↔ (threshold * base ≤ votes * 10000) }
 {

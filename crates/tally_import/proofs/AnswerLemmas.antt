@@ -5,6 +5,9 @@ use Rattle.std.specs.Io.KnownBytes.{Appends, Keeps}
 use Rattle.tally_import.specs.Header.{header_lists}
 use Rattle.tally_records.specs.Input.{Gave, complete_records}
 use Rattle.tally_import.specs.Check.{Checks, Found, check_fault, checked, examined, no_header, under_header, ended, row_limit}
+use Rattle.tally_import.specs.Rounds.{IsOfReading, ended_import}
+use Rattle.tally_import.specs.declared.import.Import.{Import}
+use Rattle.tally_records.specs.Watch.{IsStop}
 use Rattle.tally_records.specs.declared.end.Stop.{Stop}
 use Rattle.tally_records.specs.declared.end.Stop.TheVariants as stopped
 use Rattle.tally_import.specs.declared.check.CheckFault.{CheckFault}
@@ -87,3 +90,27 @@ written-text sep (Some t) left old new found is appends =
 pub OnOk-then : {T E : Type 0} {P Q : Type 0} (r : Result T E) → OnOk r P → (P → Q) → OnOk r Q
 OnOk-then (Ok x) p more = more p
 OnOk-then (Err e) p more = tt
+
+-- ---- faults of reading
+
+pub stop-of-reading : (stop : Stop) (failed : Bool) → IsStop (Some stop) failed → IsOfReading (check_fault stop) failed
+stop-of-reading stopped.TooLong failed is = tt
+stop-of-reading stopped.Read failed is = is
+
+-- want of memory is one
+pub memory-of-reading : (fault : CheckFault) (failed : Bool) → fault ≡ Memory → IsOfReading fault failed
+memory-of-reading fault failed is = subst (λ f. IsOfReading f failed) (sym is) tt
+
+pub read-of-reading : (fault : CheckFault) (failed : Bool) → IsOfReading fault failed → fault ≡ Read → failed ≡ true
+read-of-reading BadHeader failed of is = cc
+read-of-reading TooLong failed of is = cc
+read-of-reading Read failed of is = of
+read-of-reading Memory failed of is = cc
+read-of-reading Write failed of is = absurd of
+
+pub write-of-reading : (fault : CheckFault) (failed : Bool) → IsOfReading fault failed → fault ≢ Write
+write-of-reading BadHeader failed of is = cc
+write-of-reading TooLong failed of is = cc
+write-of-reading Read failed of is = cc
+write-of-reading Memory failed of is = cc
+write-of-reading Write failed of is = absurd of

@@ -1,8 +1,8 @@
 -- The lists of a header, one after the other.
-use Rattle.std.proofs.Common.{◌≡◌, ◌<◌, ◌≤◌, ◌+◌, ◌++◌, ◌∷◌, ◌∙◌, ℕ, List, [], Bool, true, false, Option, Some, None, length, drop, get_or, refl, sym, ap, arith, append_assoc, add-one}
+use Rattle.std.proofs.Common.{◌≡◌, ◌<◌, ◌≤◌, ◌+◌, ◌++◌, ◌∷◌, ◌∙◌, ℕ, List, [], Bool, true, false, Option, Some, None, length, drop, get_or, refl, sym, ap, subst, arith, append_assoc, add-one}
 use Rattle.std.specs.Prelude.{◌&&◌, ◌||◌, not, if◌then◌else◌, nat_le, codes}
 use Rattle.std.specs.List.{list_all, list_any}
-use Rattle.std.proofs.lemmas.Bool.{le-leb}
+use Rattle.std.proofs.lemmas.Bool.{le-leb, leb-true}
 use Rattle.std.proofs.Math.Seq.{drop-cons}
 use Rattle.std.proofs.lemmas.List.{append-nil}
 use Rattle.tally_rules.specs.Code.{is_code, code_of}
@@ -152,3 +152,32 @@ code_of-none text e = go (is_code text) e
     go : (b : Bool) → (if b then Some text else None) ≡ None → b ≡ false
     go true e = cc
     go false e = refl
+
+-- ---- a header names few lists
+
+and-left : (a b : Bool) → (a && b) ≡ true → a ≡ true
+and-left true b is = refl
+and-left false b is = is
+
+and-right : (a b : Bool) → (a && b) ≡ true → b ≡ true
+and-right true b is = is
+and-right false b is = let never : false ≡ true = is in cc never
+
+few-lists : (lists : List (List ℕ)) → are_lists lists ≡ true → length lists ≤ 60
+few-lists lists is = leb-true (length lists) 60 (and-right (nat_le 1 (length lists)) _ (and-left _ (list_all is_code lists) (and-left _ (are_distinct lists) is)))
+
+pub header-few : (fields : List (List ℕ)) (lists : List (List ℕ)) → Some lists ≡ header_lists fields → length lists ≤ 60
+header-few [] lists is = cc
+header-few (a ∷ []) lists is = cc
+header-few (a ∷ b ∷ []) lists is = cc
+header-few (a ∷ b ∷ c ∷ []) lists is = cc
+header-few (a ∷ b ∷ c ∷ d ∷ more) lists is = go _ refl is
+  where
+    fixed : Bool
+    fixed = same_text a (codes "station") && same_text b (codes "slip") && same_text c (codes "blank") && same_text d (codes "spoiled")
+
+    go : (is_good : Bool) → (fixed && are_lists more) ≡ is_good → Some lists ≡ (if is_good then Some more else None) → length lists ≤ 60
+    go true good same =
+        let all : lists ≡ more = cc in
+        subst (λ l. length l ≤ 60) (sym all) (few-lists more (and-right fixed (are_lists more) good))
+    go false bad same = cc

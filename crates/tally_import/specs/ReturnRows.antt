@@ -6,14 +6,14 @@ use Rattle.tally_rules.specs.Code.{code_cmp}
 use Rattle.tally_rules.specs.Constituency.{Constituency, list_codes}
 use Rattle.tally_returns.specs.Lodge.{Stations}
 use Rattle.tally_returns.specs.Decide.{station_in, limits_of}
-use Rattle.tally_core.specs.Keeper.{Coming, GivesNext, IsSudden}
+use Rattle.tally_core.specs.Source.{Coming, Ending, GivesNext, IsSudden}
 use Rattle.tally_core.specs.declared.import.Row.{Row}
 use Rattle.tally_core.specs.declared.source.ImportFault.{ImportFault}
 use Rattle.tally_core.specs.declared.source.ImportFault.TheVariants as cause
 use Rattle.tally_import.specs.Check.{row_limit}
 use Rattle.tally_import.specs.Header.{same_text}
 use Rattle.tally_records.specs.Input.{text_records, text_stop}
-use Rattle.tally_records.specs.Pieces.{HasGiven, IsReadingOn, sep_of}
+use Rattle.tally_records.specs.Given.{HasGiven, IsReadingOn, TellsTrue, sep_of}
 use Rattle.tally_import.specs.Rows.{row_of}
 use Rattle.tally_records.specs.declared.end.Stop.{Stop}
 use Rattle.tally_records.specs.declared.end.Stop.TheVariants as stopped
@@ -133,7 +133,7 @@ IsStarted (Ended fault) = ⊤
 -- ---- the end
 
 -- how the rows ended, once they did
-abbrev pub ending : Stage → Option (Option ImportFault)
+abbrev pub ending : Stage → Ending
 ending Unread = None
 ending (Reading rows) = None
 ending (Ended fault) = Some fault
@@ -144,13 +144,19 @@ came_by Unread = 0
 came_by (Reading rows) = rows.came
 came_by (Ended fault) = 0
 
--- what is answered at the end: the fault, where there was one
-abbrev pub at_end : Option ImportFault → Result (Option Row) ImportFault
-at_end None = Ok None
-at_end (Some fault) = Err fault
+-- ---- failed reads
 
--- where a call leaves the rows
-abbrev pub ends_by : Result (Option Row) ImportFault → Option (Option ImportFault)
-ends_by (Ok (Some row)) = None
-ends_by (Ok None) = Some None
-ends_by (Err fault) = Some (Some fault)
+-- the fault is a failed read only where one of the reader's reads failed
+abbrev pub IsTrueFault : ImportFault → Bool → Type 0
+IsTrueFault cause.BadHeader failed = ⊤
+IsTrueFault cause.TooLong failed = ⊤
+IsTrueFault cause.Read failed = failed ≡ true
+IsTrueFault cause.Memory failed = ⊤
+IsTrueFault cause.Store failed = ⊤
+
+-- the same of all that a stage keeps of how the text was stopped
+abbrev pub IsTrueAt : Stage → Bool → Type 0
+IsTrueAt Unread failed = ⊤
+IsTrueAt (Reading rows) failed = TellsTrue rows.records failed
+IsTrueAt (Ended None) failed = ⊤
+IsTrueAt (Ended (Some fault)) failed = IsTrueFault fault failed

@@ -1,14 +1,14 @@
 -- What the parts of a check leave.
-use Rattle.std.specs.Prelude.{◌≡◌, ◌<◌, ◌≤◌, ◌++◌, ◌⊎◌, ℕ, List, length, Option, Some, None, option_map, Result, Ok, Err, String, string_bytes}
+use Rattle.std.specs.Prelude.{◌≡◌, ◌<◌, ◌≤◌, ◌++◌, ◌⊎◌, ⊤, ℕ, Bool, true, List, length, Option, Some, None, option_map, Result, Ok, Err, String, string_bytes}
 use Rattle.std.specs.declared.alloc.Global.{Global}
 use Rattle.tally_import.specs.Check.{Found, check_fault, row_limit, rows_of_records}
 use Rattle.tally_import.specs.Progress.{HasTaken}
 use Rattle.tally_records.specs.Input.{AreAll}
-use Rattle.tally_records.specs.Pieces.{HasGiven, sep_of}
+use Rattle.tally_records.specs.Given.{HasGiven, sep_of}
 use Rattle.tally_records.specs.declared.end.Stop.{Stop}
-use Rattle.tally_records.specs.declared.records.Records.{Records}
+use Rattle.tally_records.specs.RecordsValue.{Records}
 use Rattle.tally_import.specs.declared.check.CheckFault.{CheckFault}
-use Rattle.tally_import.specs.declared.check.CheckFault.TheVariants.{TooLong, Memory}
+use Rattle.tally_import.specs.declared.check.CheckFault.TheVariants.{BadHeader, TooLong, Read, Memory, Write}
 use Rattle.tally_import.specs.declared.import.Import.{Import}
 use Rattle.tally_records.specs.declared.separator.Sep.{Sep}
 
@@ -33,3 +33,11 @@ Imports lists AreRows (Err fault) = (fault ≡ Memory) ⊎ ((rows : List (List (
 abbrev pub Finds : Sep → List ℕ → Option (List ℕ) → Result (String Global) CheckFault → Type 0
 Finds sep text left (Ok found) = Found sep text left (λ f. f ≡ Ok (string_bytes found))
 Finds sep text left (Err fault) = (fault ≡ Memory) ⊎ Found sep text left (λ f. f ≡ Err fault)
+
+-- A fault that comes before anything is written: Read only where a read failed, and never Write.
+abbrev pub IsOfReading : CheckFault → Bool → Type 0
+IsOfReading BadHeader failed = ⊤
+IsOfReading TooLong failed = ⊤
+IsOfReading Read failed = failed ≡ true
+IsOfReading Memory failed = ⊤
+IsOfReading Write failed = ⊥

@@ -1,20 +1,22 @@
 //! The check of a text of returns.
 
-ghost use Rattle.std.specs.Prelude.{◌≡◌, ◌≤◌, List, ℕ, None, Ok, Err, IfSome, OnOk};
+ghost use Rattle.std.specs.Prelude.{◌≡◌, ◌≤◌, Bool, List, ℕ, None, true, Ok, Err, IfErr, IfSome, OnOk};
 ghost use Rattle.std.specs.Io.KnownBytes.{Appends};
 ghost use Rattle.tally_import.specs.Check.{Checks, IsSilent, checked, no_header};
-ghost use Rattle.tally_records.specs.Pieces.{IsReadingOn};
-ghost use Rattle.tally_import.specs.Rounds.{AreBehind, Finds, Imports, ended_import};
+ghost use Rattle.tally_records.specs.Given.{IsReadingOn, TellsTrue};
+ghost use Rattle.tally_records.specs.Watch.{IsStop, has_failed};
+ghost use Rattle.tally_import.specs.declared.check.CheckFault.TheVariants as cause;
+ghost use Rattle.tally_import.specs.Rounds.{AreBehind, Finds, Imports, IsOfReading, ended_import};
 
 use crate::header::lists_of;
 use crate::import::Import;
-use crate::output::write_text;
+use crate::output::write_watched;
 use crate::row::row_of;
 use crate::summary::import_text;
 use csv::ByteRecord;
 use std::alloc::{AllocError, Global};
 use std::io::{Read, Write};
-use tally_records::{End, Records, Sep, Stop};
+use tally_records::{End, Records, Sep, Stop, Watch};
 
 /// The most rows that a text may have.
 const ROW_LIMIT: u32 = 20_000;
@@ -94,25 +96,53 @@ pub fn check_csv<R: Read, W: Write>(
         Checks sep text (R.remaining reader.new) (W.contents writer.old) (W.contents writer.new) result) }
     ensures silent { IsSilent (W.contents writer.old) (W.contents writer.new) result }
 {
-    match checked_text(alloc, reader, sep) {
-        Ok(text) => write_text(writer, text.as_bytes()),
+    let (mut reads, mut writes) = (Watch::new(), Watch::new());
+    check_watched(alloc, reader, &mut reads, writer, &mut writes, sep)
+}
+
+/// The same with a watch on each stream: a failed read is answered only where one of the reader's
+/// own reads failed, and a failed write only where the writer failed or took nothing.
+pub fn check_watched<R: Read, W: Write>(
+    alloc: Global,
+    reader: &mut R,
+    reads: &mut Watch<R>,
+    writer: &mut W,
+    writes: &mut Watch<W>,
+    sep: Sep,
+) -> Result<(), CheckFault>
+    ensures written { OnOk result (IfSome (R.remaining reader.old) (λ text.
+        (t : List ℕ) × (checked sep text None ≡ Ok t) × Appends (W.contents writer.old) (W.contents writer.new) t)) }
+    ensures answered { IfSome (R.remaining reader.old) (λ text.
+        Checks sep text (R.remaining reader.new) (W.contents writer.old) (W.contents writer.new) result) }
+    ensures silent { IsSilent (W.contents writer.old) (W.contents writer.new) result }
+    ensures read { result ≡ Err cause.Read → has_failed reads.new ≡ true }
+    ensures write { result ≡ Err cause.Write → has_failed writes.new ≡ true }
+{
+    match checked_text(alloc, reader, reads, sep) {
+        Ok(text) => write_watched(writer, writes, text.as_bytes()),
         Err(fault) => Err(fault),
     }
 }
 
 /// The check text of a reader's text, or the fault that comes first.
-fn checked_text<R: Read>(alloc: Global, reader: &mut R, sep: Sep) -> Result<String, CheckFault>
-    ensures { IfSome (R.remaining reader.old) (λ text. Finds sep text (R.remaining reader.new) result) }
+fn checked_text<R: Read>(
+    alloc: Global,
+    reader: &mut R,
+    watch: &mut Watch<R>,
+    sep: Sep,
+) -> Result<String, CheckFault>
+    ensures finds { IfSome (R.remaining reader.old) (λ text. Finds sep text (R.remaining reader.new) result) }
+    ensures read { IfErr result (λ fault. IsOfReading fault (has_failed watch.new)) }
 {
-    let mut records = Records::new(alloc, reader, sep)?;
+    let mut records = Records::new(alloc, reader, watch, sep)?;
     let mut header = ByteRecord::new(alloc);
-    if let Some(end) = records.next(alloc, reader, &mut header)? {
+    if let Some(end) = records.next(alloc, reader, watch, &mut header)? {
         return Err(no_header(end));
     }
     let Some(lists) = lists_of(alloc, &header)? else {
         return Err(CheckFault::BadHeader);
     };
-    match import_rows(alloc, reader, &mut records, lists.len()) {
+    match import_rows(alloc, reader, watch, &mut records, lists.len()) {
         Ok(import) => import_text(alloc, lists.as_slice(), &import),
         Err(fault) => Err(fault),
     }
@@ -120,7 +150,8 @@ fn checked_text<R: Read>(alloc: Global, reader: &mut R, sep: Sep) -> Result<Stri
 
 /// The fault of a text that ended before its header did.
 fn no_header(end: End) -> CheckFault
-    ensures { no_header end.stop ≡ Err result }
+    ensures fault { no_header end.stop ≡ Err result }
+    ensures read { (failed : Bool) → IsStop end.stop failed → IsOfReading result failed }
 {
     match end.stop {
         None => CheckFault::BadHeader,
@@ -132,23 +163,25 @@ fn no_header(end: End) -> CheckFault
 fn import_rows<R: Read>(
     alloc: Global,
     reader: &mut R,
+    watch: &mut Watch<R>,
     records: &mut Records,
     lists: usize,
 ) -> Result<Import, CheckFault>
     requires reading { IsReadingOn records.old }
     requires lists { lists ≤ 60 }
-    ensures { Imports lists (AreBehind (R.remaining reader.old) (R.remaining reader.new) records.old) result }
+    ensures imports { Imports lists (AreBehind (R.remaining reader.old) (R.remaining reader.new) records.old) result }
+    ensures read { TellsTrue records.old (has_failed watch.old) → IfErr result (λ fault. IsOfReading fault (has_failed watch.new)) }
 {
     let mut import = Import::new(alloc, lists)?;
     let mut record = ByteRecord::new(alloc);
     for taken in 0..ROW_LIMIT {
-        if let Some(end) = records.next(alloc, reader, &mut record)? {
+        if let Some(end) = records.next(alloc, reader, watch, &mut record)? {
             return ended(import, end);
         }
         let row = row_of(alloc, lists, &record)?;
         import.take(alloc, taken + 1, row)?;
     }
-    match records.next(alloc, reader, &mut record)? {
+    match records.next(alloc, reader, watch, &mut record)? {
         Some(end) => ended(import, end),
         None => Err(CheckFault::TooLong),
     }
@@ -156,7 +189,8 @@ fn import_rows<R: Read>(
 
 /// An import whose text came to its end, or the fault of one that was stopped.
 fn ended(import: Import, end: End) -> Result<Import, CheckFault>
-    ensures { result ≡ ended_import end.stop import }
+    ensures import { result ≡ ended_import end.stop import }
+    ensures read { (failed : Bool) → IsStop end.stop failed → IfErr result (λ fault. IsOfReading fault failed) }
 {
     match end.stop {
         None => Ok(import),

@@ -11,7 +11,7 @@ mod row;
 mod summary;
 mod totals;
 
-pub use check::{CheckFault, check_csv};
-pub use output::write_text;
+pub use check::{CheckFault, check_csv, check_watched};
+pub use output::{write_text, write_watched};
 pub use return_rows::ReturnRows;
-pub use tally_records::Sep;
+pub use tally_records::{Sep, Watch};

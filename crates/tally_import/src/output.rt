@@ -1,10 +1,12 @@
 //! Writing a text as a whole.
 
-ghost use Rattle.std.specs.Prelude.{◌≡◌, ℕ, take, Err, OnOk, OnErr};
+ghost use Rattle.std.specs.Prelude.{◌≡◌, ℕ, true, take, Err, OnOk, OnErr};
 ghost use Rattle.std.specs.Io.KnownBytes.{Appends};
+ghost use Rattle.tally_records.specs.Watch.{has_failed};
 
 use crate::check::CheckFault;
 use std::io::Write;
+use tally_records::Watch;
 
 /// Writes a text as a whole and flushes. Where a write fails or takes nothing, the writer holds a front
 /// of the text.
@@ -13,14 +15,28 @@ pub fn write_text<W: Write>(writer: &mut W, text: &[u8]) -> Result<(), CheckFaul
     ensures err { OnErr result ((n : ℕ) × Appends (W.contents writer.old) (W.contents writer.new) (take n text.now)) }
     ensures fault { OnErr result (result ≡ Err CheckFault.Write) }
 {
+    write_watched(writer, &mut Watch::new(), text)
+}
+
+/// The same with a watch on the writer, which has noted a failed call where there is a fault.
+pub fn write_watched<W: Write>(
+    writer: &mut W,
+    watch: &mut Watch<W>,
+    text: &[u8],
+) -> Result<(), CheckFault>
+    ensures ok { OnOk result (Appends (W.contents writer.old) (W.contents writer.new) text.now) }
+    ensures err { OnErr result ((n : ℕ) × Appends (W.contents writer.old) (W.contents writer.new) (take n text.now)) }
+    ensures fault { OnErr result (result ≡ Err CheckFault.Write) }
+    ensures failed { OnErr result (has_failed watch.new ≡ true) }
+{
     let mut written = 0;
     while written < text.len() {
-        match writer.write(&text[written..]) {
+        match watch.write(writer, &text[written..]) {
             Ok(taken) if taken > 0 => written += taken,
             _ => return Err(CheckFault::Write),
         }
     }
-    match writer.flush() {
+    match watch.flush(writer) {
         Ok(()) => Ok(()),
         Err(_) => Err(CheckFault::Write),
     }

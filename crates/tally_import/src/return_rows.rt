@@ -1,6 +1,6 @@
 //! The returns of a constituency from CSV.
 
-ghost use Rattle.std.specs.Prelude.{◌≡◌, ◌≢◌, ◌≤◌, Option, Some, None, List, ℕ, is_some, option_map, IfOk, IfErr, OnOk};
+ghost use Rattle.std.specs.Prelude.{◌≡◌, ◌≢◌, ◌≤◌, Bool, true, false, Err, Option, Some, None, List, ℕ, is_some, option_map, IfOk, IfErr, IfSome, OnOk};
 ghost use Rattle.std.specs.BTreeSet.{contains};
 ghost use Rattle.std.specs.List.{list_any};
 ghost use Rattle.std.specs.Str.{bytes_eq};
@@ -8,15 +8,17 @@ ghost use Rattle.csv.specs.Records.{fields_of};
 ghost use Rattle.tally_rules.specs.Code.{code_cmp};
 ghost use Rattle.tally_rules.specs.Constituency.{Constituency, list_codes, station_codes};
 ghost use Rattle.tally_returns.specs.Lodge.{Stations};
-ghost use Rattle.tally_core.specs.Keeper.{GivesNext};
+ghost use Rattle.tally_core.specs.Source.{GivesNext, IsLodgeOrBad, at_end, ends_by};
 ghost use Rattle.tally_core.specs.declared.source.ImportFault.{ImportFault};
-ghost use Rattle.tally_records.specs.Pieces.{IsReadingOn};
+ghost use Rattle.tally_records.specs.Given.{IsReadingOn, TellsTrue};
+ghost use Rattle.tally_records.specs.Watch.{IsStop, has_failed};
+ghost use Rattle.tally_core.specs.declared.source.ImportFault.TheVariants as cause;
 ghost use Rattle.tally_import.specs.Rows.{row_of};
 ghost use Rattle.tally_import.specs.declared.return_rows.Stage.TheVariants.{Ended};
 ghost use Rattle.tally_records.specs.declared.separator.Sep.{Sep};
 ghost use Rattle.tally_import.specs.ReturnRowsValue.{coming};
 ghost use Rattle.tally_import.specs.ReturnRowsWithin.{coming-within};
-ghost use Rattle.tally_import.specs.ReturnRows.{Advances, GivesRow, IsAt, IsBegun, IsNext, IsReadingRows, IsStarted, at_end, ending, ends_by, import_fault, is_header, no_header, still_coming, text_coming};
+ghost use Rattle.tally_import.specs.ReturnRows.{Advances, GivesRow, IsAt, IsBegun, IsNext, IsReadingRows, IsStarted, IsTrueAt, IsTrueFault, ending, import_fault, is_header, no_header, still_coming, text_coming};
 
 use crate::header::has_fixed_names;
 use crate::row::row_of;
@@ -27,7 +29,7 @@ use std::io::Read;
 use std::marker::Model;
 use std::snapshot::Snapshot;
 use tally_core::{ImportFault, Row, RowSource};
-use tally_records::{End, Records, Sep, Stop, field};
+use tally_records::{End, Records, Sep, Stop, Watch, field};
 use tally_rules::{Code, Constituency, ListEntry, Station};
 
 /// The most rows that a text may have.
@@ -41,6 +43,7 @@ const FIXED_NAMES: usize = 4;
 pub struct ReturnRows<R: Read> {
     alloc: Global,
     reader: R,
+    watch: Watch<R>,
     sep: Sep,
     con: Constituency,
     stage: Stage,
@@ -49,14 +52,15 @@ pub struct ReturnRows<R: Read> {
 }
 
 impl<R: Read> Model for ReturnRows<R> {
-    ghost use Rattle.tally_import.specs.ReturnRows.{IsAt, came_by, ending};
+    ghost use Rattle.tally_records.specs.Watch.{has_failed};
+    ghost use Rattle.tally_import.specs.ReturnRows.{IsAt, IsTrueAt, came_by, ending};
     ghost use Rattle.tally_import.specs.ReturnRowsValue as value;
 
     ghost Value = { value.ReturnRows };
 
-    ghost view = { λ s. record { con = s.con; sep = s.sep; text = R.remaining s.unread.value; came = came_by s.stage; ended = ending s.stage } };
+    ghost view = { λ s. record { con = s.con; sep = s.sep; text = R.remaining s.unread.value; came = came_by s.stage; ended = ending s.stage; failed = has_failed s.watch } };
 
-    ghost invariant = { λ s. IsAt (R.remaining s.unread.value) (R.remaining s.reader) s.con s.sep s.stage };
+    ghost invariant = { λ s. IsAt (R.remaining s.unread.value) (R.remaining s.reader) s.con s.sep s.stage × IsTrueAt s.stage (has_failed s.watch) };
 }
 
 /// How far the rows have come.
@@ -88,12 +92,13 @@ impl<R: Read> ReturnRows<R> {
     /// The rows of a constituency's returns from CSV (after RFC 4180, with this separator). Nothing
     /// is read yet.
     pub fn new(alloc: Global, reader: R, sep: Sep, con: Constituency) -> ReturnRows<R>
-        ensures { result ≡ record { con = con; sep = sep; text = R.remaining reader; came = 0; ended = None } }
+        ensures { result ≡ record { con = con; sep = sep; text = R.remaining reader; came = 0; ended = None; failed = false } }
     {
         let unread = Snapshot::of(&reader);
         ReturnRows {
             alloc,
             reader,
+            watch: Watch::new(),
             sep,
             con,
             stage: Stage::Unread,
@@ -105,20 +110,26 @@ impl<R: Read> ReturnRows<R> {
 impl<R: Read> RowSource for ReturnRows<R> {
     ghost coming = { coming };
 
+    ghost ended = { λ rows. rows.ended };
+
     ghost within = { coming-within };
 
     /// The next row. A record is read to its end before it is given; with a fault, the rows before
     /// it were given.
     fn next_row(&mut self) -> Result<Option<Row>, ImportFault>
         ensures gives { GivesNext (coming self.old) result (coming self.new) }
+        ensures row { IfOk result (λ row. IfSome row IsLodgeOrBad) }
         ensures ends { self.new.ended ≡ ends_by result }
-        ensures again { (fault : Option ImportFault) → self.old.ended ≡ Some fault → (result ≡ at_end fault) × (self.new ≡ self.old) }
+        ensures again { (fault : Option ImportFault) → self.old.ended ≡ Some fault
+            → (result ≡ at_end fault) × (self.new ≡ self.old) }
+        ensures read { result ≡ Err cause.Read → self.new.failed ≡ true }
         ensures same { (self.new.con ≡ self.old.con) × (self.new.sep ≡ self.old.sep) × (self.new.text ≡ self.old.text) }
     {
         next_row(
             &self.unread,
             self.alloc,
             &mut self.reader,
+            &mut self.watch,
             self.sep,
             &self.con,
             &mut self.stage,
@@ -131,20 +142,24 @@ fn next_row<R: Read>(
     unread: &Snapshot<R>,
     alloc: Global,
     reader: &mut R,
+    watch: &mut Watch<R>,
     sep: Sep,
     con: &Constituency,
     stage: &mut Stage,
 ) -> Result<Option<Row>, ImportFault>
     requires { IsAt (R.remaining unread.now.value) (R.remaining reader.old) con.now sep stage.old }
     ensures advances { Advances (R.remaining unread.now.value) con.now sep (R.remaining reader.old) stage.old result (R.remaining reader.new) stage.new }
+    ensures row { IfOk result (λ row. IfSome row IsLodgeOrBad) }
     ensures ends { ending stage.new ≡ ends_by result }
-    ensures again { (fault : Option ImportFault) → ending stage.old ≡ Some fault → (result ≡ at_end fault) × (reader.new ≡ reader.old) × (stage.new ≡ stage.old) }
+    ensures again { (fault : Option ImportFault) → ending stage.old ≡ Some fault → (result ≡ at_end fault) × (reader.new ≡ reader.old) × (stage.new ≡ stage.old) × (watch.new ≡ watch.old) }
+    ensures true_at { IsTrueAt stage.old (has_failed watch.old) → IsTrueAt stage.new (has_failed watch.new) }
+    ensures read { IsTrueAt stage.old (has_failed watch.old) → IfErr result (λ fault. IsTrueFault fault (has_failed watch.new)) }
 {
     let Stage::Unread = stage else {
-        return next_started(alloc, reader, stage);
+        return next_started(alloc, reader, watch, stage);
     };
-    match start(alloc, reader, sep, con, stage) {
-        Ok(()) => next_started(alloc, reader, stage),
+    match start(alloc, reader, watch, sep, con, stage) {
+        Ok(()) => next_started(alloc, reader, watch, stage),
         Err(fault) => {
             end(stage, Some(fault));
             Err(fault)
@@ -157,14 +172,17 @@ fn next_row<R: Read>(
 fn start<R: Read>(
     alloc: Global,
     reader: &mut R,
+    watch: &mut Watch<R>,
     sep: Sep,
     con: &Constituency,
     stage: &mut Stage,
 ) -> Result<(), ImportFault>
     ensures begun { OnOk result (IsBegun (R.remaining reader.old) (R.remaining reader.new) con.now sep stage.new) }
     ensures fault { IfErr result (IsNext (R.remaining reader.old) (text_coming con.now sep)) }
+    ensures true_at { OnOk result (IsTrueAt stage.new (has_failed watch.new)) }
+    ensures read { IfErr result (λ fault. IsTrueFault fault (has_failed watch.new)) }
 {
-    *stage = Stage::Reading(Rows::new(alloc, reader, sep, con)?);
+    *stage = Stage::Reading(Rows::new(alloc, reader, watch, sep, con)?);
     Ok(())
 }
 
@@ -179,13 +197,17 @@ fn end(stage: &mut Stage, fault: Option<ImportFault>)
 fn next_started<R: Read>(
     alloc: Global,
     reader: &mut R,
+    watch: &mut Watch<R>,
     stage: &mut Stage,
 ) -> Result<Option<Row>, ImportFault>
     requires { IsStarted stage.old }
     ensures advances { (text : Option (List ℕ)) (con : Constituency) (sep : Sep) → IsAt text (R.remaining reader.old) con sep stage.old
         → Advances text con sep (R.remaining reader.old) stage.old result (R.remaining reader.new) stage.new }
+    ensures row { IfOk result (λ row. IfSome row IsLodgeOrBad) }
     ensures ends { ending stage.new ≡ ends_by result }
-    ensures again { (fault : Option ImportFault) → ending stage.old ≡ Some fault → (result ≡ at_end fault) × (reader.new ≡ reader.old) × (stage.new ≡ stage.old) }
+    ensures again { (fault : Option ImportFault) → ending stage.old ≡ Some fault → (result ≡ at_end fault) × (reader.new ≡ reader.old) × (stage.new ≡ stage.old) × (watch.new ≡ watch.old) }
+    ensures true_at { IsTrueAt stage.old (has_failed watch.old) → IsTrueAt stage.new (has_failed watch.new) }
+    ensures read { IsTrueAt stage.old (has_failed watch.old) → IfErr result (λ fault. IsTrueFault fault (has_failed watch.new)) }
 {
     let rows = match stage {
         Stage::Unread => unreachable!(),
@@ -193,7 +215,7 @@ fn next_started<R: Read>(
         Stage::Ended(Some(fault)) => return Err(*fault),
         Stage::Ended(None) => return Ok(None),
     };
-    match rows.next(alloc, reader) {
+    match rows.next(alloc, reader, watch) {
         Ok(Some(row)) => Ok(Some(row)),
         Ok(None) => {
             end(stage, None);
@@ -211,16 +233,19 @@ impl Rows {
     fn new<R: Read>(
         alloc: Global,
         reader: &mut R,
+        watch: &mut Watch<R>,
         sep: Sep,
         con: &Constituency,
     ) -> Result<Rows, ImportFault>
         ensures reading { IfOk result (IsReadingRows (R.remaining reader.old) (R.remaining reader.new) con.now sep) }
         ensures came { IfOk result (λ rows. rows.came ≡ 0) }
         ensures fault { IfErr result (IsNext (R.remaining reader.old) (text_coming con.now sep)) }
+        ensures true_at { IfOk result (λ rows. TellsTrue rows.records (has_failed watch.new)) }
+        ensures read { IfErr result (λ fault. IsTrueFault fault (has_failed watch.new)) }
     {
-        let mut records = Records::new(alloc, reader, sep)?;
+        let mut records = Records::new(alloc, reader, watch, sep)?;
         let mut header = ByteRecord::new(alloc);
-        if let Some(end) = records.next(alloc, reader, &mut header)? {
+        if let Some(end) = records.next(alloc, reader, watch, &mut header)? {
             return Err(header_fault(end));
         }
         if !is_header(con.lists.as_slice(), &header) {
@@ -237,14 +262,22 @@ impl Rows {
     }
 
     /// The next row, or the end or the fault behind the last one.
-    fn next<R: Read>(&mut self, alloc: Global, reader: &mut R) -> Result<Option<Row>, ImportFault>
+    fn next<R: Read>(
+        &mut self,
+        alloc: Global,
+        reader: &mut R,
+        watch: &mut Watch<R>,
+    ) -> Result<Option<Row>, ImportFault>
         requires reading { IsReadingOn self.old.records }
         requires few { self.old.lists ≤ 60 }
         requires within { self.old.came ≤ 20000 }
-        ensures { (text : Option (List ℕ)) (con : Constituency) (sep : Sep) → IsReadingRows text (R.remaining reader.old) con sep self.old
+        ensures gives { (text : Option (List ℕ)) (con : Constituency) (sep : Sep) → IsReadingRows text (R.remaining reader.old) con sep self.old
             → GivesRow text (R.remaining reader.new) con sep self.old result self.new }
+        ensures row { IfOk result (λ row. IfSome row IsLodgeOrBad) }
+        ensures true_at { TellsTrue self.old.records (has_failed watch.old) → OnOk result (TellsTrue self.new.records (has_failed watch.new)) }
+        ensures read { TellsTrue self.old.records (has_failed watch.old) → IfErr result (λ fault. IsTrueFault fault (has_failed watch.new)) }
     {
-        if let Some(end) = self.records.next(alloc, reader, &mut self.fields)? {
+        if let Some(end) = self.records.next(alloc, reader, watch, &mut self.fields)? {
             return rows_end(end);
         }
         if self.came == ROW_LIMIT {
@@ -268,7 +301,8 @@ fn import_fault(stop: Stop) -> ImportFault
 
 /// The fault of a text that has no complete record.
 fn header_fault(end: End) -> ImportFault
-    ensures { result ≡ no_header end.stop }
+    ensures fault { result ≡ no_header end.stop }
+    ensures read { (failed : Bool) → IsStop end.stop failed → IsTrueFault result failed }
 {
     match end.stop {
         None => ImportFault::BadHeader,
@@ -278,7 +312,8 @@ fn header_fault(end: End) -> ImportFault
 
 /// What comes behind the last row of a text.
 fn rows_end(end: End) -> Result<Option<Row>, ImportFault>
-    ensures { result ≡ at_end (option_map import_fault end.stop) }
+    ensures end { result ≡ at_end (option_map import_fault end.stop) }
+    ensures read { (failed : Bool) → IsStop end.stop failed → IfErr result (λ fault. IsTrueFault fault failed) }
 {
     match end.stop {
         None => Ok(None),
@@ -324,8 +359,9 @@ fn station_row(
     fields: &ByteRecord,
 ) -> Result<Row, AllocError>
     requires { lists ≤ 60 }
-    ensures { IfOk result (λ row. (limits : Stations) → ((code : List ℕ) → contains code_cmp stations.now code ≡ is_some (limits code))
+    ensures is { IfOk result (λ row. (limits : Stations) → ((code : List ℕ) → contains code_cmp stations.now code ≡ is_some (limits code))
         → row ≡ row_of limits lists (fields_of fields.now)) }
+    ensures row { IfOk result IsLodgeOrBad }
 {
     if fields.len() != lists + FIXED_NAMES {
         return Ok(Row::Bad);

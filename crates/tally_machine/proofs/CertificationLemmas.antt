@@ -56,7 +56,7 @@ lot-right con view (inr may) f says is =
     taken-right (rule_in con) (poll_in con view) con.seats view.lot may.2 wrong.1
 
 allotted-length : (rule : Rule) (poll : Poll) (seats : ℕ) (a : List ℕ) → IsAllotmentByVotes rule poll seats a → length a ≡ length poll.votes
-allotted-length (divisors nth) poll seats a is = is.shares.one_each
+allotted-length (divisors nth unit lot_rule) poll seats a is = is.shares.one_each
 allotted-length hare poll seats a is = is.shares.one_each
 
 -- the lists of a group stand in the poll

@@ -1,21 +1,13 @@
 -- The laws of steps and runs.
-use Rattle.std.proofs.Common.{◌≡◌, ◌≢◌, ◌≤◌, ◌↔◌, ◌∙◌, ◌-◌, ◌∷◌, ℕ, List, [], Bool, true, false, Option, Some, None, Result, Ok, Err, refl, sym, ap, subst, inl, inr, arith}
+use Rattle.std.proofs.Common.{◌≡◌, ◌≢◌, ◌≤◌, ◌↔◌, ◌∙◌, ◌-◌, ◌∷◌, ℕ, List, [], Bool, true, false, Option, Some, None, Result, Ok, Err, length, refl, sym, ap, subst, inl, inr, arith}
 use Rattle.std.specs.Prelude.{◌==◌, not, sum}
 use Rattle.tally_rules.specs.Constituency.{Constituency}
 use Rattle.tally_rules.specs.Limits.{IsSetup}
 use Rattle.tally_rules.specs.Setup.{constituency_with}
-use Rattle.tally_rules.specs.Threshold.{base_of}
-use Rattle.tally_rules.specs.declared.profile.Method.{Method}
-use Rattle.tally_rules.specs.declared.profile.Method.TheVariants.{DHondt, SainteLague, Hare}
 use Rattle.tally_contest.specs.Allotment.{Rule, divisors, hare, IsAllotment}
 use Rattle.tally_contest.specs.LotNeed.{IsLotNeeded, IsLotTaken, IsNeed}
 use Rattle.tally_contest.specs.Poll.{HasEligible, Poll}
-use Rattle.tally_contest.specs.Premises.{ArePlacedApart, IsRule, IsSound}
-use Rattle.tally_contest.specs.Rules.{rule_of}
-use Rattle.tally_contest.proofs.PollLemmas.{sound_under}
-use Rattle.tally_contest.proofs.TermsRace.{are_races}
-use Rattle.tally_allot.proofs.AllotmentLaws.{exists, placed_apart, unique_by_divisors, unique_by_quotas}
-use Rattle.tally_allot.proofs.LotLaws.{decided_not_needed, order_not_empty}
+use Rattle.tally_allot.specs.LawStatements.{AllotmentsAreUnique, AllotmentsExist, EachOrderGivesAChoice, GroupsAreOfOneNumberOfVotes, NoLotIsNeededWhereVotesDecide, VotesDecideOrALotIsNeeded}
 use Rattle.tally_machine.specs.Certification.{Certifies, RefusedOr, certified_by, count_checks, last_edition}
 use Rattle.tally_returns.specs.Checks.{check, first_refusal}
 use Rattle.tally_machine.specs.ConStep.{IsView, certified_with, changed_by}
@@ -60,92 +52,92 @@ run-lawful setup s t (ask ∷ asks) (r ∷ rs) ok run lawful =
 
 -- ---- allotments
 
-pub rule-is : (method : Method) → IsRule (rule_of method)
-rule-is DHondt = record { positive = λ k some. some; rises = λ j k some lt. lt }
-rule-is SainteLague = record {
-  positive = λ k some. omega (arith, some);
-  rises = λ j k some lt. omega (arith, some, lt);
-}
-rule-is Hare = tt
-
-pub poll-sound : (con : Constituency) (view : View) → IsSound (poll_in con view)
-poll-sound con view = sound_under con.profile.threshold (base_of con.profile.base view.votes view.blank) view.votes
+-- the laws of allotments, which the laws here rest on
+pub record AllotmentLaws : Type 0 where
+  pub unique : AllotmentsAreUnique
+  pub exist : AllotmentsExist
+  pub orders_give : EachOrderGivesAChoice
+  pub groups : GroupsAreOfOneNumberOfVotes
+  pub either : VotesDecideOrALotIsNeeded
+  pub never_both : NoLotIsNeededWhereVotesDecide
 
 allotted-sum : (rule : Rule) (poll : Poll) (lot : List ℕ) (seats : ℕ) (a : List ℕ) → IsAllotment rule poll lot seats a → sum a ≡ seats
-allotted-sum (divisors nth) poll lot seats a is = is.shares.whole
+allotted-sum (divisors nth unit lot_rule) poll lot seats a is = is.shares.whole
 allotted-sum hare poll lot seats a is = is.shares.whole
 
 -- the lot that is to be taken stands where one is needed
-pub lot-stands : (rule : Rule) (poll : Poll) (seats : ℕ) (lot : List ℕ) → IsRule rule → IsSound poll → 1 ≤ seats → IsLotTaken rule poll seats lot → IsLotNeeded rule poll seats → lot ≢ []
-lot-stands rule poll seats lot d sound some (inl taken) needed = absurd (decided_not_needed (record { rule = rule; poll = poll; lot = lot; seats = seats }) taken.0 needed)
-lot-stands rule poll seats lot d sound some (inr taken) needed =
-    order_not_empty (record { rule = rule; poll = poll; lot = lot; seats = seats }) (are_races rule poll lot seats d sound some) taken.0 taken.1 taken.2 lot taken.3
+pub lot-stands : AllotmentLaws → (con : Constituency) (view : View) → 1 ≤ con.seats → IsLotTaken (rule_in con) (poll_in con view) con.seats view.lot → IsLotNeeded (rule_in con) (poll_in con view) con.seats → view.lot ≢ []
+lot-stands laws con view some (inl taken) needed none = absurd (laws.never_both con.profile view.votes view.blank con.seats taken.0 needed)
+lot-stands laws con view some (inr taken) needed none =
+    let one = laws.groups con.profile view.votes view.blank con.seats taken.0 taken.1 some taken.2 in
+    let named = taken.3.all one.0 ((one.2 one.0).1 (one.1, refl)) in
+    omega (arith, named.1, ap length none)
+
+-- under the lot that is to be taken there is an allotment
+pub seats-stand : AllotmentLaws → (con : Constituency) (view : View) → 1 ≤ con.seats → HasEligible (poll_in con view) → IsLotTaken (rule_in con) (poll_in con view) con.seats view.lot
+    → (a : List ℕ) × IsAllotment (rule_in con) (poll_in con view) view.lot con.seats a
+seats-stand laws con view some has (inl taken) =
+    let a = laws.exist con.profile view.votes view.blank con.seats some has in
+    (a.0, subst (λ (lot : List ℕ). IsAllotment (rule_in con) (poll_in con view) lot con.seats a.0) (sym taken.1) a.1)
+seats-stand laws con view some has (inr taken) =
+    let a = laws.orders_give con.profile view.votes view.blank con.seats taken.0 taken.1 view.lot some taken.2 taken.3 in
+    (a.0, a.1)
 
 -- ---- certificates
 
-unique : (rule : Rule) (poll : Poll) (lot : List ℕ) (seats : ℕ) (a b : List ℕ) → IsRule rule → IsSound poll → 1 ≤ seats → ArePlacedApart poll lot → IsAllotment rule poll lot seats a → IsAllotment rule poll lot seats b → a ≡ b
-unique (divisors nth) poll lot seats a b d sound some apart first second = unique_by_divisors nth poll lot seats a b d sound some apart first second
-unique hare poll lot seats a b d sound some apart first second = unique_by_quotas poll lot seats a b sound some apart first second
-
 -- two views of one state have the same seats
-seats-one : (con : Constituency) (s : State) (seats other : List ℕ) (b : Bool) → 1 ≤ con.seats → HasSeats con (view_of con s seats) b → HasSeats con (view_of con s other) b → seats ≡ other
-seats-one con s seats other false some has again = has ∙ sym again
-seats-one con s seats other true some has again =
+seats-one : AllotmentLaws → (con : Constituency) (s : State) (seats other : List ℕ) (b : Bool) → HasSeats con (view_of con s seats) b → HasSeats con (view_of con s other) b → seats ≡ other
+seats-one laws con s seats other false has again = has ∙ sym again
+seats-one laws con s seats other true has again =
     let view = view_of con s seats in
-    let d = rule-is con.profile.method in
-    let sound = poll-sound con view in
-    unique (rule_in con) (poll_in con view) view.lot con.seats seats other d sound some (placed_apart (rule_in con) (poll_in con view) view.lot con.seats d sound some has.1) has.2 again.2
+    laws.unique con.profile view.votes view.blank view.lot con.seats seats other has.2 again.2
 
 -- a constituency of a setup has at most one view in a state
-pub view-one : (setup : List Constituency) (s : State) (code : List ℕ) (con : Constituency) (view other : View) → IsSetup setup → constituency_with code setup ≡ Some con → IsView con s view → IsView con s other → view ≡ other
-view-one setup s code con view other ok is first second =
+pub view-one : AllotmentLaws → (setup : List Constituency) (s : State) (code : List ℕ) (con : Constituency) (view other : View) → IsSetup setup → constituency_with code setup ≡ Some con → IsView con s view → IsView con s other → view ≡ other
+view-one laws setup s code con view other ok is first second =
     let certified = (con_state s con.code).certified in
     let has : HasSeats con (view_of con s view.seats) certified = subst (λ (v : View). HasSeats con v v.certified) first.0 first.1 in
     let again : HasSeats con (view_of con s other.seats) certified = subst (λ (v : View). HasSeats con v v.certified) second.0 second.1 in
-    first.0 ∙ ap (view_of con s) (seats-one con s view.seats other.seats certified (constituency-limits setup code con ok is).some_seat has again) ∙ sym second.0
+    first.0 ∙ ap (view_of con s) (seats-one laws con s view.seats other.seats certified has again) ∙ sym second.0
 
 -- in a lawful state what is seen of a certified constituency is a certificate
-pub certificate-of_view : (setup : List Constituency) (t : State) → IsSetup setup → IsLawfulState setup t → (code : List ℕ) (con : Constituency) → constituency_with code setup ≡ Some con
+pub certificate-of_view : AllotmentLaws → (setup : List Constituency) (t : State) → IsSetup setup → IsLawfulState setup t → (code : List ℕ) (con : Constituency) → constituency_with code setup ≡ Some con
     → (con_state t con.code).certified ≡ true → (view : View) → IsView con t view → IsCertificate con view
-certificate-of_view setup t ok lawful code con is certified view seen =
+certificate-of_view laws setup t ok lawful code con is certified view seen =
     let here = view_of con t view.seats in
     let has : HasSeats con here true = subst (λ (b : Bool). HasSeats con here b) certified (subst (λ (v : View). HasSeats con v v.certified) seen.0 seen.1) in
     let certificate : IsCertificate con here = record {
       closed = ((lawful.cons code con is).certified certified).0;
       allotment = has;
       exactly = allotted-sum (rule_in con) (poll_in con here) here.lot con.seats here.seats has.2;
-      lot = lot-stands (rule_in con) (poll_in con here) con.seats here.lot (rule-is con.profile.method) (poll-sound con here) (constituency-limits setup code con ok is).some_seat has.1;
+      lot = lot-stands laws con here (constituency-limits setup code con ok is).some_seat has.1;
     } in
     subst (IsCertificate con) (sym seen.0) certificate
 
 -- and something is seen of it
-pub certificate-stands : (setup : List Constituency) (t : State) → IsSetup setup → IsLawfulState setup t → (code : List ℕ) (con : Constituency) → constituency_with code setup ≡ Some con
+pub certificate-stands : AllotmentLaws → (setup : List Constituency) (t : State) → IsSetup setup → IsLawfulState setup t → (code : List ℕ) (con : Constituency) → constituency_with code setup ≡ Some con
     → (con_state t con.code).certified ≡ true → (view : View) × IsView con t view × IsCertificate con view
-certificate-stands setup t ok lawful code con is certified =
+certificate-stands laws setup t ok lawful code con is certified =
     let some : 1 ≤ con.seats = (constituency-limits setup code con ok is).some_seat in
     let empty = view_of con t [] in
     let may : MayStand con empty = (lawful.cons code con is).certified certified in
-    let rule = rule_in con in
-    let poll = poll_in con empty in
-    let d = rule-is con.profile.method in
-    let sound = poll-sound con empty in
-    let a = exists rule poll empty.lot con.seats d sound some may.1 (placed_apart rule poll empty.lot con.seats d sound some may.2) in
+    let a = seats-stand laws con empty some may.1 may.2 in
     let view = view_of con t a.0 in
     let has : HasSeats con view true = (may.1, may.2, a.1) in
     let seen : IsView con t view = (refl, subst (λ (b : Bool). HasSeats con view b) (sym certified) has) in
-    (view, seen, certificate-of_view setup t ok lawful code con is certified view seen)
+    (view, seen, certificate-of_view laws setup t ok lawful code con is certified view seen)
 
 -- something is seen of each constituency
-pub view-stands : (setup : List Constituency) (s : State) (code : List ℕ) (con : Constituency) → IsSetup setup → IsLawfulState setup s → constituency_with code setup ≡ Some con → (view : View) × IsView con s view
-view-stands setup s code con ok lawful is = go (con_state s con.code).certified refl
+pub view-stands : AllotmentLaws → (setup : List Constituency) (s : State) (code : List ℕ) (con : Constituency) → IsSetup setup → IsLawfulState setup s → constituency_with code setup ≡ Some con → (view : View) × IsView con s view
+view-stands laws setup s code con ok lawful is = go (con_state s con.code).certified refl
   where
     go : (b : Bool) → (con_state s con.code).certified ≡ b → (view : View) × IsView con s view
-    go true certified = let stands = certificate-stands setup s ok lawful code con is certified in (stands.0, stands.1)
+    go true certified = let stands = certificate-stands laws setup s ok lawful code con is certified in (stands.0, stands.1)
     go false opened = (view_of con s [], (refl, subst (λ (x : Bool). HasSeats con (view_of con s []) x) (sym opened) refl))
 
-pub certificate-of_run : (setup : List Constituency) (t : State) (asks : List Ask) (rs : List (Result Reply Refusal)) → IsSetup setup → IsRun setup (opening setup) asks rs t
+pub certificate-of_run : AllotmentLaws → (setup : List Constituency) (t : State) (asks : List Ask) (rs : List (Result Reply Refusal)) → IsSetup setup → IsRun setup (opening setup) asks rs t
     → (code : List ℕ) (con : Constituency) → constituency_with code setup ≡ Some con → (con_state t con.code).certified ≡ true → (view : View) × IsView con t view × IsCertificate con view
-certificate-of_run setup t asks rs ok run = certificate-stands setup t ok (run-lawful setup (opening setup) t asks rs ok run (opening-lawful setup ok))
+certificate-of_run laws setup t asks rs ok run = certificate-stands laws setup t ok (run-lawful setup (opening setup) t asks rs ok run (opening-lawful setup ok))
 
 -- ---- a missing lot
 
@@ -163,14 +155,14 @@ abbrev IsByOutcome : Constituency → View → Result (List ℕ) Refusal → Typ
 IsByOutcome con view result = (outcome : Outcome) × IsOutcome con view outcome × (result ≡ certified_by outcome)
 
 -- a missing lot is told exactly where one is needed and none stands
-told-where_missing : (con : Constituency) (view : View) (r : Result Reply Refusal) (outcome : Outcome) → 1 ≤ con.seats → HasEligible (poll_in con view) → IsOutcome con view outcome
+told-where_missing : AllotmentLaws → (con : Constituency) (view : View) (r : Result Reply Refusal) (outcome : Outcome) → 1 ≤ con.seats → HasEligible (poll_in con view) → IsOutcome con view outcome
     → seen r ≡ con_answer view (changed_by certified_with (certified_by outcome))
     → ((group : List Bool) × (in_question : ℕ) × (r ≡ Err (LotMissing group in_question))) ↔ (IsLotNeeded (rule_in con) (poll_in con view) con.seats × (view.lot ≡ []))
-told-where_missing con view r nobody some has is answer = absurd (is has)
-told-where_missing con view r (lot_missing group n) some has is answer = (λ told. (is.1.needed, is.2), λ missing. (group, n, seen-refused r (LotMissing group n) answer))
-told-where_missing con view r (allotted seats) some has is answer = (
+told-where_missing laws con view r nobody some has is answer = absurd (is has)
+told-where_missing laws con view r (lot_missing group n) some has is answer = (λ told. (is.1.needed, is.2), λ missing. (group, n, seen-refused r (LotMissing group n) answer))
+told-where_missing laws con view r (allotted seats) some has is answer = (
   λ told. let both : seen r ≡ Err (LotMissing told.0 told.1) = ap seen told.2 in cc,
-  λ missing. absurd (lot-stands (rule_in con) (poll_in con view) con.seats view.lot (rule-is con.profile.method) (poll-sound con view) some is.1 missing.0 missing.1),
+  λ missing. absurd (lot-stands laws con view some is.1 missing.0 missing.1),
 )
 
 -- what is told of a missing lot is its need
@@ -228,10 +220,10 @@ certify-step setup s t code con edition r is step =
       answer = here.4 ∙ ap (con_answer view) decides.2 ∙ ap (λ (v : View). con_answer v (changed_by certified_with decides.0)) here.2.0;
     }
 
-pub missing-told : (setup : List Constituency) (s t : State) (code : List ℕ) (con : Constituency) (view : View) (edition : ℕ) (r : Result Reply Refusal) → IsSetup setup
+pub missing-told : AllotmentLaws → (setup : List Constituency) (s t : State) (code : List ℕ) (con : Constituency) (view : View) (edition : ℕ) (r : Result Reply Refusal) → IsSetup setup
     → constituency_with code setup ≡ Some con → IsView con s view → first_refusal (count_checks view edition) ≡ None → HasEligible (poll_in con view) → IsStep setup s (Certify code edition) r t
     → ((group : List Bool) × (in_question : ℕ) × (r ≡ Err (LotMissing group in_question))) ↔ (IsLotNeeded (rule_in con) (poll_in con view) con.seats × (view.lot ≡ []))
-missing-told setup s t code con view edition r ok is view_is none has step =
+missing-told laws setup s t code con view edition r ok is view_is none has step =
     let its = certify-step setup s t code con edition r is step in
     let same_view = view_is.0 in
     let other = view_of con s its.seats in
@@ -240,7 +232,7 @@ missing-told setup s t code con view edition r ok is view_is none has step =
     let by = otherwise (first_refusal (count_checks other edition)) (IsByOutcome con other) its.result none_there its.certifies in
     let answer : seen r ≡ con_answer other (changed_by certified_with (certified_by by.0)) = its.answer ∙ ap (λ (x : Result (List ℕ) Refusal). con_answer other (changed_by certified_with x)) by.2 in
     subst (λ (v : View). ((group : List Bool) × (in_question : ℕ) × (r ≡ Err (LotMissing group in_question))) ↔ (IsLotNeeded (rule_in con) (poll_in con v) con.seats × (v.lot ≡ []))) (sym same_view)
-    (told-where_missing con other r by.0 (constituency-limits setup code con ok is).some_seat has_there by.1 answer)
+    (told-where_missing laws con other r by.0 (constituency-limits setup code con ok is).some_seat has_there by.1 answer)
 
 pub told-is_need : (setup : List Constituency) (s t : State) (code : List ℕ) (con : Constituency) (view : View) (edition : ℕ) (r : Result Reply Refusal) (group : List Bool) (in_question : ℕ)
     → constituency_with code setup ≡ Some con → IsView con s view → IsStep setup s (Certify code edition) r t → r ≡ Err (LotMissing group in_question)

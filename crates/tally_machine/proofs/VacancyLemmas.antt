@@ -35,7 +35,7 @@ pub found-place : (con : Constituency) (code : List ℕ) (f : ListFound) → lis
 found-place con code f is = (found-from 1 code con.lists f is).0
 
 allotted-long : (rule : Rule) (poll : Poll) (lot : List ℕ) (seats : ℕ) (a : List ℕ) → IsAllotment rule poll lot seats a → length a ≡ length poll.votes
-allotted-long (divisors nth) poll lot seats a is = is.shares.one_each
+allotted-long (divisors nth unit lot_rule) poll lot seats a is = is.shares.one_each
 allotted-long hare poll lot seats a is = is.shares.one_each
 
 -- a certified constituency has seats for the list

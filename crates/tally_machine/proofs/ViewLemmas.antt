@@ -15,7 +15,6 @@ use Rattle.tally_rules.specs.Setup.{all_stations, constituency_with, station_wit
 use Rattle.tally_rules.specs.declared.constituency.Station.{Station}
 use Rattle.tally_allot.specs.Conditions.{AreLimitsKept}
 use Rattle.tally_contest.specs.Sums.{sum_before}
-use Rattle.tally_contest.proofs.Sums.{sum_before-add, sum_before-shift}
 use Rattle.tally_machine.specs.ConStep.{IsView}
 use Rattle.tally_returns.specs.Counts.{VoteCounts, all_votes}
 use Rattle.tally_machine.specs.LawfulState.{IsLawfulState}
@@ -89,6 +88,14 @@ sum-each f (suc n) =
     ∙ sum_by-map-range_with_len_more (λ x. x) f 0 n n (omega arith)
     ∙ ap (λ s. s + f n) (sum-each f n)
 
+sum_before-shift : (f : ℕ → ℕ) (n : ℕ) → sum_before f (suc n) ≡ f 0 + sum_before (λ i. f (suc i)) n
+sum_before-shift f zero = omega arith
+sum_before-shift f (suc n) = omega (arith, sum_before-shift f n)
+
+sum_before-add : (f g h : ℕ → ℕ) (n : ℕ) → ((i : ℕ) → f i ≡ g i + h i) → sum_before f n ≡ sum_before g n + sum_before h n
+sum_before-add f g h zero e = omega arith
+sum_before-add f g h (suc n) e = omega (arith, e n, sum_before-add f g h n e)
+
 no_numbers : (n : ℕ) → sum_before (λ (i : ℕ). 0) n ≡ 0
 no_numbers zero = refl
 no_numbers (suc n) = omega (arith, no_numbers n)
@@ -103,7 +110,7 @@ first-within (x ∷ xs) (suc n) = omega (arith, sum_before-shift (λ i. get_or (
 votes-cast : (n : ℕ) (counts : List VoteCounts) → sum_before (votes_at counts) n + blank_of counts ≤ sum_by all_votes counts
 votes-cast n [] = omega (arith, no_numbers n)
 votes-cast n (c ∷ counts) =
-    let apart = sum_before-add (votes_at (c ∷ counts)) (λ i. get_or c.votes i 0) (votes_at counts) n (λ i lt. sum_by-cons (λ (d : VoteCounts). slice_index d.votes i) c counts) in
+    let apart = sum_before-add (votes_at (c ∷ counts)) (λ i. get_or c.votes i 0) (votes_at counts) n (λ i. sum_by-cons (λ (d : VoteCounts). slice_index d.votes i) c counts) in
     omega (
       arith,
       apart,

@@ -17,7 +17,7 @@ pub data Outcome : Type 0 where
 
 -- the rule of a constituency, and the poll of its closed votes
 abbrev pub rule_in : Constituency → Rule
-rule_in con = rule_of con.profile.method
+rule_in con = rule_of con.profile
 
 abbrev pub poll_in : Constituency → View → Poll
 poll_in con view = poll_of con.profile view.votes view.blank

@@ -2,6 +2,8 @@
 
 ghost use Rattle.std.specs.Prelude.{◌≡◌, ◌↔◌, ◌<◌, ℕ, Bool, List, [], Some, None, Err, Result, true, false, slice_get};
 ghost use Rattle.std.specs.List.{filter};
+ghost use Rattle.tally_allot.specs.LawStatements.{AllotmentsAreUnique, AllotmentsExist, EachOrderGivesAChoice};
+ghost use Rattle.tally_allot.specs.LawStatements.{GroupsAreOfOneNumberOfVotes, NoLotIsNeededWhereVotesDecide, VotesDecideOrALotIsNeeded};
 ghost use Rattle.tally_contest.specs.LotNeed.{IsLotNeeded, IsNeed};
 ghost use Rattle.tally_contest.specs.Poll.{HasEligible};
 ghost use Rattle.tally_machine.specs.Certification.{count_checks};
@@ -20,6 +22,7 @@ ghost use Rattle.tally_rules.specs.Constituency.{Constituency};
 ghost use Rattle.tally_rules.specs.Limits.{IsSetup};
 ghost use Rattle.tally_rules.specs.Setup.{constituency_with};
 
+use tally_allot::laws as allotment;
 use tally_returns::{Ask, Refusal, Reply};
 
 /// The state that an office opens with is lawful, a step from a lawful state leads to a lawful one,
@@ -37,19 +40,25 @@ pub fn a_certificate_stands_on_closed_votes()
     ensures of_run { (setup : List Constituency) (t : State) (asks : List Ask) (rs : List (Result Reply Refusal)) → IsSetup setup → IsRun setup (opening setup) asks rs t → (code : List ℕ) (con : Constituency) → constituency_with code setup ≡ Some con → (con_state t con.code).certified ≡ true → (view : View) × IsView con t view × IsCertificate con view }
     ensures each { (setup : List Constituency) (s : State) → IsSetup setup → IsLawfulState setup s → (code : List ℕ) (con : Constituency) (view : View) → constituency_with code setup ≡ Some con → (con_state s con.code).certified ≡ true → IsView con s view → IsCertificate con view }
     ensures one { (setup : List Constituency) (s : State) (code : List ℕ) (con : Constituency) (view other : View) → IsSetup setup → constituency_with code setup ≡ Some con → IsView con s view → IsView con s other → view ≡ other }
-{}
+{
+    laws_of_allotments();
+}
 
 /// A constituency has a view in each lawful state, and one on which a command is decided.
 pub fn a_constituency_has_a_view()
     ensures exists { (setup : List Constituency) (s : State) (code : List ℕ) (con : Constituency) → IsSetup setup → IsLawfulState setup s → constituency_with code setup ≡ Some con → (view : View) × IsView con s view }
     ensures lawful { (setup : List Constituency) (s : State) (code : List ℕ) (con : Constituency) (view : View) → IsSetup setup → IsLawfulState setup s → constituency_with code setup ≡ Some con → IsView con s view → IsLawfulView con view }
-{}
+{
+    laws_of_allotments();
+}
 
 /// In a lawful state each command is decided: there is a step.
 pub fn each_command_has_a_step()
     ensures decided { (setup : List Constituency) (s : State) (code : List ℕ) (con : Constituency) (view : View) (ask : Ask) → IsSetup setup → IsLawfulState setup s → constituency_with code setup ≡ Some con → IsView con s view → con_named ask ≡ Some code → (decided : Result ConChange Refusal) × Decides con view ask decided }
     ensures state { (setup : List Constituency) (s : State) (ask : Ask) → IsSetup setup → IsLawfulState setup s → (t : State) × (seen_as : Result Answer Refusal) × IsStepSeen setup s ask seen_as t }
-{}
+{
+    laws_of_allotments();
+}
 
 /// Where the checks before it pass and some list is eligible, Certify answers that a lot is missing
 /// exactly where the votes leave a choice and no lot stands, with the group and the seats in
@@ -57,7 +66,9 @@ pub fn each_command_has_a_step()
 pub fn a_missing_lot_is_told()
     ensures missing { (setup : List Constituency) (s t : State) (code : List ℕ) (con : Constituency) (view : View) (edition : ℕ) (r : Result Reply Refusal) → IsSetup setup → constituency_with code setup ≡ Some con → IsView con s view → first_refusal (count_checks view edition) ≡ None → HasEligible (poll_in con view) → IsStep setup s (Certify code edition) r t → ((group : List Bool) × (in_question : ℕ) × (r ≡ Err (LotMissing group in_question))) ↔ (IsLotNeeded (rule_in con) (poll_in con view) con.seats × (view.lot ≡ [])) }
     ensures told { (setup : List Constituency) (s t : State) (code : List ℕ) (con : Constituency) (view : View) (edition : ℕ) (r : Result Reply Refusal) (group : List Bool) (in_question : ℕ) → constituency_with code setup ≡ Some con → IsView con s view → IsStep setup s (Certify code edition) r t → r ≡ Err (LotMissing group in_question) → IsNeed (rule_in con) (poll_in con view) con.seats group in_question }
-{}
+{
+    laws_of_allotments();
+}
 
 /// In a run, from any state, no two equal commands act: where one acted, the same one at a later
 /// place did not, whatever comes between.
@@ -71,3 +82,19 @@ pub fn requests_that_do_not_act_can_be_left_out()
     ensures all { (setup : List Constituency) (s t : State) (asks : List Ask) (rs : List (Result Reply Refusal)) → IsRun setup s asks rs t → IsRun setup s (acting_asks asks rs) (filter is_act rs) t }
     ensures some { (setup : List Constituency) (s t : State) (asks : List Ask) (rs : List (Result Reply Refusal)) → IsRun setup s asks rs t → (keep : ℕ → Bool) → ((i : ℕ) (r : Result Reply Refusal) → slice_get rs i ≡ Some r → keep i ≡ false → is_act r ≡ false) → IsRun setup s (kept keep asks) (kept keep rs) t }
 {}
+
+/// The laws of allotments that the laws here rest on.
+fn laws_of_allotments()
+    ensures unique { AllotmentsAreUnique }
+    ensures exist { AllotmentsExist }
+    ensures orders_give { EachOrderGivesAChoice }
+    ensures groups { GroupsAreOfOneNumberOfVotes }
+    ensures either { VotesDecideOrALotIsNeeded }
+    ensures never_both { NoLotIsNeededWhereVotesDecide }
+{
+    allotment::allotments_are_unique();
+    allotment::allotments_exist();
+    allotment::each_order_gives_a_choice();
+    allotment::groups_are_of_one_number_of_votes();
+    allotment::votes_decide_or_a_lot_is_needed();
+}

@@ -530,3 +530,8 @@ ends_line-at bytes zero some within line = absurd (omega (arith, some))
 ends_line-at bytes (suc n) some within line =
     let one : suc n - 1 ≡ n = omega arith in
     ends_line-take bytes n (omega (arith, within)) (ap (λ k. is_line_end (get_or bytes k 0)) (sym one) ∙ line)
+
+-- a byte of which it is not true that it ends a line
+pub no-line_end : (b : Bool) → ¬ (b ≡ true) → b ≡ false
+no-line_end true never = absurd (never refl)
+no-line_end false never = refl

@@ -7,7 +7,8 @@ use Rattle.csv.specs.Machine.{next_record}
 use Rattle.csv.specs.Reading.{records, records_from, strip_bom}
 use Rattle.csv.specs.Records.{fields_of}
 use Rattle.tally_records.specs.Input.{AreAll, Gave, complete_records, without_last}
-use Rattle.tally_records.specs.Pieces.{Begun, Came, Fills, HasGiven, IsLast, IsPiece, IsReadingOn, IsRest, IsSpent, MayCome, ends_line, is_whole, piece_rows, to_come}
+use Rattle.tally_records.specs.Given.{Came, HasGiven, MayCome, to_come}
+use Rattle.tally_records.specs.Pieces.{Begun, Fills, HasGivenAt, IsLast, IsPiece, IsWorking, IsRest, IsSpent, ends_line, is_whole, piece_rows}
 use Rattle.tally_records.specs.Reading.{IsReading, rows_left}
 use Rattle.tally_records.specs.Separator.{separator, config}
 use Rattle.tally_records.specs.declared.end.Stop.{Stop}
@@ -15,7 +16,8 @@ use Rattle.tally_records.specs.declared.end.Stop.TheVariants.{TooLong, Read}
 use Rattle.tally_records.specs.declared.end.End.{End}
 use Rattle.tally_records.specs.declared.held.Held.{Held}
 use Rattle.tally_records.specs.declared.piece.Rest.{Rest}
-use Rattle.tally_records.specs.declared.records.Records.{Records}
+use Rattle.tally_records.specs.declared.work.Work.{Work}
+use Rattle.tally_records.specs.RecordsValue.{Records}
 use Rattle.tally_records.specs.declared.separator.Sep.{Sep}
 use Rattle.tally_records.specs.declared.separator.Sep.TheVariants.{Comma, Semicolon}
 use Rattle.tally_records.proofs.ComingLemmas.{gives, anew, more-behind, as-many, records-few, drop-next, next-dropped, without_last-drop}
@@ -65,21 +67,21 @@ gives-next sep (Some end) bytes piece k ahead fields left more stop line is may 
         (ap (λ t. drop k (complete_records sep t (Some fault))) whole ∙ without_last-drop k _ ∙ ap without_last (rows (Some fault) same)) in
         rw (may.1, same) here
 
-pub HasGiven-next : (text left : Option (List ℕ)) (given : List (List (List ℕ))) (old : Records) (rest : Rest) (fields : List (List ℕ)) (behind : List (List (List ℕ)))
-    → IsReadingOn old → rows_left old.rest.reader ≡ fields ∷ behind → HasGiven text left given old
-    → HasGiven text left (given ++ given_record (is_whole old.end) (fields_of old.rest.ahead) fields ∷ []) (record old { given = old.given + 1; rest = rest })
+pub HasGiven-next : (text left : Option (List ℕ)) (given : List (List (List ℕ))) (old : Work) (rest : Rest) (fields : List (List ℕ)) (behind : List (List (List ℕ)))
+    → IsWorking old → rows_left old.rest.reader ≡ fields ∷ behind → HasGivenAt text left given old
+    → HasGivenAt text left (given ++ given_record (is_whole old.end) (fields_of old.rest.ahead) fields ∷ []) (record old { given = old.given + 1; rest = rest })
 HasGiven-next text left given old rest fields behind reading is has = (
   has.0,
   has.1,
   λ more stop may.
       has.2 more stop may
-      ∙ ap (λ l. given ++ l) (gives-next old.sep old.end old.held.bytes.items old.piece old.given (fields_of old.rest.ahead) fields behind more stop reading.piece
+      ∙ ap (λ l. given ++ l) (gives-next old.sep old.end old.bytes.value.items old.piece old.given (fields_of old.rest.ahead) fields behind more stop reading.piece
       (rows (is_whole old.end) reading.rest) may)
       ∙ sym (append_assoc given (given_record (is_whole old.end) (fields_of old.rest.ahead) fields ∷ []) _),
 )
   where
-    rows : (whole : Bool) → IsRest whole (drop old.given (piece_rows old.sep old.end (take old.piece old.held.bytes.items))) old.rest
-        → drop old.given (piece_rows old.sep old.end (take old.piece old.held.bytes.items))
+    rows : (whole : Bool) → IsRest whole (drop old.given (piece_rows old.sep old.end (take old.piece old.bytes.value.items))) old.rest
+        → drop old.given (piece_rows old.sep old.end (take old.piece old.bytes.value.items))
         ≡ (if whole then fields ∷ behind else fields_of old.rest.ahead ∷ fields ∷ behind)
     rows true same = same ∙ is
     rows false same = same ∙ ap (λ l. fields_of old.rest.ahead ∷ l) is
@@ -104,13 +106,13 @@ spent-none sep end bytes piece k rest all last = go end.stop refl
         ap (λ h. drop k (complete_records sep (bytes ++ []) h)) same ∙ ap (λ t. drop k (complete_records sep t (Some fault))) (append-nil bytes)
         ∙ without_last-drop k _ ∙ ap without_last (were (Some fault) same)
 
-pub HasGiven-all : (text left : Option (List ℕ)) (given : List (List (List ℕ))) (r : Records) (end : End)
-    → IsSpent r → r.end ≡ Some end → HasGiven text left given r → AreAll r.sep text left given end.stop
+pub HasGiven-all : (text left : Option (List ℕ)) (given : List (List (List ℕ))) (r : Work) (end : End)
+    → IsSpent r → r.end ≡ Some end → HasGivenAt text left given r → AreAll r.sep text left given end.stop
 HasGiven-all None left given r end spent is has = tt
 HasGiven-all (Some t) left given r end spent is has =
     let may : MayCome r.end [] end.stop = subst (λ e. MayCome e [] end.stop) (sym is) (refl, refl) in
-    let none = spent-none r.sep end r.held.bytes.items r.piece r.given r.rest (subst (λ e. IsPiece e r.held.bytes.items r.piece) is spent.piece)
-    (subst (λ e. IsLast (is_whole e) (drop r.given (piece_rows r.sep e (take r.piece r.held.bytes.items))) r.rest) is spent.last) in (
+    let none = spent-none r.sep end r.bytes.value.items r.piece r.given r.rest (subst (λ e. IsPiece e r.bytes.value.items r.piece) is spent.piece)
+    (subst (λ e. IsLast (is_whole e) (drop r.given (piece_rows r.sep e (take r.piece r.bytes.value.items))) r.rest) is spent.last) in (
       has.0,
       subst (Came (Some t) left has.0 r.held.taken) is has.1,
       ap (λ b. complete_records r.sep b end.stop) (sym (append-nil has.0)) ∙ has.2 [] end.stop may ∙ ap (λ l. given ++ l) none ∙ append-nil given,
@@ -118,9 +120,9 @@ HasGiven-all (Some t) left given r end spent is has =
 
 -- ---- more of the input
 
-pub HasGiven-grown : (text old_left left : Option (List ℕ)) (given : List (List (List ℕ))) (old new : Records)
-    → old.end ≡ None → Fills old_left left old.held new.held new.end → new.sep ≡ old.sep → new.given ≡ old.given
-    → HasGiven text old_left given old → HasGiven text left given new
+pub HasGiven-grown : (text old_left left : Option (List ℕ)) (given : List (List (List ℕ))) (old new : Work)
+    → old.end ≡ None → Fills old_left left old.bytes.value.items old.held.taken new.bytes.value.items new.held.taken new.end → new.sep ≡ old.sep → new.given ≡ old.given
+    → HasGivenAt text old_left given old → HasGivenAt text left given new
 HasGiven-grown text old_left left given old new goes fills sep same has =
     let came = subst (Came text old_left has.0 old.held.taken) goes has.1 in (
       has.0 ++ fills.0,
@@ -130,9 +132,9 @@ HasGiven-grown text old_left left given old new goes fills sep same has =
           ∙ ap (λ b. complete_records old.sep b stop) (append_assoc has.0 fills.0 more)
           ∙ has.2 (fills.0 ++ more) stop (subst (λ e. MayCome e (fills.0 ++ more) stop) (sym goes) tt)
           ∙ ap (λ b. given ++ drop old.given (complete_records old.sep b stop))
-          (sym (append_assoc old.held.bytes.items fills.0 more) ∙ ap (λ b. b ++ more) (sym fills.1))
-          ∙ ap (λ k. given ++ drop k (complete_records old.sep (new.held.bytes.items ++ more) stop)) (sym same)
-          ∙ ap (λ s. given ++ drop new.given (complete_records s (new.held.bytes.items ++ more) stop)) (sym sep),
+          (sym (append_assoc old.bytes.value.items fills.0 more) ∙ ap (λ b. b ++ more) (sym fills.1))
+          ∙ ap (λ k. given ++ drop k (complete_records old.sep (new.bytes.value.items ++ more) stop)) (sym same)
+          ∙ ap (λ s. given ++ drop new.given (complete_records s (new.bytes.value.items ++ more) stop)) (sym sep),
     )
 
 anew-at : (sep : Sep) (piece : List ℕ) (k : ℕ) (rest : List ℕ) (stop : Option Stop)
@@ -141,15 +143,15 @@ anew-at : (sep : Sep) (piece : List ℕ) (k : ℕ) (rest : List ℕ) (stop : Opt
 anew-at sep [] k rest stop some line is = absurd (omega (arith, some))
 anew-at sep (c ∷ ys) k rest stop some line is = anew sep c ys k rest stop line is
 
-pub HasGiven-dropped : (text old_left left : Option (List ℕ)) (given : List (List (List ℕ))) (old new : Records) (middle : Held) (done : ℕ)
-    → old.end ≡ None → 0 < done → done ≤ length old.held.bytes.items
-    → ends_line (take done old.held.bytes.items) ≡ true → drop old.given (piece_rows old.sep None (take done old.held.bytes.items)) ≡ nothing ∷ []
-    → middle.bytes.items ≡ 10 ∷ drop done old.held.bytes.items → middle.taken ≡ old.held.taken
-    → Fills old_left left middle new.held new.end → new.sep ≡ old.sep → new.given ≡ 0
-    → HasGiven text old_left given old → HasGiven text left given new
+pub HasGiven-dropped : (text old_left left : Option (List ℕ)) (given : List (List (List ℕ))) (old new : Work) (middle : Held) (done : ℕ)
+    → old.end ≡ None → 0 < done → done ≤ length old.bytes.value.items
+    → ends_line (take done old.bytes.value.items) ≡ true → drop old.given (piece_rows old.sep None (take done old.bytes.value.items)) ≡ nothing ∷ []
+    → middle.bytes.items ≡ 10 ∷ drop done old.bytes.value.items → middle.taken ≡ old.held.taken
+    → Fills old_left left middle.bytes.items middle.taken new.bytes.value.items new.held.taken new.end → new.sep ≡ old.sep → new.given ≡ 0
+    → HasGivenAt text old_left given old → HasGivenAt text left given new
 HasGiven-dropped text old_left left given old new middle done goes some within line rows front taken fills sep none has =
     let came = subst (Came text old_left has.0 old.held.taken) goes has.1 in
-    let bytes = old.held.bytes.items in
+    let bytes = old.bytes.value.items in
     let size : 0 < length (take done bytes) = omega (arith, length-take-le done bytes within, some) in (
       has.0 ++ fills.0,
       fills.2 text has.0 came.0 (taken ∙ came.1),
@@ -161,8 +163,8 @@ HasGiven-dropped text old_left left given old new middle done goes some within l
           ∙ ap (λ b. given ++ drop old.given (complete_records old.sep b stop)) (append_assoc (take done bytes) (drop done bytes) (fills.0 ++ more))
           ∙ ap (λ l. given ++ l) (anew-at old.sep (take done bytes) old.given (drop done bytes ++ (fills.0 ++ more)) stop size line rows)
           ∙ ap (λ b. given ++ complete_records old.sep b stop) (ap (λ l. 10 ∷ l) (sym (append_assoc (drop done bytes) fills.0 more)) ∙ ap (λ b. b ++ more) (ap (λ b. b ++ fills.0) (sym front) ∙ sym fills.1))
-          ∙ ap (λ k. given ++ drop k (complete_records old.sep (new.held.bytes.items ++ more) stop)) (sym none)
-          ∙ ap (λ s. given ++ drop new.given (complete_records s (new.held.bytes.items ++ more) stop)) (sym sep),
+          ∙ ap (λ k. given ++ drop k (complete_records old.sep (new.bytes.value.items ++ more) stop)) (sym none)
+          ∙ ap (λ s. given ++ drop new.given (complete_records s (new.bytes.value.items ++ more) stop)) (sym sep),
     )
 
 -- ---- room for the records that were given
@@ -203,23 +205,23 @@ unfolding strip_bom records_from next_record
 Begun-none Comma bytes = (0, nothing, omega arith, refl, refl)
 Begun-none Semicolon bytes = (0, nothing, omega arith, refl, refl)
 
-pub Begun-spent : (r : Records) → IsSpent r → r.end ≡ None → Begun r.sep r.held.bytes.items r.given
+pub Begun-spent : (r : Work) → IsSpent r → r.end ≡ None → Begun r.sep r.bytes.value.items r.given
 Begun-spent r spent goes = (
   r.piece,
   fields_of r.rest.ahead,
   spent.within,
-  subst (λ e. IsPiece e r.held.bytes.items r.piece) goes spent.piece,
-  subst (λ e. IsLast (is_whole e) (drop r.given (piece_rows r.sep e (take r.piece r.held.bytes.items))) r.rest) goes spent.last,
+  subst (λ e. IsPiece e r.bytes.value.items r.piece) goes spent.piece,
+  subst (λ e. IsLast (is_whole e) (drop r.given (piece_rows r.sep e (take r.piece r.bytes.value.items))) r.rest) goes spent.last,
 )
 
-pub HasGiven-new : (old_left left : Option (List ℕ)) (held : Held) (r : Records)
-    → held.bytes.items ≡ [] → held.taken ≡ 0 → Fills old_left left held r.held r.end → r.given ≡ 0 → HasGiven old_left left [] r
+pub HasGiven-new : (old_left left : Option (List ℕ)) (held : Held) (r : Work)
+    → held.bytes.items ≡ [] → held.taken ≡ 0 → Fills old_left left held.bytes.items held.taken r.bytes.value.items r.held.taken r.end → r.given ≡ 0 → HasGivenAt old_left left [] r
 HasGiven-new old_left left held r none taken fills given = (
   fills.0,
   fills.2 old_left [] (consumes old_left) taken,
   λ more stop may.
       ap (λ b. complete_records r.sep (b ++ more) stop) (sym (fills.1 ∙ ap (λ b. b ++ fills.0) none))
-      ∙ ap (λ k. drop k (complete_records r.sep (r.held.bytes.items ++ more) stop)) (sym given),
+      ∙ ap (λ k. drop k (complete_records r.sep (r.bytes.value.items ++ more) stop)) (sym given),
 )
   where
     consumes : (text : Option (List ℕ)) → Consumes text text []
@@ -235,33 +237,35 @@ rows-next true k rows old new fields rest is ahead = drop-next k rows fields _ (
 rows-next false k rows old new fields rest is ahead =
     drop-next k rows (fields_of old.ahead) _ (rest ∙ ap (λ l. fields_of old.ahead ∷ l) (is ∙ ap (λ f. f ∷ rows_left new.reader) (sym (ahead refl))))
 
-pub IsReadingOn-next : (old : Records) (rest : Rest) (fields : List (List ℕ))
-    → IsReadingOn old → IsReading rest.reader → rows_left old.rest.reader ≡ fields ∷ rows_left rest.reader → (is_whole old.end ≡ false → fields_of rest.ahead ≡ fields)
-    → IsReadingOn (record old { given = old.given + 1; rest = rest })
+pub IsReadingOn-next : (old : Work) (rest : Rest) (fields : List (List ℕ))
+    → IsWorking old → IsReading rest.reader → rows_left old.rest.reader ≡ fields ∷ rows_left rest.reader → (is_whole old.end ≡ false → fields_of rest.ahead ≡ fields)
+    → IsWorking (record old { given = old.given + 1; rest = rest })
 IsReadingOn-next old rest fields reading reader is ahead = record {
   reading = reader;
-  rest = rows-next (is_whole old.end) old.given (piece_rows old.sep old.end (take old.piece old.held.bytes.items)) old.rest rest fields reading.rest is ahead;
+  rest = rows-next (is_whole old.end) old.given (piece_rows old.sep old.end (take old.piece old.bytes.value.items)) old.rest rest fields reading.rest is ahead;
   piece = reading.piece;
   within = reading.within;
   limit = reading.limit;
+  held = reading.held;
+  few = reading.few;
 }
 
 -- no more records were given than bytes are held, but for two
-pub given-few : (r : Records) (fields : List (List ℕ)) (left : List (List (List ℕ))) → IsReadingOn r → rows_left r.rest.reader ≡ fields ∷ left
-    → r.given ≤ length r.held.bytes.items + 2
+pub given-few : (r : Work) (fields : List (List ℕ)) (left : List (List (List ℕ))) → IsWorking r → rows_left r.rest.reader ≡ fields ∷ left
+    → r.given ≤ length r.bytes.value.items + 2
 given-few r fields left reading is = go (is_whole r.end) reading.rest
   where
     piece : List ℕ
-    piece = take r.piece r.held.bytes.items
+    piece = take r.piece r.bytes.value.items
 
     text : Bool → List ℕ
     text whole = if whole then piece else piece ++ separator r.sep ∷ []
 
-    few : (whole : Bool) → length (text whole) ≤ length r.held.bytes.items + 1
-    few true = omega (arith, length-take-le r.piece r.held.bytes.items reading.within, reading.within)
-    few false = omega (arith, length-take-le r.piece r.held.bytes.items reading.within, reading.within, length-append piece (separator r.sep ∷ []))
+    few : (whole : Bool) → length (text whole) ≤ length r.bytes.value.items + 1
+    few true = omega (arith, length-take-le r.piece r.bytes.value.items reading.within, reading.within)
+    few false = omega (arith, length-take-le r.piece r.bytes.value.items reading.within, reading.within, length-append piece (separator r.sep ∷ []))
 
-    go : (whole : Bool) → IsRest whole (drop r.given (records (config r.sep) (strip_bom (text whole)))) r.rest → r.given ≤ length r.held.bytes.items + 2
+    go : (whole : Bool) → IsRest whole (drop r.given (records (config r.sep) (strip_bom (text whole)))) r.rest → r.given ≤ length r.bytes.value.items + 2
     go true rest = omega (arith, few true, records-few r.sep (text true), ap length (rest ∙ is), length-drop r.given (records (config r.sep) (strip_bom (text true))))
     go false rest = omega (arith, few false, records-few r.sep (text false), ap length rest, length-drop r.given (records (config r.sep) (strip_bom (text false))))
 
@@ -279,14 +283,14 @@ pub HasGiven-partly : (r : Records) → Partly r
 HasGiven-partly r = go r.end refl
   where
     at : (end : Option End) (how : Option Stop) → r.end ≡ end → MayCome end [] how
-        → ((t : List ℕ) (left : Option (List ℕ)) (bytes : List ℕ) → Came (Some t) left bytes r.held.taken end → Gave t left bytes how) → Partly r
+        → ((t : List ℕ) (left : Option (List ℕ)) (bytes : List ℕ) → Came (Some t) left bytes r.taken end → Gave t left bytes how) → Partly r
     at end how is may gave = (to_come r [] how, how, all)
       where
         all : (text left : Option (List ℕ)) (given : List (List (List ℕ))) → HasGiven text left given r → AreAll r.sep text left (given ++ to_come r [] how) how
         all None left given has = tt
         all (Some t) left given has = (
           has.0,
-          gave t left has.0 (subst (Came (Some t) left has.0 r.held.taken) is has.1),
+          gave t left has.0 (subst (Came (Some t) left has.0 r.taken) is has.1),
           ap (λ b. complete_records r.sep b how) (sym (append-nil has.0)) ∙ has.2 [] how (subst (λ e. MayCome e [] how) (sym is) may),
         )
 

@@ -1,4 +1,7 @@
 pub mod Separator
+pub mod Watch
 pub mod Input
 pub mod Reading
 pub mod Pieces
+pub mod RecordsValue
+pub mod Given

@@ -6,10 +6,12 @@ use Rattle.csv.specs.Records.{fields_of}
 use Rattle.tally_records.specs.Input.{Gave, complete_records, size_limit}
 use Rattle.tally_records.specs.Reading.{IsReading, rows_left}
 use Rattle.tally_records.specs.Separator.{separator, config}
+use Rattle.tally_records.specs.Watch.{IsEnd}
 use Rattle.tally_records.specs.declared.end.Stop.{Stop}
 use Rattle.tally_records.specs.declared.end.End.{End}
-use Rattle.tally_records.specs.declared.held.Held.{Held}
-use Rattle.tally_records.specs.declared.records.Records.{Records}
+use Rattle.tally_records.specs.declared.work.Work.{Work}
+use Rattle.tally_records.specs.Given.{Came, HasGiven}
+use Rattle.tally_records.specs.RecordsValue.{Records}
 use Rattle.tally_records.specs.declared.piece.Rest.{Rest}
 use Rattle.tally_records.specs.declared.separator.Sep.{Sep}
 
@@ -25,15 +27,10 @@ ends_line (c ∷ d ∷ rest) = ends_line (d ∷ rest)
 
 -- ---- the input
 
--- These bytes came of a text, as many as were counted; where it ended, they are what it gave.
-abbrev pub Came : Option (List ℕ) → Option (List ℕ) → List ℕ → ℕ → Option End → Type 0
-Came text left bytes count None = Consumes text left bytes × (count ≡ length bytes) × (count ≤ size_limit)
-Came text left bytes count (Some end) = IfSome text (λ t. Gave t left bytes end.stop)
-
--- What a read did: these bytes came, and are held behind those that were.
-abbrev pub Fills : Option (List ℕ) → Option (List ℕ) → Held → Held → Option End → Type 0
-Fills old_left left old new end = (came : List ℕ) × (new.bytes.items ≡ old.bytes.items ++ came)
-    × ((text : Option (List ℕ)) (bytes : List ℕ) → Consumes text old_left bytes → old.taken ≡ length bytes → Came text left (bytes ++ came) new.taken end)
+-- What a read did: these bytes came, and are held behind those that were. Of each, the bytes that are held and how many the input gave.
+abbrev pub Fills : Option (List ℕ) → Option (List ℕ) → List ℕ → ℕ → List ℕ → ℕ → Option End → Type 0
+Fills old_left left old old_taken new new_taken end = (came : List ℕ) × (new ≡ old ++ came)
+    × ((text : Option (List ℕ)) (bytes : List ℕ) → Consumes text old_left bytes → old_taken ≡ length bytes → Came text left (bytes ++ came) new_taken end)
 
 -- ---- the records of a piece
 
@@ -41,6 +38,10 @@ Fills old_left left old new end = (came : List ℕ) × (new.bytes.items ≡ old.
 abbrev pub is_whole : Option End → Bool
 is_whole None = false
 is_whole (Some end) = is_none end.stop
+
+-- the records of a text
+abbrev pub text_rows : Sep → List ℕ → List (List (List ℕ))
+text_rows sep text = records (config sep) (strip_bom text)
 
 -- The records of a piece: behind it a further field is begun, unless the input ended of itself there.
 abbrev pub piece_rows : Sep → Option End → List ℕ → List (List (List ℕ))
@@ -57,12 +58,14 @@ IsPiece None bytes piece = ends_line (take piece bytes) ≡ true
 IsPiece (Some end) bytes piece = take piece bytes ≡ bytes
 
 -- the records of an input, at work
-pub record IsReadingOn (r : Records) : Type 0 where
+pub record IsWorking (r : Work) : Type 0 where
   pub reading : IsReading r.rest.reader
-  pub rest : IsRest (is_whole r.end) (drop r.given (piece_rows r.sep r.end (take r.piece r.held.bytes.items))) r.rest
-  pub piece : IsPiece r.end r.held.bytes.items r.piece
-  pub within : r.piece ≤ length r.held.bytes.items
+  pub rest : IsRest (is_whole r.end) (drop r.given (piece_rows r.sep r.end (take r.piece r.bytes.value.items))) r.rest
+  pub piece : IsPiece r.end r.bytes.value.items r.piece
+  pub within : r.piece ≤ length r.bytes.value.items
   pub limit : r.end ≡ None → r.held.taken ≤ size_limit
+  pub held : r.end ≡ None → r.held.bytes.items ≡ r.bytes.value.items
+  pub few : length r.bytes.value.items ≤ r.held.taken + 1
 
 -- What is left where the reader gives no more: the record ahead, or nothing where the input ended of itself.
 abbrev pub IsLast : Bool → List (List (List ℕ)) → Rest → Type 0
@@ -70,11 +73,13 @@ IsLast true rows rest = rows ≡ []
 IsLast false rows rest = rows ≡ fields_of rest.ahead ∷ []
 
 -- the records of an input, behind all that their piece has
-pub record IsSpent (r : Records) : Type 0 where
-  pub last : IsLast (is_whole r.end) (drop r.given (piece_rows r.sep r.end (take r.piece r.held.bytes.items))) r.rest
-  pub piece : IsPiece r.end r.held.bytes.items r.piece
-  pub within : r.piece ≤ length r.held.bytes.items
+pub record IsSpent (r : Work) : Type 0 where
+  pub last : IsLast (is_whole r.end) (drop r.given (piece_rows r.sep r.end (take r.piece r.bytes.value.items))) r.rest
+  pub piece : IsPiece r.end r.bytes.value.items r.piece
+  pub within : r.piece ≤ length r.bytes.value.items
   pub limit : r.end ≡ None → r.held.taken ≤ size_limit
+  pub held : r.end ≡ None → r.held.bytes.items ≡ r.bytes.value.items
+  pub few : length r.bytes.value.items ≤ r.held.taken + 1
 
 -- These bytes are held since the last line behind which nothing was given, and so many of their records were given: another one is begun behind those.
 abbrev pub Begun : Sep → List ℕ → ℕ → Type 0
@@ -86,25 +91,14 @@ abbrev pub size_left : Option End → ℕ → ℕ → ℕ
 size_left None taken held = 2 * (16777217 - taken) + held + 1
 size_left (Some end) taken held = 0
 
-abbrev pub left_size : Records → ℕ
+abbrev pub left_size : Work → ℕ
 left_size r = size_left r.end r.held.taken (length r.held.bytes.items)
 
--- ---- the records of the input
+-- ---- as contracts see them
 
--- what may still come
-abbrev pub MayCome : Option End → List ℕ → Option Stop → Type 0
-MayCome None more stop = ⊤
-MayCome (Some end) more stop = (more ≡ []) × (stop ≡ end.stop)
+-- the records, and whether more of them can be asked for
+abbrev pub shown : Work → Bool → Records
+shown work at_work = record { sep = work.sep; bytes = work.bytes.value.items; given = work.given; taken = work.held.taken; end = work.end; at_work = at_work }
 
--- the records still to be given, where these bytes come and then the end, or what stops the input
-abbrev pub to_come : Records → List ℕ → Option Stop → List (List (List ℕ))
-to_come r more stop = drop r.given (complete_records r.sep (r.held.bytes.items ++ more) stop)
-
--- Of this text the records given so far were given.
-abbrev pub HasGiven : Option (List ℕ) → Option (List ℕ) → List (List (List ℕ)) → Records → Type 0
-HasGiven text left given r = (bytes : List ℕ) × Came text left bytes r.held.taken r.end
-    × ((more : List ℕ) (stop : Option Stop) → MayCome r.end more stop → complete_records r.sep (bytes ++ more) stop ≡ given ++ to_come r more stop)
-
--- what stands between two fields
-abbrev pub sep_of : Records → Sep
-sep_of r = r.sep
+abbrev pub HasGivenAt : Option (List ℕ) → Option (List ℕ) → List (List (List ℕ)) → Work → Type 0
+HasGivenAt text left given work = HasGiven text left given (shown work true)

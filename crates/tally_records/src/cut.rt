@@ -10,6 +10,7 @@ use crate::fields::field;
 use crate::reading::{next_record, pass_over, records_in};
 use crate::separator::Sep;
 use csv::ByteRecord;
+use memchr::memrchr2;
 use std::alloc::{AllocError, Global};
 
 /// Whether an input ended of itself.
@@ -33,12 +34,10 @@ pub(crate) fn piece_size(bytes: &[u8], end: Option<End>) -> usize
     if end.is_some() {
         return len;
     }
-    for behind in 0..len {
-        if is_line_end(bytes[len - behind - 1]) {
-            return len - behind;
-        }
+    match memrchr2(b'\r', b'\n', bytes) {
+        Some(place) => place + 1,
+        None => 0,
     }
-    0
 }
 
 /// Whether a byte ends a line.
@@ -93,23 +92,27 @@ pub(crate) fn given_size(
     }
 }
 
-/// The text of a piece. Unless the input ended of itself, a field is begun behind it, so that the
-/// last record is the one that may go on.
-pub(crate) fn piece_text(
-    alloc: Global,
-    piece: &[u8],
-    sep: Sep,
-    is_whole: bool,
-) -> Result<Vec<u8>, AllocError>
-    ensures { IfOk result (λ text. text.items ≡ (if is_whole then piece.now else piece.now ++ separator sep ∷ [])) }
+/// The text of a piece: behind it a field is begun, so that the last record is the one that may go
+/// on.
+pub(crate) fn piece_text(alloc: Global, piece: &[u8], sep: Sep) -> Result<Vec<u8>, AllocError>
+    ensures { IfOk result (λ text. text.items ≡ piece.now ++ separator sep ∷ []) }
 {
     let mut text = Vec::with_capacity(alloc, piece.len().saturating_add(1))?;
     text.extend_from_slice(piece)?;
-    if is_whole {
-        return Ok(text);
-    }
     text.push(sep.byte())?;
     Ok(text)
+}
+
+/// The text of the last piece, of which no copy is made: a field is begun behind it unless the
+/// input ended of itself.
+pub(crate) fn last_text(mut bytes: Vec<u8>, sep: Sep, is_whole: bool) -> Result<Vec<u8>, AllocError>
+    ensures { IfOk result (λ text. text.items ≡ (if is_whole then bytes.items else bytes.items ++ separator sep ∷ [])) }
+{
+    if is_whole {
+        return Ok(bytes);
+    }
+    bytes.push(sep.byte())?;
+    Ok(bytes)
 }
 
 /// Whether the first `given` records of a text are all that it has, and a line ended behind them.
@@ -117,7 +120,7 @@ fn is_given(alloc: Global, front: &[u8], sep: Sep, given: usize) -> Result<bool,
     ensures given { IfOk result (λ all. all ≡ true → drop given (piece_rows sep None front.now) ≡ ([] ∷ [] ∷ []) ∷ []) }
     ensures found { IfOk result (λ all. drop given (piece_rows sep None front.now) ≡ ([] ∷ [] ∷ []) ∷ [] → all ≡ true) }
 {
-    let mut reader = records_in(alloc, piece_text(alloc, front, sep, false)?, sep);
+    let mut reader = records_in(alloc, piece_text(alloc, front, sep)?, sep);
     let mut record = ByteRecord::new(alloc);
     if !pass_over(&mut reader, &mut record, given)? {
         return Ok(false);

@@ -3,14 +3,18 @@
 ghost use Rattle.std.specs.Prelude.{◌≡◌, ◌+◌, ◌<◌, ◌≤◌, ◌∷◌, [], drop, length, vec_len, IfOk, OnOk, None, Some};
 
 use crate::end::{End, Stop};
+use crate::watch::Watch;
 use std::alloc::{AllocError, Global};
 use std::io::Read;
 
 /// The most bytes that an input may have: 16 MiB.
 const SIZE_LIMIT: usize = 16_777_216;
 
-/// How many bytes are asked for at a time.
-const READ_SIZE: usize = 65_536;
+/// How many bytes are asked for at a time. They come by way of the stack.
+const READ_SIZE: usize = 16_384;
+
+/// The room that is made for the bytes which are held on.
+const ROOM: usize = 65_538;
 
 /// Bytes of an input that are still needed.
 #[derive(Drop)]
@@ -24,6 +28,7 @@ pub(crate) struct Held {
 
 impl Held {
     ghost use Rattle.tally_records.specs.Pieces.{Fills};
+    ghost use Rattle.tally_records.specs.Watch.{IsEnd, has_failed};
 
     /// No byte.
     pub(crate) fn new(alloc: Global) -> Held
@@ -41,20 +46,22 @@ impl Held {
     pub(crate) fn fill<R: Read>(
         &mut self,
         input: &mut R,
+        watch: &mut Watch<R>,
         size: usize,
     ) -> Result<Option<End>, AllocError>
         requires { self.old.taken ≤ 16777216 }
-        ensures fills { IfOk result (λ end. Fills (R.remaining input.old) (R.remaining input.new) self.old self.new end) }
+        ensures fills { IfOk result (λ end. Fills (R.remaining input.old) (R.remaining input.new) self.old.bytes.items self.old.taken self.new.bytes.items self.new.taken end) }
         ensures size { IfOk result (λ end. end ≡ None → size ≤ length self.new.bytes.items) }
         ensures count { IfOk result (λ end. end ≡ None → self.new.taken + length self.old.bytes.items ≡ self.old.taken + length self.new.bytes.items) }
         ensures limit { IfOk result (λ end. end ≡ None → self.new.taken ≤ 16777216) }
+        ensures failed { IfOk result (λ end. IsEnd end (has_failed watch.new)) }
     {
         let mut buffer = [0; READ_SIZE];
         while self.bytes.len() < size && self.taken <= SIZE_LIMIT {
             let wanted = READ_SIZE
                 .min(size - self.bytes.len())
                 .min(SIZE_LIMIT + 1 - self.taken);
-            match input.read(&mut buffer[..wanted]) {
+            match watch.read(input, &mut buffer[..wanted]) {
                 Ok(0) => return Ok(Some(End { stop: None })),
                 Ok(came) => {
                     self.bytes.extend_from_slice(&buffer[..came])?;
@@ -83,7 +90,7 @@ impl Held {
         ensures bytes { OnOk result (self.new.bytes.items ≡ 10 ∷ drop count self.old.bytes.items) }
         ensures taken { OnOk result (self.new.taken ≡ self.old.taken) }
     {
-        let mut bytes = Vec::with_capacity(alloc, READ_SIZE)?;
+        let mut bytes = Vec::with_capacity(alloc, ROOM)?;
         bytes.push(b'\n')?;
         bytes.extend_from_slice(&self.bytes[count..])?;
         self.bytes = bytes;

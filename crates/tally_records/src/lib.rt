@@ -10,8 +10,11 @@ mod piece;
 mod reading;
 mod records;
 mod separator;
+mod watch;
+mod work;
 
 pub use end::{End, Stop};
 pub use fields::field;
 pub use records::Records;
 pub use separator::Sep;
+pub use watch::Watch;

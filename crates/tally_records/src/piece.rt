@@ -4,8 +4,6 @@ ghost use Rattle.std.specs.Prelude.{◌≡◌, ◌≤◌, ◌<◌, ◌&&◌, ◌
 ghost use Rattle.csv.specs.Records.{fields_of};
 ghost use Rattle.tally_records.specs.Reading.{IsReading};
 
-use crate::cut::{ended_itself, piece_text};
-use crate::end::End;
 use crate::reading::{next_record, pass_over, records_in};
 use crate::separator::Sep;
 use csv::{ByteRecord, Reader};
@@ -20,23 +18,21 @@ pub(crate) struct Rest {
 }
 
 impl Rest {
-    ghost use Rattle.tally_records.specs.Pieces.{IsRest, is_whole, piece_rows};
+    ghost use Rattle.tally_records.specs.Pieces.{IsRest, text_rows};
 
-    /// The records of a piece behind the first `given`, which it has.
+    /// The records of a piece's text behind the first `given`, which it has.
     pub(crate) fn new(
         alloc: Global,
-        piece: &[u8],
+        text: Vec<u8>,
         sep: Sep,
-        end: Option<End>,
+        is_whole: bool,
         given: usize,
     ) -> Result<Rest, AllocError>
-        requires some { is_whole end ≡ false → given < length (piece_rows sep end piece.now) }
-        requires whole { is_whole end ≡ true → given ≤ length (piece_rows sep end piece.now) }
+        requires some { is_whole ≡ false → given < length (text_rows sep text.items) }
+        requires whole { is_whole ≡ true → given ≤ length (text_rows sep text.items) }
         ensures reading { IfOk result (λ rest. IsReading rest.reader) }
-        ensures rest { IfOk result (IsRest (is_whole end) (drop given (piece_rows sep end piece.now))) }
+        ensures rest { IfOk result (IsRest is_whole (drop given (text_rows sep text.items))) }
     {
-        let is_whole = ended_itself(end);
-        let text = piece_text(alloc, piece, sep, is_whole)?;
         let mut reader = records_in(alloc, text, sep);
         let mut ahead = ByteRecord::new(alloc);
         if !pass_over(&mut reader, &mut ahead, given)? {

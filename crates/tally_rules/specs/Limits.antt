@@ -1,5 +1,6 @@
 -- The limits that a setup keeps.
 use Rattle.std.specs.Prelude.{◌≡◌, ◌≤◌, true, List, length, All}
+use Rattle.tally_frac.specs.Limits.{most_lists, most_seats}
 use Rattle.tally_rules.specs.Codes.{AreDistinct}
 use Rattle.tally_rules.specs.Constituency.{Constituency, ListEntry, list_codes}
 use Rattle.tally_rules.specs.Setup.{constituency_codes, all_station_codes}
@@ -27,10 +28,10 @@ pub record IsStation (station : Station) : Type 0 where
 pub record IsConstituency (con : Constituency) : Type 0 where
   pub name : is_name con.name ≡ true
   pub some_seat : 1 ≤ con.seats
-  pub seats : con.seats ≤ 500
+  pub seats : con.seats ≤ most_seats
   pub profile : IsProfile con.profile
   pub some_list : 1 ≤ length con.lists
-  pub lists : length con.lists ≤ 60
+  pub lists : length con.lists ≤ most_lists
   pub each_list : All IsListEntry con.lists
   pub codes : AreDistinct (list_codes con.lists)
   pub some_station : 1 ≤ length con.stations

@@ -6,6 +6,7 @@ use Rattle.std.specs.Option.{ok_or, option_and_then}
 use Rattle.std.specs.Str.{is_utf8, bytes_eq}
 use Rattle.toml.specs.Data.{Data, Items, no_items, item, table, get, as_str, as_integer, as_array, as_table}
 use Rattle.toml.specs.Parse.{parse_document}
+use Rattle.tally_frac.specs.Limits.{most_lists, most_seats}
 use Rattle.tally_rules.specs.Code.{code_of}
 use Rattle.tally_rules.specs.Codes.{is_among}
 use Rattle.tally_rules.specs.Constituency.{Constituency, ListEntry, list_codes, station_codes}
@@ -15,8 +16,10 @@ use Rattle.tally_rules.specs.Text.{is_name}
 use Rattle.tally_rules.specs.declared.constituency.Station.{Station}
 use Rattle.tally_rules.specs.declared.profile.Base.{Base}
 use Rattle.tally_rules.specs.declared.profile.Base.TheVariants.{Valid, Lists}
+use Rattle.tally_rules.specs.declared.profile.LotRule.{LotRule}
+use Rattle.tally_rules.specs.declared.profile.LotRule.TheVariants.{Fixed, Alternating}
 use Rattle.tally_rules.specs.declared.profile.Method.{Method}
-use Rattle.tally_rules.specs.declared.profile.Method.TheVariants.{DHondt, SainteLague, Hare}
+use Rattle.tally_rules.specs.declared.profile.Method.TheVariants.{DHondt, SainteLague, ModifiedSainteLague, Hare}
 use Rattle.tally_rules.specs.declared.profile.Profile.{Profile}
 
 -- one step after another, as far as the first fault
@@ -77,6 +80,7 @@ abbrev pub method_named : List ℕ → Option Method
 method_named word =
     if bytes_eq word (codes "dhondt") then Some DHondt
     else if bytes_eq word (codes "sainte-lague") then Some SainteLague
+    else if bytes_eq word (codes "modified-sainte-lague") then Some ModifiedSainteLague
     else if bytes_eq word (codes "hare") then Some Hare
     else None
 
@@ -96,6 +100,18 @@ unfoldable pub base_of : Data → Result Base Fault
 base_of entry = do
   word ← text_at (codes "base") entry
   ok_or (base_named word) (bad_value (codes "base"))
+
+-- `lot`, which may be absent: lots are fixed then
+abbrev pub lot_rule_named : List ℕ → Option LotRule
+lot_rule_named word =
+    if bytes_eq word (codes "fixed") then Some Fixed
+    else if bytes_eq word (codes "alternating") then Some Alternating
+    else None
+
+unfoldable pub lot_rule_of : Data → Result LotRule Fault
+lot_rule_of entry =
+    if is_some (get (codes "lot") entry) then (text_at (codes "lot") entry >>= (λ word. ok_or (lot_rule_named word) (bad_value (codes "lot"))))
+    else Ok Fixed
 
 -- ---- arrays
 
@@ -139,7 +155,8 @@ profile_entry taken entry = do
   method ← method_of entry
   threshold ← number_at (codes "threshold") 0 10000 entry
   base ← base_of entry
-  Ok (code, record { method = method; threshold = threshold; base = base })
+  lot ← lot_rule_of entry
+  Ok (code, record { method = method; threshold = threshold; base = base; lot = lot })
 
 -- `candidates`
 unfoldable pub candidates_of : Data → Result (List (List ℕ)) Fault
@@ -158,7 +175,7 @@ list_entry taken entry = do
 -- `list`
 unfoldable pub lists_of : Data → Result (List ListEntry) Fault
 lists_of entry = do
-  entries ← array_at is_table (codes "list") 60 entry
+  entries ← array_at is_table (codes "list") most_lists entry
   in_turn (λ before. list_entry (list_codes before)) [] entries
 
 -- an entry of `station`
@@ -183,7 +200,7 @@ unfoldable pub constituency_entry : List (List ℕ × Profile) → List (List �
 constituency_entry profiles taken stations_taken entry = do
   code ← new_code taken entry
   name ← name_of entry
-  seats ← number_at (codes "seats") 1 500 entry
+  seats ← number_at (codes "seats") 1 most_seats entry
   profile_code ← code_at (codes "profile") entry
   profile ← ok_or (profile_with profile_code profiles) unknown_profile
   lists ← lists_of entry

@@ -1,5 +1,6 @@
 -- Which lists take part in the allotment: LOREG article 163.1 a), with article 96.5 for the valid votes.
 use Rattle.std.specs.Prelude.{ℕ, ◌+◌, ◌*◌, ◌≤◌, Bool, ◌&&◌, nat_lt, nat_le, List, map, sum}
+use Rattle.tally_frac.specs.Limits.{most_votes}
 use Rattle.tally_rules.specs.declared.profile.Base.{Base}
 use Rattle.tally_rules.specs.declared.profile.Base.TheVariants.{Valid, Lists}
 use Rattle.tally_rules.specs.declared.profile.Profile.{Profile}
@@ -19,4 +20,4 @@ eligible_lists profile votes blank = map (is_eligible profile.threshold (base_of
 
 -- the most votes that a constituency has, those of its lists and the blank ones together
 abbrev pub IsWithinVotes : List ℕ → ℕ → Type 0
-IsWithinVotes votes blank = sum votes + blank ≤ 5000000000
+IsWithinVotes votes blank = sum votes + blank ≤ most_votes

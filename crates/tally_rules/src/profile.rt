@@ -7,6 +7,8 @@ pub enum Method {
     DHondt,
     /// Division by 1, 3, 5 and so on, also Webster's method.
     SainteLague,
+    /// Division by 1.4, 3, 5 and so on, the first divisor of the Scandinavian election laws.
+    ModifiedSainteLague,
     /// Whole quotas and then the greatest remainders, also Hamilton's method.
     Hare,
 }
@@ -20,6 +22,16 @@ pub enum Base {
     Lists,
 }
 
+/// How the order of a lot decides among lists whose quotients and votes are equal.
+#[derive(Clone, Copy, Debug, PartialEq, Eq)]
+pub enum LotRule {
+    /// The order of the lot decides every tie.
+    Fixed,
+    /// Where the seat that lists tie for is an even one of theirs, the second, the fourth and so
+    /// on, the order of the lot is turned round. Hare's method reads it as fixed.
+    Alternating,
+}
+
 /// The rule of allotment of a constituency.
 #[derive(Clone, Copy, Debug, PartialEq, Eq)]
 pub struct Profile {
@@ -30,4 +42,6 @@ pub struct Profile {
     pub threshold: u32,
     /// The votes that the threshold is a part of.
     pub base: Base,
+    /// How a lot decides.
+    pub lot: LotRule,
 }

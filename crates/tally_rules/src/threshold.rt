@@ -1,7 +1,8 @@
 //! The threshold.
 
 ghost use Rattle.std.specs.Prelude.{◌≡◌, ◌≤◌, IfOk};
-ghost use Rattle.tally_rules.specs.Threshold.{base_of, eligible_lists, IsWithinVotes};
+ghost use Rattle.tally_frac.specs.Limits.{most_votes};
+ghost use Rattle.tally_rules.specs.Threshold.{base_of, eligible_lists, is_eligible, IsWithinVotes};
 
 use crate::profile::{Base, Profile};
 use std::alloc::{AllocError, Global};
@@ -23,15 +24,27 @@ pub fn eligible(
     let base = base_of(profile.base, votes, blank);
     let mut lists = Vec::with_capacity(alloc, votes.len())?;
     for list in votes {
-        lists.push(*list > 0 && is_at_least(*list, profile.threshold, base))?;
+        lists.push(is_eligible(*list, profile.threshold, base))?;
     }
     Ok(lists)
 }
 
-fn base_of(base: Base, votes: &[u64], blank: u64) -> u64
+/// Whether a list of so many votes takes part: it has a vote, and its votes are at least
+/// `threshold` ten-thousandths of the base. Votes and base are up to 5,000,000,000.
+pub fn is_eligible(votes: u64, threshold: u32, base: u64) -> bool
+    requires few_votes { votes ≤ most_votes }
+    requires few_in_base { base ≤ most_votes }
+    requires threshold { threshold ≤ 10000 }
+    ensures { result ≡ is_eligible threshold base votes }
+{
+    votes > 0 && is_at_least(votes, threshold, base)
+}
+
+/// The votes that a threshold is a part of: those of the lists, and under `Valid` the blank ones.
+pub fn base_of(base: Base, votes: &[u64], blank: u64) -> u64
     requires { IsWithinVotes votes.now blank }
     ensures value { result ≡ base_of base votes.now blank }
-    ensures limit { result ≤ 5000000000 }
+    ensures limit { result ≤ most_votes }
 {
     let total = votes.iter().sum::<u64>();
     match base {

@@ -45,6 +45,7 @@ method = "dhondt" =>  => `method` is missing
 "dhondt" => "DHondt" => `method` has a wrong value
 "dhondt" => 1979-05-27 => `method` has a wrong value
 "dhondt" => "sainte-lague" => read
+"dhondt" => "modified-sainte-lague" => read
 "dhondt" => "hare" => read
 threshold = 0 =>  => `threshold` is missing
 threshold = 0 => threshold = 10000 => read
@@ -95,6 +96,11 @@ profile = [{}] => `code` is missing
 profile = [{code = "a", method = 1, threshold = -1, base = 1}] => `method` has a wrong value
 profile = [{code = "a", method = "hare", threshold = -1, base = 1}] => `threshold` has a wrong value
 profile = [{code = "a", method = "hare", threshold = 0, base = "lists"}, {code = "a"}] => the code `a` stands twice
+profile = [{code = "a", method = "hare", threshold = 0, base = 1, lot = "coin"}] => `base` has a wrong value
+profile = [{code = "a", method = "hare", threshold = 0, base = "lists", lot = "Fixed"}] => `lot` has a wrong value
+profile = [{code = "a", method = "hare", threshold = 0, base = "lists", lot = true}] => `lot` has a wrong value
+profile = [{code = "a", method = "hare", threshold = 0, base = "lists", lot = "fixed"}] => `constituency` is missing
+[[ => not TOML
 constituency = [] => `profile` is missing"#;
 
 /// Texts that follow a good profile.
@@ -170,8 +176,13 @@ fn shown_rule(alloc: Global, con: &Constituency) -> Result<String, Fail> {
         method,
         threshold,
         base,
+        lot,
     } = con.profile;
-    writeln!(text, "{} {method:?} {threshold} {base:?}", con.profile_code)?;
+    writeln!(
+        text,
+        "{} {method:?} {threshold} {base:?} {lot:?}",
+        con.profile_code
+    )?;
     Ok(text)
 }
 
@@ -196,7 +207,7 @@ fn setup(alloc: Global, text: &str) -> Result<Setup, Fail> {
 
 const SHOWN: &str = "\
 c1 Twin Town, 3 seats
-d0 DHondt 0 Valid
+d0 DHondt 0 Valid Fixed
 A Alpha: Ana Abel
 B Beta: Bea
 s1 300
@@ -211,6 +222,22 @@ fn the_example_is_read(rt: HostRuntime) -> Result<(), Fail> {
         text.push_str(shown_copy(alloc, con)?.as_str())?;
     }
     assert!(rt; text.as_str() == SHOWN);
+    Ok(())
+}
+
+#[test]
+fn a_profile_may_say_how_lots_decide(rt: HostRuntime) -> Result<(), Fail> {
+    let alloc = rt.alloc();
+    for (line, want) in [
+        ("lot = \"fixed\"\n", "read"),
+        ("lot = \"alternating\"\n", "read"),
+        ("lot = \"coin\"\n", "`lot` has a wrong value"),
+    ] {
+        let text = joined(alloc, &[PROFILE, line, CONSTITUENCY, LISTS, STATION])?;
+        assert!(rt; told(alloc, text.as_bytes())?.as_str() == want, "{line}");
+    }
+    let twice = joined(alloc, &[PROFILE, CONSTITUENCY, LISTS, STATION, STATION])?;
+    assert!(rt; told(alloc, twice.as_bytes())?.as_str() == "the code `s1` stands twice");
     Ok(())
 }
 

@@ -4,7 +4,7 @@ ghost use Rattle.tally_rules.specs.Threshold.{IsWithinVotes};
 
 use std::alloc::{AllocError, Global};
 use std::test::Fail;
-use tally_rules::{Base, Method, Profile, eligible};
+use tally_rules::{Base, LotRule, Method, Profile, eligible};
 
 /// Whether of three lists the first two are eligible and the last is not.
 fn last_is_out(alloc: Global, base: Base, votes: [u64; 3], blank: u64) -> Result<bool, AllocError>
@@ -14,6 +14,7 @@ fn last_is_out(alloc: Global, base: Base, votes: [u64; 3], blank: u64) -> Result
         method: Method::DHondt,
         threshold: 300,
         base,
+        lot: LotRule::Fixed,
     };
     let lists = eligible(alloc, &loreg, &votes, blank)?;
     Ok(lists.as_slice() == [true, true, false].as_slice())
@@ -30,6 +31,7 @@ fn a_list_needs_a_vote_and_the_threshold(rt: HostRuntime) -> Result<(), Fail> {
         method: Method::Hare,
         threshold: 0,
         base: Base::Valid,
+        lot: LotRule::Fixed,
     };
     let lists = eligible(alloc, &all, &[0, 0], 50)?;
     assert!(rt; lists.as_slice() == [false, false].as_slice());

@@ -1,9 +1,9 @@
 //! An import into a keeper in memory.
 
-ghost use Rattle.std.specs.Prelude.{◌≡◌, ◌≢◌, IfErr, IfOk, OnErr, OnOk};
+ghost use Rattle.std.specs.Prelude.{◌≡◌, ◌≢◌, Some, None, IfErr, IfOk, OnErr, OnOk};
 ghost use Rattle.tally_core.specs.Held.{without};
 ghost use Rattle.tally_core.specs.Import.{after_row, row_answer};
-ghost use Rattle.tally_core.specs.Keeper.{IsFault, IsImport};
+ghost use Rattle.tally_core.specs.Keeper.{IsFault, IsImportOf};
 ghost use Rattle.tally_core.specs.declared.import.Row.{Row};
 ghost use Rattle.tally_core.specs.declared.source.ImportFault.TheVariants.{Store};
 ghost use Rattle.tally_ledger.specs.Kept.{state_in};
@@ -29,8 +29,10 @@ pub(super) fn take_rows<R: RowSource>(
     lodged: &mut Vec<Code>,
     source: &mut R,
 ) -> Result<ImportCount, ImportFault>
-    ensures imported { IfOk result (λ count. IsImport ledger.old.setup (state_in ledger.old) (R.coming source.old) count (state_in ledger.new)) }
-    ensures fault { IfErr result (IsFault (R.coming source.old)) }
+    ensures imported { IfOk result (λ count.
+        IsImportOf ledger.old.setup (Some (state_in ledger.old)) (R.coming source.old) count (Some (state_in ledger.new))) }
+    ensures ended { OnOk result (R.ended source.new ≡ Some None) }
+    ensures fault { IfErr result (IsFault (R.coming source.old) (R.ended source.new)) }
     ensures own { IfErr result (λ fault. fault ≢ Store) }
     ensures kept { ledger.new ≡ record ledger.old { returns = ledger.new.returns } }
     ensures undone { without lodged.new.items ledger.new.returns ≡ without lodged.old.items ledger.old.returns }

@@ -3,6 +3,7 @@
 ghost use Rattle.std.specs.Prelude.{◌≡◌, ◌≤◌, ◌++◌, ◌∷◌, [], true, All, Ok, IfOk, IfErr, OnOk, length, map, string_bytes};
 ghost use Rattle.std.specs.List.{list_all};
 ghost use Rattle.toml.specs.View.{view};
+ghost use Rattle.tally_frac.specs.Limits.{most_lists};
 ghost use Rattle.tally_rules.specs.Constituency.{list_codes, station_codes};
 ghost use Rattle.tally_rules.specs.Codes.{AreDistinct};
 ghost use Rattle.tally_rules.specs.Limits.{IsConstituency, IsListEntry, IsStation};
@@ -139,7 +140,7 @@ fn lists_of(alloc: Global, entry: &Value) -> Result<Vec<ListEntry>, Fault>
     ensures lists { IfOk result (λ lists. lists_of (view entry.now) ≡ Ok lists.items) }
     ensures distinct { IfOk result (λ lists. AreDistinct (list_codes lists.items)) }
     ensures some { IfOk result (λ lists. 1 ≤ length lists.items) }
-    ensures limit { IfOk result (λ lists. length lists.items ≤ 60) }
+    ensures limit { IfOk result (λ lists. length lists.items ≤ most_lists) }
     ensures each { IfOk result (λ lists. All IsListEntry lists.items) }
     ensures fault { IfErr result (IsFoundIn (lists_of (view entry.now))) }
 {

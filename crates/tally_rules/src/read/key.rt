@@ -4,12 +4,12 @@ ghost use Rattle.std.specs.Prelude.{◌≡◌, ◌≤◌, ◌++◌, ◌∷◌, [
 ghost use Rattle.toml.specs.View.{view};
 ghost use Rattle.tally_rules.specs.Codes.{AreDistinct};
 ghost use Rattle.tally_rules.specs.Found.{key_name, IsFoundIn};
-ghost use Rattle.tally_rules.specs.Reading.{base_of, code_at, method_of, name_from, name_of, new_code, number_at, number_in, text_at, value_at};
+ghost use Rattle.tally_rules.specs.Reading.{base_of, code_at, lot_rule_of, method_of, name_from, name_of, new_code, number_at, number_in, text_at, value_at};
 ghost use Rattle.tally_rules.specs.Text.{is_name};
 
 use crate::code::Code;
 use crate::codes::Codes;
-use crate::profile::{Base, Method};
+use crate::profile::{Base, LotRule, Method};
 use crate::read::fault::{Fault, Key};
 use crate::text::good_name;
 use std::alloc::Global;
@@ -119,6 +119,7 @@ pub(super) fn method_of(entry: &Value) -> Result<Method, Fault>
     match text_at(entry, Key::Method)? {
         "dhondt" => Ok(Method::DHondt),
         "sainte-lague" => Ok(Method::SainteLague),
+        "modified-sainte-lague" => Ok(Method::ModifiedSainteLague),
         "hare" => Ok(Method::Hare),
         _ => Err(Fault::BadValue(Key::Method)),
     }
@@ -134,5 +135,21 @@ pub(super) fn base_of(entry: &Value) -> Result<Base, Fault>
         "valid" => Ok(Base::Valid),
         "lists" => Ok(Base::Lists),
         _ => Err(Fault::BadValue(Key::Base)),
+    }
+}
+
+/// How the profile's lots decide. A profile that does not say it has fixed lots.
+#[tactic(auto, unfolding(crate::specs::Reading::lot_rule_of))]
+pub(super) fn lot_rule_of(entry: &Value) -> Result<LotRule, Fault>
+    ensures lot { IfOk result (λ lot. lot_rule_of (view entry.now) ≡ Ok lot) }
+    ensures fault { IfErr result (IsFoundIn (lot_rule_of (view entry.now))) }
+{
+    if entry.get(Key::Lot.name()).is_none() {
+        return Ok(LotRule::Fixed);
+    }
+    match text_at(entry, Key::Lot)? {
+        "fixed" => Ok(LotRule::Fixed),
+        "alternating" => Ok(LotRule::Alternating),
+        _ => Err(Fault::BadValue(Key::Lot)),
     }
 }

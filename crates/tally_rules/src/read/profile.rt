@@ -10,7 +10,7 @@ use crate::codes::Codes;
 use crate::profile::Profile;
 use crate::read::entry::{Kind, array_at};
 use crate::read::fault::{Fault, Key};
-use crate::read::key::{base_of, method_of, new_code, number_at};
+use crate::read::key::{base_of, lot_rule_of, method_of, new_code, number_at};
 use std::alloc::Global;
 use std::marker::Model;
 use toml::Value;
@@ -61,6 +61,7 @@ fn profile_entry(entry: &Value, taken: &mut Codes) -> Result<(Code, Profile), Fa
         method: method_of(entry)?,
         threshold: number_at(entry, Key::Threshold, 0, 10_000)?,
         base: base_of(entry)?,
+        lot: lot_rule_of(entry)?,
     };
     Ok((code, profile))
 }

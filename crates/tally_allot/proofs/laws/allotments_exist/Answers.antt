@@ -1,5 +1,5 @@
-use Rattle.tally_allot.proofs.AllotmentLaws.{exists}
+use Rattle.tally_allot.proofs.ProfileLaws.{allotments-exist}
 use Rattle.tally_allot.proofs.laws.allotments_exist.Goals as goal
 
 pub returns : goal.returns
-returns c = exists
+returns c = allotments-exist

@@ -7,14 +7,14 @@ use Rattle.tally_contest.specs.Race.{IsFair, IsHighestNext}
 use Rattle.tally_contest.specs.Terms.{placed_race}
 use Rattle.tally_contest.specs.Won.{AreWon}
 use Rattle.tally_contest.proofs.AwardStep.{award, one_more}
-use Rattle.tally_contest.proofs.TermsRace.{races, within_placed}
+use Rattle.tally_contest.proofs.TermsRace.{races, within_placed, total_placed}
 use Rattle.tally_contest.proofs.WonLemmas.{won_more}
 use Rattle.tally_contest.proofs.heap_award.award_from_heap.Goals as goal
 
 pub loop-seat-preserved : goal.loop-seat-preserved
 loop-seat-preserved g c =
     let t = c.args.contest.now in
-    let terms = terms_of g.D.Divisors.divisor t in
+    let terms = terms_of g.D.Divisors.divisor g.D.Divisors.unit_of t in
     let r = races terms c.requires.sound in
     let a = c.loop-seat.seats.items in
     let n = c.loop-seat._seat in
@@ -28,12 +28,12 @@ loop-seat-preserved g c =
     let back : take c.loop-seat.seats.len (c.award_next.new.seats ++ drop (length c.award_next.new.seats) a) ≡ c.award_next.new.seats = ap (λ k. take k (c.award_next.new.seats ++ drop (length c.award_next.new.seats) a)) long ∙ take-append_seam c.award_next.new.seats (drop (length c.award_next.new.seats) a) in
     let same : take c.loop-seat.seats.len (c.award_next.new.seats ++ drop (length c.award_next.new.seats) a) ≡ one_more a w.list = back ∙ given in
     let fair : IsFair (placed_race terms) (n + 1) (one_more a w.list) = award (placed_race terms) r.placed (within_placed terms r) n a w.list i.fair h in
-    let won = won_more (placed_race terms) r.placed (within_placed terms r) (r.total c.requires.apart) n a i.fair w.list h c.loop-seat.rows.items i.won in
+    let won = won_more (placed_race terms) r.placed (within_placed terms r) (total_placed terms r c.requires.proper) n a i.fair w.list h c.loop-seat.rows.items i.won in
     let A : List ℕ → Type 0 = λ s. IsFair (placed_race terms) (n + 1) s in
     let B : ℕ → Type 0 = λ k. AreWon (placed_race terms) (one_more a w.list) (c.loop-seat.rows.items ++ record { list = w.list; seat = k } ∷ []) in
     let C : List Won → Type 0 = λ rows. AreWon (placed_race terms) (one_more a w.list) rows in
     let D : List ℕ → Type 0 = λ s. AreWon (placed_race terms) s c.push.new.self.items in
-    let E : List ℕ → Type 0 = λ s. AreNext (g.D.Divisors.divisor t.divisors) (poll_of t) t.lot.now (length t.poll.votes.now) s (heap_items c.award_next.new.next) in
+    let E : List ℕ → Type 0 = λ s. AreNext (g.D.Divisors.divisor t.divisors) t.lot_rule (poll_of t) t.lot.now (length t.poll.votes.now) s (heap_items c.award_next.new.next) in
     record {
       fair = subst A (sym same) fair;
       won = subst D (sym same) (subst C (sym c.in_ok-push.ensures.items) (subst B (sym seat) won));

@@ -8,8 +8,8 @@ use Rattle.tally_contest.proofs.heap_award.award_from_heap.Given as goal
 
 abbrev pub invariant-loop-seat : goal.invariant-loop-seat
 invariant-loop-seat g l = record {
-  fair : IsFair (placed_race (terms_of g.D.Divisors.divisor l.contest)) l._seat l.seats.items;
-  won : AreWon (placed_race (terms_of g.D.Divisors.divisor l.contest)) l.seats.items l.rows.items;
+  fair : IsFair (placed_race (terms_of g.D.Divisors.divisor g.D.Divisors.unit_of l.contest)) l._seat l.seats.items;
+  won : AreWon (placed_race (terms_of g.D.Divisors.divisor g.D.Divisors.unit_of l.contest)) l.seats.items l.rows.items;
   order : IsHeap keyed_cmp (heap_items l.next);
-  next : AreNext (g.D.Divisors.divisor l.contest.divisors) (poll_of l.contest) l.contest.lot.now (length l.contest.poll.votes.now) l.seats.items (heap_items l.next);
+  next : AreNext (g.D.Divisors.divisor l.contest.divisors) l.contest.lot_rule (poll_of l.contest) l.contest.lot.now (length l.contest.poll.votes.now) l.seats.items (heap_items l.next);
 }

@@ -7,5 +7,5 @@ use Rattle.tally_contest.proofs.heap_award.first_pairs.Given as goal
 abbrev pub invariant-loop-list : goal.invariant-loop-list
 invariant-loop-list g l = record {
   order : IsHeap keyed_cmp (heap_items l.next);
-  next : AreNext (g.D.Divisors.divisor l.contest.divisors) (poll_of l.contest) l.contest.lot.now l.list (none_held (length l.contest.poll.votes.now)) (heap_items l.next);
+  next : AreNext (g.D.Divisors.divisor l.contest.divisors) l.contest.lot_rule (poll_of l.contest) l.contest.lot.now l.list (none_held (length l.contest.poll.votes.now)) (heap_items l.next);
 }

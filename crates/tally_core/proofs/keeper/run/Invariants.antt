@@ -1,4 +1,6 @@
-use Rattle.std.proofs.Common.{◌≡◌, ◌⊎◌, ◌≤◌, None, take, length}
+use Rattle.std.specs.Prelude.{All}
+use Rattle.tally_returns.specs.declared.refusal.Refusal.TheVariants.{Store}
+use Rattle.std.proofs.Common.{Err, ◌≡◌, ◌⊎◌, ◌≤◌, None, take, length}
 use Rattle.std.specs.Vec.{vec_len, vec_capacity}
 use Rattle.tally_core.specs.Keeper.{Runs}
 use Rattle.tally_core.proofs.keeper.run.Given as goal
@@ -14,5 +16,6 @@ invariant-loop-ask g l =
       trusted : k.IsTrusted l.keeper → k.IsTrusted l.fn.keeper;
       shut : k.content l.keeper ≡ None → (k.content l.fn.keeper ≡ None) ⊎ k.HasDatabase l.fn.keeper;
       database : k.HasDatabase l.keeper → k.HasDatabase l.fn.keeper;
+      store : All (λ r. r ≡ Err Store → k.HasDatabase l.fn.keeper) l.answers.items;
       runs : k.IsTrusted l.keeper → Runs (k.constituencies l.fn.keeper) (k.content l.fn.keeper) (take l.ask-index l.asks) l.answers.items (k.content l.keeper);
     }

@@ -3,7 +3,7 @@ use Rattle.std.proofs.lemmas.List.{append-nil}
 use Rattle.csv.specs.Records.{fields_of}
 use Rattle.tally_import.specs.Check.{rows_of_records}
 use Rattle.tally_records.specs.Input.{AreAll}
-use Rattle.tally_records.specs.Pieces.{HasGiven, sep_of}
+use Rattle.tally_records.specs.Given.{HasGiven, sep_of}
 use Rattle.tally_import.specs.Rounds.{AreBehind, Imports}
 use Rattle.tally_import.proofs.FoundLemmas.{Imports-ended}
 use Rattle.tally_import.proofs.RoundsLemmas.{more-taken, length-rows}
@@ -14,15 +14,16 @@ pub loop-taken-init : goal.loop-taken-init
 loop-taken-init g c = record {
   reading = c.requires.reading;
   sep = refl;
+  tells = λ told. told;
   given = ([], refl, c.in_ok-import.ensures, λ text before has. subst (λ l. HasGiven text (g.R.Read.remaining c.args.reader.now) l c.args.records.now) (sym (append-nil before)) has);
 }
 
-pub returns-in-Some : goal.returns-in-Some
-returns-in-Some g c =
+pub returns-in-Some-clause-imports : goal.returns-in-Some-clause-imports
+returns-in-Some-clause-imports g c =
     let inv = c.loop-taken.invariant in
     let given = inv.given in
     let AreRows = AreBehind (g.R.Read.remaining c.args.reader.now) (g.R.Read.remaining c.next.new.input) c.args.records.now in
-    subst (Imports c.args.lists AreRows) (sym c.ended.ensures)
+    subst (Imports c.args.lists AreRows) (sym c.ended.ensures.import)
     (Imports-ended c.args.lists AreRows c.loop-taken.import given.0 c.in-Some.end.stop
     (λ text before has. subst (λ s. AreAll s text (g.R.Read.remaining c.next.new.input) (before ++ given.0) c.in-Some.end.stop) inv.sep
     (c.in_ok-end.ensures.all c.in-Some.end c.in-Some.is text (before ++ given.0) (given.3 text before has)))
@@ -40,6 +41,7 @@ loop-taken-preserved g c =
     record {
       reading = c.in_ok-end.ensures.reading none;
       sep = c.next.ensures.sep ∙ inv.sep;
+      tells = λ told. c.in_ok-end.ensures.tells (inv.tells told);
       given = (
         given.0 ++ fields ∷ [],
         omega (arith, length-append given.0 (fields ∷ []), given.1),
@@ -50,19 +52,19 @@ loop-taken-preserved g c =
       );
     }
 
-pub returns-in-Some-2 : goal.returns-in-Some-2
-returns-in-Some-2 g c =
+pub returns-in-Some-2-clause-imports : goal.returns-in-Some-2-clause-imports
+returns-in-Some-2-clause-imports g c =
     let inv = c.loop-taken.invariant in
     let given = inv.given in
     let AreRows = AreBehind (g.R.Read.remaining c.args.reader.now) (g.R.Read.remaining c.next-2.new.input) c.args.records.now in
-    subst (Imports c.args.lists AreRows) (sym c.ended-in-Some-2.ensures)
+    subst (Imports c.args.lists AreRows) (sym c.ended-in-Some-2.ensures.import)
     (Imports-ended c.args.lists AreRows c.loop-taken.import given.0 c.in-Some-2.end.stop
     (λ text before has. subst (λ s. AreAll s text (g.R.Read.remaining c.next-2.new.input) (before ++ given.0) c.in-Some-2.end.stop) inv.sep
     (c.in_ok-end-2.ensures.all c.in-Some-2.end c.in-Some-2.is text (before ++ given.0) (given.3 text before has)))
     given.2 (omega (arith, given.1, c.loop-taken.auto.taken-end)))
 
-pub returns-in-None : goal.returns-in-None
-returns-in-None g c =
+pub returns-in-None-clause-imports : goal.returns-in-None-clause-imports
+returns-in-None-clause-imports g c =
     let inv = c.loop-taken.invariant in
     let given = inv.given in
     let fields = fields_of c.next-2.new.into in

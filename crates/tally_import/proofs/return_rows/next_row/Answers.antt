@@ -7,8 +7,11 @@ use Rattle.tally_import.proofs.return_rows.next_row.Goals as goal
 pub returns-in_default : goal.returns-in_default
 returns-in_default g c = record {
   advances = c.next_started.ensures.advances (g.R.Read.remaining c.args.unread.now.value) c.args.con.now c.args.sep c.requires;
+  row = c.next_started.ensures.row;
   ends = c.next_started.ensures.ends;
   again = c.next_started.ensures.again;
+  true_at = c.next_started.ensures.true_at;
+  read = c.next_started.ensures.read;
 }
 
 pub returns-in-Ok-clause-advances : goal.returns-in-Ok-clause-advances

@@ -22,8 +22,8 @@ returns-clause-seats c =
     let blank = ap (λ (v : View). v.blank) c.view.view_is in
     let lot = c.deref-2.ensures.value ∙ ap (λ (v : View). v.lot) c.view.view_is in
     let Eligible : Profile → ℕ → List ℕ → ℕ → List ℕ → Type 0 = λ profile seats votes blank lot. OnOk c.allot.result (HasEligible (poll_of profile votes blank)) in
-    let Taken : Profile → ℕ → List ℕ → ℕ → List ℕ → Type 0 = λ profile seats votes blank lot. OnOk c.allot.result (IsLotTaken (rule_of profile.method) (poll_of profile votes blank) seats lot) in
-    let Allotted : Profile → ℕ → List ℕ → ℕ → List ℕ → Type 0 = λ profile seats votes blank lot. IfOk c.allot.result (λ given. IsAllotment (rule_of profile.method) (poll_of profile votes blank) lot seats given.items) in
+    let Taken : Profile → ℕ → List ℕ → ℕ → List ℕ → Type 0 = λ profile seats votes blank lot. OnOk c.allot.result (IsLotTaken (rule_of profile) (poll_of profile votes blank) seats lot) in
+    let Allotted : Profile → ℕ → List ℕ → ℕ → List ℕ → Type 0 = λ profile seats votes blank lot. IfOk c.allot.result (λ given. IsAllotment (rule_of profile) (poll_of profile votes blank) lot seats given.items) in
     all_three c.allot.result (HasEligible (poll_in con view)) (IsLotTaken (rule_in con) (poll_in con view) con.seats view.lot) (λ given. IsAllotment (rule_in con) (poll_in con view) view.lot con.seats given.items)
     (carried Eligible profile seats votes blank lot c.allot.ensures.eligible)
     (carried Taken profile seats votes blank lot c.allot.ensures.lot_taken)
@@ -36,7 +36,7 @@ returns-clause-fault c =
     let votes = c.deref.ensures.value ∙ ap (λ (v : View). v.votes) c.view.view_is in
     let blank = ap (λ (v : View). v.blank) c.view.view_is in
     let lot = c.deref-2.ensures.value ∙ ap (λ (v : View). v.lot) c.view.view_is in
-    let Fault : Profile → ℕ → List ℕ → ℕ → List ℕ → Type 0 = λ profile seats votes blank lot. IfErr c.allot.result (IsFaultOf (rule_of profile.method) (poll_of profile votes blank) seats lot) in
+    let Fault : Profile → ℕ → List ℕ → ℕ → List ℕ → Type 0 = λ profile seats votes blank lot. IfErr c.allot.result (IsFaultOf (rule_of profile) (poll_of profile votes blank) seats lot) in
     carried Fault profile seats votes blank lot c.allot.ensures.fault
 
 pub returns-clause-right_lot : goal.returns-clause-right_lot

@@ -1,16 +1,16 @@
-use Rattle.std.proofs.Common.{◌-◌, ◌∙◌, length, sym, arith}
-use Rattle.tally_records.proofs.PieceLemmas.{IsPiece-open, last-line}
+use Rattle.std.proofs.Common.{◌+◌, ◌∙◌, None, length, refl, sym, subst}
+use Rattle.memchr.specs.Find.{IsLastByte, is_byte2}
+use Rattle.tally_records.proofs.PieceLemmas.{IsPiece-open, last-line, no-line_end}
 use Rattle.tally_records.proofs.cut.piece_size.Goals as goal
 
-pub returns-then-is_line_end-clause-piece : goal.returns-then-is_line_end-clause-piece
-returns-then-is_line_end-clause-piece c =
-    IsPiece-open c.args.end c.args.bytes.now _ _ (sym c.is_some.ensures ∙ c.if-is_some.false) (omega (arith, c.loop-behind-test.true)) (sym c.if-is_line_end.ensures)
-    (omega (arith, c.loop-behind-test.true))
+pub returns-in-Some-clause-piece : goal.returns-in-Some-clause-piece
+returns-in-Some-clause-piece c =
+    IsPiece-open c.args.end c.args.bytes.now c.in-Some.place _ (sym c.is_some.ensures ∙ c.if-is_some.false) c.in-Some.ensures.0.high c.in-Some.ensures.1 refl
 
-pub returns-then-is_line_end-clause-last : goal.returns-then-is_line_end-clause-last
-returns-then-is_line_end-clause-last c size within line =
-    last-line c.args.bytes.now (length c.args.bytes.now - c.loop-behind.behind) size c.loop-behind.invariant.none within line
+pub returns-in-Some-clause-last : goal.returns-in-Some-clause-last
+returns-in-Some-clause-last c size within line =
+    last-line c.args.bytes.now (c.in-Some.place + 1) size (λ k least most. no-line_end _ (c.in-Some.ensures.0.after k least most)) within line
 
-pub returns-clause-last : goal.returns-clause-last
-returns-clause-last c size within line =
-    last-line c.args.bytes.now 0 size (λ k least most. c.loop-behind.invariant.none k (omega (arith, c.loop-behind-test.false, least)) most) within line
+pub returns-in-None-clause-last : goal.returns-in-None-clause-last
+returns-in-None-clause-last c size within line =
+    last-line c.args.bytes.now 0 size (λ k least most. no-line_end _ (c.in-None.ensures k least most)) within line

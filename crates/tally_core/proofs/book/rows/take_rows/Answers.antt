@@ -1,7 +1,7 @@
 use Rattle.std.proofs.Common.{◌≡◌, ◌∙◌, Ok, subst}
 use Rattle.tally_returns.specs.State.{stations_of}
 use Rattle.tally_core.specs.Held.{without}
-use Rattle.tally_core.specs.Keeper.{GivesNext}
+use Rattle.tally_core.specs.Source.{GivesNext}
 use Rattle.tally_core.proofs.TakenLemmas.{SoFar-below, SoFar-taken, kept-next}
 use Rattle.tally_core.proofs.book.rows.take_rows.Goals as goal
 
@@ -23,7 +23,7 @@ loop-before-preserved g c =
     let new = c.take_row.new.ledger in
     let came = left c.loop-before.source in
     let comes = left c.next_row.new.self in
-    let given = subst (λ r. GivesNext came (Ok r) comes) c.in-Some.is c.in_ok-row.ensures in
+    let given = subst (λ r. GivesNext came (Ok r) comes) c.in-Some.is c.in_ok-row.ensures.gives in
     let was = c.loop-before.invariant in
     let undone : without c.take_row.new.lodged.items new.returns ≡ without c.loop-before.lodged.items mid.returns = c.in_ok-answer.ensures.undone in
     record {

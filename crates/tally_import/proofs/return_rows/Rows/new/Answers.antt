@@ -13,7 +13,7 @@ pub returns-in-Some-clause-fault : goal.returns-in-Some-clause-fault
 returns-in-Some-clause-fault g c =
     let text = g.R.Read.remaining c.args.reader.now in
     let all = c.in_ok-end.ensures.all c.in-Some.end c.in-Some.is text [] c.in_ok-records.ensures.given in
-    subst (λ f. IsNext text (text_coming c.args.con.now c.args.sep) f) (sym c.header_fault.ensures)
+    subst (λ f. IsNext text (text_coming c.args.con.now c.args.sep) f) (sym c.header_fault.ensures.fault)
     (header-stop c.args.con.now c.args.sep text (g.R.Read.remaining c.next.new.input) c.in-Some.end.stop
     (subst (λ s. AreAll s text (g.R.Read.remaining c.next.new.input) [] c.in-Some.end.stop) c.in_ok-records.ensures.sep all))
 

@@ -1,28 +1,11 @@
-use Rattle.std.proofs.Common.{◌≡◌, ◌∙◌, sym, subst}
+use Rattle.std.proofs.Common.{◌∙◌, ap, subst, sym}
+use Rattle.tally_records.specs.Given.{HasGiven, sep_of}
 use Rattle.tally_records.specs.Input.{AreAll}
-use Rattle.tally_records.specs.Pieces.{HasGiven}
-use Rattle.tally_records.specs.declared.end.End.{End}
-use Rattle.tally_records.proofs.WorkLemmas.{HasGiven-all}
 use Rattle.tally_records.proofs.records.Records.next.Goals as goal
 
-pub returns-in-Some-clause-all : goal.returns-in-Some-clause-all
-returns-in-Some-clause-all g c e is text given has =
-    let left = g.R.Read.remaining c.pieces.input in
-    let self = c.next_in_piece.new.self in
-    let read = c.in_ok-next_in_piece.ensures in
-    let here = subst (HasGiven text left given) (sym (read.same c.if-not-branch.true)) (c.pieces.invariant.given text given has) in
-    let all = HasGiven-all text left given self c.in-Some.end (read.spent c.if-not-branch.true) c.in-Some.is here in
-    let end : c.in-Some.end ≡ e = cc is in
-    subst (λ (x : End). AreAll c.args.self.now.sep text left given x.stop) end
-    (subst (λ s. AreAll s text left given c.in-Some.end.stop) (c.next_in_piece.ensures.sep ∙ c.pieces.invariant.sep) all)
-
-pub pieces-preserved : goal.pieces-preserved
-pieces-preserved g c =
-    let left = g.R.Read.remaining c.pieces.input in
-    let read = c.in_ok-next_in_piece.ensures in
-    record {
-      reading = c.in_ok-read_on.ensures.reading;
-      given = λ text given has. c.in_ok-read_on.ensures.given text given
-          (subst (HasGiven text left given) (sym (read.same c.if-not-branch.true)) (c.pieces.invariant.given text given has));
-      sep = c.read_on.ensures.sep ∙ c.next_in_piece.ensures.sep ∙ c.pieces.invariant.sep;
-    }
+pub returns-clause-all : goal.returns-clause-all
+returns-clause-all g c e is text given has =
+    let old = g.R.Read.remaining c.args.input.now in
+    let left = g.R.Read.remaining c.next.new.input in
+    subst (λ r. AreAll (sep_of r) text left given e.stop) c.self.view_is
+    (c.in_ok-end.ensures.all e is text given (subst (λ r. HasGiven text old given r) (sym c.self.view_is) has))

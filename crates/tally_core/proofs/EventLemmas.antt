@@ -1,0 +1,95 @@
+-- The laws of the machine's runs, of what happens to a keeper.
+use Rattle.std.proofs.Common.{◌≡◌, ◌+◌, ◌<◌, ◌∷◌, ◌∙◌, ℕ, List, [], Bool, true, false, cond, Option, Some, None, Result, Ok, Err, refl, sym, ap, subst, add-one, filter, slice_get}
+use Rattle.std.specs.Prelude.{◌||◌}
+use Rattle.std.specs.List.{list_any}
+use Rattle.tally_rules.specs.Constituency.{Constituency}
+use Rattle.tally_rules.specs.Limits.{IsSetup}
+use Rattle.tally_rules.specs.Setup.{constituency_with}
+use Rattle.tally_returns.specs.State.{State, con_state, opening}
+use Rattle.tally_returns.specs.View.{View}
+use Rattle.tally_machine.specs.ConStep.{IsView}
+use Rattle.tally_machine.specs.LawfulState.{IsLawfulState}
+use Rattle.tally_machine.specs.Outcome.{IsCertificate}
+use Rattle.tally_machine.specs.Replies.{IsRun, is_act}
+use Rattle.tally_machine.specs.Runs.{IsSameCommand, kept}
+use Rattle.tally_returns.specs.declared.ask.Ask.{Ask}
+use Rattle.tally_returns.specs.declared.refusal.Refusal.{Refusal}
+use Rattle.tally_returns.specs.declared.reply.LodgeReply.TheVariants.{Lodged, Same}
+use Rattle.tally_returns.specs.declared.reply.Reply.{Reply}
+use Rattle.tally_machine.proofs.ActLemmas.{answered-idle}
+use Rattle.tally_machine.proofs.LawLemmas.{run-lawful}
+use Rattle.tally_machine.proofs.RunLemmas.{second-idle}
+use Rattle.tally_core.specs.Events.{acts, answers_of, asks_of, lodge_answers, lodges}
+use Rattle.tally_core.specs.Import.{Answer, is_lodged}
+use Rattle.tally_core.specs.Keeper.{Event, Happen, Happens, IsTaken, failed_import, request, whole_import}
+use Rattle.tally_core.proofs.KeeperLemmas.{happen-run, import-run, shut-stays, some-run}
+
+-- the state stays lawful
+pub happen-lawful : (setup : List Constituency) (s t : State) (events : List Event) → IsSetup setup → IsLawfulState setup s → Happen setup (Some s) events (Some t) → IsLawfulState setup t
+happen-lawful setup s t events ok lawful is = run-lawful setup s t (asks_of events) (answers_of events) ok (happen-run setup s t events is) lawful
+
+-- of two equal requests the second does not act where the first did
+pub happen-second-idle : (setup : List Constituency) (s : State) (new : Option State) (events : List Event) → Happen setup (Some s) events new
+    → (i j : ℕ) (ask other : Ask) (first second : Result Reply Refusal) → i < j
+    → slice_get (asks_of events) i ≡ Some ask → slice_get (asks_of events) j ≡ Some other → IsSameCommand ask other
+    → slice_get (answers_of events) i ≡ Some first → slice_get (answers_of events) j ≡ Some second → is_act first ≡ true → is_act second ≡ false
+happen-second-idle setup s new events is = let run = some-run setup s new events is in second-idle setup s run.0 (asks_of events) (answers_of events) run.1
+
+-- ---- what does not act
+
+none-of : (a b : Bool) → (a || b) ≡ false → (a ≡ false) × (b ≡ false)
+none-of true b is = cc
+none-of false b is = (refl, is)
+
+-- a run in which nothing acts leaves the state
+run-idle : (setup : List Constituency) (s t : State) (asks : List Ask) (rs : List (Result Reply Refusal)) → IsRun setup s asks rs t → list_any is_act rs ≡ false → t ≡ s
+run-idle setup s t [] [] is idle = is
+run-idle setup s t [] (r ∷ rs) is idle = absurd is
+run-idle setup s t (ask ∷ asks) [] is idle = absurd is
+run-idle setup s t (ask ∷ asks) (r ∷ rs) is idle =
+    let none = none-of (is_act r) (list_any is_act rs) idle in
+    run-idle setup is.0 t asks rs is.2 none.1 ∙ answered-idle setup s ask r is.0 is.1 none.0
+
+-- a Lodge of an import acts where its row was lodged
+lodges-act : (answered : List Answer) → list_any is_act (lodge_answers answered) ≡ list_any is_lodged answered
+lodges-act [] = refl
+lodges-act (None ∷ answered) = lodges-act answered
+lodges-act (Some (Ok (Lodged rev)) ∷ answered) = refl
+lodges-act (Some (Ok (Same rev)) ∷ answered) = lodges-act answered
+lodges-act (Some (Err refusal) ∷ answered) = lodges-act answered
+
+taken-idle : (setup : List Constituency) (s t : State) (event : Event) → IsTaken setup s event t → acts event ≡ false → t ≡ s
+taken-idle setup s t (request ask r) is idle = answered-idle setup s ask r t is idle
+taken-idle setup s t (whole_import rows answered count) is idle =
+    run-idle setup s t (lodges rows) (lodge_answers answered) (import-run setup rows answered count s t is).1 (lodges-act answered ∙ idle)
+taken-idle setup s t (failed_import fault) is idle = is
+
+-- where something that does not act is left out, what happens goes on from the same state
+pub happen-acting : (setup : List Constituency) (s t : State) (events : List Event) → Happen setup (Some s) events (Some t) → Happen setup (Some s) (filter acts events) (Some t)
+happen-acting setup s t [] is = is
+happen-acting setup s t (event ∷ events) is = go is.0 is.1 is.2 (λ next rest. happen-acting setup next t events rest) (acts event) refl
+  where
+    go : (mid : Option State) → Happens setup (Some s) event mid → Happen setup mid events (Some t)
+        → ((next : State) → Happen setup (Some next) events (Some t) → Happen setup (Some next) (filter acts events) (Some t))
+        → (b : Bool) → acts event ≡ b → Happen setup (Some s) (cond b (event ∷ filter acts events) (filter acts events)) (Some t)
+    go None step rest later b acted = absurd (shut-stays setup events t rest)
+    go (Some next) step rest later true acted = (Some next, step, later next rest)
+    go (Some next) step rest later false idle = subst (λ m. Happen setup (Some m) (filter acts events) (Some t)) (taken-idle setup s next event step idle) (later next rest)
+
+pub happen-kept : (setup : List Constituency) (s t : State) (events : List Event) → Happen setup (Some s) events (Some t) → (keep : ℕ → Bool)
+    → ((i : ℕ) (event : Event) → slice_get events i ≡ Some event → keep i ≡ false → acts event ≡ false)
+    → Happen setup (Some s) (kept keep events) (Some t)
+happen-kept setup s t [] is keep idle = is
+happen-kept setup s t (event ∷ events) is keep idle =
+    go is.0 is.1 is.2
+    (λ next rest. happen-kept setup next t events rest (λ i. keep (i + 1)) (λ i e at out. idle (i + 1) e (ap (slice_get (event ∷ events)) (add-one i) ∙ at) out)) (keep 0) refl
+  where
+    left : List Event
+    left = kept (λ i. keep (i + 1)) events
+
+    go : (mid : Option State) → Happens setup (Some s) event mid → Happen setup mid events (Some t)
+        → ((next : State) → Happen setup (Some next) events (Some t) → Happen setup (Some next) left (Some t))
+        → (b : Bool) → keep 0 ≡ b → Happen setup (Some s) (cond b (event ∷ left) left) (Some t)
+    go None step rest later b there = absurd (shut-stays setup events t rest)
+    go (Some next) step rest later true there = (Some next, step, later next rest)
+    go (Some next) step rest later false out = subst (λ m. Happen setup (Some m) left (Some t)) (taken-idle setup s next event step (idle 0 event refl out)) (later next rest)

@@ -1,0 +1,10 @@
+use Rattle.tally_records.proofs.WorkLemmas.{Begun-none, HasGiven-new, IfOk-both}
+use Rattle.tally_records.proofs.work.Work.new.Goals as goal
+
+pub read-requires-clause-begun : goal.read-requires-clause-begun
+read-requires-clause-begun g c = Begun-none c.args.sep _
+
+pub returns-clause-given : goal.returns-clause-given
+returns-clause-given g c =
+    IfOk-both c.read.result c.read.ensures.fills c.read.ensures.given
+    (λ r fills given. HasGiven-new (g.R.Read.remaining c.args.input.now) (g.R.Read.remaining c.read.new.input) c.new.result r c.new.ensures.bytes c.new.ensures.taken fills given)

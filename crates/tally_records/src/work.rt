@@ -1,0 +1,199 @@
+//! The records of an input at work, with one piece of it in memory.
+
+ghost use Rattle.std.specs.Prelude.{◌≡◌, ◌≤◌, ◌<◌, ◌+◌, ◌++◌, ◌∷◌, [], length, take, List, ℕ, Option, Some, None, true, false, IfOk, OnOk};
+ghost use Rattle.csv.specs.Records.{fields_of};
+ghost use Rattle.tally_records.specs.Pieces.{IsPiece, piece_rows, text_rows};
+
+use crate::cut::{ended_itself, given_size, last_text, piece_size, piece_text};
+use crate::end::End;
+use crate::held::Held;
+use crate::piece::Rest;
+use crate::reading::next_record;
+use crate::separator::Sep;
+use crate::watch::Watch;
+use csv::ByteRecord;
+use std::alloc::{AllocError, Global};
+use std::io::Read;
+use std::mem;
+use std::snapshot::Snapshot;
+
+/// How many bytes of an input are held, where no record is longer.
+const PIECE: usize = 65_536;
+
+/// The records of an input that is read by pieces.
+#[derive(Drop)]
+pub(crate) struct Work {
+    sep: Sep,
+    /// The bytes that are held, unless the input ended: then the reader of the last piece has them.
+    held: Held,
+    /// The bytes that are held, or were as the input ended, for clauses alone.
+    bytes: Snapshot<Vec<u8>>,
+    /// How the input ended, once it did.
+    end: Option<End>,
+    /// How many of the bytes that are held stand in the piece.
+    piece: usize,
+    /// How many records of the piece were given.
+    given: usize,
+    /// The records of the piece that are left.
+    rest: Rest,
+}
+
+impl Work {
+    ghost use Rattle.tally_records.specs.Input.{AreAll};
+    ghost use Rattle.tally_records.specs.Pieces.{Begun, Fills, HasGivenAt, IsWorking, IsSpent, left_size};
+    ghost use Rattle.tally_records.specs.Watch.{IsEnd, has_failed};
+
+    /// The records of an input, whose first piece is read.
+    pub(crate) fn new<R: Read>(
+        alloc: Global,
+        input: &mut R,
+        watch: &mut Watch<R>,
+        sep: Sep,
+    ) -> Result<Work, AllocError>
+        ensures sep { IfOk result (λ records. records.sep ≡ sep) }
+        ensures reading { IfOk result IsWorking }
+        ensures given { IfOk result (HasGivenAt (R.remaining input.old) (R.remaining input.new) []) }
+        ensures failed { IfOk result (λ records. IsEnd records.end (has_failed watch.new)) }
+    {
+        Work::read(alloc, Held::new(alloc), input, watch, sep, PIECE, 0)
+    }
+
+    // Reads until so many bytes are held or the input ends, and takes up a piece of them, the first
+    // `given` records of which were given.
+    fn read<R: Read>(
+        alloc: Global,
+        mut held: Held,
+        input: &mut R,
+        watch: &mut Watch<R>,
+        sep: Sep,
+        size: usize,
+        given: usize,
+    ) -> Result<Work, AllocError>
+        requires limit { held.taken ≤ 16777216 }
+        requires begun { Begun sep held.bytes.items given }
+        ensures reading { IfOk result IsWorking }
+        ensures fills { IfOk result (λ r. Fills (R.remaining input.old) (R.remaining input.new) held.bytes.items held.taken r.bytes.value.items r.held.taken r.end) }
+        ensures size { IfOk result (λ r. r.end ≡ None → size ≤ length r.held.bytes.items) }
+        ensures count { IfOk result (λ r. r.end ≡ None → r.held.taken + length held.bytes.items ≡ held.taken + length r.held.bytes.items) }
+        ensures sep { IfOk result (λ r. r.sep ≡ sep) }
+        ensures given { IfOk result (λ r. r.given ≡ given) }
+        ensures failed { IfOk result (λ r. IsEnd r.end (has_failed watch.new)) }
+    {
+        let end = held.fill(input, watch, size)?;
+        let piece = piece_size(held.bytes.as_slice(), end);
+        let bytes = Snapshot::of(&held.bytes);
+        let text = text_of(alloc, &mut held, piece, sep, end)?;
+        let rest = Rest::new(alloc, text, sep, ended_itself(end), given)?;
+        Ok(Work {
+            sep,
+            held,
+            bytes,
+            end,
+            piece,
+            given,
+            rest,
+        })
+    }
+
+    /// Gives the next record, or tells how the input ended. After the end, or want of memory, the
+    /// records are of no further use.
+    pub(crate) fn next<R: Read>(
+        &mut self,
+        alloc: Global,
+        input: &mut R,
+        watch: &mut Watch<R>,
+        into: &mut ByteRecord,
+    ) -> Result<Option<End>, AllocError>
+        requires { IsWorking self.old }
+        ensures sep { self.new.sep ≡ self.old.sep }
+        ensures reading { IfOk result (λ end. end ≡ None → IsWorking self.new) }
+        ensures record { IfOk result (λ end. end ≡ None → (text : Option (List ℕ)) (given : List (List (List ℕ)))
+            → HasGivenAt text (R.remaining input.old) given self.old → HasGivenAt text (R.remaining input.new) (given ++ fields_of into.new ∷ []) self.new) }
+        ensures all { IfOk result (λ end. (e : End) → end ≡ Some e → (text : Option (List ℕ)) (given : List (List (List ℕ)))
+            → HasGivenAt text (R.remaining input.old) given self.old → AreAll (self.old.sep) text (R.remaining input.new) given e.stop) }
+        ensures failed { IsEnd self.old.end (has_failed watch.old) → IfOk result (λ end. IsEnd end (has_failed watch.new)) }
+        ensures tells { IsEnd self.old.end (has_failed watch.old) → OnOk result (IsEnd self.new.end (has_failed watch.new)) }
+    {
+        'pieces: while !self.next_in_piece(into)? {
+            if let Some(end) = self.end {
+                return Ok(Some(end));
+            }
+            self.read_on(alloc, input, watch)?;
+        }
+        Ok(None)
+    }
+
+    // Gives the next record of the piece, if one is known to be complete.
+    fn next_in_piece(&mut self, into: &mut ByteRecord) -> Result<bool, AllocError>
+        requires { IsWorking self.old }
+        ensures reading { IfOk result (λ found. found ≡ true → IsWorking self.new) }
+        ensures given { IfOk result (λ found. found ≡ true → (text left : Option (List ℕ)) (given : List (List (List ℕ)))
+            → HasGivenAt text left given self.old → HasGivenAt text left (given ++ fields_of into.new ∷ []) self.new) }
+        ensures spent { IfOk result (λ found. found ≡ false → IsSpent self.new) }
+        ensures same { IfOk result (λ found. found ≡ false → self.new ≡ record self.old { rest = self.new.rest }) }
+        ensures sep { self.new.sep ≡ self.old.sep }
+        ensures end { self.new.end ≡ self.old.end }
+    {
+        if !next_record(&mut self.rest.reader, into)? {
+            return Ok(false);
+        }
+        self.given += 1;
+        if !ended_itself(self.end) {
+            mem::swap(into, &mut self.rest.ahead);
+        }
+        Ok(true)
+    }
+
+    // Goes on to the next piece, where one record of this one is left.
+    fn read_on<R: Read>(
+        &mut self,
+        alloc: Global,
+        input: &mut R,
+        watch: &mut Watch<R>,
+    ) -> Result<(), AllocError>
+        requires spent { IsSpent self.old }
+        requires more { self.old.end ≡ None }
+        ensures reading { OnOk result (IsWorking self.new) }
+        ensures given { OnOk result ((text : Option (List ℕ)) (given : List (List (List ℕ)))
+            → HasGivenAt text (R.remaining input.old) given self.old → HasGivenAt text (R.remaining input.new) given self.new) }
+        ensures goes_on { OnOk result (left_size self.new < left_size self.old) }
+        ensures failed { OnOk result (IsEnd self.new.end (has_failed watch.new)) }
+        ensures sep { self.new.sep ≡ self.old.sep }
+    {
+        let held = &mut self.held;
+        let piece = &held.bytes[..self.piece];
+        let done = given_size(alloc, piece, self.sep, self.given, &self.rest.ahead)?;
+        if done > 1 {
+            held.drop_front(alloc, done)?;
+            let held = mem::replace(held, Held::new(alloc));
+            *self = Work::read(alloc, held, input, watch, self.sep, PIECE, 0)?;
+            return Ok(());
+        }
+        let size = held.bytes.len() + (7 * held.bytes.len()).max(PIECE);
+        let held = mem::replace(held, Held::new(alloc));
+        *self = Work::read(alloc, held, input, watch, self.sep, size, self.given)?;
+        Ok(())
+    }
+}
+
+/// The text of the piece that so many bytes are. Where the input goes on, the bytes stay held; else
+/// they are the text, and none is held on.
+fn text_of(
+    alloc: Global,
+    held: &mut Held,
+    piece: usize,
+    sep: Sep,
+    end: Option<End>,
+) -> Result<Vec<u8>, AllocError>
+    requires within { piece ≤ length held.old.bytes.items }
+    requires piece { IsPiece end held.old.bytes.items piece }
+    ensures rows { IfOk result (λ text. text_rows sep text.items ≡ piece_rows sep end (take piece held.old.bytes.items)) }
+    ensures held { end ≡ None → held.new.bytes.items ≡ held.old.bytes.items }
+    ensures taken { held.new.taken ≡ held.old.taken }
+{
+    let Some(end) = end else {
+        return piece_text(alloc, &held.bytes[..piece], sep);
+    };
+    let bytes = mem::replace(&mut held.bytes, Vec::new(alloc));
+    last_text(bytes, sep, ended_itself(Some(end)))
+}

@@ -1,0 +1,4 @@
+pub mod ColumnLemmas
+pub mod HolderLemmas
+pub mod QuotientLemmas
+pub mod AwardLemmas

@@ -1,0 +1,100 @@
+//! The seats in the order of their award.
+
+ghost use Rattle.std.specs.Prelude.{◌≡◌, ◌≢◌, ℕ, ◌<◌, true, ◌++◌, IfOk, IfErr, OnOk, length, slice_index_or, string_bytes};
+ghost use Rattle.tally_rules.specs.declared.profile.Method.TheVariants.{Hare as by_hare};
+ghost use Rattle.tally_allot.specs.Awards.{AreAwardsBy};
+ghost use Rattle.tally_allot.specs.declared.award.Award.{Award as award_type};
+ghost use Rattle.tally_machine.specs.Outcome.{IsLawfulView, poll_in, rule_in};
+ghost use Rattle.tally_report.specs.Fault.{IsRefused, divisors_fault};
+ghost use Rattle.tally_report.specs.Texts.{IsAwardsText, award_line, award_lines};
+ghost use Rattle.tally_report.specs.Views.{IsAwardIn, IsViewOf};
+ghost use Rattle.tally_allot.specs.LawStatements.{GroupsAreOfOneNumberOfVotes, NoLotIsNeededWhereVotesDecide};
+ghost use Rattle.tally_report.specs.declared.fault.ReportFault.TheVariants.{Memory};
+
+use crate::column::{push_heading, push_left, push_number};
+use crate::fault::ReportFault;
+use std::alloc::{AllocError, Global};
+use tally_allot::{AllotFault, Award, awards, laws};
+use tally_returns::ConView;
+use tally_rules::{Constituency, Method};
+
+/// The seats of a certified constituency in the order of their award, each with its quotient, under a
+/// divisor rule (LOREG article 163.1 c)).
+pub fn awards_text(alloc: Global, con: &Constituency, view: &ConView) -> Result<String, ReportFault>
+    requires { IsViewOf con.now view.now }
+    ensures text { IfOk result (λ text. IsLawfulView con.now view.now → IsAwardsText con.now view.now (string_bytes text)) }
+    ensures fault { IsRefused (divisors_fault con.now view.now) result }
+{
+    if !view.certified {
+        return Err(ReportFault::NotCertified);
+    }
+    if let Method::Hare = con.profile.method {
+        return Err(ReportFault::OtherMethod);
+    }
+    let awards = awards_in(alloc, con, view)?;
+    let mut text = String::new(alloc);
+    push_heading(&mut text, "AWARDS", con)?;
+    push_awards(&mut text, con, &awards)?;
+    Ok(text)
+}
+
+/// The awards by the closed votes and the lot. There are none where these allot no seats, which is so
+/// of no lawful view.
+fn awards_in(alloc: Global, con: &Constituency, view: &ConView) -> Result<Vec<Award>, ReportFault>
+    requires view { IsViewOf con.now view.now }
+    requires by_divisors { con.now.profile.method ≢ by_hare }
+    ensures awards { IfOk result (λ awards. IsLawfulView con.now view.now → view.now.certified ≡ true → AreAwardsBy (rule_in con.now) (poll_in con.now view.now) view.now.lot con.now.seats awards.items) }
+    ensures each { IfOk result (λ awards. (i : ℕ) (d : award_type) → i < length awards.items → IsAwardIn con.now (slice_index_or awards.items i d)) }
+    ensures fault { IfErr result (λ fault. fault ≡ Memory) }
+{
+    let votes = view.votes.as_slice();
+    let fault = match awards(alloc, &con.profile, con.seats, votes, view.blank, &view.lot) {
+        Ok(awards) => return Ok(awards),
+        Err(fault) => fault,
+    };
+    match fault {
+        AllotFault::Memory => Err(ReportFault::Memory),
+        _ => {
+            laws_of_lots();
+            Ok(Vec::new(alloc))
+        }
+    }
+}
+
+/// The laws by which a lot that is to be taken is neither missing nor wrong.
+fn laws_of_lots()
+    ensures groups { GroupsAreOfOneNumberOfVotes }
+    ensures never_both { NoLotIsNeededWhereVotesDecide }
+{
+    laws::groups_are_of_one_number_of_votes();
+    laws::votes_decide_or_a_lot_is_needed();
+}
+
+fn push_awards(text: &mut String, con: &Constituency, awards: &[Award]) -> Result<(), AllocError>
+    requires { (i : ℕ) (d : award_type) → i < length awards.now → IsAwardIn con.now (slice_index_or awards.now i d) }
+    ensures { OnOk result (string_bytes text.new ≡ string_bytes text.old ++ award_lines con.now 1 awards.now) }
+{
+    for (index, award) in awards.iter().enumerate() {
+        push_award(text, con, index as u64 + 1, award)?;
+    }
+    Ok(())
+}
+
+fn push_award(
+    text: &mut String,
+    con: &Constituency,
+    n: u64,
+    award: &Award,
+) -> Result<(), AllocError>
+    requires { IsAwardIn con.now award.now }
+    ensures { OnOk result (string_bytes text.new ≡ string_bytes text.old ++ award_line con.now n award.now) }
+{
+    push_number(text, n, 4)?;
+    text.push_str(" ")?;
+    push_left(text, con.lists[award.list as usize - 1].code.as_str(), 16)?;
+    push_number(text, u64::from(award.k), 4)?;
+    push_number(text, award.num, 14)?;
+    push_number(text, award.den, 6)?;
+    push_number(text, award.num / award.den, 12)?;
+    text.push_str("\n")
+}

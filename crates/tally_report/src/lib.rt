@@ -1,0 +1,21 @@
+//! The reports of an electoral office: the texts of the tables that it publishes.
+#![tactic(auto)]
+
+mod awards;
+mod column;
+mod fault;
+mod holders;
+mod progress;
+mod quota;
+mod quotients;
+mod seats;
+mod tally;
+
+pub use awards::awards_text;
+pub use fault::ReportFault;
+pub use holders::holders_text;
+pub use progress::progress_text;
+pub use quota::quota_text;
+pub use quotients::quotients_text;
+pub use seats::seats_text;
+pub use tally::tally_text;

@@ -1,0 +1,110 @@
+//! Quotas and remainders.
+
+ghost use Rattle.std.specs.Prelude.{◌≡◌, ◌<◌, ◌++◌, IfOk, OnOk, length, string_bytes};
+ghost use Rattle.tally_contest.specs.HareTerms.{poll_of};
+ghost use Rattle.tally_contest.specs.Poll.{IsEligible, eligible_votes};
+ghost use Rattle.tally_contest.specs.Terms.{poll_under};
+ghost use Rattle.tally_report.specs.Fault.{IsRefused, quotas_fault};
+ghost use Rattle.tally_report.specs.Texts.{list_lines, quota_columns, quota_line, quota_text};
+ghost use Rattle.tally_report.specs.Views.{IsViewOf};
+
+use crate::column::{push_heading, push_left, push_number};
+use crate::fault::ReportFault;
+use std::alloc::{AllocError, Global};
+use tally_contest::{HareContest, Poll, places_under, quotas_of};
+use tally_returns::ConView;
+use tally_rules::{Constituency, ListEntry, Method};
+
+/// The eligible votes and the seats of a certified constituency, and the whole quotas, remainder and
+/// seats of each eligible list, under Hare's rule.
+pub fn quota_text(alloc: Global, con: &Constituency, view: &ConView) -> Result<String, ReportFault>
+    requires { IsViewOf con.now view.now }
+    ensures text { IfOk result (λ text. string_bytes text ≡ quota_text con.now view.now) }
+    ensures fault { IsRefused (quotas_fault con.now view.now) result }
+{
+    if !view.certified {
+        return Err(ReportFault::NotCertified);
+    }
+    let Method::Hare = con.profile.method else {
+        return Err(ReportFault::OtherMethod);
+    };
+    let poll = Poll::new(&con.profile, &view.votes, view.blank);
+    let contest = HareContest {
+        poll,
+        lot: &[],
+        seats: con.seats,
+        quotas: quotas_of(&poll, con.seats),
+        places: places_under(&[]),
+    };
+    let mut text = String::new(alloc);
+    push_heading(&mut text, "QUOTA", con)?;
+    let votes = eligible_votes(&poll);
+    writeln!(text, "votes {votes} seats {}", con.seats)?;
+    push_lists(&mut text, con, view, &contest)?;
+    Ok(text)
+}
+
+/// The votes of the eligible lists together.
+fn eligible_votes(poll: &Poll) -> u64
+    ensures { result ≡ eligible_votes (poll_under poll.now.threshold poll.now.base poll.now.votes.now) }
+{
+    let mut total = 0;
+    for list in 0..poll.votes.len() {
+        if poll.is_eligible(list) {
+            total += poll.votes[list];
+        }
+    }
+    total
+}
+
+fn push_lists(
+    text: &mut String,
+    con: &Constituency,
+    view: &ConView,
+    contest: &HareContest,
+) -> Result<(), AllocError>
+    requires lists { length contest.now.poll.votes.now ≡ length con.now.lists }
+    requires seats { length view.now.seats ≡ length con.now.lists }
+    ensures { OnOk result (string_bytes text.new ≡ string_bytes text.old ++ list_lines (quota_line (poll_of contest.now) contest.now.seats view.now) con.now) }
+{
+    for (place, list) in con.lists.iter().enumerate() {
+        push_list(text, contest, view, place, list)?;
+    }
+    Ok(())
+}
+
+fn push_list(
+    text: &mut String,
+    contest: &HareContest,
+    view: &ConView,
+    place: usize,
+    list: &ListEntry,
+) -> Result<(), AllocError>
+    requires list { place < length contest.now.poll.votes.now }
+    requires seats { place < length view.now.seats }
+    ensures { OnOk result (string_bytes text.new ≡ string_bytes text.old ++ quota_line (poll_of contest.now) contest.now.seats view.now place list.now) }
+{
+    if !contest.poll.is_eligible(place) {
+        return Ok(());
+    }
+    push_columns(text, contest, place, list, view.seats[place])
+}
+
+fn push_columns(
+    text: &mut String,
+    contest: &HareContest,
+    place: usize,
+    list: &ListEntry,
+    seats: u32,
+) -> Result<(), AllocError>
+    requires list { place < length contest.now.poll.votes.now }
+    requires eligible { IsEligible (poll_of contest.now) place }
+    ensures { OnOk result (string_bytes text.new ≡ string_bytes text.old ++ quota_columns (poll_of contest.now) contest.now.seats place list.now seats) }
+{
+    push_left(text, list.code.as_str(), 16)?;
+    push_number(text, contest.poll.votes_of(place), 12)?;
+    push_number(text, u64::from(contest.whole_quotas(place)), 5)?;
+    push_number(text, contest.remainder(place), 16)?;
+    push_number(text, u64::from(seats), 5)?;
+    text.push_str("\n")
+}

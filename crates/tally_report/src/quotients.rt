@@ -1,0 +1,138 @@
+//! The quotients of the lists.
+
+ghost use Rattle.std.specs.Prelude.{max, ◌≡◌, ◌≤◌, ◌++◌, IfOk, IfErr, OnOk, length, string_bytes};
+ghost use Rattle.std.specs.List.{flat_map, range_with_len};
+ghost use Rattle.tally_machine.specs.Outcome.{IsLawfulView};
+ghost use Rattle.tally_report.specs.Fault.{IsRefused, divisors_fault};
+ghost use Rattle.tally_report.specs.Texts.{list_lines, most, quotient_column, quotients_by, quotients_line, quotients_text};
+ghost use Rattle.tally_report.specs.Views.{IsViewOf};
+ghost use Rattle.tally_report.specs.declared.fault.ReportFault.TheVariants.{Memory};
+ghost use Rattle.tally_rules.specs.Threshold.{eligible_lists};
+
+use crate::column::{push_heading, push_left, push_number};
+use crate::fault::ReportFault;
+use std::alloc::{AllocError, Global};
+use tally_frac::{DHondt, Divisors, ModifiedSainteLague, SainteLague};
+use tally_returns::ConView;
+use tally_rules::{Constituency, ListEntry, Method, eligible};
+
+/// The most seats of a constituency.
+const MOST_SEATS: u32 = 500;
+
+/// The quotients of the eligible lists of a certified constituency under a divisor rule, rounded down,
+/// up to one more than the most seats that a list has. A star stands before each that won a seat
+/// (LOREG article 163.1 b) and c)).
+pub fn quotients_text(
+    alloc: Global,
+    con: &Constituency,
+    view: &ConView,
+) -> Result<String, ReportFault>
+    requires { IsViewOf con.now view.now }
+    ensures text { IfOk result (λ text. IsLawfulView con.now view.now → string_bytes text ≡ quotients_text con.now view.now) }
+    ensures fault { IsRefused (divisors_fault con.now view.now) result }
+{
+    if !view.certified {
+        return Err(ReportFault::NotCertified);
+    }
+    match con.profile.method {
+        Method::DHondt => text_by(alloc, &DHondt, con, view),
+        Method::SainteLague => text_by(alloc, &SainteLague, con, view),
+        Method::ModifiedSainteLague => text_by(alloc, &ModifiedSainteLague, con, view),
+        Method::Hare => Err(ReportFault::OtherMethod),
+    }
+}
+
+/// The text by these divisors. It stops at the quotient of a seat that no constituency has.
+fn text_by<D: Divisors>(
+    alloc: Global,
+    divisors: &D,
+    con: &Constituency,
+    view: &ConView,
+) -> Result<String, ReportFault>
+    requires view { IsViewOf con.now view.now }
+    requires seats { length view.now.seats ≡ length con.now.lists }
+    ensures text { IfOk result (λ text. most view.now.seats ≤ 500 → string_bytes text ≡ quotients_by (D.divisor divisors.now) (D.unit_of divisors.now) con.now view.now) }
+    ensures fault { IfErr result (λ fault. fault ≡ Memory) }
+{
+    let marks = eligible(alloc, &con.profile, &view.votes, view.blank)?;
+    let last = most(&view.seats).min(MOST_SEATS) + 1;
+    let mut text = String::new(alloc);
+    push_heading(&mut text, "QUOTIENTS", con)?;
+    push_lists(&mut text, divisors, con, view, &marks, last)?;
+    Ok(text)
+}
+
+/// The greatest of these numbers, and 0 where there is none.
+fn most(numbers: &[u32]) -> u32
+    ensures { result ≡ most numbers.now }
+{
+    let mut most = 0;
+    for n in numbers {
+        most = greater(most, *n);
+    }
+    most
+}
+
+fn greater(a: u32, b: u32) -> u32
+    ensures { result ≡ max a b }
+{
+    if a > b { a } else { b }
+}
+
+fn push_lists<D: Divisors>(
+    text: &mut String,
+    divisors: &D,
+    con: &Constituency,
+    view: &ConView,
+    marks: &[bool],
+    last: u32,
+) -> Result<(), AllocError>
+    requires view { IsViewOf con.now view.now }
+    requires seats { length view.now.seats ≡ length con.now.lists }
+    requires marks { marks.now ≡ eligible_lists con.now.profile view.now.votes view.now.blank }
+    requires last { last ≤ 501 }
+    ensures { OnOk result (string_bytes text.new ≡ string_bytes text.old ++ list_lines (quotients_line (D.divisor divisors.now) (D.unit_of divisors.now) last con.now view.now) con.now) }
+{
+    for (place, list) in con.lists.iter().enumerate() {
+        if marks[place] {
+            push_left(text, list.code.as_str(), 16)?;
+            push_quotients(text, divisors, view.votes[place], view.seats[place], last)?;
+            text.push_str("\n")?;
+        }
+    }
+    Ok(())
+}
+
+/// The quotients of a list of so many votes and seats, up to that of this seat.
+fn push_quotients<D: Divisors>(
+    text: &mut String,
+    divisors: &D,
+    votes: u64,
+    seats: u32,
+    last: u32,
+) -> Result<(), AllocError>
+    requires votes { votes ≤ 5000000000 }
+    requires last { last ≤ 501 }
+    ensures { OnOk result (string_bytes text.new ≡ string_bytes text.old ++ flat_map (quotient_column (D.divisor divisors.now) (D.unit_of divisors.now) votes seats) (range_with_len 1 last)) }
+{
+    for won in 0..last {
+        push_quotient(text, divisors, votes, seats, won + 1)?;
+    }
+    Ok(())
+}
+
+fn push_quotient<D: Divisors>(
+    text: &mut String,
+    divisors: &D,
+    votes: u64,
+    seats: u32,
+    k: u32,
+) -> Result<(), AllocError>
+    requires votes { votes ≤ 5000000000 }
+    requires first { 1 ≤ k }
+    requires last { k ≤ 501 }
+    ensures { OnOk result (string_bytes text.new ≡ string_bytes text.old ++ quotient_column (D.divisor divisors.now) (D.unit_of divisors.now) votes seats k) }
+{
+    text.push_str(if k <= seats { "*" } else { " " })?;
+    push_number(text, votes * divisors.unit() / divisors.nth(k), 11)
+}

@@ -1,0 +1,56 @@
+//! The seats of the lists.
+
+ghost use Rattle.std.specs.Prelude.{◌≡◌, ◌<◌, ◌++◌, IfOk, OnOk, length, string_bytes};
+ghost use Rattle.tally_report.specs.Fault.{IsRefused, seats_fault};
+ghost use Rattle.tally_report.specs.Texts.{list_lines, seats_line, seats_text};
+ghost use Rattle.tally_report.specs.Views.{IsViewOf};
+
+use crate::column::{push_heading, push_left, push_number};
+use crate::fault::ReportFault;
+use std::alloc::{AllocError, Global};
+use tally_returns::ConView;
+use tally_rules::{Constituency, ListEntry};
+
+/// The seats of each list of a certified constituency, and of the constituency.
+pub fn seats_text(alloc: Global, con: &Constituency, view: &ConView) -> Result<String, ReportFault>
+    requires { IsViewOf con.now view.now }
+    ensures text { IfOk result (λ text. string_bytes text ≡ seats_text con.now view.now) }
+    ensures fault { IsRefused (seats_fault view.now) result }
+{
+    if !view.certified {
+        return Err(ReportFault::NotCertified);
+    }
+    let mut text = String::new(alloc);
+    push_heading(&mut text, "SEATS", con)?;
+    writeln!(text, "edition {}", view.edition)?;
+    push_lists(&mut text, con, view)?;
+    push_left(&mut text, "total", 16)?;
+    push_number(&mut text, u64::from(con.seats), 5)?;
+    text.push_str("\n")?;
+    Ok(text)
+}
+
+fn push_lists(text: &mut String, con: &Constituency, view: &ConView) -> Result<(), AllocError>
+    requires { length view.now.seats ≡ length con.now.lists }
+    ensures { OnOk result (string_bytes text.new ≡ string_bytes text.old ++ list_lines (seats_line view.now) con.now) }
+{
+    for (place, list) in con.lists.iter().enumerate() {
+        push_list(text, view, place, list)?;
+    }
+    Ok(())
+}
+
+fn push_list(
+    text: &mut String,
+    view: &ConView,
+    place: usize,
+    list: &ListEntry,
+) -> Result<(), AllocError>
+    requires { place < length view.now.seats }
+    ensures { OnOk result (string_bytes text.new ≡ string_bytes text.old ++ seats_line view.now place list.now) }
+{
+    push_left(text, list.code.as_str(), 16)?;
+    push_number(text, u64::from(view.seats[place]), 5)?;
+    let name = list.name.as_str();
+    writeln!(text, " {name}")
+}

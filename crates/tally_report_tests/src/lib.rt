@@ -1,0 +1,10 @@
+//! Tests of `tally_report`, which over its finished proofs are checked once. Nothing here is public, so
+//! there are no must-fail edits.
+#![tactic(auto)]
+
+#[cfg(test)]
+mod reports;
+#[cfg(test)]
+mod shapes;
+#[cfg(test)]
+mod views;

@@ -1,0 +1,149 @@
+//! The texts of the reports, byte for byte.
+
+use crate::views::{PROVINCE, THREE_LISTS, TWIN_TOWN, shown, told};
+use std::test::*;
+use tally_machine::ProgressRow;
+use tally_report::progress_text;
+use tally_rules::Code;
+
+// Two lists of 100 votes each, a lot by which B is first, and three seats.
+const OPEN: &str = "1 1 1: 100 100: 0 0: : : ";
+
+const CERTIFIED: &str = "3 1 1: 100 100: 0 0: 1 2: 2 1: ";
+
+const VACATED: &str = "3 1 1: 100 100: 0 0: 1 2: 2 1: 2 1";
+
+// The votes of the example of LOREG article 163, for 8 seats by Hare.
+const LOREG: &str = "2 1 1: 168000 104000 72000 64000 40000 32000: 0 0: 3 2 1 1 1 0: : ";
+
+const TALLY: &str = "TALLY c1 Twin Town
+stations 1 closed 1
+valid 200 blank 0 spoiled 0
+A                        100   50.00 in  Alpha
+B                        100   50.00 in  Beta
+";
+
+const SEATS: &str = "SEATS c1 Twin Town
+edition 3
+A                   1 Alpha
+B                   2 Beta
+total               3
+";
+
+const QUOTIENTS: &str = "QUOTIENTS c1 Twin Town
+A               *        100          50          33
+B               *        100*         50          33
+";
+
+const AWARDS: &str = "AWARDS c1 Twin Town
+   1 B                  1           100     1         100
+   2 A                  1           100     1         100
+   3 B                  2           100     2          50
+";
+
+const HOLDERS: &str = "HOLDERS c1 Twin Town
+A                   1 Ana
+B                   - empty
+B                   - empty
+";
+
+// 480,000 votes for 8 seats are 60,000 a seat: A's 168,000 are 2 of them, and 48,000 times 8 is left.
+const QUOTA: &str = "QUOTA n Province
+votes 480000 seats 8
+A                     168000    2          384000    3
+B                     104000    1          352000    2
+C-of-16-letters_       72000    1           96000    1
+D                      64000    1           32000    1
+E                      40000    0          320000    1
+F                      32000    0          256000    0
+";
+
+// By the divisors 1.4, 3 and 5: A's second quotient is 53 / 3, and B's first is 24 / 1.4, which is less.
+const FIFTHS: &str = "2 1 1: 53 24 23: 0 0: 2 0 0: : ";
+
+const FIFTHS_QUOTIENTS: &str = "QUOTIENTS m Fifths
+A               *         37*         17          10
+B                         17           8           4
+C                         16           7           4
+";
+
+const FIFTHS_AWARDS: &str = "AWARDS m Fifths
+   1 A                  1           265     7          37
+   2 A                  2           265    15          17
+";
+
+// Of 1,000 votes one list has 300, which is 30 per cent, and the next 29; blank votes count.
+const SHARES: &str = "TALLY n Province
+stations 7 closed 6
+valid 1000 blank 70 spoiled 5
+A                        300   30.00 in  A list of some length, whose name stands whole and last on its line
+B                         29    2.90 out B
+C-of-16-letters_          30    3.00 in  C
+D                          0    0.00 out D
+E                        571   57.10 in  E
+F                          0    0.00 out F
+";
+
+#[test]
+fn the_texts_of_a_constituency(rt: HostRuntime) -> Result<(), Fail> {
+    for (report, setup, view, want) in [
+        ("tally", TWIN_TOWN, OPEN, TALLY),
+        ("seats", TWIN_TOWN, CERTIFIED, SEATS),
+        ("quotients", TWIN_TOWN, CERTIFIED, QUOTIENTS),
+        ("awards", TWIN_TOWN, CERTIFIED, AWARDS),
+        ("holders", TWIN_TOWN, VACATED, HOLDERS),
+        ("quota", PROVINCE, LOREG, QUOTA),
+        ("quotients", THREE_LISTS, FIFTHS, FIFTHS_QUOTIENTS),
+        ("awards", THREE_LISTS, FIFTHS, FIFTHS_AWARDS),
+        (
+            "tally",
+            PROVINCE,
+            "1 6 7: 300 29 30 0 571 0: 70 5: : : ",
+            SHARES,
+        ),
+        ("seats", TWIN_TOWN, OPEN, "fault 1"),
+        ("holders", TWIN_TOWN, OPEN, "fault 1"),
+        ("quota", TWIN_TOWN, OPEN, "fault 1"),
+        ("quota", TWIN_TOWN, CERTIFIED, "fault 2"),
+        ("quotients", PROVINCE, LOREG, "fault 2"),
+        ("awards", PROVINCE, LOREG, "fault 2"),
+        (
+            "awards",
+            PROVINCE,
+            "1 0 1: 0 0 0 0 0 0: 0 0: : : ",
+            "fault 1",
+        ),
+    ] {
+        let got = shown(rt.alloc(), setup, report, view)?;
+        assert!(rt; got.as_str() == want, "{report} of {view}\n{got}");
+    }
+    Ok(())
+}
+
+#[test]
+fn the_progress_of_constituencies(rt: HostRuntime) -> Result<(), Fail> {
+    let alloc = rt.alloc();
+    let text = told(
+        alloc,
+        progress_text(alloc, &[row("c1", 1, false)?, row("c2", u32::MAX, true)?]),
+    )?;
+    // A number of ten digits is wider than its column of seven, and is printed whole.
+    let want = "c1                    1      1      0      0      0      0      1 open
+c2              42949672954294967295      0      0      0      0      1 certified
+";
+    assert!(rt; text.as_str() == want, "{text}");
+    Ok(())
+}
+
+fn row(con: &str, stations: u32, certified: bool) -> Result<ProgressRow, Fail> {
+    Ok(ProgressRow {
+        con: Code::new(con.as_bytes()).ok_or("no code")?,
+        stations,
+        received: 0,
+        queried: 0,
+        corrected: 0,
+        closed: 0,
+        edition: 1,
+        certified,
+    })
+}

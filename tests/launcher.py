@@ -1,0 +1,463 @@
+#!/usr/bin/env python3
+"""Tests the launcher `office` in temporary copies of this repository, with a stub in the place of `rt`.
+
+    python3 tests/launcher.py
+
+The last line is `N passed, M failed`. It takes about half a minute, most of it for a stub that says nothing.
+"""
+
+import os
+import shutil
+import signal
+import subprocess
+import sys
+import tempfile
+import threading
+import time
+from concurrent.futures import ThreadPoolExecutor
+from pathlib import Path
+
+ROOT = Path(__file__).resolve().parent.parent
+PARTS = ("src", "specs", "proofs")
+NOBODY = 65534
+
+# The stub's `rt run` notes that it ran, does what the file `plan` says, and builds a program, which is another one at
+# each build: it prints the number of the build, its folder and its arguments, copies its input and ends with status 1.
+STUB = r"""#!/usr/bin/env bash
+here=$(dirname "$0")
+if [ "$1" = version ]; then
+    cat "$here/version"
+    exit
+fi
+echo "$*" >>"$here/runs"
+echo $$ >"$here/pid"
+. "$here/plan"
+cat >"$here/input"
+cat >out/tally_office <<END
+#!/bin/sh
+printf '%s\n' "build $(wc -l <"$here/runs")" "\$PWD" "\$@"
+cat
+echo "an error" >&2
+exit 1
+END
+chmod +x out/tally_office
+echo "the program's own output"
+"""
+
+PROVED = """
+for crate in tally_frac tally_office; do
+    echo "rt: chose --jobs 4 for $crate" >&2
+    echo "fn $crate::main: proved" >&2
+    echo "logic=proved functions=28 sum=0" >&2
+done
+"""
+
+# What `rt run` says of a function whose contract is not proved.
+OPEN = """
+cat >&2 <<'END'
+rt: chose --jobs 4 for tally_frac
+fn tally_frac::rank::RankKey::new: proved
+note: src/share.rt:60:5: it is not proved that what the function ensures holds when it returns (`returns`)
+fn tally_frac::share::Share::floor: no proof: expected answers in ./proofs/share/Share/floor/Answers.antt
+fn tally_frac::share::ShareDebug::fmt: proved
+help: write ./proofs/share/Share/floor/Answers.antt with these lines
+note: `returns` of proofs/share/Share/floor/Answers.antt must prove: c.self.num ≡ whole_part c.args.self.now
+  names you can use, by step:
+crate tally_frac: modules loaded=1088 checked=7
+logic=not-proved
+rt: rt lemma WORD.. finds a lemma by guessed names or words of the goal
+END
+exit 1
+"""
+
+
+class Copy:
+    """A copy of the repository with a stub of `rt`, in a folder whose name has a space."""
+
+    def __init__(self, folder, plan=PROVED):
+        self.folder = Path(folder)
+        self.root = self.folder / "the office"
+        self.bin = self.folder / "bin"
+        self.out = self.root / "crates/tally_office/out"
+        self.program = self.out / "tally_office"
+        self.started = []
+        self.root.mkdir(parents=True)
+        self.bin.mkdir()
+        shutil.copy(ROOT / "office", self.root)
+        shutil.copy(ROOT / "crates.txt", self.root)
+        for part in sorted(ROOT.glob("crates/*/*")):
+            if part.name in PARTS:
+                shutil.copytree(part, self.root / part.relative_to(ROOT))
+        self.plan(plan)
+        self.version("stub 1")
+        (self.bin / "rt").write_text(STUB)
+        (self.bin / "rt").chmod(0o755)
+
+    def plan(self, text):
+        (self.bin / "plan").write_text(text)
+
+    def version(self, text):
+        (self.bin / "version").write_text(text + "\n")
+
+    def runs(self):
+        runs = self.bin / "runs"
+        return len(runs.read_text().splitlines()) if runs.exists() else 0
+
+    def start(self, *words, launcher=None, rt=True, **how):
+        path = f"{self.bin}:{os.environ['PATH']}" if rt else path_without_rt(self.folder)
+        how = {"cwd": self.folder, "stdin": subprocess.DEVNULL, "start_new_session": True, **how}
+        how.update(stdout=subprocess.PIPE, stderr=subprocess.PIPE, text=True, env={**os.environ, "PATH": path})
+        ran = subprocess.Popen([str(launcher or self.root / "office"), *words], **how)
+        self.started.append(ran)
+        return ran
+
+    def run(self, *words, **how):
+        """Returns the status, the standard output and the standard error of one launch."""
+        ran = self.start(*words, **how)
+        out, errors = ran.communicate(timeout=50)
+        return ran.returncode, out, errors
+
+    def wait_for(self, file):
+        until = time.monotonic() + 20
+        while not (file.exists() and file.read_text().strip()):
+            assert time.monotonic() < until, f"{file.name} did not come"
+            time.sleep(0.02)
+
+    def close(self):
+        """Ends what is still running: the launchers, and the builds that they began."""
+        for ran in self.started:
+            if ran.poll() is None:
+                ran.terminate()
+                try:
+                    ran.communicate(timeout=5)
+                except subprocess.TimeoutExpired:
+                    os.killpg(ran.pid, signal.SIGKILL)
+                    ran.communicate()
+
+
+def path_without_rt(folder):
+    """Returns a PATH with the commands that the launcher calls, and no `rt`."""
+    found = Path(folder) / "commands"
+    if not found.exists():
+        found.mkdir()
+        for name in "bash sh readlink find sha256sum sort xargs awk head tail sed cat mkdir mv flock setsid".split():
+            (found / name).symlink_to(shutil.which(name))
+    return str(found)
+
+
+def is_running(pid):
+    """Returns whether there is such a process, other than one that ended and was not waited for."""
+    try:
+        return Path(f"/proc/{pid}/stat").read_text().rpartition(")")[2].split()[0] != "Z"
+    except OSError:
+        return False
+
+
+def first_launch_builds_and_the_next_does_not(copy):
+    status, out, errors = copy.run("check", "a b", "*")
+    assert status == 1 and out.splitlines() == ["build 1", str(copy.folder), "check", "a b", "*"], (status, out)
+    assert errors.endswith("office: the program is built\nan error\n"), errors
+    assert "the program's own output" not in out + errors
+    assert (copy.bin / "runs").read_text() == "run -- check\n"
+    assert (copy.bin / "input").read_text() == "station,slip,blank,spoiled,A\n"
+    assert copy.run("check") == (1, f"build 1\n{copy.folder}\ncheck\n", "an error\n")
+    assert copy.runs() == 1
+
+
+def input_and_folder_are_the_callers(copy):
+    text = copy.folder / "returns.csv"
+    text.write_text("first\nlast")
+    elsewhere = copy.folder / "elsewhere"
+    elsewhere.mkdir()
+    link = elsewhere / "count"
+    link.symlink_to("../the office/office")
+    for launcher in ("./count", "../the office/office"):
+        with text.open() as given:
+            status, out, _ = copy.run("--semicolon", launcher=launcher, cwd=elsewhere, stdin=given)
+        assert status == 1 and out.splitlines()[1:] == [str(elsewhere), "--semicolon", "first", "last"], out
+    assert copy.runs() == 1
+
+
+def two_launches_at_once_build_once(copy):
+    copy.plan("sleep 2\n" + PROVED)
+    first = copy.start("check")
+    copy.wait_for(copy.bin / "pid")
+    others = [copy.start("check") for _ in range(3)]
+    for ran in [first, *others]:
+        out, errors = ran.communicate(timeout=20)
+        assert ran.returncode == 1 and out.startswith("build 1\n"), (ran.returncode, out, errors)
+        waits = "another ./office is building the program: waiting for it" in errors
+        assert waits == (ran is not first), errors
+    assert copy.runs() == 1
+
+
+def each_change_of_what_it_is_made_of_builds_again(copy):
+    copy.run("check")
+    builds = 1
+    crates = copy.root / "crates"
+    changes = {
+        "an edit of a crate below": lambda: append(crates / "tally_frac/src/share.rt"),
+        "an edit of a definition": lambda: append(crates / "tally_rules/specs/Code.antt"),
+        "an edit of a proof": lambda: append(crates / "tally_frac/proofs/Lib.antt"),
+        "an edit of the program": lambda: append(crates / "tally_office/src/main.rt"),
+        "a new file": lambda: (crates / "tally_frac/src/new.rt").write_text("// new\n"),
+        "a file that is gone": lambda: (crates / "tally_frac/src/new.rt").unlink(),
+        "a file that was unpacked with its old time": lambda: unpacked(crates / "tally_frac/src/rank.rt"),
+        "a file that was written over with its time kept": lambda: written_over(crates / "tally_frac/src/rank.rt"),
+        "a list of crates": lambda: append(copy.root / "crates.txt", "# a comment\n"),
+        "a toolchain": lambda: (copy.version("stub 2"), append(copy.bin / "rt", "# changed\n")),
+        "a program that something else built": lambda: append(copy.program, "# changed\n"),
+        "a program that is gone": lambda: copy.program.unlink(),
+    }
+    for name, change in changes.items():
+        change()
+        builds += 1
+        out = copy.run("check")[1]
+        assert out.startswith(f"build {builds}\n"), f"{name}: {out}"
+        assert copy.run("check")[1] == out, name
+        assert copy.runs() == builds, name
+
+
+def append(file, text="// changed\n"):
+    with file.open("a") as it:
+        it.write(text)
+
+
+def unpacked(file):
+    """Puts another text into the place of a file as archives are unpacked: with a time of long ago."""
+    new = file.with_suffix(".new")
+    new.write_text(file.read_text() + "// unpacked\n")
+    os.utime(new, (1_000_000_000, 1_000_000_000))
+    new.rename(file)
+
+
+def written_over(file):
+    """Writes a text of the same size into a file, and gives it back the time that it had."""
+    before = file.stat()
+    file.write_text(file.read_text().replace("votes", "stove"))
+    os.utime(file, ns=(before.st_atime_ns, before.st_mtime_ns))
+
+
+def what_it_is_not_made_of_builds_nothing(copy):
+    copy.run("check")
+    crates = copy.root / "crates"
+    append(crates / "tally_rules_tests/src/lib.rt")
+    append(crates / "tally_import_tests/src/lib.rt")
+    (crates / "tally_frac/README.md").write_text("changed\n")
+    os.utime(crates / "tally_frac/src/share.rt")
+    assert copy.run("check")[2] == "an error\n" and copy.runs() == 1
+    copied = Copy.__new__(Copy)
+    copied.__dict__.update(copy.__dict__, root=copy.folder / "copied", started=copy.started)
+    for how in ("-a", "-r"):
+        subprocess.run(["cp", how, str(copy.root), str(copied.root)], check=True)
+        assert copied.run("check")[1].startswith("build 1\n")
+        shutil.rmtree(copied.root)
+    assert copy.run("check", rt=False)[1].startswith("build 1\n"), "without rt a current program runs"
+    assert copy.runs() == 1
+
+
+def an_edit_during_a_build_builds_again(copy):
+    copy.plan(f"echo '// changed' >>'{copy.root}/crates/tally_frac/src/share.rt'\n" + PROVED)
+    status, out, errors = copy.run("check")
+    assert status == 1 and out.startswith("build 1\n") and "a source changed meanwhile" in errors, errors
+    copy.plan(PROVED)
+    assert copy.run("check")[1].startswith("build 2\n")
+    assert copy.run("check")[1].startswith("build 2\n")
+
+
+def a_current_program_starts_at_once(copy):
+    copy.run("check")
+    copy.program.write_text("#!/bin/sh\n:\n")
+    copy.plan("exit 9")
+    mark = copy.out / "office.mark"
+    lines = mark.read_text().splitlines()
+    lines[2] = subprocess.run(["sha256sum"], stdin=copy.program.open(), capture_output=True, text=True).stdout.strip()
+    mark.write_text("\n".join(lines) + "\n")
+    assert copy.run("check") == (0, "", "")
+    path = {**os.environ, "PATH": f"{copy.bin}:{os.environ['PATH']}"}
+
+    def took(*words):
+        begun = time.perf_counter()
+        subprocess.run(words, env=path, check=True)
+        return 1000 * (time.perf_counter() - begun)
+
+    # The shortest of many, since other work on the machine only adds to a time: of more, where it does much of that.
+    with_launcher, alone = [], []
+    for rounds in range(400):
+        with_launcher.append(took(copy.root / "office", "check"))
+        alone.append(took(copy.program, "check"))
+        more = min(with_launcher) - min(alone)
+        if rounds >= 40 and more <= 30:
+            break
+    assert more <= 30, f"{more:.1f} ms more than the program"
+    return f"{more:.1f} ms more than the program"
+
+
+def a_tree_that_cannot_be_written_is_status_3(copy):
+    for folder, _, _ in os.walk(copy.folder):
+        os.chmod(folder, 0o555)
+    how = {"user": NOBODY, "group": NOBODY, "extra_groups": []} if os.geteuid() == 0 else {}
+    try:
+        status, out, errors = copy.run("check", **how)
+    finally:
+        for folder, _, _ in os.walk(copy.folder):
+            os.chmod(folder, 0o755)
+    assert (status, out) == (3, "") and errors.count("\n") == 1 and "cannot be written" in errors, (status, errors)
+    assert copy.runs() == 0
+    copy.run("check")
+    for folder, _, _ in os.walk(copy.folder):
+        os.chmod(folder, 0o555)
+    try:
+        status, out, errors = copy.run("check", **how)
+        os.chmod(copy.root / "crates/tally_frac/src", 0o755)
+        append(copy.root / "crates/tally_frac/src/share.rt")
+        old = copy.run("check", **how)
+    finally:
+        for folder, _, _ in os.walk(copy.folder):
+            os.chmod(folder, 0o755)
+    assert status == 1 and out.startswith("build 1\n"), "a current program runs where nothing can be written"
+    assert old[:2] == (3, "") and "cannot be written" in old[2], old
+
+
+def without_the_toolchain_is_status_3(copy):
+    status, out, errors = copy.run("check", rt=False)
+    assert (status, out) == (3, "") and errors.count("\n") == 1 and "'rt'" in errors, (status, errors)
+
+
+def what_fails_is_status_3(copy):
+    copy.run("check")
+    plans = {
+        "a build": "exit 1",
+        "a build with no program": f"rm -f '{copy.program}'; exit 0",
+        "a build that is killed": "kill -9 $$",
+    }
+    for name, plan in plans.items():
+        copy.plan(plan)
+        append(copy.root / "crates.txt", "# changed\n")
+        status, out, errors = copy.run("check")
+        assert (status, out) == (3, ""), f"{name}: {status} {errors}"
+    copy.plan(PROVED + "printf '\\177ELF%080d' 0 >out/tally_office; chmod +x out/tally_office; exit 0")
+    assert copy.run("check")[0] == 3, "a program that cannot be started"
+    (copy.root / "crates.txt").unlink()
+    assert copy.run("check")[0] == 3, "no crates.txt"
+
+
+def a_failed_build_shows_the_open_goal_first(copy):
+    copy.plan(OPEN)
+    status, out, errors = copy.run("check")
+    lines = [line.strip() for line in errors.splitlines()]
+    at = lines.index("office: the program could not be proved and built:")
+    assert status == 3 and out == ""
+    assert lines[at + 1 : -1] == [
+        "tally_frac::share::Share::floor is not proved",
+        "src/share.rt:60:5: it is not proved that what the function ensures holds when it returns (`returns`)",
+        "`returns` of proofs/share/Share/floor/Answers.antt must prove: c.self.num ≡ whole_part c.args.self.now",
+    ], errors
+    assert lines[-1] == f"office: the whole report is in {copy.out}/office.log"
+    copy.plan("echo 'src/share.rt:63:9: error[unknown-field]: no field `nun` on type `Share`' >&2; exit 1")
+    assert "\n  src/share.rt:63:9: error[unknown-field]: no field" in copy.run("check")[2]
+    copy.plan("echo 'rt: No space left on device' >&2; exit 2")
+    assert "\n  rt: No space left on device\n" in copy.run("check")[2]
+
+
+def a_build_says_what_it_needs_and_how_many_crates_are_left(copy):
+    lines = copy.run("check")[2].splitlines()
+    assert all(need in lines[1] for need in ("2.2 GB of disk", "of memory", "half an hour")), lines
+    assert lines[2:6] == [
+        "office: proving tally_frac, 11 of 11 crates left",
+        "office: tally_frac is proved, 28 functions",
+        "office: proving tally_office, 1 of 11 crates left",
+        "office: tally_office is proved, 28 functions",
+    ], lines
+
+
+def a_build_that_is_silent_is_spoken_of_every_half_minute(copy):
+    copy.plan("echo 'rt: chose --jobs 4 for tally_frac' >&2; exec sleep 60")
+    ran = copy.start("check")
+    begun, seen = time.monotonic(), []
+    threading.Timer(30, ran.terminate).start()
+    for line in ran.stderr:
+        seen.append((time.monotonic() - begun, line))
+    still = [at for at, line in seen if "still proving tally_frac, 11 of 11 crates left" in line]
+    assert still and still[0] < 30, seen
+
+
+def a_launcher_that_is_ended_ends_its_build(copy):
+    for number in (signal.SIGTERM, signal.SIGINT, signal.SIGHUP):
+        (copy.bin / "pid").unlink(missing_ok=True)
+        (copy.bin / "child").unlink(missing_ok=True)
+        # The build has a process of its own, which the end of `rt` alone would not end.
+        copy.plan(f"sleep 60 & echo $! >'{copy.bin}/child'; wait")
+        ran = copy.start("check")
+        copy.wait_for(copy.bin / "child")
+        waiting = copy.start("check")
+        ran.send_signal(number)
+        begun = time.monotonic()
+        ran.communicate(timeout=10)
+        assert ran.returncode == -number, ran.returncode
+        assert time.monotonic() - begun < 5
+        pids = [int((copy.bin / name).read_text()) for name in ("pid", "child")]
+        time.sleep(0.1)
+        assert not any(map(is_running, pids)), f"{number.name}: the build goes on"
+        waiting.terminate()
+        waiting.communicate(timeout=10)
+        assert waiting.returncode == -signal.SIGTERM
+
+
+def after_a_build_that_was_ended_the_next_in_line_builds(copy):
+    copy.plan("exec sleep 60")
+    first = copy.start("check")
+    copy.wait_for(copy.bin / "pid")
+    copy.plan(PROVED)
+    second = copy.start("check")
+    assert second.stderr.readline() == "office: another ./office is building the program: waiting for it\n"
+    first.terminate()
+    out, errors = second.communicate(timeout=20)
+    assert second.returncode == 1 and out.startswith("build 2\n"), errors
+
+
+TESTS = [
+    a_build_that_is_silent_is_spoken_of_every_half_minute,
+    first_launch_builds_and_the_next_does_not,
+    input_and_folder_are_the_callers,
+    two_launches_at_once_build_once,
+    each_change_of_what_it_is_made_of_builds_again,
+    what_it_is_not_made_of_builds_nothing,
+    an_edit_during_a_build_builds_again,
+    a_tree_that_cannot_be_written_is_status_3,
+    without_the_toolchain_is_status_3,
+    what_fails_is_status_3,
+    a_failed_build_shows_the_open_goal_first,
+    a_build_says_what_it_needs_and_how_many_crates_are_left,
+    a_launcher_that_is_ended_ends_its_build,
+    after_a_build_that_was_ended_the_next_in_line_builds,
+    a_current_program_starts_at_once,
+]
+
+
+def passes(test):
+    with tempfile.TemporaryDirectory(prefix="office launcher ") as folder:
+        os.chmod(folder, 0o755)
+        copy = Copy(Path(folder).resolve() / "copy")
+        try:
+            said = test(copy)
+            print("passed", test.__name__, *[f"({said})"] * bool(said), flush=True)
+            return True
+        except Exception as error:
+            print("FAILED", test.__name__, f"{type(error).__name__}: {error}", flush=True)
+            return False
+        finally:
+            copy.close()
+
+
+def main():
+    chosen = [test for test in TESTS if not sys.argv[1:] or test.__name__ in sys.argv[1:]]
+    # The first only waits, so it runs beside the others; those run one at a time.
+    with ThreadPoolExecutor(2) as pool:
+        waiting = pool.submit(passes, chosen[0])
+        results = [passes(test) for test in chosen[1:]] + [waiting.result()]
+    print(f"{sum(results)} passed, {len(results) - sum(results)} failed")
+    sys.exit(not all(results))
+
+
+main()
