@@ -52,6 +52,8 @@ for crate in tally_frac tally_office; do
 done
 """
 
+WAITS = "office: another ./office is building the program: waiting for it\n"
+
 # What `rt run` says of a function whose contract is not proved.
 OPEN = """
 cat >&2 <<'END'
@@ -153,6 +155,16 @@ def is_running(pid):
         return False
 
 
+def ends(pid):
+    """Returns whether a process ends within ten seconds: one that got a signal may need a while for it."""
+    until = time.monotonic() + 10
+    while is_running(pid):
+        if time.monotonic() > until:
+            return False
+        time.sleep(0.02)
+    return True
+
+
 def first_launch_builds_and_the_next_does_not(copy):
     status, out, errors = copy.run("check", "a b", "*")
     assert status == 1 and out.splitlines() == ["build 1", str(copy.folder), "check", "a b", "*"], (status, out)
@@ -179,15 +191,18 @@ def input_and_folder_are_the_callers(copy):
 
 
 def two_launches_at_once_build_once(copy):
-    copy.plan("sleep 2\n" + PROVED)
+    # The build goes on once all the others wait for it.
+    copy.plan("until [ -e \"$here/go\" ]; do sleep 0.1; done\n" + PROVED)
     first = copy.start("check")
     copy.wait_for(copy.bin / "pid")
     others = [copy.start("check") for _ in range(3)]
+    for ran in others:
+        assert ran.stderr.readline() == WAITS
+    (copy.bin / "go").touch()
     for ran in [first, *others]:
-        out, errors = ran.communicate(timeout=20)
+        out, errors = ran.communicate(timeout=60)
         assert ran.returncode == 1 and out.startswith("build 1\n"), (ran.returncode, out, errors)
-        waits = "another ./office is building the program: waiting for it" in errors
-        assert waits == (ran is not first), errors
+        assert WAITS not in errors, errors
     assert copy.runs() == 1
 
 
@@ -392,27 +407,25 @@ def a_launcher_that_is_ended_ends_its_build(copy):
         copy.wait_for(copy.bin / "child")
         waiting = copy.start("check")
         ran.send_signal(number)
-        begun = time.monotonic()
-        ran.communicate(timeout=10)
+        # Long before the 60 seconds of the build.
+        ran.communicate(timeout=30)
         assert ran.returncode == -number, ran.returncode
-        assert time.monotonic() - begun < 5
-        pids = [int((copy.bin / name).read_text()) for name in ("pid", "child")]
-        time.sleep(0.1)
-        assert not any(map(is_running, pids)), f"{number.name}: the build goes on"
+        for name in ("pid", "child"):
+            assert ends(int((copy.bin / name).read_text())), f"{number.name}: the build goes on"
         waiting.terminate()
-        waiting.communicate(timeout=10)
+        waiting.communicate(timeout=30)
         assert waiting.returncode == -signal.SIGTERM
 
 
 def after_a_build_that_was_ended_the_next_in_line_builds(copy):
-    copy.plan("exec sleep 60")
+    copy.plan("echo begun >\"$here/begun\"; exec sleep 60")
     first = copy.start("check")
-    copy.wait_for(copy.bin / "pid")
+    copy.wait_for(copy.bin / "begun")
     copy.plan(PROVED)
     second = copy.start("check")
-    assert second.stderr.readline() == "office: another ./office is building the program: waiting for it\n"
+    assert second.stderr.readline() == WAITS
     first.terminate()
-    out, errors = second.communicate(timeout=20)
+    out, errors = second.communicate(timeout=60)
     assert second.returncode == 1 and out.startswith("build 2\n"), errors
 
 

@@ -11,9 +11,9 @@ use Rattle.tally_contest.specs.Lot.{place_of, is_named, IsTurned, ComesFirst, Is
 use Rattle.tally_contest.specs.Allotment.{Rule, IsAllotment, IsAllotmentByVotes}
 use Rattle.tally_contest.specs.Poll.{HasEligible}
 use Rattle.tally_contest.specs.LotNeed.{IsNeed, IsInGroup}
-use Rattle.tally_contest.specs.Race.{IsFair, IsTie, CanHold}
-use Rattle.tally_contest.specs.Sums.{sum_before}
-use Rattle.tally_contest.specs.Terms.{Terms, IsRule, IsSound, IsProperLot, lot_rule_of, vote_race, placed_race}
+use Rattle.tally_contest.specs.internal.Race.{IsFair, IsTie, CanHold}
+use Rattle.tally_contest.specs.internal.Sums.{sum_before}
+use Rattle.tally_contest.specs.internal.Terms.{Terms, IsRule, IsSound, IsProperLot, lot_rule_of, vote_race, placed_race}
 use Rattle.tally_contest.proofs.AwardStep.{further}
 use Rattle.tally_contest.proofs.Sums.{sum-is, sum_before-same}
 use Rattle.tally_contest.proofs.Ties.{IsMoved, loses, gains, moved, tie_alike, class_differs, ties_are_one}

@@ -8,10 +8,10 @@ use Rattle.tally_contest.specs.Poll.{Poll}
 use Rattle.tally_allot.specs.Awards.{award_of, IsAwardOf, AreAwardsOf, IsAwardAbove}
 use Rattle.tally_rules.specs.declared.profile.LotRule.{LotRule}
 use Rattle.tally_contest.specs.DivisorAllotment.{IsAbove}
-use Rattle.tally_contest.specs.Pairs.{pair_of}
-use Rattle.tally_contest.specs.Race.{IsPair}
-use Rattle.tally_contest.specs.Terms.{AreDivisors, IsProperLot, IsSound, placed_divisor_race}
-use Rattle.tally_contest.specs.Won.{AreRows, AreWon}
+use Rattle.tally_contest.specs.internal.Pairs.{pair_of}
+use Rattle.tally_contest.specs.internal.Race.{IsPair}
+use Rattle.tally_contest.specs.internal.Terms.{AreDivisors, IsProperLot, IsSound, placed_divisor_race}
+use Rattle.tally_contest.specs.internal.Won.{AreRows, AreWon}
 use Rattle.tally_contest.proofs.DivisorRace.{above_from_placed, runs_if_eligible, seats_for-le}
 
 module _ (nth : ℕ → ℕ) (unit : ℕ) (lot_rule : LotRule) (d : AreDivisors nth) (some_unit : 1 ≤ unit) (poll : Poll) (sound : IsSound poll) (lot : List ℕ) (proper : IsProperLot poll lot) (seats : ℕ) (a : List ℕ) (rows : List Won) (w : AreWon (placed_divisor_race nth lot_rule poll lot seats) a rows) where

@@ -10,11 +10,11 @@ use Rattle.std.specs.List.{list_any}
 use Rattle.tally_contest.specs.ListSet.{has_place}
 use Rattle.tally_contest.specs.Lot.{place_of}
 use Rattle.tally_contest.specs.LotNeed.{IsInGroup, IsLotTaken, IsNeed}
-use Rattle.tally_contest.specs.NextPairs.{HaveKeys}
-use Rattle.tally_contest.specs.Pairs.{last_place, turns, place_at}
+use Rattle.tally_contest.specs.internal.NextPairs.{HaveKeys}
+use Rattle.tally_contest.specs.internal.Pairs.{last_place, turns, place_at}
 use Rattle.tally_rules.specs.declared.profile.LotRule.{LotRule}
 use Rattle.tally_contest.specs.Poll.{Poll}
-use Rattle.tally_contest.specs.Terms.{Terms, AreDivisors, IsSound}
+use Rattle.tally_contest.specs.internal.Terms.{Terms, AreDivisors, IsSound}
 use Rattle.tally_allot.proofs.LotLaws.{IsPlaced, at_name, at_setup, placed_at}
 use Rattle.tally_contest.proofs.TermsRace.{AreRaces}
 use Rattle.tally_contest.proofs.Vectors.{get_or-le-sum}

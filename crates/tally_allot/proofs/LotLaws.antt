@@ -9,8 +9,8 @@ use Rattle.tally_contest.specs.ListSet.{has_place}
 use Rattle.tally_contest.specs.Lot.{place_from, place_of, is_named, IsOrderOf}
 use Rattle.tally_contest.specs.Allotment.{IsAllotmentByVotes}
 use Rattle.tally_contest.specs.LotNeed.{IsLotNeeded, IsDecidedByVotes, IsNeed, IsLotTaken, IsLotWrong}
-use Rattle.tally_contest.specs.Race.{IsFair, IsTie}
-use Rattle.tally_contest.specs.Terms.{Terms, ArePlacedApart, IsProperLot, vote_race}
+use Rattle.tally_contest.specs.internal.Race.{IsFair, IsTie}
+use Rattle.tally_contest.specs.internal.Terms.{Terms, ArePlacedApart, IsProperLot, vote_race}
 use Rattle.tally_contest.proofs.Vectors.{equal_or_apart}
 use Rattle.tally_contest.proofs.Ties.{IsMoved, loses, gains, moved, tie_alike, class_differs}
 use Rattle.tally_contest.proofs.TermsRace.{AreRaces}

@@ -15,7 +15,7 @@ use Rattle.tally_contest.specs.Lot.{IsOrderOf}
 use Rattle.tally_contest.specs.Allotment.{Rule, divisors, hare, IsAllotment, IsAllotmentByVotes}
 use Rattle.tally_contest.specs.LotNeed.{IsDecidedByVotes, IsNeed}
 use Rattle.tally_contest.specs.Rules.{rule_by, rule_of, poll_of}
-use Rattle.tally_contest.specs.Terms.{IsRule, IsSound}
+use Rattle.tally_contest.specs.internal.Terms.{IsRule, IsSound}
 use Rattle.tally_contest.proofs.Vectors.{Exchange, equal_or_exchange, get_or-le-sum}
 use Rattle.tally_contest.proofs.Sums.{sum-is}
 use Rattle.tally_contest.proofs.PollLemmas.{sound_under}

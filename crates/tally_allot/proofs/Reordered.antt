@@ -9,10 +9,10 @@ use Rattle.std.proofs.lemmas.List.Sorted.{sum_by-IsPermutation, length_permutati
 use Rattle.tally_contest.specs.Poll.{Poll, IsEligible, votes_of, eligible_votes}
 use Rattle.tally_contest.specs.Allotment.{Rule, divisors, hare, IsAllotment}
 use Rattle.tally_contest.specs.LotNeed.{IsDecidedByVotes}
-use Rattle.tally_contest.specs.Race.{Race, IsFair, IsTie}
+use Rattle.tally_contest.specs.internal.Race.{Race, IsFair, IsTie}
 use Rattle.tally_allot.specs.Reordering.{IsReordering, reordered}
-use Rattle.tally_contest.specs.Sums.{sum_before}
-use Rattle.tally_contest.specs.Terms.{Terms, IsRule, IsSound, vote_race, placed_race}
+use Rattle.tally_contest.specs.internal.Sums.{sum_before}
+use Rattle.tally_contest.specs.internal.Terms.{Terms, IsRule, IsSound, vote_race, placed_race}
 use Rattle.tally_contest.proofs.Vectors.{two-le-sum, Exchange, equal_or_exchange}
 use Rattle.tally_contest.proofs.Race.{one_seat}
 use Rattle.tally_contest.specs.Allotment.{IsAllotmentByVotes}

@@ -1,20 +1,20 @@
 -- Votes short: why a list is sure of one seat more exactly where its next seat ranks above the lowest that another list has.
-use Rattle.std.proofs.Common.{◌≡◌, ℕ, zero, suc, ◌+◌, ◌-◌, ◌*◌, ◌/◌, ◌%◌, ◌<◌, ◌≤◌, ◌≢◌, ◌⊎◌, ◌↔◌, List, [], ◌∷◌, ◌++◌, Option, None, Some, MatchOption, Result, Ok, Err, IfOk, length, get_or, set, sum, refl, sym, ◌∙◌, subst, inl, inr, ap, arith, get_or-set_same, get_or-set_other}
+use Rattle.std.proofs.Common.{◌≡◌, ℕ, zero, suc, ◌+◌, ◌-◌, ◌*◌, ◌<◌, ◌≤◌, ◌≢◌, ◌⊎◌, ◌↔◌, List, [], ◌∷◌, ◌++◌, Option, None, Some, MatchOption, Result, Ok, Err, IfOk, length, get_or, sum, refl, sym, ◌∙◌, subst, inl, inr, ap, arith, get_or-set_same, get_or-set_other}
 use Rattle.std.proofs.lemmas.Bool.{cases_lt, cases_eq}
 use Rattle.std.proofs.lemmas.List.{length-set, length_push, get_or_past, get_or_push, get_or_append_left}
-use Rattle.std.proofs.Math.Nat.{mul-le-mul_right, mul-le-mul_left, le_of_mul-le-mul_right, div-add-mod, mod-lt}
-use Rattle.tally_frac.specs.Rank.{Pair, RanksAboveByVotes, IsHigher}
+use Rattle.std.proofs.Math.Nat.{mul-le-mul_right, mul-le-mul_left, le_of_mul-le-mul_right}
+use Rattle.tally_frac.specs.Rank.{Pair, IsHigher}
 use Rattle.tally_frac.proofs.FractionLaws.{scaled-greater, scaled-level}
 use Rattle.tally_frac.proofs.RankLaws.{weak-decided, weak-one_way, weak-not_below}
 use Rattle.tally_rules.specs.declared.profile.LotRule.{LotRule}
 use Rattle.tally_contest.specs.Poll.{Poll, IsEligible, votes_of, SharesOut}
 use Rattle.tally_contest.specs.Allotment.{Rule, divisors, IsAllotment}
 use Rattle.tally_contest.specs.DivisorAllotment.{IsDivisorAllotmentByVotes}
-use Rattle.tally_contest.specs.Terms.{AreDivisors, IsSound}
+use Rattle.tally_contest.specs.internal.Terms.{AreDivisors, IsSound}
 use Rattle.tally_contest.proofs.Vectors.{sum-cons, equal_or_exchange, Exchange}
 use Rattle.tally_contest.proofs.DivisorRace.{eligible_or_not}
 use Rattle.tally_allot.specs.VotesShort.{with_more_votes, IsSureOfMore, IsVotesShort, IsLeastNumber, HasNoMoreToGain, AreBelow}
-use Rattle.tally_allot.specs.ShortSteps.{RiseSlowly, IsAbove, IsByVotes, AreFewestAbove, IsLowestOther, IsNumberOf, IsAnswerOf, AreAnswers, AreAnswersOf}
+use Rattle.tally_allot.specs.internal.ShortSteps.{RiseSlowly, VotesRankAbove, IsByVotes, AreFewestAbove, IsLowestOther, IsNumberOf, IsAnswerOf, AreAnswers, AreAnswersOf}
 
 -- ---- Pairs of votes and a divisor
 
@@ -22,66 +22,66 @@ abbrev pair : ℕ → ℕ → Pair
 pair v d = record { votes = v; divisor = d; place = 0 }
 
 -- above what is not below
-pub above_chain : (v d u e t f : ℕ) → 1 ≤ d → 1 ≤ e → 1 ≤ f → IsAbove v d u e → ¬ IsAbove t f u e → IsAbove v d t f
+pub above_chain : (v d u e t f : ℕ) → 1 ≤ d → 1 ≤ e → 1 ≤ f → VotesRankAbove v d u e → ¬ VotesRankAbove t f u e → VotesRankAbove v d t f
 above_chain v d u e t f pd pe pf ab nb = by_cases (weak-decided (pair v d) (pair t f) pd pf)
   where
-    by_cases : IsAbove v d t f ⊎ ¬ IsAbove v d t f → IsAbove v d t f
+    by_cases : VotesRankAbove v d t f ⊎ ¬ VotesRankAbove v d t f → VotesRankAbove v d t f
     by_cases (inl h) = h
     by_cases (inr h) = absurd (weak-not_below (pair u e) (pair t f) (pair v d) pe pf pd nb h ab)
 
 -- a smaller divisor ranks no lower
-pub smaller_divisor : (v d d' u e : ℕ) → d' ≤ d → IsAbove v d u e → IsAbove v d' u e
+pub smaller_divisor : (v d d' u e : ℕ) → d' ≤ d → VotesRankAbove v d u e → VotesRankAbove v d' u e
 smaller_divisor v d d' u e le ab = by_cases (cases_lt (u * d') (v * e)) ab
   where
     less : u * d' ≤ u * d
     less = mul-le-mul_left u le
 
-    by_cases : (u * d' < v * e) ⊎ (v * e ≤ u * d') → IsAbove v d u e → IsAbove v d' u e
+    by_cases : (u * d' < v * e) ⊎ (v * e ≤ u * d') → VotesRankAbove v d u e → VotesRankAbove v d' u e
     by_cases (inl lt) _ = inl lt
     by_cases (inr ge) (inl lt) = absurd (omega (arith, less))
     by_cases (inr ge) (inr t) = inr (omega (arith, less, t.0), t.1)
 
 -- more votes rank no lower
-pub more_votes : (v v' d u e : ℕ) → v ≤ v' → IsAbove v d u e → IsAbove v' d u e
+pub more_votes : (v v' d u e : ℕ) → v ≤ v' → VotesRankAbove v d u e → VotesRankAbove v' d u e
 more_votes v v' d u e le ab = by_cases (cases_lt (u * d) (v' * e)) ab
   where
     more : v * e ≤ v' * e
     more = mul-le-mul_right e le
 
-    by_cases : (u * d < v' * e) ⊎ (v' * e ≤ u * d) → IsAbove v d u e → IsAbove v' d u e
+    by_cases : (u * d < v' * e) ⊎ (v' * e ≤ u * d) → VotesRankAbove v d u e → VotesRankAbove v' d u e
     by_cases (inl lt) _ = inl lt
     by_cases (inr ge) (inl lt) = absurd (omega (arith, more))
     by_cases (inr ge) (inr t) = inr (omega (arith, more, t.0), omega (arith, t.1))
 
 -- and what ranks above more votes ranks above fewer
-pub fewer_votes : (v d u u' e : ℕ) → u ≤ u' → IsAbove v d u' e → IsAbove v d u e
+pub fewer_votes : (v d u u' e : ℕ) → u ≤ u' → VotesRankAbove v d u' e → VotesRankAbove v d u e
 fewer_votes v d u u' e le ab = by_cases (cases_lt (u * d) (v * e)) ab
   where
     less : u * d ≤ u' * d
     less = mul-le-mul_right d le
 
-    by_cases : (u * d < v * e) ⊎ (v * e ≤ u * d) → IsAbove v d u' e → IsAbove v d u e
+    by_cases : (u * d < v * e) ⊎ (v * e ≤ u * d) → VotesRankAbove v d u' e → VotesRankAbove v d u e
     by_cases (inl lt) _ = inl lt
     by_cases (inr ge) (inl lt) = absurd (omega (arith, less))
     by_cases (inr ge) (inr t) = inr (omega (arith, less, t.0), omega (arith, t.1))
 
-pub not_above_itself : (v d : ℕ) → ¬ IsAbove v d v d
+pub not_above_itself : (v d : ℕ) → ¬ VotesRankAbove v d v d
 not_above_itself v d (inl above) = omega (arith, above)
 not_above_itself v d (inr above) = omega (arith, above.1)
 
 -- the same of equal numbers
-pub above_same : {v v' d d' u u' e e' : ℕ} → v ≡ v' → d ≡ d' → u ≡ u' → e ≡ e' → IsAbove v d u e → IsAbove v' d' u' e'
+pub above_same : {v v' d d' u u' e e' : ℕ} → v ≡ v' → d ≡ d' → u ≡ u' → e ≡ e' → VotesRankAbove v d u e → VotesRankAbove v' d' u' e'
 above_same {v = v} {v' = v'} {d = d} {d' = d'} {u = u} {u' = u'} {e = e} {e' = e'} pv pd pu pe h = rw (sym pv, sym pd, sym pu, sym pe) h
 
 pub fewest_same : {d d' u u' e e' : ℕ} (y : ℕ) → d ≡ d' → u ≡ u' → e ≡ e' → AreFewestAbove d u e y → AreFewestAbove d' u' e' y
 fewest_same y pd pu pe f = record { above = above_same refl pd pu pe f.above; one_less = λ h. f.one_less (above_same refl (sym pd) (sym pu) (sym pe) h) }
 
 -- The unit of a rule cancels
-scaled_up : (unit : ℕ) → 1 ≤ unit → (v d u e : ℕ) → IsAbove v d u e → IsHigher (record { num = v * unit; den = d }) v (record { num = u * unit; den = e }) u
+scaled_up : (unit : ℕ) → 1 ≤ unit → (v d u e : ℕ) → VotesRankAbove v d u e → IsHigher (record { num = v * unit; den = d }) v (record { num = u * unit; den = e }) u
 scaled_up unit p v d u e (inl h) = inl ((scaled-greater u d v e unit p).1 h)
 scaled_up unit p v d u e (inr t) = inr ((scaled-level v e u d unit p).1 t.0, t.1)
 
-scaled_down : (unit : ℕ) → 1 ≤ unit → (v d u e : ℕ) → IsHigher (record { num = v * unit; den = d }) v (record { num = u * unit; den = e }) u → IsAbove v d u e
+scaled_down : (unit : ℕ) → 1 ≤ unit → (v d u e : ℕ) → IsHigher (record { num = v * unit; den = d }) v (record { num = u * unit; den = e }) u → VotesRankAbove v d u e
 scaled_down unit p v d u e (inl h) = inl ((scaled-greater u d v e unit p).0 h)
 scaled_down unit p v d u e (inr t) = inr ((scaled-level v e u d unit p).0 t.0, t.1)
 
@@ -105,7 +105,7 @@ alone (x ∷ xs) (suc m) h = omega (arith, sum-cons x xs, h 0 (λ e. absurd (ome
 
 -- ---- The number
 
-module _ (nth : ℕ → ℕ) (unit : ℕ) (some_unit : 1 ≤ unit) (lot_rule : LotRule) (d : AreDivisors nth) (poll : Poll) (s : IsSound poll) (seats : ℕ) (a : List ℕ) (w : IsByVotes nth poll seats a) (m : ℕ) (em : IsEligible poll m) (c : ℕ) (apart : c ≢ m) (wins : 1 ≤ get_or a c 0) (lowest : (p : ℕ) → p ≢ m → 1 ≤ get_or a p 0 → ¬ IsAbove (votes_of poll c) (nth (get_or a c 0)) (votes_of poll p) (nth (get_or a p 0))) where
+module _ (nth : ℕ → ℕ) (unit : ℕ) (some_unit : 1 ≤ unit) (lot_rule : LotRule) (d : AreDivisors nth) (poll : Poll) (s : IsSound poll) (seats : ℕ) (a : List ℕ) (w : IsByVotes nth poll seats a) (m : ℕ) (em : IsEligible poll m) (c : ℕ) (apart : c ≢ m) (wins : 1 ≤ get_or a c 0) (lowest : (p : ℕ) → p ≢ m → 1 ≤ get_or a p 0 → ¬ VotesRankAbove (votes_of poll c) (nth (get_or a c 0)) (votes_of poll p) (nth (get_or a p 0))) where
   at_m : (x : ℕ) → votes_of (with_more_votes poll m x) m ≡ votes_of poll m + x
   at_m x = get_or-set_same poll.votes m (votes_of poll m + x) 0 (s.listed m em)
 
@@ -130,21 +130,21 @@ module _ (nth : ℕ → ℕ) (unit : ℕ) (some_unit : 1 ≤ unit) (lot_rule : L
       by_cases (inr ge) = let e : j ≡ k = omega arith in omega (arith, ap nth e)
 
   -- a pair of the changed poll
-  raised : (x p k j : ℕ) → p ≢ m → IsAbove (votes_of poll m + x) (nth k) (votes_of poll p) (nth j) → IsAbove (votes_of (with_more_votes poll m x) m) (nth k) (votes_of (with_more_votes poll m x) p) (nth j)
+  raised : (x p k j : ℕ) → p ≢ m → VotesRankAbove (votes_of poll m + x) (nth k) (votes_of poll p) (nth j) → VotesRankAbove (votes_of (with_more_votes poll m x) m) (nth k) (votes_of (with_more_votes poll m x) p) (nth j)
   raised x p k j ne h = rw (at_m x, beside_m x p ne) h
 
   -- a seat that no longer ranks below it belongs to another list
-  module _ (x : ℕ) (above : IsAbove (votes_of poll m + x) (nth (get_or a m 0 + 1)) (votes_of poll c) (nth (get_or a c 0))) (b : List ℕ) (v : IsByVotes nth (with_more_votes poll m x) seats b) (le : get_or b m 0 ≤ get_or a m 0) where
-    too_low : (p : ℕ) → p ≢ m → 1 ≤ get_or b p 0 → ¬ IsAbove (votes_of poll p) (nth (get_or b p 0)) (votes_of poll c) (nth (get_or a c 0)) → ⊥
+  module _ (x : ℕ) (above : VotesRankAbove (votes_of poll m + x) (nth (get_or a m 0 + 1)) (votes_of poll c) (nth (get_or a c 0))) (b : List ℕ) (v : IsByVotes nth (with_more_votes poll m x) seats b) (le : get_or b m 0 ≤ get_or a m 0) where
+    too_low : (p : ℕ) → p ≢ m → 1 ≤ get_or b p 0 → ¬ VotesRankAbove (votes_of poll p) (nth (get_or b p 0)) (votes_of poll c) (nth (get_or a c 0)) → ⊥
     too_low p ne win nb =
-        let next : IsAbove (votes_of poll m + x) (nth (get_or b m 0 + 1)) (votes_of poll c) (nth (get_or a c 0)) = smaller_divisor _ _ _ _ _ (no_larger (get_or b m 0 + 1) (get_or a m 0 + 1) (omega arith) (omega arith)) above in
-        let over : IsAbove (votes_of poll m + x) (nth (get_or b m 0 + 1)) (votes_of poll p) (nth (get_or b p 0)) = above_chain _ _ _ _ _ _ (positive (get_or b m 0)) (d.positive _ wins) (d.positive _ win) next nb in
+        let next : VotesRankAbove (votes_of poll m + x) (nth (get_or b m 0 + 1)) (votes_of poll c) (nth (get_or a c 0)) = smaller_divisor _ _ _ _ _ (no_larger (get_or b m 0 + 1) (get_or a m 0 + 1) (omega arith) (omega arith)) above in
+        let over : VotesRankAbove (votes_of poll m + x) (nth (get_or b m 0 + 1)) (votes_of poll p) (nth (get_or b p 0)) = above_chain _ _ _ _ _ _ (positive (get_or b m 0)) (d.positive _ wins) (d.positive _ win) next nb in
         v.last_not_below_next p m (holder b (record { one_each = v.shares.one_each ∙ length-set poll.votes m (votes_of poll m + x); eligible_only = v.shares.eligible_only; whole = v.shares.whole }) p win) em ne win (raised x p (get_or b m 0 + 1) (get_or b p 0) ne over)
 
     low_seat : (a ≡ b) ⊎ Exchange a b → ⊥
     low_seat (inl e) =
         let same : get_or a c 0 ≡ get_or b c 0 = ap (λ u. get_or u c 0) e in
-        too_low c apart (omega arith) (subst (λ k. ¬ IsAbove (votes_of poll c) (nth k) (votes_of poll c) (nth (get_or a c 0))) same (not_above_itself _ _))
+        too_low c apart (omega arith) (subst (λ k. ¬ VotesRankAbove (votes_of poll c) (nth k) (votes_of poll c) (nth (get_or a c 0))) same (not_above_itself _ _))
     low_seat (inr z) = too_low z.m ne win (λ h. by_list (cases_eq z.m c) h)
       where
         ne : z.m ≢ m
@@ -154,20 +154,20 @@ module _ (nth : ℕ → ℕ) (unit : ℕ) (some_unit : 1 ≤ unit) (lot_rule : L
         win = omega (arith, z.less)
 
         -- its next seat in the old allotment ranks no lower
-        up : IsAbove (votes_of poll z.m) (nth (get_or b z.m 0)) (votes_of poll c) (nth (get_or a c 0)) → IsAbove (votes_of poll z.m) (nth (get_or a z.m 0 + 1)) (votes_of poll c) (nth (get_or a c 0))
+        up : VotesRankAbove (votes_of poll z.m) (nth (get_or b z.m 0)) (votes_of poll c) (nth (get_or a c 0)) → VotesRankAbove (votes_of poll z.m) (nth (get_or a z.m 0 + 1)) (votes_of poll c) (nth (get_or a c 0))
         up h = smaller_divisor _ _ _ _ _ (no_larger (get_or a z.m 0 + 1) (get_or b z.m 0) (omega arith) (omega (arith, z.less))) h
 
         ez : IsEligible poll z.m
         ez = holder b (record { one_each = v.shares.one_each ∙ length-set poll.votes m (votes_of poll m + x); eligible_only = v.shares.eligible_only; whole = v.shares.whole }) z.m win
 
-        by_list : (z.m ≡ c) ⊎ (z.m ≡ c → ⊥) → IsAbove (votes_of poll z.m) (nth (get_or b z.m 0)) (votes_of poll c) (nth (get_or a c 0)) → ⊥
+        by_list : (z.m ≡ c) ⊎ (z.m ≡ c → ⊥) → VotesRankAbove (votes_of poll z.m) (nth (get_or b z.m 0)) (votes_of poll c) (nth (get_or a c 0)) → ⊥
         by_list (inl e) h =
-            let h' : IsAbove (votes_of poll c) (nth (get_or a c 0 + 1)) (votes_of poll c) (nth (get_or a c 0)) = subst (λ p. IsAbove (votes_of poll p) (nth (get_or a p 0 + 1)) (votes_of poll c) (nth (get_or a c 0))) e (up h) in
+            let h' : VotesRankAbove (votes_of poll c) (nth (get_or a c 0 + 1)) (votes_of poll c) (nth (get_or a c 0)) = subst (λ p. VotesRankAbove (votes_of poll p) (nth (get_or a p 0 + 1)) (votes_of poll c) (nth (get_or a c 0))) e (up h) in
             not_above_itself _ _ (smaller_divisor _ _ _ _ _ (no_larger (get_or a c 0) (get_or a c 0 + 1) wins (omega arith)) h')
         by_list (inr nc) h = w.last_not_below_next c z.m (holder a w.shares c wins) ez (λ e. nc (sym e)) wins (up h)
 
   -- With so many votes more every allotment gives the list more.
-  pub enough : (x : ℕ) → IsAbove (votes_of poll m + x) (nth (get_or a m 0 + 1)) (votes_of poll c) (nth (get_or a c 0)) → IsSureOfMore (divisors nth unit lot_rule) poll seats (get_or a m 0) m x
+  pub enough : (x : ℕ) → VotesRankAbove (votes_of poll m + x) (nth (get_or a m 0 + 1)) (votes_of poll c) (nth (get_or a c 0)) → IsSureOfMore (divisors nth unit lot_rule) poll seats (get_or a m 0) m x
   enough x above b given = by_cases (cases_lt (get_or a m 0) (get_or b m 0))
     where
       v : IsByVotes nth (with_more_votes poll m x) seats b
@@ -179,7 +179,7 @@ module _ (nth : ℕ → ℕ) (unit : ℕ) (some_unit : 1 ≤ unit) (lot_rule : L
           absurd (low_seat x above b v le (equal_or_exchange a b (omega (arith, w.shares.one_each, v.shares.one_each, length-set poll.votes m (votes_of poll m + x))) (omega (arith, w.shares.whole, v.shares.whole))))
 
   -- With fewer the seats that there are stay an allotment by the votes alone.
-  pub not_enough : (x : ℕ) → ¬ IsAbove (votes_of poll m + x) (nth (get_or a m 0 + 1)) (votes_of poll c) (nth (get_or a c 0)) → IsByVotes nth (with_more_votes poll m x) seats a
+  pub not_enough : (x : ℕ) → ¬ VotesRankAbove (votes_of poll m + x) (nth (get_or a m 0 + 1)) (votes_of poll c) (nth (get_or a c 0)) → IsByVotes nth (with_more_votes poll m x) seats a
   not_enough x below =
       record {
         shares = record { one_each = omega (arith, w.shares.one_each, length-set poll.votes m (votes_of poll m + x)); eligible_only = w.shares.eligible_only; whole = w.shares.whole };
@@ -187,25 +187,25 @@ module _ (nth : ℕ → ℕ) (unit : ℕ) (some_unit : 1 ≤ unit) (lot_rule : L
       }
     where
       Changed : ℕ → ℕ → Type 0
-      Changed p l = IsAbove (votes_of (with_more_votes poll m x) p) (nth (get_or a p 0 + 1)) (votes_of (with_more_votes poll m x) l) (nth (get_or a l 0))
+      Changed p l = VotesRankAbove (votes_of (with_more_votes poll m x) p) (nth (get_or a p 0 + 1)) (votes_of (with_more_votes poll m x) l) (nth (get_or a l 0))
 
-      by_lists : (l p : ℕ) → IsEligible poll l → IsEligible poll p → l ≢ p → 1 ≤ get_or a l 0 → (l ≡ m) ⊎ (l ≡ m → ⊥) → (p ≡ m) ⊎ (p ≡ m → ⊥) → ¬ IsAbove (votes_of (with_more_votes poll m x) p) (nth (get_or a p 0 + 1)) (votes_of (with_more_votes poll m x) l) (nth (get_or a l 0))
+      by_lists : (l p : ℕ) → IsEligible poll l → IsEligible poll p → l ≢ p → 1 ≤ get_or a l 0 → (l ≡ m) ⊎ (l ≡ m → ⊥) → (p ≡ m) ⊎ (p ≡ m → ⊥) → ¬ VotesRankAbove (votes_of (with_more_votes poll m x) p) (nth (get_or a p 0 + 1)) (votes_of (with_more_votes poll m x) l) (nth (get_or a l 0))
       by_lists l p el ep ne win (inl e) (inl e') h = ne (e ∙ sym e')
       by_lists l p el ep ne win (inl e) (inr np) h =
           let own : votes_of (with_more_votes poll m x) l ≡ votes_of poll l + x = subst (λ q. votes_of (with_more_votes poll m x) q ≡ votes_of poll q + x) (sym e) (at_m x) in
-          let h' : IsAbove (votes_of poll p) (nth (get_or a p 0 + 1)) (votes_of poll l + x) (nth (get_or a l 0)) = rw (sym own, sym (beside_m x p np)) h in
+          let h' : VotesRankAbove (votes_of poll p) (nth (get_or a p 0 + 1)) (votes_of poll l + x) (nth (get_or a l 0)) = rw (sym own, sym (beside_m x p np)) h in
           w.last_not_below_next l p el ep ne win (fewer_votes _ _ _ _ _ (omega arith) h')
       by_lists l p el ep ne win (inr nl) (inl e) h =
           let own : votes_of (with_more_votes poll m x) p ≡ votes_of poll m + x = subst (λ q. votes_of (with_more_votes poll m x) q ≡ votes_of poll m + x) (sym e) (at_m x) in
           let held : get_or a p 0 ≡ get_or a m 0 = ap (λ q. get_or a q 0) e in
-          let h' : IsAbove (votes_of poll m + x) (nth (get_or a m 0 + 1)) (votes_of poll l) (nth (get_or a l 0)) = rw (sym own, sym held, sym (beside_m x l nl)) h in
+          let h' : VotesRankAbove (votes_of poll m + x) (nth (get_or a m 0 + 1)) (votes_of poll l) (nth (get_or a l 0)) = rw (sym own, sym held, sym (beside_m x l nl)) h in
           below (above_chain _ _ _ _ _ _ (positive (get_or a m 0)) (d.positive _ win) (d.positive _ wins) h' (lowest l nl win))
       by_lists l p el ep ne win (inr nl) (inr np) h =
-          let h' : IsAbove (votes_of poll p) (nth (get_or a p 0 + 1)) (votes_of poll l) (nth (get_or a l 0)) = rw (sym (beside_m x l nl), sym (beside_m x p np)) h in
+          let h' : VotesRankAbove (votes_of poll p) (nth (get_or a p 0 + 1)) (votes_of poll l) (nth (get_or a l 0)) = rw (sym (beside_m x l nl), sym (beside_m x p np)) h in
           w.last_not_below_next l p el ep ne win h'
 
   -- without more votes its next seat is not above
-  now : ¬ IsAbove (votes_of poll m) (nth (get_or a m 0 + 1)) (votes_of poll c) (nth (get_or a c 0))
+  now : ¬ VotesRankAbove (votes_of poll m) (nth (get_or a m 0 + 1)) (votes_of poll c) (nth (get_or a c 0))
   now = w.last_not_below_next c m (holder a w.shares c wins) em apart wins
 
   module _ (y : ℕ) (f : AreFewestAbove (nth (get_or a m 0 + 1)) (votes_of poll c) (nth (get_or a c 0)) y) where
@@ -272,14 +272,14 @@ module _ (nth : ℕ → ℕ) (unit : ℕ) (some_unit : 1 ≤ unit) (lot_rule : L
 
 module _ (nth : ℕ → ℕ) (d : AreDivisors nth) (poll : Poll) (a : List ℕ) (m : ℕ) where
   -- one more list, whose last seat is lower
-  pub lower_takes : (n c : ℕ) → n < length poll.votes → n ≢ m → 1 ≤ get_or a n 0 → IsLowestOther nth poll a m n (Some c) → IsAbove (votes_of poll c) (nth (get_or a c 0)) (votes_of poll n) (nth (get_or a n 0)) → IsLowestOther nth poll a m (n + 1) (Some n)
+  pub lower_takes : (n c : ℕ) → n < length poll.votes → n ≢ m → 1 ≤ get_or a n 0 → IsLowestOther nth poll a m n (Some c) → VotesRankAbove (votes_of poll c) (nth (get_or a c 0)) (votes_of poll n) (nth (get_or a n 0)) → IsLowestOther nth poll a m (n + 1) (Some n)
   lower_takes n c inside ne win r ab = (inside, ne, win, λ p lt np wp. lowest p (cases_lt p n) lt np wp)
     where
-      lowest : (p : ℕ) → (p < n) ⊎ (n ≤ p) → p < n + 1 → p ≢ m → 1 ≤ get_or a p 0 → ¬ IsAbove (votes_of poll n) (nth (get_or a n 0)) (votes_of poll p) (nth (get_or a p 0))
+      lowest : (p : ℕ) → (p < n) ⊎ (n ≤ p) → p < n + 1 → p ≢ m → 1 ≤ get_or a p 0 → ¬ VotesRankAbove (votes_of poll n) (nth (get_or a n 0)) (votes_of poll p) (nth (get_or a p 0))
       lowest p (inl before) lt np wp = weak-not_below (pair (votes_of poll p) (nth (get_or a p 0))) (pair (votes_of poll c) (nth (get_or a c 0))) (pair (votes_of poll n) (nth (get_or a n 0))) (d.positive _ wp) (d.positive _ r.2) (d.positive _ win) (r.3 p before np wp) (weak-one_way (pair (votes_of poll c) (nth (get_or a c 0))) (pair (votes_of poll n) (nth (get_or a n 0))) (d.positive _ r.2) (d.positive _ win) ab)
       lowest p (inr ge) lt np wp =
           let e : n ≡ p = omega arith in
-          subst (λ q. ¬ IsAbove (votes_of poll n) (nth (get_or a n 0)) (votes_of poll q) (nth (get_or a q 0))) e (not_above_itself _ _)
+          subst (λ q. ¬ VotesRankAbove (votes_of poll n) (nth (get_or a n 0)) (votes_of poll q) (nth (get_or a q 0))) e (not_above_itself _ _)
 
   inside_of : (p : ℕ) → 1 ≤ get_or a p 0 → p < length a
   inside_of p win = by_cases (cases_lt p (length a))
@@ -302,7 +302,7 @@ module _ (nth : ℕ → ℕ) (d : AreDivisors nth) (poll : Poll) (a : List ℕ) 
 
     pub number_is : get_or a m 0 < seats → RiseSlowly nth → ((l : ℕ) → votes_of poll l ≤ 5000000000) → IsNumberOf (divisors nth unit lot_rule) poll seats a m (y - votes_of poll m)
     number_is not_all slowly few =
-        let lowest : (p : ℕ) → p ≢ m → 1 ≤ get_or a p 0 → ¬ IsAbove (votes_of poll c) (nth (get_or a c 0)) (votes_of poll p) (nth (get_or a p 0)) = λ p ne win. r.3 p (inside_of p win) ne win in
+        let lowest : (p : ℕ) → p ≢ m → 1 ≤ get_or a p 0 → ¬ VotesRankAbove (votes_of poll c) (nth (get_or a c 0)) (votes_of poll p) (nth (get_or a p 0)) = λ p ne win. r.3 p (inside_of p win) ne win in
         record {
           eligible = em;
           not_all = not_all;

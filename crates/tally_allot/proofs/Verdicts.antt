@@ -3,8 +3,8 @@ use Rattle.std.proofs.Common.{◌≡◌, ℕ, List, [], Bool, length, sum, sym, 
 use Rattle.tally_contest.specs.Poll.{HasEligible}
 use Rattle.tally_allot.specs.AllotFault.{IsAllotmentUnderLot}
 use Rattle.tally_contest.specs.LotNeed.{IsLotTaken, IsLotWrong, IsNeed}
-use Rattle.tally_contest.specs.Race.{IsFair}
-use Rattle.tally_contest.specs.Terms.{Terms, AreSound, placed_race}
+use Rattle.tally_contest.specs.internal.Race.{IsFair}
+use Rattle.tally_contest.specs.internal.Terms.{Terms, AreSound, placed_race}
 use Rattle.tally_contest.proofs.TermsRace.{races, from_placed, to_placed}
 use Rattle.tally_allot.proofs.LotLaws.{proper_if_taken, taken_not_wrong, taken_not_missing}
 

@@ -12,13 +12,15 @@ use Rattle.tally_allot.specs.declared.verdict.LotVerdict.TheVariants.{Right, Mis
 -- What each fault says. Memory may come at any time.
 abbrev pub IsFaultOf : Rule → Poll → ℕ → List ℕ → AllotFault → Type 0
 IsFaultOf rule poll seats lot NoEligible = ¬ HasEligible poll
-IsFaultOf rule poll seats lot (LotMissing group in_question) = HasEligible poll × IsNeed rule poll seats group in_question × (lot ≡ [])
+IsFaultOf rule poll seats lot (LotMissing group in_question) =
+    HasEligible poll × IsNeed rule poll seats group in_question × (lot ≡ [])
 IsFaultOf rule poll seats lot WrongLot = HasEligible poll × IsLotWrong rule poll seats lot
 IsFaultOf rule poll seats lot Memory = Unit {0}
 
 -- No lot, where the votes decide, and else the lot that is needed.
 abbrev pub IsNeedOrNone : Rule → Poll → ℕ → Option Need → Type 0
-IsNeedOrNone rule poll seats need = MatchOption need (IsDecidedByVotes rule poll seats) (λ need. IsNeed rule poll seats need.group need.seats)
+IsNeedOrNone rule poll seats need =
+    MatchOption need (IsDecidedByVotes rule poll seats) (λ need. IsNeed rule poll seats need.group need.seats)
 
 -- What the faults say where a lot is asked for. No fault speaks of a lot.
 abbrev pub IsNeedFaultOf : Poll → AllotFault → Type 0
@@ -29,7 +31,8 @@ IsNeedFaultOf poll Memory = Unit {0}
 
 -- The seats are the allotment, under the lot that is to be taken.
 abbrev pub IsAllotmentUnderLot : Rule → Poll → List ℕ → ℕ → List ℕ → Type 0
-IsAllotmentUnderLot rule poll lot seats a = HasEligible poll × IsLotTaken rule poll seats lot × IsAllotment rule poll lot seats a
+IsAllotmentUnderLot rule poll lot seats a =
+    HasEligible poll × IsLotTaken rule poll seats lot × IsAllotment rule poll lot seats a
 
 -- What a verdict on a lot says.
 abbrev pub IsVerdictOn : Rule → Poll → ℕ → List ℕ → LotVerdict → Type 0

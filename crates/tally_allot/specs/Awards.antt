@@ -9,7 +9,8 @@ use Rattle.tally_contest.specs.DivisorAllotment.{IsAbove, IsDivisorAllotment}
 
 -- the award of a seat that was won: the place of its list, and the quotient
 abbrev pub award_of : (ℕ → ℕ) → ℕ → Poll → Won → Award
-award_of nth unit poll row = record { list = row.list + 1; k = row.seat; num = votes_of poll row.list * unit; den = nth row.seat }
+award_of nth unit poll row =
+    record { list = row.list + 1; k = row.seat; num = votes_of poll row.list * unit; den = nth row.seat }
 
 -- The award is of the k-th seat of list l, which l won, and has its quotient.
 pub record IsAwardOf (nth : ℕ → ℕ) (unit : ℕ) (poll : Poll) (a : List ℕ) (l : ℕ) (award : Award) : Type 0 where
@@ -25,14 +26,18 @@ abbrev pub IsAwardAbove : (ℕ → ℕ) → ℕ → LotRule → Poll → List �
 IsAwardAbove nth unit lot_rule poll lot x y = IsAbove nth unit lot_rule poll lot (x.list - 1) x.k (y.list - 1) y.k
 
 -- The seats of a vector, each once, in falling rank.
-pub record AreAwardsOf (nth : ℕ → ℕ) (unit : ℕ) (lot_rule : LotRule) (poll : Poll) (lot : List ℕ) (a : List ℕ) (awards : List Award) : Type 0 where
+pub record AreAwardsOf (nth : ℕ → ℕ) (unit : ℕ) (lot_rule : LotRule) (poll : Poll) (lot : List ℕ)
+    (a : List ℕ) (awards : List Award) : Type 0 where
   pub each : (i : ℕ) (d : Award) → i < length awards → (l : ℕ) × IsAwardOf nth unit poll a l (slice_index_or awards i d)
-  pub all : (l k : ℕ) → 1 ≤ k → k ≤ slice_index a l → (i : ℕ) × (i < length awards) × ((d : Award) → ((slice_index_or awards i d).list ≡ l + 1) × ((slice_index_or awards i d).k ≡ k))
-  pub falling : (i j : ℕ) (d : Award) → i < j → j < length awards → IsAwardAbove nth unit lot_rule poll lot (slice_index_or awards i d) (slice_index_or awards j d)
+  pub all : (l k : ℕ) → 1 ≤ k → k ≤ slice_index a l → (i : ℕ) × (i < length awards) ×
+      ((d : Award) → ((slice_index_or awards i d).list ≡ l + 1) × ((slice_index_or awards i d).k ≡ k))
+  pub falling : (i j : ℕ) (d : Award) → i < j → j < length awards →
+      IsAwardAbove nth unit lot_rule poll lot (slice_index_or awards i d) (slice_index_or awards j d)
 
 -- the awards of the divisor allotment
 abbrev pub AreAwards : (ℕ → ℕ) → ℕ → LotRule → Poll → List ℕ → ℕ → List Award → Type 0
-AreAwards nth unit lot_rule poll lot seats awards = (a : List ℕ) × IsDivisorAllotment nth unit lot_rule poll lot seats a × AreAwardsOf nth unit lot_rule poll lot a awards
+AreAwards nth unit lot_rule poll lot seats awards = (a : List ℕ) ×
+    IsDivisorAllotment nth unit lot_rule poll lot seats a × AreAwardsOf nth unit lot_rule poll lot a awards
 
 -- the awards under a rule; Hare's has none
 abbrev pub AreAwardsBy : Rule → Poll → List ℕ → ℕ → List Award → Type 0

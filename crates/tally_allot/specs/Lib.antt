@@ -4,6 +4,5 @@ pub mod QuotaRows
 pub mod Awards
 pub mod Reordering
 pub mod LawStatements
-pub mod AwardTable
 pub mod VotesShort
-pub mod ShortSteps
+pub mod internal

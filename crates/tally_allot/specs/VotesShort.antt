@@ -1,6 +1,7 @@
 -- Votes short: how many more votes a list needs for one seat more. The allotments are those of the law (LOREG article
 -- 163.1), with ties by votes; the number itself is this project's own term.
-use Rattle.std.specs.Prelude.{ℕ, ◌≡◌, ◌+◌, ◌-◌, ◌<◌, ◌≤◌, ◌⊎◌, ◌↔◌, List, Option, None, Some, length, slice_index, slice_index_or, slice_set}
+use Rattle.std.specs.Prelude.{ℕ, ◌≡◌, ◌+◌, ◌-◌, ◌<◌, ◌≤◌, ◌⊎◌, ◌↔◌, List, Option, None, Some, length, slice_index}
+use Rattle.std.specs.Prelude.{slice_index_or, slice_set}
 use Rattle.tally_rules.specs.declared.profile.Profile.{Profile}
 use Rattle.tally_contest.specs.Poll.{Poll, IsEligible, votes_of}
 use Rattle.tally_contest.specs.Allotment.{Rule, IsAllotment, IsAllotmentByVotes}

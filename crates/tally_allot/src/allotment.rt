@@ -1,7 +1,9 @@
 //! Seats from votes.
 
 ghost use Rattle.std.specs.Prelude.{◌≡◌, ℕ, ◌≤◌, ◌<◌, ◌↔◌, IsTrue, IfOk, IfErr, OnOk, length, slice_index, sum};
+ghost use Rattle.tally_frac.specs.Limits.{most_lists, most_seats};
 ghost use Rattle.tally_rules.specs.Threshold.{IsWithinVotes};
+ghost use Rattle.tally_contest.specs.internal.KeptPoll.{kept_poll};
 ghost use Rattle.tally_contest.specs.Poll.{IsEligible};
 ghost use Rattle.tally_contest.specs.Allotment.{IsAllotment, divisors as by_divisors, hare};
 ghost use Rattle.tally_allot.specs.Conditions.{AreLimitsKept};
@@ -9,8 +11,8 @@ ghost use Rattle.tally_contest.specs.Poll.{HasEligible};
 ghost use Rattle.tally_allot.specs.AllotFault.{IsAllotmentUnderLot, IsFaultOf, IsNeedFaultOf, IsNeedOrNone};
 ghost use Rattle.tally_contest.specs.LotNeed.{IsDecidedByVotes, IsNeed, IsLotTaken};
 ghost use Rattle.tally_contest.specs.Rules.{rule_of, poll_of};
-ghost use Rattle.tally_contest.specs.Race.{IsFair};
-ghost use Rattle.tally_contest.specs.Terms.{AreSound, placed_race, poll_under};
+ghost use Rattle.tally_contest.specs.internal.Race.{IsFair};
+ghost use Rattle.tally_contest.specs.internal.Terms.{AreSound, placed_race};
 
 use crate::fault::AllotFault;
 use crate::under_lot::{award_under_lot, seats_by_remainders};
@@ -35,8 +37,10 @@ pub fn allot(
     lot: &[u32],
 ) -> Result<Vec<u32>, AllotFault>
     requires { AreLimitsKept profile.now seats votes.now blank }
-    ensures allotment { IfOk result (λ given. IsAllotment (rule_of profile.now) (poll_of profile.now votes.now blank) lot.now seats given.items) }
-    ensures lot_taken { OnOk result (IsLotTaken (rule_of profile.now) (poll_of profile.now votes.now blank) seats lot.now) }
+    ensures allotment { IfOk result (λ given.
+        IsAllotment (rule_of profile.now) (poll_of profile.now votes.now blank) lot.now seats given.items) }
+    ensures lot_taken { OnOk result
+        (IsLotTaken (rule_of profile.now) (poll_of profile.now votes.now blank) seats lot.now) }
     ensures eligible { OnOk result (HasEligible (poll_of profile.now votes.now blank)) }
     ensures fault { IfErr result (IsFaultOf (rule_of profile.now) (poll_of profile.now votes.now blank) seats lot.now) }
 {
@@ -62,11 +66,17 @@ pub(crate) fn seats_by_divisors<D: Divisors + Copy>(
     lot: &[u32],
 ) -> Result<Vec<u32>, AllotFault>
     requires some_seat { 1 ≤ seats }
-    requires few_seats { seats ≤ 500 }
-    ensures allotment { IfOk result (λ given. IsAllotment (by_divisors (D.divisor divisors) (D.unit_of divisors) lot_rule) (poll_under poll.now.threshold poll.now.base poll.now.votes.now) lot.now seats given.items) }
-    ensures lot_taken { OnOk result (IsLotTaken (by_divisors (D.divisor divisors) (D.unit_of divisors) lot_rule) (poll_under poll.now.threshold poll.now.base poll.now.votes.now) seats lot.now) }
-    ensures eligible { OnOk result (HasEligible (poll_under poll.now.threshold poll.now.base poll.now.votes.now)) }
-    ensures fault { IfErr result (IsFaultOf (by_divisors (D.divisor divisors) (D.unit_of divisors) lot_rule) (poll_under poll.now.threshold poll.now.base poll.now.votes.now) seats lot.now) }
+    requires few_seats { seats ≤ most_seats }
+    ensures allotment { IfOk result (λ given.
+        IsAllotment (by_divisors (D.divisor divisors) (D.unit_of divisors) lot_rule) (kept_poll poll.now) lot.now seats
+        given.items) }
+    ensures lot_taken { OnOk result
+        (IsLotTaken (by_divisors (D.divisor divisors) (D.unit_of divisors) lot_rule)
+        (kept_poll poll.now) seats lot.now) }
+    ensures eligible { OnOk result (HasEligible (kept_poll poll.now)) }
+    ensures fault { IfErr result
+        (IsFaultOf (by_divisors (D.divisor divisors) (D.unit_of divisors) lot_rule)
+        (kept_poll poll.now) seats lot.now) }
 {
     let given = award_under_lot(alloc, divisors, lot_rule, poll, seats, lot)?;
     Ok(given.seats)
@@ -79,11 +89,11 @@ fn seats_by_quotas(
     lot: &[u32],
 ) -> Result<Vec<u32>, AllotFault>
     requires some_seat { 1 ≤ seats }
-    requires few_seats { seats ≤ 500 }
-    ensures allotment { IfOk result (λ given. IsAllotment hare (poll_under poll.now.threshold poll.now.base poll.now.votes.now) lot.now seats given.items) }
-    ensures lot_taken { OnOk result (IsLotTaken hare (poll_under poll.now.threshold poll.now.base poll.now.votes.now) seats lot.now) }
-    ensures eligible { OnOk result (HasEligible (poll_under poll.now.threshold poll.now.base poll.now.votes.now)) }
-    ensures fault { IfErr result (IsFaultOf hare (poll_under poll.now.threshold poll.now.base poll.now.votes.now) seats lot.now) }
+    requires few_seats { seats ≤ most_seats }
+    ensures allotment { IfOk result (λ given. IsAllotment hare (kept_poll poll.now) lot.now seats given.items) }
+    ensures lot_taken { OnOk result (IsLotTaken hare (kept_poll poll.now) seats lot.now) }
+    ensures eligible { OnOk result (HasEligible (kept_poll poll.now)) }
+    ensures fault { IfErr result (IsFaultOf hare (kept_poll poll.now) seats lot.now) }
 {
     let contest = HareContest {
         poll: *poll,
@@ -128,10 +138,11 @@ fn need_by_divisors<D: Divisors + Drop>(
     seats: u32,
 ) -> Result<Option<Need>, AllotFault>
     requires some_seat { 1 ≤ seats }
-    requires few_seats { seats ≤ 500 }
-    ensures need { IfOk result (IsNeedOrNone (by_divisors (D.divisor divisors) (D.unit_of divisors) lot_rule) (poll_under poll.now.threshold poll.now.base poll.now.votes.now) seats) }
-    ensures eligible { OnOk result (HasEligible (poll_under poll.now.threshold poll.now.base poll.now.votes.now)) }
-    ensures fault { IfErr result (IsNeedFaultOf (poll_under poll.now.threshold poll.now.base poll.now.votes.now)) }
+    requires few_seats { seats ≤ most_seats }
+    ensures need { IfOk result
+        (IsNeedOrNone (by_divisors (D.divisor divisors) (D.unit_of divisors) lot_rule) (kept_poll poll.now) seats) }
+    ensures eligible { OnOk result (HasEligible (kept_poll poll.now)) }
+    ensures fault { IfErr result (IsNeedFaultOf (kept_poll poll.now)) }
 {
     let contest = DivisorContest {
         divisors,
@@ -147,10 +158,10 @@ fn need_by_divisors<D: Divisors + Drop>(
 
 fn need_by_quotas(alloc: Global, poll: &Poll, seats: u32) -> Result<Option<Need>, AllotFault>
     requires some_seat { 1 ≤ seats }
-    requires few_seats { seats ≤ 500 }
-    ensures need { IfOk result (IsNeedOrNone hare (poll_under poll.now.threshold poll.now.base poll.now.votes.now) seats) }
-    ensures eligible { OnOk result (HasEligible (poll_under poll.now.threshold poll.now.base poll.now.votes.now)) }
-    ensures fault { IfErr result (IsNeedFaultOf (poll_under poll.now.threshold poll.now.base poll.now.votes.now)) }
+    requires few_seats { seats ≤ most_seats }
+    ensures need { IfOk result (IsNeedOrNone hare (kept_poll poll.now) seats) }
+    ensures eligible { OnOk result (HasEligible (kept_poll poll.now)) }
+    ensures fault { IfErr result (IsNeedFaultOf (kept_poll poll.now)) }
 {
     let contest = HareContest {
         poll: *poll,
@@ -164,7 +175,8 @@ fn need_by_quotas(alloc: Global, poll: &Poll, seats: u32) -> Result<Option<Need>
 
 fn need_in<C: Contest>(alloc: Global, contest: &C) -> Result<Option<Need>, AllotFault>
     requires sound { AreSound (C.terms contest.now) }
-    ensures need { IfOk result (IsNeedOrNone (C.terms contest.now).rule (C.terms contest.now).poll (C.terms contest.now).seats) }
+    ensures need { IfOk result
+        (IsNeedOrNone (C.terms contest.now).rule (C.terms contest.now).poll (C.terms contest.now).seats) }
     ensures eligible { OnOk result (HasEligible (C.terms contest.now).poll) }
     ensures fault { IfErr result (IsNeedFaultOf (C.terms contest.now).poll) }
 {
@@ -187,7 +199,8 @@ pub fn is_allotment(
     given: &[u32],
 ) -> bool
     requires { AreLimitsKept profile.now seats votes.now blank }
-    ensures { IsTrue result ↔ IsAllotmentUnderLot (rule_of profile.now) (poll_of profile.now votes.now blank) lot.now seats given.now }
+    ensures { IsTrue result ↔
+        IsAllotmentUnderLot (rule_of profile.now) (poll_of profile.now votes.now blank) lot.now seats given.now }
 {
     let poll = Poll::new(profile, votes, blank);
     match profile.method {
@@ -211,8 +224,10 @@ fn is_allotment_by_divisors<D: Divisors + Drop>(
     given: &[u32],
 ) -> bool
     requires some_seat { 1 ≤ seats }
-    requires few_seats { seats ≤ 500 }
-    ensures { IsTrue result ↔ IsAllotmentUnderLot (by_divisors (D.divisor divisors) (D.unit_of divisors) lot_rule) (poll_under poll.now.threshold poll.now.base poll.now.votes.now) lot.now seats given.now }
+    requires few_seats { seats ≤ most_seats }
+    ensures { IsTrue result ↔
+        IsAllotmentUnderLot (by_divisors (D.divisor divisors) (D.unit_of divisors) lot_rule) (kept_poll poll.now)
+        lot.now seats given.now }
 {
     let contest = DivisorContest {
         divisors,
@@ -228,8 +243,8 @@ fn is_allotment_by_divisors<D: Divisors + Drop>(
 
 fn is_allotment_by_quotas(poll: &Poll, seats: u32, lot: &[u32], given: &[u32]) -> bool
     requires some_seat { 1 ≤ seats }
-    requires few_seats { seats ≤ 500 }
-    ensures { IsTrue result ↔ IsAllotmentUnderLot hare (poll_under poll.now.threshold poll.now.base poll.now.votes.now) lot.now seats given.now }
+    requires few_seats { seats ≤ most_seats }
+    ensures { IsTrue result ↔ IsAllotmentUnderLot hare (kept_poll poll.now) lot.now seats given.now }
 {
     let contest = HareContest {
         poll: *poll,
@@ -243,7 +258,9 @@ fn is_allotment_by_quotas(poll: &Poll, seats: u32, lot: &[u32], given: &[u32]) -
 
 fn is_allotment_in<C: Contest>(contest: &C, given: &[u32]) -> bool
     requires sound { AreSound (C.terms contest.now) }
-    ensures { IsTrue result ↔ IsAllotmentUnderLot (C.terms contest.now).rule (C.terms contest.now).poll (C.terms contest.now).lot (C.terms contest.now).seats given.now }
+    ensures { IsTrue result ↔
+        IsAllotmentUnderLot (C.terms contest.now).rule (C.terms contest.now).poll (C.terms contest.now).lot
+        (C.terms contest.now).seats given.now }
 {
     if !has_eligible(contest) {
         return false;
@@ -266,7 +283,7 @@ fn is_allotment_in<C: Contest>(contest: &C, given: &[u32]) -> bool
 
 /// The sum of up to 60 numbers.
 fn sum_of(numbers: &[u32]) -> u64
-    requires { length numbers.now ≤ 60 }
+    requires { length numbers.now ≤ most_lists }
     ensures { result ≡ sum numbers.now }
 {
     let mut total = 0;

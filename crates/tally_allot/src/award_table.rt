@@ -1,17 +1,18 @@
 //! Awards in order.
 
 ghost use Rattle.std.specs.Prelude.{◌≡◌, ◌≢◌, ◌≤◌, IfOk, IfErr, OnOk, length};
+ghost use Rattle.tally_frac.specs.Limits.{most_seats};
 ghost use Rattle.tally_rules.specs.declared.profile.LotRule.{LotRule as rule_of_lots};
 ghost use Rattle.tally_rules.specs.declared.profile.Method.TheVariants.{Hare as by_hare};
+ghost use Rattle.tally_contest.specs.internal.KeptPoll.{kept_poll};
 ghost use Rattle.tally_contest.specs.Allotment.{divisors as by_divisors};
 ghost use Rattle.tally_allot.specs.AllotFault.{IsFaultOf};
 ghost use Rattle.tally_allot.specs.Awards as spec;
 ghost use Rattle.tally_allot.specs.Awards.{AreAwards, AreAwardsBy};
-ghost use Rattle.tally_allot.specs.AwardTable.{IsTableOf};
+ghost use Rattle.tally_allot.specs.internal.AwardTable.{IsTableOf};
 ghost use Rattle.tally_allot.specs.Conditions.{AreLimitsKept};
 ghost use Rattle.tally_contest.specs.Rules.{poll_of, rule_of};
-ghost use Rattle.tally_contest.specs.Terms.{poll_under};
-ghost use Rattle.tally_contest.specs.Won.{AreRows, IsRow};
+ghost use Rattle.tally_contest.specs.internal.Won.{AreRows, IsRow};
 ghost use Rattle.tally_contest.specs.LotNeed.{IsLotTaken};
 ghost use Rattle.tally_contest.specs.Poll.{HasEligible};
 
@@ -36,8 +37,10 @@ pub fn awards(
 ) -> Result<Vec<Award>, AllotFault>
     requires limits { AreLimitsKept profile.now seats votes.now blank }
     requires by_divisors { profile.now.method ≢ by_hare }
-    ensures awards { IfOk result (λ awards. AreAwardsBy (rule_of profile.now) (poll_of profile.now votes.now blank) lot.now seats awards.items) }
-    ensures lot_taken { OnOk result (IsLotTaken (rule_of profile.now) (poll_of profile.now votes.now blank) seats lot.now) }
+    ensures awards { IfOk result (λ awards.
+        AreAwardsBy (rule_of profile.now) (poll_of profile.now votes.now blank) lot.now seats awards.items) }
+    ensures lot_taken { OnOk result
+        (IsLotTaken (rule_of profile.now) (poll_of profile.now votes.now blank) seats lot.now) }
     ensures eligible { OnOk result (HasEligible (poll_of profile.now votes.now blank)) }
     ensures fault { IfErr result (IsFaultOf (rule_of profile.now) (poll_of profile.now votes.now blank) seats lot.now) }
 {
@@ -61,11 +64,16 @@ fn awards_by<D: Divisors + Copy>(
     lot: &[u32],
 ) -> Result<Vec<Award>, AllotFault>
     requires some_seat { 1 ≤ seats }
-    requires few_seats { seats ≤ 500 }
-    ensures awards { IfOk result (λ awards. AreAwards (D.divisor divisors) (D.unit_of divisors) lot_rule (poll_under poll.now.threshold poll.now.base poll.now.votes.now) lot.now seats awards.items) }
-    ensures lot_taken { OnOk result (IsLotTaken (by_divisors (D.divisor divisors) (D.unit_of divisors) lot_rule) (poll_under poll.now.threshold poll.now.base poll.now.votes.now) seats lot.now) }
-    ensures eligible { OnOk result (HasEligible (poll_under poll.now.threshold poll.now.base poll.now.votes.now)) }
-    ensures fault { IfErr result (IsFaultOf (by_divisors (D.divisor divisors) (D.unit_of divisors) lot_rule) (poll_under poll.now.threshold poll.now.base poll.now.votes.now) seats lot.now) }
+    requires few_seats { seats ≤ most_seats }
+    ensures awards { IfOk result (λ awards.
+        AreAwards (D.divisor divisors) (D.unit_of divisors) lot_rule (kept_poll poll.now) lot.now seats awards.items) }
+    ensures lot_taken { OnOk result
+        (IsLotTaken (by_divisors (D.divisor divisors) (D.unit_of divisors) lot_rule)
+        (kept_poll poll.now) seats lot.now) }
+    ensures eligible { OnOk result (HasEligible (kept_poll poll.now)) }
+    ensures fault { IfErr result
+        (IsFaultOf (by_divisors (D.divisor divisors) (D.unit_of divisors) lot_rule)
+        (kept_poll poll.now) seats lot.now) }
 {
     let given = award_under_lot(alloc, divisors, lot_rule, poll, seats, lot)?;
     let awards = awards_of(alloc, &divisors, poll, &given)?;
@@ -79,7 +87,9 @@ fn awards_of<D: Divisors>(
     given: &Given,
 ) -> Result<Vec<Award>, AllocError>
     requires { AreRows (length poll.now.votes.now) given.now.rows.items }
-    ensures { IfOk result (λ awards. (lot_rule : rule_of_lots) → IsTableOf (D.divisor divisors.now) (D.unit_of divisors.now) lot_rule (poll_under poll.now.threshold poll.now.base poll.now.votes.now) given.now.seats.items given.now.rows.items awards.items) }
+    ensures { IfOk result (λ awards. (lot_rule : rule_of_lots) →
+        IsTableOf (D.divisor divisors.now) (D.unit_of divisors.now) lot_rule (kept_poll poll.now) given.now.seats.items
+        given.now.rows.items awards.items) }
 {
     let mut awards = Vec::with_capacity(alloc, given.rows.len())?;
     for row in &given.rows {
@@ -90,7 +100,7 @@ fn awards_of<D: Divisors>(
 
 fn award_of<D: Divisors>(divisors: &D, poll: &Poll, row: Won) -> Award
     requires { IsRow (length poll.now.votes.now) row }
-    ensures { result ≡ spec.award_of (D.divisor divisors.now) (D.unit_of divisors.now) (poll_under poll.now.threshold poll.now.base poll.now.votes.now) row }
+    ensures { result ≡ spec.award_of (D.divisor divisors.now) (D.unit_of divisors.now) (kept_poll poll.now) row }
 {
     Award {
         list: row.list as u32 + 1,

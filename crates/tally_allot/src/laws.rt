@@ -3,7 +3,8 @@
 ghost use Rattle.tally_allot.specs.LawStatements.{AllotmentsAreUnique, AllotmentsExist, EachChoiceComesFromAnOrder};
 ghost use Rattle.tally_allot.specs.LawStatements.{EachOrderGivesAChoice, GroupsAreOfOneNumberOfVotes};
 ghost use Rattle.tally_allot.specs.LawStatements.{LotsChooseAmongWhatVotesAllow, NoLotIsNeededWhereVotesDecide};
-ghost use Rattle.tally_allot.specs.LawStatements.{TheOrderOfTheSetupIsNothingWhereVotesDecide, VotesDecideOrALotIsNeeded};
+ghost use Rattle.tally_allot.specs.LawStatements.{TheOrderOfTheSetupIsNothingWhereVotesDecide};
+ghost use Rattle.tally_allot.specs.LawStatements.{VotesDecideOrALotIsNeeded};
 
 /// Under any lot, at most one vector of seats is the allotment.
 pub fn allotments_are_unique()

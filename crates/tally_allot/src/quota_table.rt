@@ -1,14 +1,14 @@
 //! Quotas and remainders.
 
 ghost use Rattle.std.specs.Prelude.{◌≡◌, ◌≤◌, ◌<◌, IfOk, IfErr, OnOk, length};
+ghost use Rattle.tally_frac.specs.Limits.{most_seats};
 ghost use Rattle.tally_rules.specs.declared.profile.Method.TheVariants.{Hare as by_hare};
+ghost use Rattle.tally_contest.specs.internal.KeptPoll.{kept_poll};
 ghost use Rattle.tally_contest.specs.Allotment.{hare};
 ghost use Rattle.tally_allot.specs.AllotFault.{IsFaultOf};
 ghost use Rattle.tally_allot.specs.Conditions.{AreLimitsKept};
-ghost use Rattle.tally_contest.specs.HareTerms as terms;
 ghost use Rattle.tally_allot.specs.QuotaRows.{quota_rows, AreQuotaRows};
 ghost use Rattle.tally_contest.specs.Rules.{poll_of};
-ghost use Rattle.tally_contest.specs.Terms.{poll_under};
 ghost use Rattle.tally_contest.specs.LotNeed.{IsLotTaken};
 ghost use Rattle.tally_contest.specs.Poll.{HasEligible};
 
@@ -47,11 +47,11 @@ fn quotas_in(
     lot: &[u32],
 ) -> Result<Vec<QuotaRow>, AllotFault>
     requires some_seat { 1 ≤ seats }
-    requires few_seats { seats ≤ 500 }
-    ensures rows { IfOk result (λ rows. AreQuotaRows (poll_under poll.now.threshold poll.now.base poll.now.votes.now) lot.now seats rows.items) }
-    ensures lot_taken { OnOk result (IsLotTaken hare (poll_under poll.now.threshold poll.now.base poll.now.votes.now) seats lot.now) }
-    ensures eligible { OnOk result (HasEligible (poll_under poll.now.threshold poll.now.base poll.now.votes.now)) }
-    ensures fault { IfErr result (IsFaultOf hare (poll_under poll.now.threshold poll.now.base poll.now.votes.now) seats lot.now) }
+    requires few_seats { seats ≤ most_seats }
+    ensures rows { IfOk result (λ rows. AreQuotaRows (kept_poll poll.now) lot.now seats rows.items) }
+    ensures lot_taken { OnOk result (IsLotTaken hare (kept_poll poll.now) seats lot.now) }
+    ensures eligible { OnOk result (HasEligible (kept_poll poll.now)) }
+    ensures fault { IfErr result (IsFaultOf hare (kept_poll poll.now) seats lot.now) }
 {
     let contest = HareContest {
         poll: *poll,
@@ -67,7 +67,8 @@ fn quotas_in(
 
 fn rows_of(alloc: Global, contest: &HareContest, given: &[u32]) -> Result<Vec<QuotaRow>, AllocError>
     requires { length given.now ≡ length contest.now.poll.votes.now }
-    ensures { IfOk result (λ rows. rows.items ≡ quota_rows (terms.poll_of contest.now) contest.now.seats given.now (length given.now)) }
+    ensures { IfOk result (λ rows.
+        rows.items ≡ quota_rows (kept_poll contest.now.poll) contest.now.seats given.now (length given.now)) }
 {
     let mut rows = Vec::new(alloc);
     for list in 0..given.len() {

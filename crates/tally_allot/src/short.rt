@@ -1,16 +1,18 @@
 //! Votes short.
 
 ghost use Rattle.std.specs.Prelude.{◌≡◌, ◌≢◌, ℕ, ◌+◌, ◌≤◌, ◌<◌, ◌↔◌, IsTrue, IfOk, IfErr, OnOk, length, slice_index};
+ghost use Rattle.tally_frac.specs.Limits.{greatest_divisor, most_seats, most_votes};
 ghost use Rattle.tally_rules.specs.declared.profile.LotRule.{LotRule as rule_of_lots};
 ghost use Rattle.tally_rules.specs.declared.profile.Method.TheVariants.{Hare as by_hare};
+ghost use Rattle.tally_contest.specs.internal.KeptPoll.{kept_poll};
 ghost use Rattle.tally_contest.specs.Allotment.{IsAllotment, divisors as by_divisors};
 ghost use Rattle.tally_contest.specs.LotNeed.{IsLotTaken};
 ghost use Rattle.tally_contest.specs.Poll.{HasEligible};
 ghost use Rattle.tally_contest.specs.Rules.{poll_of, rule_of};
-ghost use Rattle.tally_contest.specs.Terms.{poll_under};
 ghost use Rattle.tally_allot.specs.AllotFault.{IsFaultOf};
 ghost use Rattle.tally_allot.specs.Conditions.{AreLimitsKept};
-ghost use Rattle.tally_allot.specs.ShortSteps.{RiseSlowly, IsAbove, IsByVotes, AreFewestAbove, IsLowestOther, IsAnswerOf, AreAnswers, AreAnswersOf};
+ghost use Rattle.tally_allot.specs.internal.ShortSteps.{RiseSlowly, VotesRankAbove, IsByVotes, AreFewestAbove};
+ghost use Rattle.tally_allot.specs.internal.ShortSteps.{IsLowestOther, IsAnswerOf, AreAnswers, AreAnswersOf};
 ghost use Rattle.tally_allot.specs.VotesShort.{IsNoneWhereNoMore, AreVotesShort, AreLeastNumbers, AreBelow};
 
 use crate::allotment::seats_by_divisors;
@@ -39,7 +41,8 @@ pub fn votes_short(
     ensures numbers { IfOk result (λ numbers. AreVotesShort profile.now votes.now blank lot.now seats numbers.items) }
     ensures least { IfOk result (λ numbers. AreLeastNumbers profile.now votes.now blank lot.now seats numbers.items) }
     ensures below { IfOk result (λ numbers. AreBelow 100000000000 numbers.items) }
-    ensures lot_taken { OnOk result (IsLotTaken (rule_of profile.now) (poll_of profile.now votes.now blank) seats lot.now) }
+    ensures lot_taken { OnOk result
+        (IsLotTaken (rule_of profile.now) (poll_of profile.now votes.now blank) seats lot.now) }
     ensures eligible { OnOk result (HasEligible (poll_of profile.now votes.now blank)) }
     ensures fault { IfErr result (IsFaultOf (rule_of profile.now) (poll_of profile.now votes.now blank) seats lot.now) }
 {
@@ -63,12 +66,18 @@ fn short_by<D: Divisors + Copy>(
     lot: &[u32],
 ) -> Result<Vec<Option<u64>>, AllotFault>
     requires some_seat { 1 ≤ seats }
-    requires few_seats { seats ≤ 500 }
+    requires few_seats { seats ≤ most_seats }
     requires slowly { RiseSlowly (D.divisor divisors) }
-    ensures numbers { IfOk result (λ numbers. AreAnswersOf (by_divisors (D.divisor divisors) (D.unit_of divisors) lot_rule) (poll_under poll.now.threshold poll.now.base poll.now.votes.now) lot.now seats numbers.items) }
-    ensures lot_taken { OnOk result (IsLotTaken (by_divisors (D.divisor divisors) (D.unit_of divisors) lot_rule) (poll_under poll.now.threshold poll.now.base poll.now.votes.now) seats lot.now) }
-    ensures eligible { OnOk result (HasEligible (poll_under poll.now.threshold poll.now.base poll.now.votes.now)) }
-    ensures fault { IfErr result (IsFaultOf (by_divisors (D.divisor divisors) (D.unit_of divisors) lot_rule) (poll_under poll.now.threshold poll.now.base poll.now.votes.now) seats lot.now) }
+    ensures numbers { IfOk result (λ numbers.
+        AreAnswersOf (by_divisors (D.divisor divisors) (D.unit_of divisors) lot_rule) (kept_poll poll.now) lot.now seats
+        numbers.items) }
+    ensures lot_taken { OnOk result
+        (IsLotTaken (by_divisors (D.divisor divisors) (D.unit_of divisors) lot_rule)
+        (kept_poll poll.now) seats lot.now) }
+    ensures eligible { OnOk result (HasEligible (kept_poll poll.now)) }
+    ensures fault { IfErr result
+        (IsFaultOf (by_divisors (D.divisor divisors) (D.unit_of divisors) lot_rule)
+        (kept_poll poll.now) seats lot.now) }
 {
     let held = seats_by_divisors(alloc, divisors, lot_rule, poll, seats, lot)?;
     let numbers = numbers_of(alloc, &divisors, poll, seats, &held)?;
@@ -83,10 +92,12 @@ fn numbers_of<D: Divisors>(
     seats: u32,
     held: &[u32],
 ) -> Result<Vec<Option<u64>>, AllocError>
-    requires few_seats { seats ≤ 500 }
+    requires few_seats { seats ≤ most_seats }
     requires slowly { RiseSlowly (D.divisor divisors.now) }
-    requires allotment { IsByVotes (D.divisor divisors.now) (poll_under poll.now.threshold poll.now.base poll.now.votes.now) seats held.now }
-    ensures { IfOk result (λ numbers. (lot_rule : rule_of_lots) → AreAnswers (by_divisors (D.divisor divisors.now) (D.unit_of divisors.now) lot_rule) (poll_under poll.now.threshold poll.now.base poll.now.votes.now) seats held.now (length held.now) numbers.items) }
+    requires allotment { IsByVotes (D.divisor divisors.now) (kept_poll poll.now) seats held.now }
+    ensures { IfOk result (λ numbers. (lot_rule : rule_of_lots) →
+        AreAnswers (by_divisors (D.divisor divisors.now) (D.unit_of divisors.now) lot_rule) (kept_poll poll.now) seats
+        held.now (length held.now) numbers.items) }
 {
     let mut numbers = Vec::with_capacity(alloc, held.len())?;
     for list in 0..held.len() {
@@ -103,11 +114,13 @@ fn number_of<D: Divisors>(
     held: &[u32],
     list: usize,
 ) -> Option<u64>
-    requires few_seats { seats ≤ 500 }
+    requires few_seats { seats ≤ most_seats }
     requires slowly { RiseSlowly (D.divisor divisors.now) }
-    requires allotment { IsByVotes (D.divisor divisors.now) (poll_under poll.now.threshold poll.now.base poll.now.votes.now) seats held.now }
+    requires allotment { IsByVotes (D.divisor divisors.now) (kept_poll poll.now) seats held.now }
     requires list { list < length held.now }
-    ensures { (lot_rule : rule_of_lots) → IsAnswerOf (by_divisors (D.divisor divisors.now) (D.unit_of divisors.now) lot_rule) (poll_under poll.now.threshold poll.now.base poll.now.votes.now) seats held.now list result }
+    ensures { (lot_rule : rule_of_lots) →
+        IsAnswerOf (by_divisors (D.divisor divisors.now) (D.unit_of divisors.now) lot_rule) (kept_poll poll.now) seats
+        held.now list result }
 {
     if !poll.is_eligible(list) || held[list] == seats {
         return None;
@@ -125,9 +138,9 @@ fn number_of<D: Divisors>(
 
 /// Of the other lists that hold a seat, the one whose last ranks lowest by the votes alone.
 fn lowest_other<D: Divisors>(divisors: &D, poll: &Poll, held: &[u32], list: usize) -> Option<usize>
-    requires few_seats { (p : ℕ) → slice_index held.now p ≤ 500 }
+    requires few_seats { (p : ℕ) → slice_index held.now p ≤ most_seats }
     requires one_each { length held.now ≡ length poll.now.votes.now }
-    ensures { IsLowestOther (D.divisor divisors.now) (poll_under poll.now.threshold poll.now.base poll.now.votes.now) held.now list (length held.now) result }
+    ensures { IsLowestOther (D.divisor divisors.now) (kept_poll poll.now) held.now list (length held.now) result }
 {
     let mut lowest = None;
     for other in 0..held.len() {
@@ -145,11 +158,11 @@ fn lower_of<D: Divisors>(
     before: Option<usize>,
     other: usize,
 ) -> Option<usize>
-    requires few_seats { (p : ℕ) → slice_index held.now p ≤ 500 }
+    requires few_seats { (p : ℕ) → slice_index held.now p ≤ most_seats }
     requires one_each { length held.now ≡ length poll.now.votes.now }
     requires other { other < length held.now }
-    requires before { IsLowestOther (D.divisor divisors.now) (poll_under poll.now.threshold poll.now.base poll.now.votes.now) held.now list other before }
-    ensures { IsLowestOther (D.divisor divisors.now) (poll_under poll.now.threshold poll.now.base poll.now.votes.now) held.now list (other + 1) result }
+    requires before { IsLowestOther (D.divisor divisors.now) (kept_poll poll.now) held.now list other before }
+    ensures { IsLowestOther (D.divisor divisors.now) (kept_poll poll.now) held.now list (other + 1) result }
 {
     let seat = held[other];
     if other == list || seat == 0 {
@@ -171,11 +184,11 @@ fn lower_of<D: Divisors>(
 
 /// Whether votes by one divisor rank above other votes by another, by the votes alone.
 fn is_above(votes: u64, divisor: u64, other_votes: u64, other_divisor: u64) -> bool
-    requires votes { votes ≤ 5000000000 }
-    requires divisor { divisor ≤ 5005 }
-    requires other_votes { other_votes ≤ 5000000000 }
-    requires other_divisor { other_divisor ≤ 5005 }
-    ensures { IsTrue result ↔ IsAbove votes divisor other_votes other_divisor }
+    requires votes { votes ≤ most_votes }
+    requires divisor { divisor ≤ greatest_divisor }
+    requires other_votes { other_votes ≤ most_votes }
+    requires other_divisor { other_divisor ≤ greatest_divisor }
+    ensures { IsTrue result ↔ VotesRankAbove votes divisor other_votes other_divisor }
 {
     let quotient = votes * other_divisor;
     let other_quotient = other_votes * divisor;
@@ -187,17 +200,14 @@ fn is_above(votes: u64, divisor: u64, other_votes: u64, other_divisor: u64) -> b
 
 /// The fewest votes that, by one divisor, rank above those of another list by another divisor.
 fn fewest_above(divisor: u64, other_votes: u64, other_divisor: u64) -> u64
-    requires divisor { divisor ≤ 5005 }
-    requires other_votes { other_votes ≤ 5000000000 }
+    requires divisor { divisor ≤ greatest_divisor }
+    requires other_votes { other_votes ≤ most_votes }
     requires other_divisor { 1 ≤ other_divisor }
     ensures { AreFewestAbove divisor other_votes other_divisor result }
 {
     let product = other_votes * divisor;
     let level = product / other_divisor;
     // Level with the other quotient, a list needs more votes than the other has.
-    if product % other_divisor == 0 && level > other_votes {
-        level
-    } else {
-        level + 1
-    }
+    let is_enough = product % other_divisor == 0 && level > other_votes;
+    if is_enough { level } else { level + 1 }
 }

@@ -1,14 +1,16 @@
 //! The award under the lot that is to be taken.
 
 ghost use Rattle.std.specs.Prelude.{◌≡◌, ◌≤◌, [], IfOk, IfErr, OnOk, length};
+ghost use Rattle.tally_frac.specs.Limits.{most_seats};
 ghost use Rattle.tally_allot.specs.AllotFault.{IsFaultOf, IsNeedFaultOf, IsNeedOrNone};
+ghost use Rattle.tally_contest.specs.internal.KeptPoll.{kept_poll};
 ghost use Rattle.tally_contest.specs.Allotment.{IsAllotment, divisors as by_divisors, hare};
-ghost use Rattle.tally_contest.specs.HareTerms.{poll_of, terms_of};
+ghost use Rattle.tally_contest.specs.internal.ContestTerms.{hare_terms};
 ghost use Rattle.tally_contest.specs.LotNeed.{IsLotTaken};
 ghost use Rattle.tally_contest.specs.Poll.{HasEligible};
 ghost use Rattle.tally_contest.specs.DivisorAllotment.{IsDivisorAllotment};
-ghost use Rattle.tally_contest.specs.Terms.{AreSound, IsProperLot, placed_divisor_race, poll_under};
-ghost use Rattle.tally_contest.specs.Won.{AreRows, AreWon};
+ghost use Rattle.tally_contest.specs.internal.Terms.{AreSound, IsProperLot, placed_divisor_race};
+ghost use Rattle.tally_contest.specs.internal.Won.{AreRows, AreWon};
 
 use crate::fault::AllotFault;
 use crate::verdict::{LotVerdict, verdict_on_lot, verdict_where};
@@ -30,14 +32,22 @@ pub(crate) fn award_under_lot<D: Divisors + Copy>(
     lot: &[u32],
 ) -> Result<Given, AllotFault>
     requires some_seat { 1 ≤ seats }
-    requires few_seats { seats ≤ 500 }
-    ensures allotment { IfOk result (λ given. IsDivisorAllotment (D.divisor divisors) (D.unit_of divisors) lot_rule (poll_under poll.now.threshold poll.now.base poll.now.votes.now) lot.now seats given.seats.items) }
-    ensures won { IfOk result (λ given. AreWon (placed_divisor_race (D.divisor divisors) lot_rule (poll_under poll.now.threshold poll.now.base poll.now.votes.now) lot.now seats) given.seats.items given.rows.items) }
+    requires few_seats { seats ≤ most_seats }
+    ensures allotment { IfOk result (λ given.
+        IsDivisorAllotment (D.divisor divisors) (D.unit_of divisors) lot_rule (kept_poll poll.now) lot.now seats
+        given.seats.items) }
+    ensures won { IfOk result (λ given.
+        AreWon (placed_divisor_race (D.divisor divisors) lot_rule (kept_poll poll.now) lot.now seats) given.seats.items
+        given.rows.items) }
     ensures rows { IfOk result (λ given. AreRows (length poll.now.votes.now) given.rows.items) }
-    ensures proper { OnOk result (IsProperLot (poll_under poll.now.threshold poll.now.base poll.now.votes.now) lot.now) }
-    ensures lot_taken { OnOk result (IsLotTaken (by_divisors (D.divisor divisors) (D.unit_of divisors) lot_rule) (poll_under poll.now.threshold poll.now.base poll.now.votes.now) seats lot.now) }
-    ensures eligible { OnOk result (HasEligible (poll_under poll.now.threshold poll.now.base poll.now.votes.now)) }
-    ensures fault { IfErr result (IsFaultOf (by_divisors (D.divisor divisors) (D.unit_of divisors) lot_rule) (poll_under poll.now.threshold poll.now.base poll.now.votes.now) seats lot.now) }
+    ensures proper { OnOk result (IsProperLot (kept_poll poll.now) lot.now) }
+    ensures lot_taken { OnOk result
+        (IsLotTaken (by_divisors (D.divisor divisors) (D.unit_of divisors) lot_rule)
+        (kept_poll poll.now) seats lot.now) }
+    ensures eligible { OnOk result (HasEligible (kept_poll poll.now)) }
+    ensures fault { IfErr result
+        (IsFaultOf (by_divisors (D.divisor divisors) (D.unit_of divisors) lot_rule)
+        (kept_poll poll.now) seats lot.now) }
 {
     // Whether a lot is needed shows in any award, so the first one has the places of the setup.
     let by_setup = award_by_setup(alloc, divisors, lot_rule, poll, seats)?;
@@ -83,13 +93,19 @@ pub(crate) fn award_by_setup<D: Divisors + Copy>(
     seats: u32,
 ) -> Result<BySetup, AllotFault>
     requires some_seat { 1 ≤ seats }
-    requires few_seats { seats ≤ 500 }
-    ensures allotment { IfOk result (λ by_setup. IsDivisorAllotment (D.divisor divisors) (D.unit_of divisors) lot_rule (poll_under poll.now.threshold poll.now.base poll.now.votes.now) [] seats by_setup.given.seats.items) }
-    ensures won { IfOk result (λ by_setup. AreWon (placed_divisor_race (D.divisor divisors) lot_rule (poll_under poll.now.threshold poll.now.base poll.now.votes.now) [] seats) by_setup.given.seats.items by_setup.given.rows.items) }
+    requires few_seats { seats ≤ most_seats }
+    ensures allotment { IfOk result (λ by_setup.
+        IsDivisorAllotment (D.divisor divisors) (D.unit_of divisors) lot_rule (kept_poll poll.now) [] seats
+        by_setup.given.seats.items) }
+    ensures won { IfOk result (λ by_setup.
+        AreWon (placed_divisor_race (D.divisor divisors) lot_rule (kept_poll poll.now) [] seats)
+        by_setup.given.seats.items by_setup.given.rows.items) }
     ensures rows { IfOk result (λ by_setup. AreRows (length poll.now.votes.now) by_setup.given.rows.items) }
-    ensures need { IfOk result (λ by_setup. IsNeedOrNone (by_divisors (D.divisor divisors) (D.unit_of divisors) lot_rule) (poll_under poll.now.threshold poll.now.base poll.now.votes.now) seats by_setup.need) }
-    ensures eligible { OnOk result (HasEligible (poll_under poll.now.threshold poll.now.base poll.now.votes.now)) }
-    ensures fault { IfErr result (IsNeedFaultOf (poll_under poll.now.threshold poll.now.base poll.now.votes.now)) }
+    ensures need { IfOk result (λ by_setup.
+        IsNeedOrNone (by_divisors (D.divisor divisors) (D.unit_of divisors) lot_rule) (kept_poll poll.now) seats
+        by_setup.need) }
+    ensures eligible { OnOk result (HasEligible (kept_poll poll.now)) }
+    ensures fault { IfErr result (IsNeedFaultOf (kept_poll poll.now)) }
 {
     let contest = DivisorContest {
         divisors,
@@ -114,11 +130,13 @@ pub(crate) fn seats_by_remainders(
     alloc: Global,
     contest: &HareContest,
 ) -> Result<Vec<u32>, AllotFault>
-    requires sound { AreSound (terms_of contest.now) }
-    ensures allotment { IfOk result (λ seats. IsAllotment hare (poll_of contest.now) contest.now.lot.now contest.now.seats seats.items) }
-    ensures lot_taken { OnOk result (IsLotTaken hare (poll_of contest.now) contest.now.seats contest.now.lot.now) }
-    ensures eligible { OnOk result (HasEligible (poll_of contest.now)) }
-    ensures fault { IfErr result (IsFaultOf hare (poll_of contest.now) contest.now.seats contest.now.lot.now) }
+    requires sound { AreSound (hare_terms contest.now) }
+    ensures allotment { IfOk result (λ seats.
+        IsAllotment hare (kept_poll contest.now.poll) contest.now.lot.now contest.now.seats seats.items) }
+    ensures lot_taken { OnOk result
+        (IsLotTaken hare (kept_poll contest.now.poll) contest.now.seats contest.now.lot.now) }
+    ensures eligible { OnOk result (HasEligible (kept_poll contest.now.poll)) }
+    ensures fault { IfErr result (IsFaultOf hare (kept_poll contest.now.poll) contest.now.seats contest.now.lot.now) }
 {
     if !has_eligible(contest) {
         return Err(AllotFault::NoEligible);

@@ -4,8 +4,8 @@ ghost use Rattle.std.specs.Prelude.{◌≡◌, ℕ};
 ghost use Rattle.tally_allot.specs.AllotFault.{IsNeedOrNone, IsVerdictOn};
 ghost use Rattle.tally_contest.specs.Allotment.{Rule};
 ghost use Rattle.tally_contest.specs.Poll.{Poll};
-ghost use Rattle.tally_contest.specs.Race.{IsFair};
-ghost use Rattle.tally_contest.specs.Terms.{AreSound, placed_race};
+ghost use Rattle.tally_contest.specs.internal.Race.{IsFair};
+ghost use Rattle.tally_contest.specs.internal.Terms.{AreSound, placed_race};
 
 use tally_contest::{Contest, Need, is_order_of, need_of};
 
@@ -23,14 +23,16 @@ pub(crate) enum LotVerdict {
 pub(crate) fn verdict_on_lot<C: Contest>(contest: &C, seats: &[u32]) -> LotVerdict
     requires sound { AreSound (C.terms contest.now) }
     requires fair { IsFair (placed_race (C.terms contest.now)) (C.terms contest.now).seats seats.now }
-    ensures { IsVerdictOn (C.terms contest.now).rule (C.terms contest.now).poll (C.terms contest.now).seats (C.terms contest.now).lot result }
+    ensures { IsVerdictOn (C.terms contest.now).rule (C.terms contest.now).poll (C.terms contest.now).seats
+        (C.terms contest.now).lot result }
 {
     verdict_where(need_of(contest, seats), contest.lot())
 }
 
 /// What is to be said of a lot where this one is needed, or none.
 pub(crate) fn verdict_where(need: Option<Need>, lot: &[u32]) -> LotVerdict
-    ensures { (rule : Rule) (poll : Poll) (seats : ℕ) → IsNeedOrNone rule poll seats need → IsVerdictOn rule poll seats lot.now result }
+    ensures { (rule : Rule) (poll : Poll) (seats : ℕ) → IsNeedOrNone rule poll seats need →
+        IsVerdictOn rule poll seats lot.now result }
 {
     match need {
         None => {

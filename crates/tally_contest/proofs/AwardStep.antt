@@ -4,7 +4,7 @@ use Rattle.std.proofs.lemmas.Bool.{cases_lt, cases_eq}
 use Rattle.std.proofs.lemmas.List.{length-set}
 use Rattle.std.proofs.lemmas.List.Sums.{sum_by-set}
 use Rattle.tally_contest.proofs.Vectors.{some_more_or_none, sum-le}
-use Rattle.tally_contest.specs.Race.{Race, IsPair, NotBelow, IsFair, IsHighestNext}
+use Rattle.tally_contest.specs.internal.Race.{Race, IsPair, NotBelow, IsFair, IsHighestNext}
 use Rattle.tally_contest.proofs.Race.{IsOrderly, not_below_itself, earlier_not_below}
 
 -- a with one seat more for list l

@@ -10,11 +10,11 @@ use Rattle.tally_rules.specs.declared.profile.LotRule.{LotRule}
 use Rattle.tally_rules.specs.declared.profile.LotRule.TheVariants.{Fixed}
 use Rattle.tally_contest.specs.Poll.{Poll, IsEligible, votes_of, SharesOut}
 use Rattle.tally_contest.specs.Lot.{ComesFirst}
-use Rattle.tally_contest.specs.Pairs.{place_at, pair_of}
+use Rattle.tally_contest.specs.internal.Pairs.{place_at, pair_of}
 use Rattle.tally_contest.specs.DivisorAllotment.{IsAboveByVotes, IsTiedByVotes, IsAbove, IsDivisorAllotment, IsDivisorAllotmentByVotes}
 use Rattle.tally_contest.proofs.Vectors.{get_or-le-sum, two-le-sum}
-use Rattle.tally_contest.specs.Race.{IsPair, NotBelow, IsFair, IsTie}
-use Rattle.tally_contest.specs.Terms.{AreDivisors, IsProperLot, IsSound, seats_for, divisor_race, placed_divisor_race}
+use Rattle.tally_contest.specs.internal.Race.{IsPair, NotBelow, IsFair, IsTie}
+use Rattle.tally_contest.specs.internal.Terms.{AreDivisors, IsProperLot, IsSound, seats_for, divisor_race, placed_divisor_race}
 use Rattle.tally_contest.proofs.Race.{IsOrderly}
 use Rattle.tally_contest.proofs.Ties.{IsInClasses}
 use Rattle.tally_contest.proofs.TurnLemmas.{first_if_lower}

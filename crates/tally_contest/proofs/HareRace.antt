@@ -5,8 +5,8 @@ use Rattle.tally_contest.specs.Poll.{Poll, IsEligible, votes_of, SharesOut, elig
 use Rattle.tally_rules.specs.declared.profile.LotRule.TheVariants.{Fixed}
 use Rattle.tally_contest.specs.Lot.{place_of, ComesFirst}
 use Rattle.tally_contest.specs.HareAllotment.{Claim, claim_of, ClaimsAbove, ClaimsAboveByVotes, whole_quotas, remainder, IsHareAllotment, IsHareAllotmentByVotes}
-use Rattle.tally_contest.specs.Race.{IsPair, NotBelow, IsFair, IsTie}
-use Rattle.tally_contest.specs.Terms.{IsSound, quotas_for, most_for, remainder_race, placed_remainder_race}
+use Rattle.tally_contest.specs.internal.Race.{IsPair, NotBelow, IsFair, IsTie}
+use Rattle.tally_contest.specs.internal.Terms.{IsSound, quotas_for, most_for, remainder_race, placed_remainder_race}
 use Rattle.tally_contest.proofs.Race.{IsOrderly}
 use Rattle.tally_contest.proofs.Ties.{IsInClasses}
 use Rattle.tally_contest.proofs.DivisorRace.{eligible_or_not}

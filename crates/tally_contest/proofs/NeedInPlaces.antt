@@ -1,9 +1,9 @@
 -- The need of a lot, seen from seats that the places allow.
 use Rattle.std.proofs.Common.{ℕ, ◌+◌, ◌≤◌, List, Bool, length, get_or, arith}
 use Rattle.tally_contest.specs.LotNeed.{IsDecidedByVotes, IsNeed}
-use Rattle.tally_contest.specs.Race.{IsPair, IsFair, IsHighestNext, IsLowestLast}
-use Rattle.tally_contest.specs.Sums.{sum_before, holds_at}
-use Rattle.tally_contest.specs.Terms.{Terms, AreSound, IsClassOf, vote_race, placed_race}
+use Rattle.tally_contest.specs.internal.Race.{IsPair, IsFair, IsHighestNext, IsLowestLast}
+use Rattle.tally_contest.specs.internal.Sums.{sum_before, holds_at}
+use Rattle.tally_contest.specs.internal.Terms.{Terms, AreSound, IsClassOf, vote_race, placed_race}
 use Rattle.tally_contest.proofs.TermsRace.{races, fair_by_votes, highest_by_votes, lowest_by_votes}
 use Rattle.tally_contest.proofs.NeedOfTie.{decided_if_no_tie, no_tie_without_last, no_tie_without_next, no_tie_if_above, tie_unless_above, need_if_tie}
 use Rattle.tally_contest.proofs.Scan.{count_is}

@@ -5,11 +5,11 @@ use Rattle.std.proofs.lemmas.List.{length-replicate, get_or-replicate}
 use Rattle.tally_contest.specs.Poll.{votes_of, sum_marked}
 use Rattle.tally_contest.specs.Allotment.{IsAllotmentByVotes}
 use Rattle.tally_contest.specs.LotNeed.{IsLotNeeded, IsDecidedByVotes, IsInGroup, IsLeast, IsNeed}
-use Rattle.tally_contest.specs.Race.{IsPair, IsFair, IsTie, IsHighestNext, IsLowestLast}
-use Rattle.tally_contest.specs.Terms.{Terms, vote_race}
+use Rattle.tally_contest.specs.internal.Race.{IsPair, IsFair, IsTie, IsHighestNext, IsLowestLast}
+use Rattle.tally_contest.specs.internal.Terms.{Terms, vote_race}
 use Rattle.tally_contest.proofs.Vectors.{equal_or_apart}
-use Rattle.tally_contest.specs.Sums.{sum_before, holds_at}
-use Rattle.tally_contest.specs.Terms.{IsClassOf}
+use Rattle.tally_contest.specs.internal.Sums.{sum_before, holds_at}
+use Rattle.tally_contest.specs.internal.Terms.{IsClassOf}
 use Rattle.tally_contest.proofs.Sums.{sum_before-add, sum_marked-is, sum_marked-same, marked_at}
 use Rattle.tally_contest.proofs.Race.{above_chain, chain_above}
 use Rattle.tally_contest.proofs.Ties.{IsMoved, loses, gains, moved, tie_alike, class_holds, class_differs, ties_are_one}

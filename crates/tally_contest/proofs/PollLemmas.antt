@@ -8,7 +8,7 @@ use Rattle.tally_contest.specs.HareAllotment.{whole_quotas}
 use Rattle.tally_rules.specs.declared.profile.LotRule.{LotRule}
 use Rattle.tally_rules.specs.declared.profile.Method.{Method}
 use Rattle.tally_contest.specs.Allotment.{Rule, divisors}
-use Rattle.tally_contest.specs.Terms.{poll_under, IsSound, AreSound, AreDivisors}
+use Rattle.tally_contest.specs.internal.Terms.{poll_under, IsSound, AreSound, AreDivisors}
 use Rattle.tally_contest.proofs.Scan.{votes-le-eligible, quotas-le-seats}
 
 first_true : (x y : Bool) → (x && y) ≡ true → x ≡ true

@@ -1,7 +1,7 @@
 -- A race for seats, of which the divisor rules and the largest remainders are both cases: what is true of every vector of seats that a total preorder of pairs of a list and a number of seats allows.
 use Rattle.std.proofs.Common.{◌≡◌, ℕ, ◌+◌, ◌<◌, ◌≤◌, ◌≢◌, ◌⊎◌, List, get_or, sym, subst, inl, inr, ap, arith}
 use Rattle.std.proofs.lemmas.Bool.{cases_lt}
-use Rattle.tally_contest.specs.Race.{Race, IsPair, NotBelow, IsFair}
+use Rattle.tally_contest.specs.internal.Race.{Race, IsPair, NotBelow, IsFair}
 
 -- The pairs are in a total preorder in which each list's pairs fall.
 pub record IsOrderly (race : Race) : Type 0 where

@@ -9,9 +9,9 @@ use Rattle.std.proofs.lemmas.Nat.{div-add-mod', mod_below}
 use Rattle.std.proofs.Math.Nat.{div-mul-le_self, le_of_mul-le-mul_right}
 use Rattle.tally_contest.specs.Poll.{Poll, IsEligible, votes_of, eligible_votes}
 use Rattle.tally_contest.specs.Allotment.{Rule, divisors, hare}
-use Rattle.tally_contest.specs.Race.{CanHold}
-use Rattle.tally_contest.specs.Sums.{sum_before}
-use Rattle.tally_contest.specs.Terms.{Terms, AreSound, IsSound, placed_race, seats_for, most_for, quotas_for}
+use Rattle.tally_contest.specs.internal.Race.{CanHold}
+use Rattle.tally_contest.specs.internal.Sums.{sum_before}
+use Rattle.tally_contest.specs.internal.Terms.{Terms, AreSound, IsSound, placed_race, seats_for, most_for, quotas_for}
 use Rattle.tally_contest.proofs.Sums.{sum_marked-is, sum-is, marked_at, sum_before-le, sum_before-mul, sum_before-same}
 use Rattle.tally_contest.proofs.DivisorRace.{seats_for-eligible, eligible_or_not}
 use Rattle.tally_contest.proofs.HareRace.{most_for-eligible, quotas_for-eligible, none_for-ineligible}

@@ -6,8 +6,8 @@ use Rattle.std.proofs.Math.Nat.{mul-le-mul_right, div-le_of_le-mul}
 use Rattle.tally_contest.specs.Poll.{Poll, IsEligible, votes_of, eligible_votes}
 use Rattle.tally_contest.specs.HareAllotment.{whole_quotas}
 use Rattle.tally_contest.specs.Allotment.{Rule, divisors, hare}
-use Rattle.tally_contest.specs.Race.{Race, IsPair, NotBelow, IsWithin, IsFair, IsHighestNext, IsLowestLast, IsHighestBefore, IsLowestBefore}
-use Rattle.tally_contest.specs.Terms.{Terms, AreSound, IsSound, placed_race, most_for}
+use Rattle.tally_contest.specs.internal.Race.{Race, IsPair, NotBelow, IsWithin, IsFair, IsHighestNext, IsLowestLast, IsHighestBefore, IsLowestBefore}
+use Rattle.tally_contest.specs.internal.Terms.{Terms, AreSound, IsSound, placed_race, most_for}
 use Rattle.tally_contest.proofs.Vectors.{sum-le}
 use Rattle.tally_contest.proofs.Race.{not_below_itself}
 use Rattle.tally_contest.proofs.Sums.{sum_marked-is, marked_at, at-le-sum_before}

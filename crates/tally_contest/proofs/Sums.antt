@@ -2,7 +2,7 @@
 use Rattle.std.proofs.Common.{◌≡◌, ℕ, zero, suc, ◌+◌, ◌*◌, ◌<◌, ◌≤◌, ◌⊎◌, List, [], ◌∷◌, Bool, true, false, cond, length, get_or, sum, refl, sym, ◌∙◌, inl, inr, ap, arith, add-one}
 use Rattle.std.proofs.lemmas.Bool.{cases_lt, cases_Bool}
 use Rattle.tally_contest.specs.Poll.{sum_marked}
-use Rattle.tally_contest.specs.Sums.{sum_before}
+use Rattle.tally_contest.specs.internal.Sums.{sum_before}
 use Rattle.tally_contest.proofs.Vectors.{sum-cons}
 
 pub sum_before-shift : (f : ℕ → ℕ) (n : ℕ) → sum_before f (suc n) ≡ f 0 + sum_before (λ i. f (suc i)) n

@@ -3,10 +3,10 @@ use Rattle.std.proofs.Common.{◌≡◌, ℕ, ◌+◌, ◌<◌, ◌≤◌, ◌�
 use Rattle.std.proofs.lemmas.Bool.{cases_lt}
 use Rattle.tally_contest.specs.Poll.{Poll, IsEligible, votes_of}
 use Rattle.tally_contest.specs.Lot.{ComesFirst}
-use Rattle.tally_contest.specs.Pairs.{place_at}
+use Rattle.tally_contest.specs.internal.Pairs.{place_at}
 use Rattle.tally_contest.specs.Allotment.{Rule, divisors, hare, IsAllotment, IsAllotmentByVotes}
-use Rattle.tally_contest.specs.Race.{Race, IsPair, NotBelow, IsFair, IsTie, IsHighestNext, IsLowestLast, IsWithin}
-use Rattle.tally_contest.specs.Terms.{Terms, AreSound, IsRule, IsSound, IsProperLot, lot_rule_of, vote_race, placed_race}
+use Rattle.tally_contest.specs.internal.Race.{Race, IsPair, NotBelow, IsFair, IsTie, IsHighestNext, IsLowestLast, IsWithin}
+use Rattle.tally_contest.specs.internal.Terms.{Terms, AreSound, IsRule, IsSound, IsProperLot, lot_rule_of, vote_race, placed_race}
 use Rattle.tally_contest.proofs.Race.{IsOrderly, IsOneSeat, one_seat}
 use Rattle.tally_contest.proofs.Ties.{IsInClasses, tie_alike}
 use Rattle.tally_contest.proofs.TurnLemmas.{places_apart, first_if_lower, lower_if_first, first_one_way}

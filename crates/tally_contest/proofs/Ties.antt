@@ -4,7 +4,7 @@ use Rattle.std.proofs.lemmas.Bool.{cases_lt, cases_eq}
 use Rattle.std.proofs.lemmas.List.{length-set}
 use Rattle.std.proofs.lemmas.List.Sums.{sum_by-set}
 use Rattle.tally_contest.proofs.Vectors.{some_less}
-use Rattle.tally_contest.specs.Race.{Race, IsPair, NotBelow, IsFair, IsTie}
+use Rattle.tally_contest.specs.internal.Race.{Race, IsPair, NotBelow, IsFair, IsTie}
 use Rattle.tally_contest.proofs.Race.{IsOrderly, IsOneSeat, not_below_itself, earlier_not_below, above_chain, chain_above, one_seat}
 use Rattle.tally_contest.proofs.AwardStep.{one_more, at_one_more, beside_one_more, sum-one_more}
 

@@ -3,8 +3,8 @@ use Rattle.std.proofs.Common.{◌≡◌, ℕ, ◌+◌, ◌<◌, ◌≤◌, ◌�
 use Rattle.std.proofs.lemmas.Bool.{cases_lt, cases_eq}
 use Rattle.std.proofs.lemmas.List.{get_or_append_left, get_or_push, length_push}
 use Rattle.tally_contest.specs.declared.won.Won.{Won}
-use Rattle.tally_contest.specs.Race.{Race, IsPair, IsFair, IsHighestNext}
-use Rattle.tally_contest.specs.Won.{AreWon}
+use Rattle.tally_contest.specs.internal.Race.{Race, IsPair, IsFair, IsHighestNext}
+use Rattle.tally_contest.specs.internal.Won.{AreWon}
 use Rattle.tally_contest.proofs.Race.{IsOrderly, above_chain}
 use Rattle.tally_contest.proofs.AwardStep.{one_more, at_one_more, beside_one_more}
 

@@ -5,7 +5,8 @@ use Rattle.tally_contest.specs.Poll.{Poll}
 use Rattle.tally_contest.specs.DivisorAllotment.{IsDivisorAllotment, IsDivisorAllotmentByVotes}
 use Rattle.tally_contest.specs.HareAllotment.{IsHareAllotment, IsHareAllotmentByVotes}
 
--- A divisor rule, by its k-th divisor, the unit of its divisors and how its lots decide, or Hare's rule with the largest remainders.
+-- A divisor rule, by its k-th divisor, the unit of its divisors and how its lots decide, or Hare's rule with the
+-- largest remainders.
 pub data Rule : Type 0 where
   divisors : (nth : ℕ → ℕ) (unit : ℕ) (lot_rule : LotRule) → Rule
   hare : Rule

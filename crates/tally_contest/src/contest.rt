@@ -1,9 +1,12 @@
 //! A contest of lists for the seats of a poll, whichever the rule.
 
-ghost use Rattle.std.specs.Prelude.{◌≡◌, ℕ, ◌+◌, ◌<◌, ◌≤◌, ◌↔◌, IsTrue, MatchOption, length, slice_index, slice_index_or, sum, false};
+ghost use Rattle.std.specs.Prelude.{◌≡◌, ℕ, ◌+◌, ◌<◌, ◌≤◌, ◌↔◌, IsTrue, MatchOption, length, slice_index};
+ghost use Rattle.std.specs.Prelude.{slice_index_or, sum, false};
+ghost use Rattle.tally_frac.specs.Limits.{most_lists};
 ghost use Rattle.tally_contest.specs.Poll.{HasEligible, votes_of};
-ghost use Rattle.tally_contest.specs.Race.{IsPair, IsWithin, IsFair, IsHighestNext, IsLowestLast, IsHighestBefore, IsLowestBefore, IsLastFair, CanHold};
-ghost use Rattle.tally_contest.specs.Terms.{Terms, AreSound, placed_race, vote_race};
+ghost use Rattle.tally_contest.specs.internal.Race.{IsPair, IsWithin, IsFair, IsHighestNext, IsLowestLast};
+ghost use Rattle.tally_contest.specs.internal.Race.{IsHighestBefore, IsLowestBefore, IsLastFair, CanHold};
+ghost use Rattle.tally_contest.specs.internal.Terms.{Terms, AreSound, placed_race, vote_race};
 
 /// The lists that contest the seats of a poll, under a rule and a lot. Lists are numbered from 0.
 /// The pair of a list and a number of a seat, from 1, is one of the contest where that list may
@@ -14,7 +17,7 @@ pub trait Contest {
     /// How many lists there are, up to 60.
     fn count(&self) -> usize
         ensures count { result ≡ length (terms self.now).poll.votes }
-        ensures few { result ≤ 60 };
+        ensures few { result ≤ most_lists };
 
     /// The seats to be allotted.
     fn seats(&self) -> u32
@@ -78,7 +81,9 @@ pub fn has_eligible<C: Contest>(contest: &C) -> bool
 pub(crate) fn highest_next<C: Contest>(contest: &C, seats: &[u32]) -> Option<usize>
     requires sound { AreSound (C.terms contest.now) }
     requires within { IsWithin (placed_race (C.terms contest.now)) seats.now }
-    ensures { MatchOption result ((m : ℕ) → (placed_race (C.terms contest.now)).cap m ≤ slice_index seats.now m) (λ l. IsHighestNext (placed_race (C.terms contest.now)) seats.now l) }
+    ensures { MatchOption result
+        ((m : ℕ) → (placed_race (C.terms contest.now)).cap m ≤ slice_index seats.now m)
+        (λ l. IsHighestNext (placed_race (C.terms contest.now)) seats.now l) }
 {
     let mut highest = None;
     for list in 0..contest.count() {
@@ -122,7 +127,9 @@ fn higher_next<C: Contest>(
 pub(crate) fn lowest_last<C: Contest>(contest: &C, seats: &[u32]) -> Option<usize>
     requires sound { AreSound (C.terms contest.now) }
     requires within { IsWithin (placed_race (C.terms contest.now)) seats.now }
-    ensures { MatchOption result ((m : ℕ) → slice_index seats.now m ≤ (placed_race (C.terms contest.now)).floor m) (λ l. IsLowestLast (placed_race (C.terms contest.now)) seats.now l) }
+    ensures { MatchOption result
+        ((m : ℕ) → slice_index seats.now m ≤ (placed_race (C.terms contest.now)).floor m)
+        (λ l. IsLowestLast (placed_race (C.terms contest.now)) seats.now l) }
 {
     let mut lowest = None;
     for list in 0..contest.count() {
@@ -238,7 +245,8 @@ fn is_next_above<C: Contest>(
     requires list { list < length (C.terms contest.now).poll.votes }
     requires other { other < length (C.terms contest.now).poll.votes }
     requires pair { IsPair (placed_race (C.terms contest.now)) other other_seat }
-    ensures { IsTrue result ↔ ((slice_index seats.now list < (placed_race (C.terms contest.now)).cap list) × (placed_race (C.terms contest.now)).Above list (slice_index seats.now list + 1) other other_seat) }
+    ensures { IsTrue result ↔ ((slice_index seats.now list < (placed_race (C.terms contest.now)).cap list) ×
+        (placed_race (C.terms contest.now)).Above list (slice_index seats.now list + 1) other other_seat) }
 {
     let held = seats[list];
     held < contest.cap(list) && contest.is_above(list, held + 1, other, other_seat)

@@ -2,10 +2,10 @@
 
 ghost use Rattle.std.specs.Prelude.{◌≡◌, ℕ, ◌*◌, ◌<◌, ◌≤◌, ◌⊎◌, ◌↔◌, IsTrue, false, slice_index, slice_index_or};
 ghost use Rattle.tally_frac.specs.Limits.{greatest_divisor, most_lists, most_seats, most_votes};
+ghost use Rattle.tally_contest.specs.internal.KeptPoll.{kept_poll};
 ghost use Rattle.tally_contest.specs.Allotment.{divisors as by_divisors};
 ghost use Rattle.tally_contest.specs.Lot.{place_of};
-ghost use Rattle.tally_contest.specs.Pairs.{place_at, turns};
-ghost use Rattle.tally_contest.specs.Terms.{poll_under};
+ghost use Rattle.tally_contest.specs.internal.Pairs.{place_at, turns};
 
 use crate::contest::Contest;
 use crate::list_set::{LIMIT, ListSet};
@@ -52,7 +52,12 @@ impl<D: Divisors> DivisorContest<'_, D> {
 }
 
 impl<D: Divisors> Contest for DivisorContest<'_, D> {
-    ghost terms = { λ c. record { rule = by_divisors (D.divisor c.divisors) (D.unit_of c.divisors) c.lot_rule; poll = poll_under c.poll.threshold c.poll.base c.poll.votes.now; lot = c.lot.now; seats = c.seats } };
+    ghost terms = { λ c. record {
+      rule = by_divisors (D.divisor c.divisors) (D.unit_of c.divisors) c.lot_rule;
+      poll = kept_poll c.poll;
+      lot = c.lot.now;
+      seats = c.seats;
+    } };
 
     fn count(&self) -> usize {
         self.poll.votes.len()

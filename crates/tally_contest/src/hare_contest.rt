@@ -6,8 +6,8 @@ ghost use Rattle.tally_contest.specs.Poll.{eligible_votes, IsEligible};
 ghost use Rattle.tally_contest.specs.HareAllotment as spec;
 ghost use Rattle.tally_contest.specs.Allotment.{hare};
 ghost use Rattle.tally_contest.specs.Lot.{place_of};
-ghost use Rattle.tally_contest.specs.Quotas.{quota_of};
-ghost use Rattle.tally_contest.specs.Terms.{poll_under};
+ghost use Rattle.tally_contest.specs.internal.KeptPoll.{kept_poll};
+ghost use Rattle.tally_contest.specs.internal.Quotas.{quota_of};
 ghost use Rattle.tally_contest.specs.declared.quota.Quota.{Quota as row_type};
 
 use crate::contest::Contest;
@@ -29,18 +29,17 @@ pub struct HareContest<'a> {
     /// The places of the lists under the lot, by their numbers from 0.
     pub places: [usize; LIMIT],
     ghost few_seats: { seats ≤ most_seats },
-    ghost quotas_are: { (l : ℕ) (d : row_type) → l < length poll.votes.now → slice_index_or quotas l d ≡ quota_of (poll_under poll.threshold poll.base poll.votes.now) seats l },
+    ghost quotas_are: { (l : ℕ) (d : row_type) → l < length poll.votes.now →
+        slice_index_or quotas l d ≡ quota_of (kept_poll poll) seats l },
     ghost places_are: { (l : ℕ) → l < most_lists → slice_index places l ≡ place_of lot.now l },
 }
 
 impl HareContest<'_> {
-    ghost use Rattle.tally_contest.specs.HareTerms.{poll_of};
-
     /// The whole quotas of an eligible list.
     pub fn whole_quotas(&self, list: usize) -> u32
         requires list { list < length self.now.poll.votes.now }
-        requires eligible { IsEligible (poll_of self.now) list }
-        ensures { result ≡ spec.whole_quotas (poll_of self.now) self.now.seats list }
+        requires eligible { IsEligible (kept_poll self.now.poll) list }
+        ensures { result ≡ spec.whole_quotas (kept_poll self.now.poll) self.now.seats list }
     {
         self.quotas[list].floor
     }
@@ -48,15 +47,15 @@ impl HareContest<'_> {
     /// What the whole quotas leave of an eligible list's votes, times the seats.
     pub fn remainder(&self, list: usize) -> u64
         requires list { list < length self.now.poll.votes.now }
-        requires eligible { IsEligible (poll_of self.now) list }
-        ensures { result ≡ spec.remainder (poll_of self.now) self.now.seats list }
+        requires eligible { IsEligible (kept_poll self.now.poll) list }
+        ensures { result ≡ spec.remainder (kept_poll self.now.poll) self.now.seats list }
     {
         self.quotas[list].remainder
     }
 }
 
 impl Contest for HareContest<'_> {
-    ghost terms = { λ c. record { rule = hare; poll = poll_under c.poll.threshold c.poll.base c.poll.votes.now; lot = c.lot.now; seats = c.seats } };
+    ghost terms = { λ c. record { rule = hare; poll = kept_poll c.poll; lot = c.lot.now; seats = c.seats } };
 
     fn count(&self) -> usize {
         self.poll.votes.len()

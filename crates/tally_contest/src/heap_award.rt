@@ -1,16 +1,21 @@
 //! The award of the seats under a divisor rule, from a heap of keys.
 
-ghost use Rattle.std.specs.Prelude.{◌≡◌, ℕ, ◌+◌, ◌<◌, ◌≤◌, IfOk, IfErr, OnOk, length, slice_index, slice_set, sum};
+ghost use Rattle.std.specs.Prelude.{◌≡◌, ℕ, ◌+◌, ◌<◌, ◌≤◌, IfOk, IfErr, OnOk, Some, length, slice_index, slice_set};
+ghost use Rattle.std.specs.Prelude.{sum};
 ghost use Rattle.std.specs.BinaryHeap.{IsHeap, heap_items};
 ghost use Rattle.tally_frac.specs.Limits.{last_divisor, most_lists};
+ghost use Rattle.tally_contest.specs.internal.KeptPoll.{kept_poll};
+ghost use Rattle.tally_contest.specs.internal.ContestTerms.{divisor_terms};
 ghost use Rattle.tally_contest.specs.Allotment.{divisors as by_divisors};
 ghost use Rattle.tally_contest.specs.Poll.{HasEligible};
 ghost use Rattle.tally_contest.specs.LotNeed.{IsLotTaken};
-ghost use Rattle.tally_contest.specs.NextPairs.{AreNext, HaveKeys, keyed, keyed_cmp, poll_of, terms_of};
+ghost use Rattle.tally_frac.specs.Rank.{IsWithinLimits};
+ghost use Rattle.tally_contest.specs.internal.Pairs.{pair_of};
+ghost use Rattle.tally_contest.specs.internal.NextPairs.{AreNext, HaveKeys, keyed, keyed_cmp};
 ghost use Rattle.tally_contest.specs.Poll.{IsEligible};
-ghost use Rattle.tally_contest.specs.Race.{IsFair, IsHighestNext};
-ghost use Rattle.tally_contest.specs.Terms.{AreSound, IsProperLot, placed_divisor_race, placed_race, poll_under};
-ghost use Rattle.tally_contest.specs.Won.{AreWon, none_held};
+ghost use Rattle.tally_contest.specs.internal.Race.{IsFair, IsHighestNext};
+ghost use Rattle.tally_contest.specs.internal.Terms.{AreSound, IsProperLot, placed_divisor_race, placed_race};
+ghost use Rattle.tally_contest.specs.internal.Won.{AreWon, none_held};
 
 use crate::contest::Contest;
 use crate::divisor_contest::DivisorContest;
@@ -34,12 +39,15 @@ pub fn award_from_heap<D: Divisors>(
     alloc: Global,
     contest: &DivisorContest<D>,
 ) -> Result<Given, AllocError>
-    requires sound { AreSound (terms_of D.divisor D.unit_of contest.now) }
-    requires proper { IsProperLot (poll_of contest.now) contest.now.lot.now }
-    requires keys { HaveKeys (D.divisor contest.now.divisors) contest.now.lot_rule (poll_of contest.now) contest.now.lot.now }
-    requires eligible { HasEligible (poll_of contest.now) }
-    ensures fair { IfOk result (λ given. IsFair (placed_race (terms_of D.divisor D.unit_of contest.now)) contest.now.seats given.seats.items) }
-    ensures won { IfOk result (λ given. AreWon (placed_race (terms_of D.divisor D.unit_of contest.now)) given.seats.items given.rows.items) }
+    requires sound { AreSound (divisor_terms D.divisor D.unit_of contest.now) }
+    requires proper { IsProperLot (kept_poll contest.now.poll) contest.now.lot.now }
+    requires keys { HaveKeys (D.divisor contest.now.divisors) contest.now.lot_rule (kept_poll contest.now.poll)
+        contest.now.lot.now }
+    requires eligible { HasEligible (kept_poll contest.now.poll) }
+    ensures fair { IfOk result (λ given.
+        IsFair (placed_race (divisor_terms D.divisor D.unit_of contest.now)) contest.now.seats given.seats.items) }
+    ensures won { IfOk result (λ given.
+        AreWon (placed_race (divisor_terms D.divisor D.unit_of contest.now)) given.seats.items given.rows.items) }
 {
     let mut next = first_pairs(alloc, contest)?;
     let mut seats = no_seats(alloc, contest.count())?;
@@ -56,18 +64,23 @@ fn award_next<D: Divisors>(
     next: &mut BinaryHeap<(RankKey, usize, u32)>,
     seats: &mut [u32],
 ) -> Result<Won, AllocError>
-    requires sound { AreSound (terms_of D.divisor D.unit_of contest.now) }
-    requires keys { HaveKeys (D.divisor contest.now.divisors) contest.now.lot_rule (poll_of contest.now) contest.now.lot.now }
-    requires eligible { HasEligible (poll_of contest.now) }
-    requires fair { IsFair (placed_race (terms_of D.divisor D.unit_of contest.now)) (sum seats.old) seats.old }
+    requires sound { AreSound (divisor_terms D.divisor D.unit_of contest.now) }
+    requires keys { HaveKeys (D.divisor contest.now.divisors) contest.now.lot_rule (kept_poll contest.now.poll)
+        contest.now.lot.now }
+    requires eligible { HasEligible (kept_poll contest.now.poll) }
+    requires fair { IsFair (placed_race (divisor_terms D.divisor D.unit_of contest.now)) (sum seats.old) seats.old }
     requires room { sum seats.old < contest.now.seats }
     requires order { IsHeap keyed_cmp (heap_items next.old) }
-    requires next { AreNext (D.divisor contest.now.divisors) contest.now.lot_rule (poll_of contest.now) contest.now.lot.now (length contest.now.poll.votes.now) seats.old (heap_items next.old) }
-    ensures highest { IfOk result (λ won. IsHighestNext (placed_race (terms_of D.divisor D.unit_of contest.now)) seats.old won.list) }
+    requires next { AreNext (D.divisor contest.now.divisors) contest.now.lot_rule (kept_poll contest.now.poll)
+        contest.now.lot.now (length contest.now.poll.votes.now) seats.old (heap_items next.old) }
+    ensures highest { IfOk result (λ won.
+        IsHighestNext (placed_race (divisor_terms D.divisor D.unit_of contest.now)) seats.old won.list) }
     ensures seat { IfOk result (λ won. won.seat ≡ slice_index seats.old won.list + 1) }
     ensures seats { IfOk result (λ won. seats.new ≡ slice_set seats.old won.list won.seat) }
     ensures order { OnOk result (IsHeap keyed_cmp (heap_items next.new)) }
-    ensures next { OnOk result (AreNext (D.divisor contest.now.divisors) contest.now.lot_rule (poll_of contest.now) contest.now.lot.now (length contest.now.poll.votes.now) seats.new (heap_items next.new)) }
+    ensures next { OnOk result
+        (AreNext (D.divisor contest.now.divisors) contest.now.lot_rule (kept_poll contest.now.poll)
+        contest.now.lot.now (length contest.now.poll.votes.now) seats.new (heap_items next.new)) }
 {
     let (list, seat) = match next.pop() {
         Some((_key, list, seat)) => (list, seat),
@@ -84,10 +97,13 @@ fn first_pairs<D: Divisors>(
     alloc: Global,
     contest: &DivisorContest<D>,
 ) -> Result<BinaryHeap<(RankKey, usize, u32)>, AllocError>
-    requires sound { AreSound (terms_of D.divisor D.unit_of contest.now) }
-    requires keys { HaveKeys (D.divisor contest.now.divisors) contest.now.lot_rule (poll_of contest.now) contest.now.lot.now }
+    requires sound { AreSound (divisor_terms D.divisor D.unit_of contest.now) }
+    requires keys { HaveKeys (D.divisor contest.now.divisors) contest.now.lot_rule (kept_poll contest.now.poll)
+        contest.now.lot.now }
     ensures order { IfOk result (λ next. IsHeap keyed_cmp (heap_items next)) }
-    ensures next { IfOk result (λ next. AreNext (D.divisor contest.now.divisors) contest.now.lot_rule (poll_of contest.now) contest.now.lot.now (length contest.now.poll.votes.now) (none_held (length contest.now.poll.votes.now)) (heap_items next)) }
+    ensures next { IfOk result (λ next.
+        AreNext (D.divisor contest.now.divisors) contest.now.lot_rule (kept_poll contest.now.poll) contest.now.lot.now
+        (length contest.now.poll.votes.now) (none_held (length contest.now.poll.votes.now)) (heap_items next)) }
 {
     let mut next = BinaryHeap::with_capacity(alloc, contest.count())?;
     for list in 0..contest.count() {
@@ -106,15 +122,31 @@ fn keyed_pair<D: Divisors>(
 ) -> (RankKey, usize, u32)
     requires listed { list < length contest.now.poll.votes.now }
     requires few { length contest.now.poll.votes.now ≤ most_lists }
-    requires eligible { IsEligible (poll_of contest.now) list }
+    requires eligible { IsEligible (kept_poll contest.now.poll) list }
     requires first { 1 ≤ seat }
     requires last { seat ≤ last_divisor }
-    requires keys { HaveKeys (D.divisor contest.now.divisors) contest.now.lot_rule (poll_of contest.now) contest.now.lot.now }
-    ensures { result ≡ keyed (D.divisor contest.now.divisors) contest.now.lot_rule (poll_of contest.now) contest.now.lot.now list seat }
+    requires keys { HaveKeys (D.divisor contest.now.divisors) contest.now.lot_rule (kept_poll contest.now.poll)
+        contest.now.lot.now }
+    ensures { result ≡ keyed (D.divisor contest.now.divisors) contest.now.lot_rule (kept_poll contest.now.poll)
+        contest.now.lot.now list seat }
 {
-    let place = contest.place_at(list, seat) as u32;
-    match RankKey::new(contest.votes(list), contest.divisors.nth(seat), place) {
+    match key_of(contest, list, seat) {
         Some(key) => (key, list, seat),
         None => unreachable!(),
     }
+}
+
+/// The key of a pair of a list and one of its seats.
+fn key_of<D: Divisors>(contest: &DivisorContest<D>, list: usize, seat: u32) -> Option<RankKey>
+    requires listed { list < length contest.now.poll.votes.now }
+    requires few { length contest.now.poll.votes.now ≤ most_lists }
+    requires first { 1 ≤ seat }
+    requires last { seat ≤ last_divisor }
+    requires within { IsWithinLimits (pair_of (D.divisor contest.now.divisors) contest.now.lot_rule
+        (kept_poll contest.now.poll) contest.now.lot.now list seat) }
+    ensures { result ≡ Some (pair_of (D.divisor contest.now.divisors) contest.now.lot_rule (kept_poll contest.now.poll)
+        contest.now.lot.now list seat) }
+{
+    let place = contest.place_at(list, seat) as u32;
+    RankKey::new(contest.votes(list), contest.divisors.nth(seat), place)
 }

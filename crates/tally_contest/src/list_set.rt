@@ -1,6 +1,8 @@
 //! Sets of lists.
 
-ghost use Rattle.std.specs.Prelude.{◌≡◌, ℕ, ◌<◌, ◌≤◌, List, Bool, false, true, length, replicate, slice_index_or, slice_set};
+ghost use Rattle.std.specs.Prelude.{◌≡◌, ℕ, ◌<◌, ◌≤◌, List, Bool, false, true, length, replicate, slice_index_or};
+ghost use Rattle.std.specs.Prelude.{slice_set};
+ghost use Rattle.tally_frac.specs.Limits.{most_lists};
 ghost use Rattle.tally_contest.specs.ListSet.{has_place};
 
 use std::marker::Model;
@@ -17,12 +19,13 @@ pub struct ListSet {
 
 impl Model for ListSet {
     ghost use Rattle.std.specs.Prelude.{◌≡◌, List, Bool, length};
+    ghost use Rattle.tally_frac.specs.Limits.{most_lists};
 
     ghost Value = { List Bool };
 
     ghost view = { λ set. set.marks };
 
-    ghost invariant = { λ set. length set.marks ≡ 60 };
+    ghost invariant = { λ set. length set.marks ≡ most_lists };
 
     ghost inverse = { λ marks. record { marks = marks } };
 }
@@ -40,7 +43,7 @@ impl ListSet {
     }
 
     pub(crate) fn empty() -> ListSet
-        ensures { result ≡ replicate 60 false }
+        ensures { result ≡ replicate most_lists false }
     {
         ListSet {
             marks: [false; LIMIT],
@@ -48,9 +51,9 @@ impl ListSet {
     }
 
     /// How many lists a set may have, 60.
-    pub(crate) fn limit(&self) -> usize
+    pub fn limit(&self) -> usize
         ensures marks { result ≡ length self.now }
-        ensures limit { result ≡ 60 }
+        ensures limit { result ≡ most_lists }
     {
         let marks = &self.marks;
         marks.len()
@@ -58,7 +61,7 @@ impl ListSet {
 
     /// Whether a list, by its number from 0, is in the set.
     pub(crate) fn has_list(&self, list: usize) -> bool
-        requires { list < 60 }
+        requires { list < most_lists }
         ensures { result ≡ slice_index_or self.now list false }
     {
         self.marks[list]
@@ -66,7 +69,7 @@ impl ListSet {
 
     /// Puts a list, by its number from 0, into the set.
     pub(crate) fn insert(&mut self, list: usize)
-        requires { list < 60 }
+        requires { list < most_lists }
         ensures { self.new ≡ slice_set self.old list true }
     {
         self.marks[list] = true;

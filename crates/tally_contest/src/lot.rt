@@ -1,10 +1,11 @@
 //! Lots.
 
-ghost use Rattle.std.specs.Prelude.{◌≡◌, ◌≢◌, ℕ, ◌+◌, ◌<◌, ◌↔◌, IsTrue, true, false, length, slice_index, slice_index_or};
+ghost use Rattle.std.specs.Prelude.{◌≡◌, ◌≢◌, ℕ, ◌+◌, ◌<◌, ◌↔◌, ◌==◌, IsTrue, true, false, length, slice_index};
+ghost use Rattle.std.specs.Prelude.{slice_index_or, if◌then◌else◌};
 ghost use Rattle.tally_frac.specs.Limits.{most_lists};
 ghost use Rattle.tally_contest.specs.ListSet.{has_place};
 ghost use Rattle.tally_contest.specs.Lot as spec;
-ghost use Rattle.tally_contest.specs.Pairs.{turns};
+ghost use Rattle.tally_contest.specs.internal.Pairs.{turns};
 
 use crate::list_set::{LIMIT, ListSet};
 use tally_rules::LotRule;
@@ -17,12 +18,21 @@ pub fn places_under(lot: &[u32]) -> [usize; LIMIT]
     let mut places = places_in_setup();
     // From the end, so that the first of several entries for one list stays.
     for i in (0..lot.len()).rev() {
-        let place = lot[i] as usize;
-        if place >= 1 && place <= LIMIT {
-            places[place - 1] = i + 1;
-        }
+        put_entry(&mut places, lot, i);
     }
     places
+}
+
+/// Puts in the place of the list that the lot names at an index.
+fn put_entry(places: &mut [usize; LIMIT], lot: &[u32], index: usize)
+    requires { index < length lot.now }
+    ensures { (l : ℕ) → l < most_lists →
+        slice_index places.new l ≡ if slice_index lot.now index == l + 1 then index + 1 else slice_index places.old l }
+{
+    let place = lot[index] as usize;
+    if place >= 1 && place <= LIMIT {
+        places[place - 1] = index + 1;
+    }
 }
 
 /// The lists whose places are counted from the last for even seats: those that the lot names, where
@@ -101,7 +111,8 @@ fn is_repeated(lot: &[u32], later: usize) -> bool
 }
 
 fn names_all(lot: &[u32], group: &ListSet) -> bool
-    ensures { IsTrue result ↔ ((l : ℕ) → slice_index_or group.now l false ≡ true → (i : ℕ) × (i < length lot.now) × (slice_index lot.now i ≡ l + 1)) }
+    ensures { IsTrue result ↔ ((l : ℕ) → slice_index_or group.now l false ≡ true →
+        (i : ℕ) × (i < length lot.now) × (slice_index lot.now i ≡ l + 1)) }
 {
     for list in 0..group.limit() {
         if group.has_list(list) && !names(lot, list as u32 + 1) {

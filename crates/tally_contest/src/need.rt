@@ -1,10 +1,11 @@
 //! Whether a lot is needed.
 
 ghost use Rattle.std.specs.Prelude.{◌≡◌, ℕ, ◌<◌, ◌≤◌, MatchOption, length, slice_index, sum};
+ghost use Rattle.tally_frac.specs.Limits.{most_lists};
 ghost use Rattle.tally_contest.specs.LotNeed.{IsDecidedByVotes, IsNeed};
-ghost use Rattle.tally_contest.specs.Race.{IsFair};
-ghost use Rattle.tally_contest.specs.Sums.{sum_before, holds_at};
-ghost use Rattle.tally_contest.specs.Terms.{AreSound, HaveVotes, placed_race};
+ghost use Rattle.tally_contest.specs.internal.Race.{IsFair};
+ghost use Rattle.tally_contest.specs.internal.Sums.{sum_before, holds_at};
+ghost use Rattle.tally_contest.specs.internal.Terms.{AreSound, HaveVotes, placed_race};
 
 use crate::contest::{Contest, highest_next, lowest_last};
 use crate::list_set::ListSet;
@@ -24,7 +25,10 @@ pub struct Need {
 pub fn need_of<C: Contest>(contest: &C, seats: &[u32]) -> Option<Need>
     requires sound { AreSound (C.terms contest.now) }
     requires fair { IsFair (placed_race (C.terms contest.now)) (C.terms contest.now).seats seats.now }
-    ensures { MatchOption result (IsDecidedByVotes (C.terms contest.now).rule (C.terms contest.now).poll (C.terms contest.now).seats) (λ need. IsNeed (C.terms contest.now).rule (C.terms contest.now).poll (C.terms contest.now).seats need.group need.seats) }
+    ensures { MatchOption result
+        (IsDecidedByVotes (C.terms contest.now).rule (C.terms contest.now).poll (C.terms contest.now).seats)
+        (λ need. IsNeed (C.terms contest.now).rule (C.terms contest.now).poll (C.terms contest.now).seats
+        need.group need.seats) }
 {
     let Some(last) = lowest_last(contest, seats) else {
         return None;
@@ -61,7 +65,7 @@ fn lists_with<C: Contest>(contest: &C, votes: u64) -> ListSet
 
 /// How many lists of a group hold so many seats.
 fn holders_of(group: &ListSet, seats: &[u32], held: u32) -> u32
-    requires { length seats.now ≤ 60 }
+    requires { length seats.now ≤ most_lists }
     ensures { result ≡ sum_before (holds_at group.now seats.now held) (length seats.now) }
 {
     let mut holders = 0;

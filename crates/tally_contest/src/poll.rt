@@ -1,10 +1,10 @@
 //! The votes of a poll, and which lists are eligible.
 
 ghost use Rattle.std.specs.Prelude.{◌≡◌, ◌<◌, ◌≤◌, length, sum, slice_index, slice_index_or, false};
+ghost use Rattle.tally_frac.specs.Limits.{most_lists, most_votes};
 ghost use Rattle.tally_rules.specs.Threshold.{IsWithinVotes};
 ghost use Rattle.tally_contest.specs.Poll.{eligible_votes};
 ghost use Rattle.tally_contest.specs.Rules.{poll_of};
-ghost use Rattle.tally_contest.specs.Terms.{poll_under};
 
 use tally_rules::{Profile, base_of, is_eligible};
 
@@ -17,20 +17,22 @@ pub struct Poll<'a> {
     pub threshold: u32,
     /// The votes that the threshold is taken of, up to 5,000,000,000.
     pub base: u64,
-    ghost few_lists: { length votes.now ≤ 60 },
-    ghost few_votes: { sum votes.now ≤ 5000000000 },
+    ghost few_lists: { length votes.now ≤ most_lists },
+    ghost few_votes: { sum votes.now ≤ most_votes },
     ghost whole_at_most: { threshold ≤ 10000 },
-    ghost few_in_base: { base ≤ 5000000000 },
+    ghost few_in_base: { base ≤ most_votes },
 }
 
 impl<'a> Poll<'a> {
+    ghost use Rattle.tally_contest.specs.internal.KeptPoll.{kept_poll};
+
     /// The poll of these votes under a profile's threshold.
     pub fn new(profile: &Profile, votes: &'a [u64], blank: u64) -> Poll<'a>
-        requires lists { length votes.now ≤ 60 }
+        requires lists { length votes.now ≤ most_lists }
         requires votes { IsWithinVotes votes.now blank }
         requires threshold { profile.now.threshold ≤ 10000 }
         ensures votes { result.votes.now ≡ votes.now }
-        ensures poll { poll_under result.threshold result.base result.votes.now ≡ poll_of profile.now votes.now blank }
+        ensures poll { kept_poll result ≡ poll_of profile.now votes.now blank }
     {
         Poll {
             votes,
@@ -43,7 +45,7 @@ impl<'a> Poll<'a> {
     pub fn votes_of(&self, list: usize) -> u64
         requires { list < length self.now.votes.now }
         ensures votes { result ≡ slice_index self.now.votes.now list }
-        ensures few { result ≤ 5000000000 }
+        ensures few { result ≤ most_votes }
     {
         self.votes[list]
     }
@@ -51,14 +53,14 @@ impl<'a> Poll<'a> {
     /// Whether a list, by its number from 0, takes part in the allotment (LOREG article 163.1 a)).
     pub fn is_eligible(&self, list: usize) -> bool
         requires { list < length self.now.votes.now }
-        ensures { result ≡ slice_index_or (poll_under self.now.threshold self.now.base self.now.votes.now).eligible list false }
+        ensures { result ≡ slice_index_or (kept_poll self.now).eligible list false }
     {
         is_eligible(self.votes[list], self.threshold, self.base)
     }
 
     /// The votes of the eligible lists together.
     pub(crate) fn eligible_votes(&self) -> u64
-        ensures { result ≡ eligible_votes (poll_under self.now.threshold self.now.base self.now.votes.now) }
+        ensures { result ≡ eligible_votes (kept_poll self.now) }
     {
         let mut total = 0;
         for list in 0..self.votes.len() {

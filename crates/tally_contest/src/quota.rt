@@ -1,9 +1,10 @@
 //! What lists hold under Hare's rule by their quotas.
 
 ghost use Rattle.std.specs.Prelude.{◌≡◌, ℕ, ◌<◌, ◌≤◌, length, slice_index_or};
+ghost use Rattle.tally_frac.specs.Limits.{most_seats};
+ghost use Rattle.tally_contest.specs.internal.KeptPoll.{kept_poll};
 ghost use Rattle.tally_contest.specs.Poll.{eligible_votes};
-ghost use Rattle.tally_contest.specs.Quotas as spec;
-ghost use Rattle.tally_contest.specs.Terms.{poll_under};
+ghost use Rattle.tally_contest.specs.internal.Quotas as spec;
 ghost use Rattle.tally_contest.specs.declared.quota.Quota.{Quota as row_type};
 
 use crate::list_set::LIMIT;
@@ -22,8 +23,9 @@ pub struct Quota {
 
 /// The quotas of the lists of a poll, each worked out once.
 pub fn quotas_of(poll: &Poll, seats: u32) -> [Quota; LIMIT]
-    requires { seats ≤ 500 }
-    ensures { (l : ℕ) (d : row_type) → l < length poll.now.votes.now → slice_index_or result l d ≡ spec.quota_of (poll_under poll.now.threshold poll.now.base poll.now.votes.now) seats l }
+    requires { seats ≤ most_seats }
+    ensures { (l : ℕ) (d : row_type) → l < length poll.now.votes.now →
+        slice_index_or result l d ≡ spec.quota_of (kept_poll poll.now) seats l }
 {
     let total = poll.eligible_votes();
     let mut quotas = [Quota {
@@ -40,10 +42,10 @@ pub fn quotas_of(poll: &Poll, seats: u32) -> [Quota; LIMIT]
 /// The quota of a list, where the eligible lists have so many votes together: at most
 /// 5,000,000,000 * 500 is divided.
 fn quota_of(poll: &Poll, seats: u32, total: u64, list: usize) -> Quota
-    requires seats { seats ≤ 500 }
-    requires total { total ≡ eligible_votes (poll_under poll.now.threshold poll.now.base poll.now.votes.now) }
+    requires seats { seats ≤ most_seats }
+    requires total { total ≡ eligible_votes (kept_poll poll.now) }
     requires list { list < length poll.now.votes.now }
-    ensures { result ≡ spec.quota_of (poll_under poll.now.threshold poll.now.base poll.now.votes.now) seats list }
+    ensures { result ≡ spec.quota_of (kept_poll poll.now) seats list }
 {
     if !poll.is_eligible(list) {
         return Quota {

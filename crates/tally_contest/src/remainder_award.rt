@@ -2,14 +2,15 @@
 
 ghost use Rattle.std.specs.Prelude.{◌≡◌, ℕ, ◌+◌, ◌<◌, ◌≤◌, IfOk, IfErr, OnOk, length, slice_index, sum};
 ghost use Rattle.std.specs.BinaryHeap.{IsHeap, heap_items};
+ghost use Rattle.tally_contest.specs.internal.KeptPoll.{kept_poll};
 ghost use Rattle.tally_contest.specs.Allotment.{IsAllotment, hare};
 ghost use Rattle.tally_contest.specs.Poll.{HasEligible};
-ghost use Rattle.tally_contest.specs.Claims.{AreClaims, IsClaimOf, claim_cmp};
-ghost use Rattle.tally_contest.specs.HareTerms.{poll_of, terms_of};
+ghost use Rattle.tally_contest.specs.internal.Claims.{AreClaims, IsClaimOf, claim_cmp};
+ghost use Rattle.tally_contest.specs.internal.ContestTerms.{hare_terms};
 ghost use Rattle.tally_contest.specs.LotNeed.{IsLotTaken};
 ghost use Rattle.tally_contest.specs.Poll.{IsEligible};
-ghost use Rattle.tally_contest.specs.Race.{IsFair, CanHold};
-ghost use Rattle.tally_contest.specs.Terms.{AreSound, placed_race};
+ghost use Rattle.tally_contest.specs.internal.Race.{IsFair, CanHold};
+ghost use Rattle.tally_contest.specs.internal.Terms.{AreSound, placed_race};
 
 use crate::contest::Contest;
 use crate::hare_contest::HareContest;
@@ -31,9 +32,9 @@ pub(crate) struct SeatClaim {
 
 /// Gives each list its whole quotas, and the seats that are left to the greatest claims.
 pub fn award_remainders(alloc: Global, contest: &HareContest) -> Result<Vec<u32>, AllocError>
-    requires sound { AreSound (terms_of contest.now) }
-    requires eligible { HasEligible (poll_of contest.now) }
-    ensures { IfOk result (λ seats. IsFair (placed_race (terms_of contest.now)) contest.now.seats seats.items) }
+    requires sound { AreSound (hare_terms contest.now) }
+    requires eligible { HasEligible (kept_poll contest.now.poll) }
+    ensures { IfOk result (λ seats. IsFair (placed_race (hare_terms contest.now)) contest.now.seats seats.items) }
 {
     let mut seats = certain_seats(alloc, contest)?;
     let left = contest.seats() - total(&seats);
@@ -49,12 +50,13 @@ fn give_to_greatest(
     seats: &mut [u32],
     number: u32,
 )
-    requires sound { AreSound (terms_of contest.now) }
-    requires fair { IsFair (placed_race (terms_of contest.now)) (sum seats.old) seats.old }
-    requires room { CanHold (placed_race (terms_of contest.now)) (sum seats.old + number) }
+    requires sound { AreSound (hare_terms contest.now) }
+    requires fair { IsFair (placed_race (hare_terms contest.now)) (sum seats.old) seats.old }
+    requires room { CanHold (placed_race (hare_terms contest.now)) (sum seats.old + number) }
     requires order { IsHeap claim_cmp (heap_items claims) }
-    requires claims { AreClaims (poll_of contest.now) contest.now.lot.now contest.now.seats (length contest.now.poll.votes.now) seats.old (heap_items claims) }
-    ensures { IsFair (placed_race (terms_of contest.now)) (sum seats.old + number) seats.new }
+    requires claims { AreClaims (kept_poll contest.now.poll) contest.now.lot.now contest.now.seats
+        (length contest.now.poll.votes.now) seats.old (heap_items claims) }
+    ensures { IsFair (placed_race (hare_terms contest.now)) (sum seats.old + number) seats.new }
 {
     for _seat in 0..number {
         let list = match claims.pop() {
@@ -71,10 +73,12 @@ fn claims_of(
     contest: &HareContest,
     seats: &[u32],
 ) -> Result<BinaryHeap<SeatClaim>, AllocError>
-    requires sound { AreSound (terms_of contest.now) }
+    requires sound { AreSound (hare_terms contest.now) }
     requires one_each { length seats.now ≡ length contest.now.poll.votes.now }
     ensures order { IfOk result (λ claims. IsHeap claim_cmp (heap_items claims)) }
-    ensures claims { IfOk result (λ claims. AreClaims (poll_of contest.now) contest.now.lot.now contest.now.seats (length contest.now.poll.votes.now) seats.now (heap_items claims)) }
+    ensures claims { IfOk result (λ claims.
+        AreClaims (kept_poll contest.now.poll) contest.now.lot.now contest.now.seats (length contest.now.poll.votes.now)
+        seats.now (heap_items claims)) }
 {
     let mut claims = BinaryHeap::with_capacity(alloc, contest.count())?;
     for list in 0..contest.count() {
@@ -88,8 +92,8 @@ fn claims_of(
 /// The claim of an eligible list.
 fn claim_of(contest: &HareContest, list: usize) -> SeatClaim
     requires list { list < length contest.now.poll.votes.now }
-    requires eligible { IsEligible (poll_of contest.now) list }
-    ensures claim { IsClaimOf (poll_of contest.now) contest.now.lot.now contest.now.seats result }
+    requires eligible { IsEligible (kept_poll contest.now.poll) list }
+    ensures claim { IsClaimOf (kept_poll contest.now.poll) contest.now.lot.now contest.now.seats result }
     ensures list { result.list ≡ list }
 {
     SeatClaim {

@@ -1,9 +1,10 @@
 //! The award of the seats by a scan of the lists.
 
 ghost use Rattle.std.specs.Prelude.{◌≡◌, ◌≤◌, IfOk, sum};
+ghost use Rattle.tally_frac.specs.Limits.{most_seats};
 ghost use Rattle.tally_contest.specs.Poll.{HasEligible};
-ghost use Rattle.tally_contest.specs.Race.{IsFair};
-ghost use Rattle.tally_contest.specs.Terms.{AreSound, placed_race};
+ghost use Rattle.tally_contest.specs.internal.Race.{IsFair};
+ghost use Rattle.tally_contest.specs.internal.Terms.{AreSound, placed_race};
 
 use crate::contest::{Contest, award};
 use std::alloc::{AllocError, Global};
@@ -13,7 +14,8 @@ use std::alloc::{AllocError, Global};
 pub fn contested_seats<C: Contest>(alloc: Global, contest: &C) -> Result<Vec<u32>, AllocError>
     requires sound { AreSound (C.terms contest.now) }
     requires eligible { HasEligible (C.terms contest.now).poll }
-    ensures { IfOk result (λ seats. IsFair (placed_race (C.terms contest.now)) (C.terms contest.now).seats seats.items) }
+    ensures { IfOk result (λ seats.
+        IsFair (placed_race (C.terms contest.now)) (C.terms contest.now).seats seats.items) }
 {
     let mut seats = certain_seats(alloc, contest)?;
     let certain = total(&seats);
@@ -37,7 +39,7 @@ pub(crate) fn certain_seats<C: Contest>(alloc: Global, contest: &C) -> Result<Ve
 
 /// The sum of seats, which is at most 500.
 pub(crate) fn total(seats: &[u32]) -> u32
-    requires { sum seats.now ≤ 500 }
+    requires { sum seats.now ≤ most_seats }
     ensures { result ≡ sum seats.now }
 {
     seats.iter().sum()

@@ -1,7 +1,7 @@
 //! The seats won, in order.
 
 ghost use Rattle.std.specs.Prelude.{◌≡◌, IfOk};
-ghost use Rattle.tally_contest.specs.Won.{none_held};
+ghost use Rattle.tally_contest.specs.internal.Won.{none_held};
 
 use std::alloc::{AllocError, Global};
 

@@ -1,34 +1,31 @@
 -- What is decided of a constituency can be carried out, and is what was answered.
-use Rattle.std.proofs.Common.{◌≡◌, ◌≢◌, ◌≤◌, ◌⊎◌, ◌∙◌, ◌+◌, ◌∷◌, ℕ, List, [], false, Option, Some, None, Result, Ok, Err, refl, sym, ap, subst, inl, inr, arith}
+use Rattle.std.proofs.Common.{◌≡◌, ◌≢◌, ◌≤◌, ◌⊎◌, ◌∙◌, ◌+◌, ◌∷◌, ℕ, List, [], Option, Some, None, Result, Ok, Err, refl, sym, ap, subst, inl, inr, arith}
 use Rattle.std.specs.Prelude.{IsSome, IfErr, IfOk, IfSome, OnErr, OnOk, is_some, string_bytes}
 use Rattle.std.specs.FinMap as fin
 use Rattle.tally_rules.specs.Constituency.{Constituency}
 use Rattle.tally_rules.specs.Setup.{constituency_with}
-use Rattle.tally_machine.specs.Certification.{ListFound, gone_of, holders_of, last_edition, list_found, vacate_checks, vacated, vacates}
-use Rattle.tally_returns.specs.Checks.{first_refusal, refused_or}
 use Rattle.tally_machine.specs.ConStep.{ConChange, Decides, after_change, certified_with, changed, con_change, gone_for_good, lot_set, no_change, open_again}
 use Rattle.tally_returns.specs.GoneCandidate.{GoneCandidate}
-use Rattle.tally_machine.specs.Holders.{newcomer}
 use Rattle.tally_returns.specs.Named.{con_named}
+use Rattle.tally_returns.specs.PastSeats.{PastSeats}
 use Rattle.tally_machine.specs.Outcome.{IsLawfulView}
-use Rattle.tally_machine.specs.Replies.{IsAnswered, IsConStep, answer_seen, con_answer, con_shown, edition_now, seen}
-use Rattle.tally_returns.specs.State.{ConState, con_state}
+use Rattle.tally_machine.specs.Replies.{IsConStep, answer_seen, con_answer, con_shown, edition_now, seen}
+use Rattle.tally_returns.specs.State.{con_state, last_edition}
 use Rattle.tally_returns.specs.View.{View}
 use Rattle.tally_returns.specs.declared.ask.Ask.{Ask}
-use Rattle.tally_returns.specs.declared.ask.Ask.TheVariants.{Lodge, Query, Correct, Close, ShowReturn, Draw, Certify, Reopen, Vacate, ShowCon, ShowProgress}
 use Rattle.tally_returns.specs.declared.change.Change.{Change}
 use Rattle.tally_returns.specs.declared.change.Change.TheVariants.{Same, PutReturn, SetLot, SetCertified, SetReopened, SetGone}
 use Rattle.tally_returns.specs.declared.refusal.Refusal.{Refusal}
 use Rattle.tally_returns.specs.declared.refusal.Refusal.TheVariants.{Memory}
 use Rattle.tally_returns.specs.declared.reply.Reply.{Reply}
-use Rattle.tally_returns.specs.declared.reply.Reply.TheVariants.{Con, Vacated}
+use Rattle.tally_returns.specs.declared.reply.Reply.TheVariants.{Con}
 use Rattle.tally_returns.proofs.ClosedLemmas.{constituency_with-code}
-use Rattle.tally_machine.proofs.ConStateLemmas.{con_state-changed}
-use Rattle.tally_machine.proofs.SpentLemmas.{IsGoneFlag, answered-used}
+use Rattle.tally_machine.proofs.DecisionLemmas.{edition-within, gone-once}
+use Rattle.tally_machine.proofs.RecordLemmas.{records-last}
 use Rattle.tally_machine.proofs.ViewLemmas.{view-lawful}
-use Rattle.tally_ledger.specs.Kept.{Kept, state_in, view_in, with_change}
-use Rattle.tally_core.specs.Held.{CanCarryOut, IsAnsweredOn, IsHeld, carried_reply}
-use Rattle.tally_core.proofs.HeldLemmas.{change-state, con-kept, given-by, held-change}
+use Rattle.tally_ledger.specs.Kept.{AreEarlier, Kept, state_in, view_in, with_change}
+use Rattle.tally_core.specs.Held.{CanCarryOut, CanRise, IsAnsweredOn, IsHeld, carried_reply}
+use Rattle.tally_core.proofs.HeldLemmas.{change-state, con-kept, held-change}
 use Rattle.tally_core.proofs.StepLemmas.{memory-or}
 
 -- what is seen of a constituency that is held is a lawful view
@@ -36,76 +33,19 @@ pub held-view : (k : Kept) (code : List ℕ) (con : Constituency) (view : View) 
 held-view k code con view held found is =
     subst (IsLawfulView con) (sym is) (view-lawful k.setup (state_in k) code con (view_in k con) held.limits held.lawful found (held.seats code con found))
 
--- ---- a candidate who goes
-
--- the list and the place of the candidate whom Vacate gives
-record IsNamed (con : Constituency) (list : List ℕ) (place : ℕ) (gone : GoneCandidate) : Type 0 where
-  of : ListFound
-  list_is : list_found con list ≡ Some of
-  at : gone.list ≡ of.place
-  place_is : gone.place ≡ place
-
-given-first : (gone : GoneCandidate) (next : Option ℕ) (v : GoneCandidate × Option ℕ) (result : Result (GoneCandidate × Option ℕ) Refusal) → result ≡ Ok v → result ≡ Ok (gone, next) → v.0 ≡ gone
-given-first gone next v result ok is =
-    let same : v ≡ (gone, next) = cc in
-    ap (λ (x : GoneCandidate × Option ℕ). x.0) same
-
-vacated-named : (con : Constituency) (view : View) (list : List ℕ) (place : ℕ) (note : List ℕ) (v : GoneCandidate × Option ℕ) → vacates con view list place note ≡ Ok v → IsNamed con list place v.0
-vacated-named con view list place note v is = go (list_found con list) refl is
-  where
-    given : (f : ListFound) (refused : Option Refusal) → list_found con list ≡ Some f → refused_or refused (vacated view (Some f) place note) ≡ Ok v → IsNamed con list place v.0
-    given f (Some e) there ok = cc
-    given f None there ok =
-        let who = given-first (record { list = f.place; place = place; note = note }) (newcomer (holders_of view f (gone_of view f.place)) (holders_of view f (place ∷ gone_of view f.place))) v (vacated view (Some f) place note) ok refl in
-        record { of = f; list_is = there; at = ap (λ (g : GoneCandidate). g.list) who; place_is = ap (λ (g : GoneCandidate). g.place) who }
-
-    go : (found : Option ListFound) → list_found con list ≡ found → refused_or (first_refusal (vacate_checks view found place note)) (vacated view found place note) ≡ Ok v → IsNamed con list place v.0
-    go None there ok = cc
-    go (Some f) there ok = given f (first_refusal (vacate_checks view (Some f) place note)) there ok
-
-none-there : {X : Type 0} (found : Option X) → is_some found ≡ false → found ≡ None
-none-there None is = refl
-none-there (Some x) is = cc
-
--- a candidate who is still to go, by the flag of the step that takes them
-flag-none : (k : Kept) (code list : List ℕ) (place : ℕ) (con : Constituency) (gone : GoneCandidate) → constituency_with code k.setup ≡ Some con → IsNamed con list place gone
-    → IsGoneFlag k.setup code list place (state_in k) false → fin.get (con_state (state_in k) code).gone (gone.list ∷ gone.place ∷ []) ≡ None
-flag-none k code list place con gone found named flag =
-    let same_con : Some flag.con ≡ Some con = sym flag.found ∙ found in
-    let con_is : flag.con ≡ con = cc in
-    let same_list : Some flag.of ≡ Some named.of = sym flag.list_is ∙ ap (λ (c : Constituency). list_found c list) con_is ∙ named.list_is in
-    let of : flag.of ≡ named.of = cc in
-    ap (λ (n : ℕ). fin.get (con_state (state_in k) code).gone (gone.list ∷ n ∷ [])) named.place_is
-    ∙ ap (λ (n : ℕ). fin.get (con_state (state_in k) code).gone (n ∷ place ∷ [])) (named.at ∙ sym (ap (λ (f : ListFound). f.place) of))
-    ∙ none-there (fin.get (con_state (state_in k) code).gone (flag.of.place ∷ place ∷ [])) flag.is
-
 -- where a candidate goes, they were not gone
-pub new-gone : (k : Kept) (code : List ℕ) (con : Constituency) (ask : Ask) (gone : GoneCandidate) (next : Option ℕ) → IsHeld k → constituency_with code k.setup ≡ Some con → con_named ask ≡ Some code
+new-gone : (k : Kept) (code : List ℕ) (con : Constituency) (ask : Ask) (gone : GoneCandidate) (next : Option ℕ) → IsHeld k → constituency_with code k.setup ≡ Some con → con_named ask ≡ Some code
     → Decides con (view_in k con) ask (Ok (gone_for_good gone next)) → fin.get (con_state (state_in k) code).gone (gone.list ∷ gone.place ∷ []) ≡ None
-new-gone k code con (Vacate key list place note) gone next held found named decides =
-    let s = state_in k in
-    let decided = gone_for_good gone next in
-    let by = given-by (λ (v : GoneCandidate × Option ℕ). gone_for_good v.0 v.1) (vacates con (view_in k con) list place (string_bytes note)) decided decides in
-    let same : by.0.0 ≡ gone = let e : gone_for_good gone next ≡ gone_for_good by.0.0 by.0.1 = by.2 in cc in
-    let who : IsNamed con list place gone = subst (IsNamed con list place) same (vacated-named con (view_in k con) list place (string_bytes note) by.0 by.1) in
-    let here : Some key ≡ Some code = named in
-    let key_is : key ≡ code = cc in
-    let t = after_change s con.code (Ok decided) in
-    let step : IsConStep (Some con) s (Vacate key list place note) (Ok (Vacated next)) t = (view_in k con, Ok decided, held.seats code con found, decides, refl, refl) in
-    let answered : IsAnswered k.setup s (Vacate key list place note) (Ok (Vacated next)) t =
-    inl (subst (λ (o : Option Constituency). IsConStep o s (Vacate key list place note) (Ok (Vacated next)) t) (sym (ap (λ q. constituency_with q k.setup) key_is ∙ found)) step) in
-    let used = answered-used k.setup s (Vacate key list place note) (Ok (Vacated next)) t answered refl in
-    flag-none k code list place con gone found who (subst (λ q. IsGoneFlag k.setup q list place s false) key_is used.0)
-new-gone k code con (Draw key edition order) gone next held found named decides = let by = given-by lot_set decides.0 (gone_for_good gone next) decides.2 in let e : gone_for_good gone next ≡ lot_set by.0 = by.2 in cc
-new-gone k code con (Certify key edition) gone next held found named decides = let by = given-by certified_with decides.0 (gone_for_good gone next) decides.2 in let e : gone_for_good gone next ≡ certified_with by.0 = by.2 in cc
-new-gone k code con (Reopen key edition note) gone next held found named decides = let by = given-by open_again _ (gone_for_good gone next) decides in let e : gone_for_good gone next ≡ open_again by.0 = by.2 in cc
-new-gone k code con (ShowCon key) gone next held found named decides = cc
-new-gone k code con (Lodge station slip counts) gone next held found named decides = absurd decides
-new-gone k code con (Query station rev note) gone next held found named decides = absurd decides
-new-gone k code con (Correct station rev slip counts) gone next held found named decides = absurd decides
-new-gone k code con (Close station rev) gone next held found named decides = absurd decides
-new-gone k code con (ShowReturn station) gone next held found named decides = absurd decides
-new-gone k code con ShowProgress gone next held found named decides = absurd decides
+new-gone k code con ask gone next held found named decides =
+    ap (λ q. fin.get (con_state (state_in k) q).gone (gone.list ∷ gone.place ∷ [])) (sym (constituency_with-code k.setup code con found))
+    ∙ gone-once k.setup (state_in k) con code (view_in k con) ask gone next (named, found) (held.seats code con found) decides
+
+-- where a certificate is put on record, it comes after those that are
+new-last : (k : Kept) (code : List ℕ) (con : Constituency) (ask : Ask) (note : List ℕ) (past : PastSeats) → IsHeld k → constituency_with code k.setup ≡ Some con → con_named ask ≡ Some code
+    → Decides con (view_in k con) ask (Ok (open_again note past)) → AreEarlier (con_state (state_in k) code).past past.edition
+new-last k code con ask note past held found named decides =
+    subst (λ q. AreEarlier (con_state (state_in k) q).past past.edition) (constituency_with-code k.setup code con found)
+    (records-last k.setup (state_in k) con code (view_in k con) ask note past held.lawful (named, found) (held.seats code con found) decides)
 
 -- ---- what is decided can be carried out
 
@@ -113,11 +53,8 @@ new-gone k code con ShowProgress gone next held found named decides = absurd dec
 next-edition : (k : Kept) (code : List ℕ) (con : Constituency) (ask : Ask) (decided : ConChange) → IsHeld k → constituency_with code k.setup ≡ Some con → con_named ask ≡ Some code
     → Decides con (view_in k con) ask (Ok decided) → (changed (con_state (state_in k) code) decided).edition ≤ last_edition
 next-edition k code con ask decided held found named decides =
-    let new = with_change k code decided in
-    let lawful = (held-change k code con ask decided held found named decides).lawful.cons code con found in
-    let now : con_state (state_in new) con.code ≡ changed (con_state (state_in k) code) decided =
-    ap (con_state (state_in new)) (constituency_with-code k.setup code con found) ∙ con_state-changed (state_in k) code (changed (con_state (state_in k) code) decided) in
-    subst (λ (c : ConState). c.edition ≤ last_edition) now lawful.last
+    subst (λ q. (changed (con_state (state_in k) q) decided).edition ≤ last_edition) (constituency_with-code k.setup code con found)
+    (edition-within k.setup (state_in k) con code (view_in k con) ask decided held.limits held.lawful (named, found) (held.seats code con found) decides)
 
 known-some : (setup : List Constituency) (code : List ℕ) (con : Constituency) → constituency_with code setup ≡ Some con → IsSome (constituency_with code setup)
 known-some setup code con found = ap is_some found
@@ -132,18 +69,22 @@ can-carry-out k code con ask edition change decided held found named edition_is 
     next : (d : ConChange) → d ≡ decided → (changed (con_state (state_in k) code) d).edition ≤ last_edition
     next d same = next-edition k code con ask d held found named (subst (λ x. Decides con (view_in k con) ask (Ok x)) (sym same) decides)
 
+    rises : (con_state (state_in k) code).edition + 1 ≤ last_edition → CanRise k code edition
+    rises last = (known-some k.setup code con found, sym stands, omega (arith, stands, last))
+
     go : (x : Change) → con_change x ≡ Some decided → x ≢ Same → CanCarryOut k code edition x
     go Same same never = absurd (never refl)
     go (PutReturn standing) same never = cc
     go (SetLot places) same never =
         let last = next (lot_set places.items) (let e : lot_set places.items ≡ decided = cc in e) in
-        (known-some k.setup code con found, refl, sym stands, omega (arith, stands, last))
+        (rises last, refl)
     go (SetCertified seats) same never =
         let last = next (certified_with seats.items) (let e : certified_with seats.items ≡ decided = cc in e) in
-        (known-some k.setup code con found, refl, sym stands, omega (arith, stands, last))
-    go (SetReopened note) same never =
-        let last = next (open_again (string_bytes note)) (let e : open_again (string_bytes note) ≡ decided = cc in e) in
-        (known-some k.setup code con found, refl, sym stands, omega (arith, stands, last))
+        (rises last, refl)
+    go (SetReopened note past) same never =
+        let e : open_again (string_bytes note) past ≡ decided = cc in
+        let last = next (open_again (string_bytes note) past) e in
+        (rises last, new-last k code con ask (string_bytes note) past held found named (subst (λ x. Decides con (view_in k con) ask (Ok x)) (sym e) decides))
     go (SetGone gone after) same never =
         let e : decided ≡ gone_for_good gone after = cc in
         (known-some k.setup code con found, new-gone k code con ask gone after held found named (subst (λ x. Decides con (view_in k con) ask (Ok x)) e decides))
@@ -158,8 +99,8 @@ reply-is view edition (SetLot places) decided is never edition_is =
     let e : lot_set places.items ≡ decided = cc in subst (λ d. Ok (carried_reply edition d) ≡ con_answer view (Ok d)) e (ap (λ n. Ok (edition_now (n + 1))) edition_is)
 reply-is view edition (SetCertified seats) decided is never edition_is =
     let e : certified_with seats.items ≡ decided = cc in subst (λ d. Ok (carried_reply edition d) ≡ con_answer view (Ok d)) e (ap (λ n. Ok (edition_now (n + 1))) edition_is)
-reply-is view edition (SetReopened note) decided is never edition_is =
-    let e : open_again (string_bytes note) ≡ decided = cc in subst (λ d. Ok (carried_reply edition d) ≡ con_answer view (Ok d)) e (ap (λ n. Ok (edition_now (n + 1))) edition_is)
+reply-is view edition (SetReopened note past) decided is never edition_is =
+    let e : open_again (string_bytes note) past ≡ decided = cc in subst (λ d. Ok (carried_reply edition d) ≡ con_answer view (Ok d)) e (ap (λ n. Ok (edition_now (n + 1))) edition_is)
 reply-is view edition (SetGone gone next) decided is never edition_is =
     let e : gone_for_good gone next ≡ decided = cc in subst (λ d. Ok (carried_reply edition d) ≡ con_answer view (Ok d)) e refl
 

@@ -1,32 +1,66 @@
 -- The laws of the machine's runs, of what happens to a keeper.
-use Rattle.std.proofs.Common.{◌≡◌, ◌+◌, ◌<◌, ◌∷◌, ◌∙◌, ℕ, List, [], Bool, true, false, cond, Option, Some, None, Result, Ok, Err, refl, sym, ap, subst, add-one, filter, slice_get}
-use Rattle.std.specs.Prelude.{◌||◌}
+use Rattle.std.proofs.Common.{◌≡◌, ◌+◌, ◌<◌, ◌∷◌, ◌∙◌, ℕ, List, [], Bool, true, false, cond, Option, Some, None, Result, Ok, Err, refl, ap, subst, add-one, filter, slice_get}
+use Rattle.std.specs.Prelude.{◌||◌, All}
 use Rattle.std.specs.List.{list_any}
+use Rattle.std.proofs.lemmas.List.Elements.{All-append, All-cons, All-head, All-nil, All-tail}
+use Rattle.tally_rules.specs.Code.{is_code}
 use Rattle.tally_rules.specs.Constituency.{Constituency}
 use Rattle.tally_rules.specs.Limits.{IsSetup}
-use Rattle.tally_rules.specs.Setup.{constituency_with}
-use Rattle.tally_returns.specs.State.{State, con_state, opening}
-use Rattle.tally_returns.specs.View.{View}
-use Rattle.tally_machine.specs.ConStep.{IsView}
+use Rattle.tally_returns.specs.Named.{BringsCode}
+use Rattle.tally_returns.specs.State.{State}
 use Rattle.tally_machine.specs.LawfulState.{IsLawfulState}
-use Rattle.tally_machine.specs.Outcome.{IsCertificate}
 use Rattle.tally_machine.specs.Replies.{IsRun, is_act}
 use Rattle.tally_machine.specs.Runs.{IsSameCommand, kept}
 use Rattle.tally_returns.specs.declared.ask.Ask.{Ask}
+use Rattle.tally_returns.specs.declared.ask.Ask.TheVariants.{Lodge}
 use Rattle.tally_returns.specs.declared.refusal.Refusal.{Refusal}
 use Rattle.tally_returns.specs.declared.reply.LodgeReply.TheVariants.{Lodged, Same}
 use Rattle.tally_returns.specs.declared.reply.Reply.{Reply}
 use Rattle.tally_machine.proofs.ActLemmas.{answered-idle}
 use Rattle.tally_machine.proofs.LawLemmas.{run-lawful}
 use Rattle.tally_machine.proofs.RunLemmas.{second-idle}
-use Rattle.tally_core.specs.Events.{acts, answers_of, asks_of, lodge_answers, lodges}
-use Rattle.tally_core.specs.Import.{Answer, is_lodged}
+use Rattle.tally_core.specs.Events.{BringsCodes, acts, answers_of, asks_of, lodge_answers, lodges}
+use Rattle.tally_core.specs.Import.{Answer, IsCodedRow, is_lodged}
 use Rattle.tally_core.specs.Keeper.{Event, Happen, Happens, IsTaken, failed_import, request, whole_import}
+use Rattle.tally_core.specs.declared.import.Row.{Row}
+use Rattle.tally_core.specs.declared.import.Row.TheVariants as row
 use Rattle.tally_core.proofs.KeeperLemmas.{happen-run, import-run, shut-stays, some-run}
 
+-- ---- the slips are codes
+
+rows-bring : (rows : List Row) → All IsCodedRow rows → All BringsCode (lodges rows)
+rows-bring [] codes = All-nil BringsCode
+rows-bring (row.Lodge (Lodge station slip counts) ∷ rows) codes =
+    let its = row.Lodge (Lodge station slip counts) in
+    let code : is_code slip ≡ true = All-head IsCodedRow its rows codes in
+    All-cons BringsCode (Lodge station slip counts) (lodges rows) (λ named same. let e : slip ≡ named = cc in subst (λ text. is_code text ≡ true) e code)
+    (rows-bring rows (All-tail IsCodedRow its rows codes))
+rows-bring (other ∷ rows) codes = rows-bring rows (All-tail IsCodedRow other rows codes)
+
+taken-brings : (setup : List Constituency) (s t : State) (event : Event) (events : List Event) → BringsCodes event → IsTaken setup s event t
+    → All BringsCode (asks_of events) → All BringsCode (asks_of (event ∷ events))
+taken-brings setup s t (request ask r) events code is rest = All-cons BringsCode ask (asks_of events) code rest
+taken-brings setup s t (whole_import rows answered count) events code is rest = All-append BringsCode (lodges rows) (asks_of events) (rows-bring rows is.4) rest
+taken-brings setup s t (failed_import fault) events code is rest = rest
+
+pub happen-brings : (setup : List Constituency) (s t : State) (events : List Event) → All BringsCodes events → Happen setup (Some s) events (Some t) → All BringsCode (asks_of events)
+happen-brings setup s t [] codes is = All-nil BringsCode
+happen-brings setup s t (event ∷ events) codes is =
+    go is.0 is.1 is.2 (λ next rest. happen-brings setup next t events (All-tail BringsCodes event events codes) rest)
+  where
+    go : (mid : Option State) → Happens setup (Some s) event mid → Happen setup mid events (Some t)
+        → ((next : State) → Happen setup (Some next) events (Some t) → All BringsCode (asks_of events))
+        → All BringsCode (asks_of (event ∷ events))
+    go None step rest later = absurd (shut-stays setup events t rest)
+    go (Some next) step rest later = taken-brings setup s next event events (All-head BringsCodes event events codes) step (later next rest)
+
+-- ---- the laws
+
 -- the state stays lawful
-pub happen-lawful : (setup : List Constituency) (s t : State) (events : List Event) → IsSetup setup → IsLawfulState setup s → Happen setup (Some s) events (Some t) → IsLawfulState setup t
-happen-lawful setup s t events ok lawful is = run-lawful setup s t (asks_of events) (answers_of events) ok (happen-run setup s t events is) lawful
+pub happen-lawful : (setup : List Constituency) (s t : State) (events : List Event) → All BringsCodes events → IsSetup setup → IsLawfulState setup s → Happen setup (Some s) events (Some t)
+    → IsLawfulState setup t
+happen-lawful setup s t events codes ok lawful is =
+    run-lawful setup s t (asks_of events) (answers_of events) (happen-brings setup s t events codes is) ok (happen-run setup s t events is) lawful
 
 -- of two equal requests the second does not act where the first did
 pub happen-second-idle : (setup : List Constituency) (s : State) (new : Option State) (events : List Event) → Happen setup (Some s) events new

@@ -1,12 +1,11 @@
 -- What is held stays held, whatever a command changes.
 use Rattle.std.proofs.Common.{◌≡◌, ◌≢◌, ◌⊎◌, ◌∙◌, ◌+◌, ◌++◌, ◌∷◌, ℕ, List, [], Bool, true, false, cond, map, Option, Some, None, Result, Ok, Err, refl, sym, ap, subst, inl, inr}
-use Rattle.std.specs.Prelude.{All, is_some, not, nat_eq, option_map, string_bytes, unwrap_or, if◌then◌else◌, ◌&&◌}
+use Rattle.std.specs.Prelude.{All, is_some, not, nat_eq, string_bytes, unwrap_or, if◌then◌else◌, ◌&&◌}
 use Rattle.std.specs.Cmp.Lexicographic.{nat_list_cmp_total, pointwise}
 use Rattle.std.specs.FinMap as fin
-use Rattle.std.specs.Option.{option_map_or}
 use Rattle.std.specs.Ordering.{eq_by_cmp}
 use Rattle.std.proofs.lemmas.Bool.{not-true}
-use Rattle.tally_rules.specs.Code.{code_cmp}
+use Rattle.tally_rules.specs.Code.{code_cmp, is_code}
 use Rattle.tally_rules.specs.Constituency.{Constituency}
 use Rattle.tally_rules.specs.Limits.{IsSetup}
 use Rattle.tally_rules.specs.Setup.{constituency_with, station_with}
@@ -14,16 +13,17 @@ use Rattle.tally_rules.specs.Text.{is_note}
 use Rattle.tally_rules.specs.declared.constituency.Station.{Station}
 use Rattle.tally_machine.specs.Certification.{Certifies, Draws, vacates, reopened}
 use Rattle.tally_returns.specs.Checks.{check, first_refusal, refused_or}
-use Rattle.tally_machine.specs.ConStep.{ConChange, Decides, IsView, after_change, certified_with, changed, changed_by, gone_for_good, lot_set, no_change, open_again}
+use Rattle.tally_machine.specs.ConStep.{ConChange, Decides, IsView, after_change, certified_with, changed, gone_for_good, lot_set, no_change, open_again}
 use Rattle.tally_returns.specs.Counts.{VoteCounts, same_counts}
 use Rattle.tally_returns.specs.Decide.{decided_return, limits_of, lodge_change, moved, put_next}
 use Rattle.tally_returns.specs.GoneCandidate.{GoneCandidate}
 use Rattle.tally_machine.specs.LawfulState.{IsLawfulState}
 use Rattle.tally_returns.specs.Lodge.{StationLimits, admitted, after_lodge, counts_checks, lodge, lodge_answer, unless_refused}
 use Rattle.tally_returns.specs.Moves.{close_checks, closed, correct_checks, corrected, counts_checks_at, may_close, may_correct, may_query, move_checks, queried, query_checks}
-use Rattle.tally_returns.specs.Named.{con_named, station_named}
+use Rattle.tally_returns.specs.Named.{BringsCode, con_named, station_named}
 use Rattle.tally_machine.specs.Outcome.{HasSeats}
 use Rattle.tally_machine.specs.Replies.{con_answer, seen}
+use Rattle.tally_returns.specs.PastSeats.{PastSeats}
 use Rattle.tally_returns.specs.Return.{StationReturn, Returns}
 use Rattle.tally_returns.specs.State.{State, ConState, con_state, opening, opening_con, stations_of}
 use Rattle.tally_returns.specs.Step.{after, after_put, after_return, con_of, decided_at_station, decided_in, is_certified, with_return, without_lot}
@@ -43,6 +43,7 @@ use Rattle.tally_returns.proofs.ClosedLemmas.{IsSameAt, apart-untied, closed_now
 use Rattle.tally_machine.proofs.ConStateLemmas.{con_state-with_con}
 use Rattle.tally_machine.proofs.ConStepLemmas.{con-step-lawful}
 use Rattle.tally_returns.proofs.DecideLemmas.{passed-first, passed-rest}
+use Rattle.tally_machine.proofs.DecisionLemmas.{certified-found, con_of-found, given-by}
 use Rattle.tally_machine.proofs.LawfulViewLemmas.{certified-seats, drawn-open}
 use Rattle.tally_returns.proofs.LifeLemmas.{after_put-returns}
 use Rattle.tally_machine.proofs.ReturnStepLemmas.{open-station, opening-lawful, put-placed, return-step-lawful}
@@ -166,14 +167,6 @@ put-certified setup s (Query station rev note) q = go (con_of setup station)
     go (Some code) = lot-certified s code q
 put-certified setup s other q = refl
 
--- the code of the constituency of a station that was found
-pub con_of-found : (setup : List Constituency) (station : List ℕ) (con : Constituency) (place : Station) → station_with station setup ≡ Some (con, place) → con_of setup station ≡ Some con.code
-con_of-found setup station con place is = ap (option_map (λ (p : Constituency × Station). p.0.code)) is
-
-pub certified-found : (setup : List Constituency) (s : State) (station : List ℕ) (con : Constituency) (place : Station) → station_with station setup ≡ Some (con, place)
-    → is_certified setup s station ≡ (con_state s con.code).certified
-certified-found setup s station con place is = ap (λ code. option_map_or (λ (q : List ℕ). (con_state s q).certified) code false) (con_of-found setup station con place is)
-
 -- and the other constituencies as they were
 put-others : (setup : List Constituency) (s : State) (ask : Ask) (station : List ℕ) (con : Constituency) (place : Station) → station_named ask ≡ Some station → station_with station setup ≡ Some (con, place)
     → (q : List ℕ) → q ≢ con.code → con_state (after_put setup s ask) q ≡ con_state s q
@@ -191,12 +184,12 @@ IsLeft con s t =
     ((con_state t con.code ≡ con_state s con.code) × All (IsSameAt t.returns s.returns) con.stations)
     ⊎ (((con_state s con.code).certified ≡ false) × ((con_state t con.code).certified ≡ false))
 
-put-left : (setup : List Constituency) (s : State) (ask : Ask) (station : List ℕ) (r : StationReturn) (code : List ℕ) (con : Constituency) → IsSetup setup → IsLawfulState setup s
+put-left : (setup : List Constituency) (s : State) (ask : Ask) (station : List ℕ) (r : StationReturn) (code : List ℕ) (con : Constituency) → BringsCode ask → IsSetup setup → IsLawfulState setup s
     → constituency_with code setup ≡ Some con → station_named ask ≡ Some station
     → decided_return (stations_of setup station) (is_certified setup s station) (fin.get s.returns station) ask ≡ Ok (PutReturn r)
     → IsLeft con s (with_return (after_put setup s ask) (Some station) r)
-put-left setup s ask station r code con is_setup lawful found named decision =
-    let placed = put-placed setup s station (is_certified setup s station) ask r lawful decision in
+put-left setup s ask station r code con brings is_setup lawful found named decision =
+    let placed = put-placed setup s station (is_certified setup s station) ask r brings lawful decision in
     let own = station_with-con setup station placed.con placed.place is_setup placed.is in
     at placed.con placed.place placed.is
     (opened placed.con placed.place own placed.is (put-open (limits_of placed.con placed.place) (is_certified setup s station) (fin.get s.returns station) ask r placed.decision))
@@ -222,23 +215,23 @@ put-left setup s ask station r code con is_setup lawful found named decision =
                   (put-elsewhere s.returns station r con.stations (station-elsewhere setup code station its con place is_setup is found differ)),
             )
 
-return-left : (setup : List Constituency) (s : State) (ask : Ask) (code : List ℕ) (con : Constituency) → IsSetup setup → IsLawfulState setup s → constituency_with code setup ≡ Some con
+return-left : (setup : List Constituency) (s : State) (ask : Ask) (code : List ℕ) (con : Constituency) → BringsCode ask → IsSetup setup → IsLawfulState setup s → constituency_with code setup ≡ Some con
     → IsLeft con s (after_return setup s ask)
-return-left setup s ask code con is_setup lawful found = go (decided_in setup s ask) refl
+return-left setup s ask code con brings is_setup lawful found = go (decided_in setup s ask) refl
   where
     stays : IsLeft con s s
     stays = inl (refl, λ k d lt. refl)
 
     named : (r : StationReturn) → decided_in setup s ask ≡ Ok (PutReturn r) → (station : Option (List ℕ)) → station_named ask ≡ station → IsLeft con s (with_return (after_put setup s ask) station r)
     named r is None none = let no : Ok Same ≡ Ok (PutReturn r) = ap (decided_at_station setup s ask) (sym none) ∙ is in cc
-    named r is (Some station) some = put-left setup s ask station r code con is_setup lawful found some (ap (decided_at_station setup s ask) (sym some) ∙ is)
+    named r is (Some station) some = put-left setup s ask station r code con brings is_setup lawful found some (ap (decided_at_station setup s ask) (sym some) ∙ is)
 
     go : (d : Result Change Refusal) → decided_in setup s ask ≡ d → IsLeft con s (after setup s ask d)
     go (Ok Same) is = stays
     go (Ok (PutReturn r)) is = named r is (station_named ask) refl
     go (Ok (SetLot places)) is = stays
     go (Ok (SetCertified seats)) is = stays
-    go (Ok (SetReopened note)) is = stays
+    go (Ok (SetReopened note past)) is = stays
     go (Ok (SetGone candidate next)) is = stays
     go (Err refusal) is = stays
 
@@ -248,12 +241,12 @@ view-left con s t seats (inl same) is =
 view-left con s t seats (inr opened) is = view-open con t seats opened.1 (open-none con s seats opened.0 is)
 
 -- what is held stays held after a command on a return
-pub held-return : (k : Kept) (ask : Ask) → IsHeld k → IsHeld (with_state k (after_return k.setup (state_in k) ask))
-held-return k ask held = record {
+pub held-return : (k : Kept) (ask : Ask) → BringsCode ask → IsHeld k → IsHeld (with_state k (after_return k.setup (state_in k) ask))
+held-return k ask brings held = record {
   limits = held.limits;
-  lawful = return-step-lawful k.setup (state_in k) ask held.limits held.lawful;
+  lawful = return-step-lawful k.setup (state_in k) ask brings held.limits held.lawful;
   seats = λ code con found.
-      view-left con (state_in k) (after_return k.setup (state_in k) ask) (seats_in k con.code) (return-left k.setup (state_in k) ask code con held.limits held.lawful found) (held.seats code con found);
+      view-left con (state_in k) (after_return k.setup (state_in k) ask) (seats_in k con.code) (return-left k.setup (state_in k) ask code con brings held.limits held.lawful found) (held.seats code con found);
 }
 
 -- the step of a Lodge
@@ -267,41 +260,35 @@ lodge-step setup s station slip counts = go (lodge_answer (stations_of setup) s.
     go (Err e) = refl
 
 -- and after a Lodge
-pub held-lodge : (k : Kept) (station slip : List ℕ) (counts : VoteCounts) → IsHeld k → IsHeld (record k { returns = lodge (stations_of k.setup) k.returns station slip counts })
-held-lodge k station slip counts held =
-    subst (λ (s : State). IsHeld (with_state k s)) (lodge-step k.setup (state_in k) station slip counts) (held-return k (Lodge station slip counts) held)
+pub held-lodge : (k : Kept) (station slip : List ℕ) (counts : VoteCounts) → is_code slip ≡ true → IsHeld k → IsHeld (record k { returns = lodge (stations_of k.setup) k.returns station slip counts })
+held-lodge k station slip counts code held =
+    subst (λ (s : State). IsHeld (with_state k s)) (lodge-step k.setup (state_in k) station slip counts) (held-return k (Lodge station slip counts) (λ its same. let e : slip ≡ its = cc in subst (λ text. is_code text ≡ true) e code) held)
 
 -- and after what was answered
-pub moved-held : (k new : Kept) (ask : Ask) (r : Result Reply Refusal) → IsHeld k → IsMoved k ask r new → IsHeld new
-moved-held k new ask r held (inl done) = subst IsHeld (sym done.1) (held-return k ask held)
-moved-held k new ask r held (inr not_accepted) = subst IsHeld (sym not_accepted.1) held
+pub moved-held : (k new : Kept) (ask : Ask) (r : Result Reply Refusal) → BringsCode ask → IsHeld k → IsMoved k ask r new → IsHeld new
+moved-held k new ask r brings held (inl done) = subst IsHeld (sym done.1) (held-return k ask brings held)
+moved-held k new ask r brings held (inr not_accepted) = subst IsHeld (sym not_accepted.1) held
 
-pub lodged-held : (k new : Kept) (station slip : List ℕ) (counts : VoteCounts) (r : Result Reply Refusal) → IsHeld k → IsLodged k station slip counts r new → IsHeld new
-lodged-held k new station slip counts r held (inl done) = subst IsHeld (sym done.1) (held-lodge k station slip counts held)
-lodged-held k new station slip counts r held (inr not_accepted) = subst IsHeld (sym not_accepted.1) held
+pub lodged-held : (k new : Kept) (station slip : List ℕ) (counts : VoteCounts) (r : Result Reply Refusal) → is_code slip ≡ true → IsHeld k → IsLodged k station slip counts r new → IsHeld new
+lodged-held k new station slip counts r code held (inl done) = subst IsHeld (sym done.1) (held-lodge k station slip counts code held)
+lodged-held k new station slip counts r code held (inr not_accepted) = subst IsHeld (sym not_accepted.1) held
 
 -- ---- a command on a constituency
-
--- what was given is changed
-pub given-by : {X : Type 0} (change : X → ConChange) (result : Result X Refusal) (decided : ConChange) → Ok decided ≡ changed_by change result
-    → (x : X) × (result ≡ Ok x) × (decided ≡ change x)
-given-by change (Ok x) decided is = let same : decided ≡ change x = cc in (x, refl, same)
-given-by change (Err refusal) decided is = cc
 
 -- the seats of others stay
 seats-others : (k : Kept) (code : List ℕ) (decided : ConChange) (q : List ℕ) → q ≢ code → seats_in (with_change k code decided) q ≡ seats_in k q
 seats-others k code no_change q apart = refl
 seats-others k code (lot_set places) q apart = refl
 seats-others k code (certified_with given) q apart = ap (λ found. unwrap_or found []) (get-kept k.seats code given q apart)
-seats-others k code (open_again note) q apart = ap (λ found. unwrap_or found []) (get-kept k.seats code [] q apart)
+seats-others k code (open_again note past) q apart = ap (λ found. unwrap_or found []) (get-kept k.seats code [] q apart)
 seats-others k code (gone_for_good candidate next) q apart = refl
 
 -- the seats of a constituency that was certified, and of one that is open again
 seats-certified : (k : Kept) (code given : List ℕ) → seats_in (with_change k code (certified_with given)) code ≡ given
 seats-certified k code given = ap (λ found. unwrap_or found []) (get-put k.seats code given)
 
-seats-reopened : (k : Kept) (code note : List ℕ) → seats_in (with_change k code (open_again note)) code ≡ []
-seats-reopened k code note = ap (λ found. unwrap_or found []) (get-put k.seats code [])
+seats-reopened : (k : Kept) (code note : List ℕ) (past : PastSeats) → seats_in (with_change k code (open_again note past)) code ≡ []
+seats-reopened k code note past = ap (λ found. unwrap_or found []) (get-put k.seats code [])
 
 -- the seats that are kept of a constituency are right after a change
 abbrev AreRight : Kept → Constituency → ConChange → Type 0
@@ -328,8 +315,8 @@ change-right k con (Certify code edition) decided is decides =
     (subst (λ (seats : List ℕ). HasSeats con (view_with con (changed (con_state (state_in k) con.code) (certified_with by.0)) k.returns seats) true) (sym (seats-certified k con.code by.0))
     (certified-seats con (view_in k con) edition by.0 (subst (Certifies con (view_in k con) edition) by.1 decides.1)))
 change-right k con (Reopen code edition note) decided is decides =
-    let by = given-by open_again (reopened (view_in k con) edition (string_bytes note)) decided decides in
-    subst (AreRight k con) (sym by.2) (seats-reopened k con.code by.0)
+    let by = given-by (λ (r : List ℕ × PastSeats). open_again r.0 r.1) (reopened (view_in k con) edition (string_bytes note)) decided decides in
+    subst (AreRight k con) (sym by.2) (seats-reopened k con.code by.0.0 by.0.1)
 change-right k con (Vacate code list place note) decided is decides =
     let by = given-by (λ (v : GoneCandidate × Option ℕ). gone_for_good v.0 v.1) (vacates con (view_in k con) list place (string_bytes note)) decided decides in
     let c = con_state (state_in k) con.code in
@@ -363,7 +350,7 @@ pub change-state : (k : Kept) (code : List ℕ) (decided : ConChange) → is_som
 change-state k code no_change known = ap (λ cons. record (state_in k) { cons = cons }) (insert-same k.cons code known)
 change-state k code (lot_set places) known = refl
 change-state k code (certified_with seats) known = refl
-change-state k code (open_again note) known = refl
+change-state k code (open_again note past) known = refl
 change-state k code (gone_for_good candidate next) known = refl
 
 -- a reply that a change may have
@@ -377,7 +364,7 @@ reply_to-seen view no_change = refl
 reply_to-seen view (gone_for_good candidate next) = refl
 reply_to-seen view (lot_set places) = refl
 reply_to-seen view (certified_with given) = refl
-reply_to-seen view (open_again note) = refl
+reply_to-seen view (open_again note past) = refl
 
 -- the constituency of a code is kept
 pub con-kept : (k : Kept) (code : List ℕ) (con : Constituency) → IsHeld k → constituency_with code k.setup ≡ Some con → is_some (fin.get k.cons code) ≡ true

@@ -3,7 +3,7 @@ use Rattle.std.proofs.Common.{◌≡◌, ◌↔◌, ◌++◌, List, [], ◌∷�
 use Rattle.tally_rules.specs.Constituency.{Constituency}
 use Rattle.tally_returns.specs.State.{State, stations_of}
 use Rattle.tally_returns.specs.Lodge.{lodge, lodge_answer}
-use Rattle.tally_machine.specs.Replies.{IsAnswered, IsRun, seen, lodge_reply}
+use Rattle.tally_machine.specs.Replies.{IsRun, seen, lodge_reply}
 use Rattle.tally_returns.specs.declared.ask.Ask.{Ask}
 use Rattle.tally_returns.specs.declared.ask.Ask.TheVariants.{Lodge}
 use Rattle.tally_returns.specs.declared.refusal.Refusal.{Refusal}

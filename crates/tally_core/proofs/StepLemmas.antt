@@ -5,6 +5,7 @@ use Rattle.std.specs.Cmp.Lexicographic.{pointwise}
 use Rattle.std.specs.Option.{ForSome, option_copied}
 use Rattle.std.specs.FinMap as fin
 use Rattle.std.proofs.lemmas.Bool.{leb-true}
+use Rattle.tally_rules.specs.Code.{is_code}
 use Rattle.tally_rules.specs.Constituency.{Constituency}
 use Rattle.tally_rules.specs.Setup.{constituency_with, station_with}
 use Rattle.tally_rules.specs.declared.constituency.Station.{Station}
@@ -18,7 +19,7 @@ use Rattle.tally_returns.specs.Named.{station_named}
 use Rattle.tally_machine.specs.Replies.{move_reply}
 use Rattle.tally_returns.specs.Return.{StationReturn, Returns, first_return}
 use Rattle.tally_returns.specs.State.{State, con_state, stations_of}
-use Rattle.tally_returns.specs.Step.{after, after_put, con_of, decided_at_station, decided_in, is_certified, with_return, without_lot}
+use Rattle.tally_returns.specs.Step.{after, after_put, con_of, decided_in, is_certified, with_return, without_lot}
 use Rattle.tally_returns.specs.View.{View}
 use Rattle.tally_returns.specs.declared.ask.Ask.{Ask}
 use Rattle.tally_returns.specs.declared.ask.Ask.TheVariants.{Lodge, Query, Correct, Close, ShowReturn, Draw, Certify, Reopen, Vacate, ShowCon, ShowProgress}
@@ -33,29 +34,10 @@ use Rattle.tally_returns.proofs.ClosedLemmas.{station_with-con}
 use Rattle.tally_returns.proofs.DecideLemmas.{passed-first, passed-rest}
 use Rattle.tally_ledger.specs.Kept.{Kept, state_in, view_in, with_no_lot}
 use Rattle.tally_core.specs.Held.{IsAnsweredInMemory, IsHeld, IsLodged, IsMoved, is_query, with_state}
-use Rattle.tally_core.proofs.HeldLemmas.{certified-found, con_of-found, lodge-step}
+use Rattle.tally_machine.proofs.DecisionLemmas.{certified-found, con_of-found, decided-named, decided-none}
+use Rattle.tally_core.proofs.HeldLemmas.{lodge-step}
 
 -- ---- what is decided at a station
-
--- what is decided at the station that a command names
-pub decided-named : (setup : List Constituency) (s : State) (ask : Ask) (station : List ℕ) → station_named ask ≡ Some station
-    → decided_in setup s ask ≡ decided_return (stations_of setup station) (is_certified setup s station) (fin.get s.returns station) ask
-decided-named setup s ask station named = ap (decided_at_station setup s ask) named
-
--- a command at a code that is no station
-pub decided-none : (certified : Bool) (found : Option StationReturn) (ask : Ask) (station : List ℕ) → station_named ask ≡ Some station
-    → decided_return None certified found ask ≡ Err NoStation
-decided-none certified found (Lodge code slip counts) station named = refl
-decided-none certified found (Query code rev note) station named = refl
-decided-none certified found (Correct code rev slip counts) station named = refl
-decided-none certified found (Close code rev) station named = refl
-decided-none certified found (ShowReturn code) station named = refl
-decided-none certified found (Draw con edition order) station named = cc
-decided-none certified found (Certify con edition) station named = cc
-decided-none certified found (Reopen con edition note) station named = cc
-decided-none certified found (Vacate con list place note) station named = cc
-decided-none certified found (ShowCon con) station named = cc
-decided-none certified found ShowProgress station named = cc
 
 -- a lawful state has a lawful return or none at a station
 pub lawful-at : (setup : List Constituency) (s : State) (station : List ℕ) (limits : StationLimits) → IsLawfulState setup s → stations_of setup station ≡ Some limits
@@ -188,7 +170,7 @@ moved-other k ask station con place certified found other looked named is not_pu
     go (change.PutReturn standing) same never = absurd (never standing refl)
     go (change.SetLot places) same never = inl (sym (ap move_reply same), ap (λ x. with_state k (after k.setup (state_in k) ask x)) (sym same))
     go (change.SetCertified seats) same never = inl (sym (ap move_reply same), ap (λ x. with_state k (after k.setup (state_in k) ask x)) (sym same))
-    go (change.SetReopened note) same never = inl (sym (ap move_reply same), ap (λ x. with_state k (after k.setup (state_in k) ask x)) (sym same))
+    go (change.SetReopened note past) same never = inl (sym (ap move_reply same), ap (λ x. with_state k (after k.setup (state_in k) ask x)) (sym same))
     go (change.SetGone candidate next) same never = inl (sym (ap move_reply same), ap (λ x. with_state k (after k.setup (state_in k) ask x)) (sym same))
 
 -- a return that is put
@@ -260,9 +242,9 @@ moved-on k new ask station con place certified found r looked named is query oth
 -- ---- a Lodge
 
 -- a return that is lodged is lawful
-pub first-lawful : (stations : Stations) (m : Returns) (station slip : List ℕ) (counts : VoteCounts) (rev : ℕ) → lodge_answer stations m station slip counts ≡ Ok (reply.Lodged rev)
+pub first-lawful : (stations : Stations) (m : Returns) (station slip : List ℕ) (counts : VoteCounts) (rev : ℕ) → is_code slip ≡ true → lodge_answer stations m station slip counts ≡ Ok (reply.Lodged rev)
     → (limits : StationLimits) × (stations station ≡ Some limits) × IsLawful limits (first_return slip counts)
-first-lawful stations m station slip counts rev is = go (stations station) refl is
+first-lawful stations m station slip counts rev code is = go (stations station) refl is
   where
     again : (same : Bool) (now : ℕ) (e : Refusal) → (if same then Ok (reply.Same now) else Err e) ≢ Ok (reply.Lodged rev)
     again true now e ok = cc
@@ -276,6 +258,7 @@ first-lawful stations m station slip counts rev is = go (stations station) refl 
         let votes = check (nat_le (all_votes counts) limits.electors) TooManyVotes ∷ [] in record {
           first = omega arith;
           last = omega arith;
+          slip = code;
           note = refl;
           counts = passed-first (are_counts limits.lists counts) BadCounts votes none;
           votes = leb-true (all_votes counts) limits.electors (passed-first (nat_le (all_votes counts) limits.electors) TooManyVotes [] (passed-rest (are_counts limits.lists counts) BadCounts votes none));

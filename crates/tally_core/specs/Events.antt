@@ -2,6 +2,7 @@
 use Rattle.std.specs.Prelude.{List, [], ◌∷◌, ◌++◌, Bool, false, Some, None, Result, Ok, Err}
 use Rattle.std.specs.List.{list_any}
 use Rattle.tally_machine.specs.Replies.{is_act}
+use Rattle.tally_returns.specs.Named.{BringsCode}
 use Rattle.tally_returns.specs.Reply.{as_reply}
 use Rattle.tally_returns.specs.declared.ask.Ask.{Ask}
 use Rattle.tally_returns.specs.declared.ask.Ask.TheVariants.{Lodge}
@@ -49,3 +50,8 @@ abbrev pub acts : Event → Bool
 acts (request ask r) = is_act r
 acts (whole_import rows answered count) = list_any is_lodged answered
 acts (failed_import fault) = false
+
+-- The slip that a request brings is a code. So it is of each request that a program makes, and of each row of an import.
+abbrev pub BringsCodes : Event → Type 0
+BringsCodes (request ask r) = BringsCode ask
+BringsCodes other = Unit {0}

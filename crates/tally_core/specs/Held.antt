@@ -3,7 +3,7 @@ use Rattle.std.specs.Prelude.{◌≡◌, ◌⊎◌, ◌+◌, ◌<◌, ◌^◌, �
 use Rattle.std.specs.Coded.{Coded, code_by, coded×}
 use Rattle.std.specs.FinMap.{get, remove}
 use Rattle.std.specs.Option.{ForSome}
-use Rattle.tally_ledger.specs.Kept.{Kept, state_in, view_in}
+use Rattle.tally_ledger.specs.Kept.{AreEarlier, Kept, state_in, view_in}
 use Rattle.tally_ledger.specs.KeptCode.{state_code}
 use Rattle.tally_rules.specs.Constituency.{Constituency}
 use Rattle.tally_rules.specs.Limits.{IsSetup}
@@ -74,16 +74,20 @@ IsAnsweredOn code k ask r new =
 abbrev pub is_edition_change : Change → Bool
 is_edition_change (SetLot places) = true
 is_edition_change (SetCertified seats) = true
-is_edition_change (SetReopened note) = true
+is_edition_change (SetReopened note past) = true
 is_edition_change other = false
 
--- A change can be carried out: of a constituency of the setup at this edition, which is not the last; and a candidate who goes is
--- not gone.
+-- The edition of a constituency of the setup can rise: it stands at this one, which is not the last.
+abbrev pub CanRise : Kept → List ℕ → ℕ → Type 0
+CanRise k code edition = IsSome (constituency_with code k.setup) × ((con_state (state_in k) code).edition ≡ edition) × (edition + 1 < 2 ^ 32)
+
+-- A change can be carried out: of a constituency of the setup whose edition can rise; a candidate who goes is not gone; and a
+-- certificate that is put on record comes after those that are.
 abbrev pub CanCarryOut : Kept → List ℕ → ℕ → Change → Type 0
 CanCarryOut k code edition (SetGone candidate next) =
     IsSome (constituency_with code k.setup) × (get (con_state (state_in k) code).gone (candidate.list ∷ candidate.place ∷ []) ≡ None)
-CanCarryOut k code edition change =
-    IsSome (constituency_with code k.setup) × (is_edition_change change ≡ true) × ((con_state (state_in k) code).edition ≡ edition) × (edition + 1 < 2 ^ 32)
+CanCarryOut k code edition (SetReopened note past) = CanRise k code edition × AreEarlier (con_state (state_in k) code).past past.edition
+CanCarryOut k code edition change = CanRise k code edition × (is_edition_change change ≡ true)
 
 -- what is answered where a change was carried out
 abbrev pub carried_reply : ℕ → ConChange → Answer

@@ -1,5 +1,6 @@
 -- An import: the Lodge commands of its rows one by one, bad rows passed over, and the count of what they were answered.
-use Rattle.std.specs.Prelude.{if◌then◌else◌, ◌+◌, ◌<◌, ◌==◌, not, ℕ, Bool, true, false, List, [], ◌∷◌, Option, Some, None, Result, Ok, Err, count_by}
+use Rattle.std.specs.Prelude.{◌≡◌, if◌then◌else◌, ◌+◌, ◌<◌, ◌==◌, not, ℕ, Bool, true, false, List, [], ◌∷◌, Option, Some, None, Result, Ok, Err, count_by}
+use Rattle.tally_rules.specs.Code.{is_code}
 use Rattle.tally_returns.specs.Counts.{VoteCounts}
 use Rattle.tally_returns.specs.Return.{Returns}
 use Rattle.tally_returns.specs.Refusals.{number}
@@ -18,6 +19,11 @@ use Rattle.tally_core.specs.declared.source.ImportFault.TheVariants as fault
 -- what a row was answered: a bad one nothing, and so one of another command than Lodge
 abbrev pub Answer : Type 0
 Answer = Option (Result LodgeReply Refusal)
+
+-- The slip of a row is a code.
+abbrev pub IsCodedRow : Row → Type 0
+IsCodedRow (row.Lodge (Lodge station slip counts)) = is_code slip ≡ true
+IsCodedRow other = Unit {0}
 
 abbrev pub row_answer : Stations → Returns → Row → Answer
 row_answer stations returns (row.Lodge (Lodge station slip counts)) = Some (lodge_answer stations returns station slip counts)

@@ -1,12 +1,12 @@
 -- What happens to a keeper of the office's state.
-use Rattle.std.specs.Prelude.{◌≡◌, ◌≤◌, ◌⊎◌, List, [], ◌∷◌, length, Option, Some, None, Result, Ok, Err, IfSome}
+use Rattle.std.specs.Prelude.{◌≡◌, ◌≤◌, ◌⊎◌, All, List, [], ◌∷◌, length, Option, Some, None, Result, Ok, Err, IfSome}
 use Rattle.tally_rules.specs.Constituency.{Constituency}
 use Rattle.tally_returns.specs.State.{State, stations_of}
 use Rattle.tally_machine.specs.Replies.{IsAnswered, IsNotAccepted}
 use Rattle.tally_returns.specs.declared.ask.Ask.{Ask}
 use Rattle.tally_returns.specs.declared.refusal.Refusal.{Refusal}
 use Rattle.tally_returns.specs.declared.reply.Reply.{Reply}
-use Rattle.tally_core.specs.Import.{Answer, answers, imported, count_of}
+use Rattle.tally_core.specs.Import.{Answer, IsCodedRow, answers, imported, count_of}
 use Rattle.tally_core.specs.Source.{Coming, Ending, IsSudden, row_limit}
 use Rattle.tally_core.specs.declared.import.ImportCount.{ImportCount}
 use Rattle.tally_core.specs.declared.import.Row.{Row}
@@ -20,12 +20,13 @@ pub data Event : Type 0 where
   whole_import : List Row → List Answer → ImportCount → Event
   failed_import : ImportFault → Event
 
--- An import that was done leaves what the Lodge commands of its rows leave one by one, refused and bad rows passed over.
+-- An import that was done leaves what the Lodge commands of its rows leave one by one, refused and bad rows passed over. Their slips are codes.
 abbrev pub IsImport : List Constituency → State → List Row → List Answer → ImportCount → State → Type 0
 IsImport setup s rows answered count t = (length rows ≤ row_limit)
     × (answered ≡ answers (stations_of setup) s.returns rows)
     × (count ≡ count_of answered)
     × (t ≡ record s { returns = imported (stations_of setup) s.returns rows })
+    × All IsCodedRow rows
 
 -- a keeper that stands: a request is answered, an import is done, or it has a fault and changes nothing
 abbrev pub IsTaken : List Constituency → State → Event → State → Type 0

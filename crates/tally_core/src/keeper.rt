@@ -3,6 +3,7 @@
 ghost use Rattle.std.specs.Prelude.{◌≡◌, ◌⊎◌, All, List, Option, None, Err, IfErr, IfOk, IfSome, OnErr};
 ghost use Rattle.tally_rules.specs.Constituency.{Constituency};
 ghost use Rattle.tally_returns.specs.State.{State};
+ghost use Rattle.tally_machine.specs.Kinds.{IsReplyTo};
 ghost use Rattle.tally_machine.specs.LawfulState.{IsLawfulState};
 ghost use Rattle.tally_core.specs.Keeper.{Happens, Runs, Imports, request};
 ghost use Rattle.tally_core.specs.declared.source.ImportFault.TheVariants as fault;
@@ -39,10 +40,12 @@ pub trait Keeper {
 
     /// Answers a request. One that is refused has changed nothing. The request at which a failed
     /// disk shuts the keeper was not accepted, also where its commit may stand: only the next
-    /// opening shows that. A keeper that was shut accepts nothing.
+    /// opening shows that. A keeper that was shut accepts nothing. The reply is of the request's
+    /// kind, and a view that it shows fits its constituency, whether the keeper is trusted or not.
     fn answer(&mut self, ask: &Ask) -> Result<Reply, Refusal>
         ensures setup { constituencies self.new ≡ constituencies self.old }
         ensures trusted { IsTrusted self.new → IsTrusted self.old }
+        ensures kind { IfOk result (IsReplyTo (constituencies self.old) ask.now) }
         ensures step { IsTrusted self.new →
             Happens (constituencies self.old) (content self.old) (request ask.now result) (content self.new) }
         ensures store { IfErr result (λ e. e ≡ refusal.Store → HasDatabase self.old) }

@@ -1,8 +1,8 @@
 //! The laws of what happens to a keeper. The functions do nothing: each contract is a law.
 
-ghost use Rattle.std.specs.Prelude.{◌≡◌, ◌↔◌, ◌<◌, ℕ, Bool, List, Option, Some, None, Result, true, false, slice_get};
+ghost use Rattle.std.specs.Prelude.{◌≡◌, ◌↔◌, ◌<◌, ℕ, All, Bool, List, Option, Some, None, Result, true, false, slice_get};
 ghost use Rattle.std.specs.List.{filter};
-ghost use Rattle.tally_core.specs.Events.{acts, answers_of, asks_of, lodges, lodge_answers};
+ghost use Rattle.tally_core.specs.Events.{BringsCodes, acts, answers_of, asks_of, lodges, lodge_answers};
 ghost use Rattle.tally_core.specs.Import.{Answer, count_of};
 ghost use Rattle.tally_core.specs.Keeper.{Event, Happen, Happens, IsImport, Runs, whole_import};
 ghost use Rattle.tally_core.specs.declared.import.ImportCount.{ImportCount};
@@ -10,6 +10,7 @@ ghost use Rattle.tally_core.specs.declared.import.Row.{Row};
 ghost use Rattle.tally_machine.specs.ConStep.{IsView};
 ghost use Rattle.tally_machine.specs.LawfulState.{IsLawfulState};
 ghost use Rattle.tally_machine.specs.Outcome.{IsCertificate};
+ghost use Rattle.tally_machine.specs.Records.{IsOnRecord, IsReopenedIn};
 ghost use Rattle.tally_machine.specs.Replies.{IsRun, is_act};
 ghost use Rattle.tally_machine.specs.Runs.{IsSameCommand, kept};
 ghost use Rattle.tally_returns.specs.State.{State, con_state, opening};
@@ -50,7 +51,7 @@ pub fn requests_and_imports_are_a_run()
 
 /// Whatever happens to a keeper, its state stays lawful.
 pub fn a_keeper_keeps_a_lawful_state()
-    ensures { (setup : List Constituency) (s t : State) (events : List Event)
+    ensures { (setup : List Constituency) (s t : State) (events : List Event) → All BringsCodes events
         → IsSetup setup → IsLawfulState setup s → Happen setup (Some s) events (Some t) → IsLawfulState setup t }
 {}
 
@@ -58,12 +59,34 @@ pub fn a_keeper_keeps_a_lawful_state()
 /// all its stations closed, exactly its seats are allotted, by the one allotment of its closed votes,
 /// and a lot stands wherever one is needed.
 pub fn a_certificate_of_a_keeper_stands_on_closed_votes()
-    ensures { (setup : List Constituency) (t : State) (events : List Event)
+    ensures { (setup : List Constituency) (t : State) (events : List Event) → All BringsCodes events
         → IsSetup setup → Happen setup (Some (opening setup)) events (Some t)
         → (code : List ℕ) (con : Constituency) → constituency_with code setup ≡ Some con
         → (con_state t con.code).certified ≡ true → (view : View) × IsView con t view × IsCertificate con view }
 {
     machine::a_certificate_stands_on_closed_votes();
+}
+
+/// A certificate that was reopened stays on record, word for word, whatever happens to a keeper.
+pub fn records_stay()
+    ensures { (setup : List Constituency) (s t : State) (events : List Event)
+        → IsLawfulState setup s → Happen setup (Some s) events (Some t)
+        → (code : List ℕ) (edition : ℕ) (seats : List ℕ) → IsOnRecord s code edition seats → IsOnRecord t code edition seats }
+{
+    machine::records_stay();
+}
+
+/// What is on record after all that happened to a keeper since its state was the opening one are the
+/// seats of a certificate that one of its requests reopened: the one allotment of the closed votes in
+/// the state that it then had, in which the constituency was certified at that edition.
+pub fn records_are_of_allotments()
+    ensures { (setup : List Constituency) (t : State) (events : List Event) → All BringsCodes events
+        → IsSetup setup → Happen setup (Some (opening setup)) events (Some t)
+        → (code : List ℕ) (con : Constituency) → constituency_with code setup ≡ Some con
+        → (edition : ℕ) (seats : List ℕ) → IsOnRecord t con.code edition seats
+        → IsReopenedIn con edition seats setup (opening setup) (asks_of events) (answers_of events) t }
+{
+    machine::records_are_of_allotments();
 }
 
 /// Of all that happened to a keeper no two equal requests acted: where one acted, the same one at a

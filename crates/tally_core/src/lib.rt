@@ -14,6 +14,6 @@ pub use keeper::{Keeper, run};
 pub use source::{ImportFault, RowSource};
 pub use tally_ledger::moved;
 pub use tally_machine::{
-    Ask, Change, ConView, Counts, Gone, ListSet, LodgeReply, ProgressRow, Refusal, Reply, Return,
-    Status, decide_at, decide_con, decide_lodge, decide_return, holders,
+    Ask, Change, ConView, Counts, Gone, ListSet, LodgeReply, Past, ProgressRow, Refusal, Reply,
+    Return, Status, decide_at, decide_con, decide_lodge, decide_return, holders,
 };

@@ -42,7 +42,8 @@ fn told_return(alloc: Global, standing: &Return) -> Result<String, Fail> {
 }
 
 /// Whether it is certified, the edition, how many of the stations are closed, the votes, the lot, the
-/// seats; the note of the last reopening, and who is gone, in the order of lists and places.
+/// seats; the note of the last reopening; who is gone, in the order of lists and places; and the
+/// edition and the seats of each certificate that was reopened.
 fn told_view(alloc: Global, view: &ConView) -> Result<String, Fail> {
     let certified = if view.certified { "certified" } else { "open" };
     let mut text = format!(in alloc; "{certified} {}", view.edition)?;
@@ -53,6 +54,9 @@ fn told_view(alloc: Global, view: &ConView) -> Result<String, Fail> {
     }
     for gone in &view.gone {
         write!(text, " {}.{} {}", gone.list, gone.place, gone.note)?;
+    }
+    for past in &view.past {
+        write!(text, " past {} {:?}", past.edition, past.seats)?;
     }
     Ok(text)
 }

@@ -1,16 +1,14 @@
 //! What is decided of a command on a constituency.
 
-ghost use Rattle.std.specs.Prelude.{◌≡◌, ◌≤◌, ◌<◌, [], Some, false, IsTrue, length, sum};
+ghost use Rattle.std.specs.Prelude.{◌≡◌, Some, IsTrue};
 ghost use Rattle.tally_returns.specs.Named.{con_named};
-ghost use Rattle.tally_machine.specs.Outcome.{IsLawfulView};
 
 use crate::answers::told_refusal;
 use crate::commands::command;
 use crate::setups::{code, setup, twin_town};
 use std::alloc::{AllocError, Global};
 use std::test::*;
-use tally_allot::allot;
-use tally_core::{Ask, Change, ConView, Gone, Refusal, decide_con};
+use tally_core::{Ask, Change, ConView, Gone, Past, Refusal, decide_con};
 use tally_rules::Constituency;
 
 /// What is seen where the station is closed with these votes.
@@ -30,62 +28,8 @@ fn open_view(alloc: Global, votes: &[u64]) -> Result<ConView, AllocError> {
         spoiled: 0,
         seats: Vec::new(alloc),
         gone: Vec::new(alloc),
+        past: Vec::new(alloc),
     })
-}
-
-fn are_two_numbers(votes: &[u64]) -> bool
-    ensures votes { IsTrue result → length votes.now ≡ 2 }
-    ensures few { IsTrue result → sum votes.now ≤ 2000 }
-{
-    let [first, second] = votes else {
-        return false;
-    };
-    *first <= 1_000 && *second <= 1_000
-}
-
-/// Whether a view is one that the constituency can have while no lot stands and it is open.
-fn is_counted(con: &Constituency, view: &ConView) -> bool
-    ensures { IsTrue result → IsLawfulView con.now (record view.now { certified = false; lot = []; seats = [] }) }
-{
-    if !are_two_numbers(&view.votes) || view.blank > 1_000 {
-        return false;
-    }
-    if con.seats < 1 || con.seats > 500 || con.profile.threshold > 10_000 {
-        return false;
-    }
-    if view.edition < 1 || view.edition > 9_999 {
-        return false;
-    }
-    con.lists.len() == 2 && view.closed <= view.stations && view.stations <= 5_000
-}
-
-/// Whether a view is one that the constituency can have.
-fn is_lawful(alloc: Global, con: &Constituency, view: &ConView) -> bool
-    ensures { IsTrue result → IsLawfulView con.now view.now }
-{
-    if !is_counted(con, view) {
-        return false;
-    }
-    if view.lot.is_empty() && !view.certified {
-        return view.seats.is_empty();
-    }
-    if view.closed != view.stations {
-        return false;
-    }
-    let Ok(seats) = allot(
-        alloc,
-        &con.profile,
-        con.seats,
-        &view.votes,
-        view.blank,
-        &view.lot,
-    ) else {
-        return false;
-    };
-    if view.certified {
-        return view.seats == seats;
-    }
-    view.seats.is_empty()
 }
 
 fn names(con: &Constituency, ask: &Ask) -> bool
@@ -104,7 +48,7 @@ fn decided(
     view: &ConView,
     ask: &Ask,
 ) -> Result<Change, Refusal> {
-    if !names(con, ask) || !is_lawful(alloc, con, view) {
+    if !names(con, ask) || !view.fits(con) {
         return Err(Refusal::NoConstituency);
     }
     decide_con(alloc, con, view, ask)
@@ -122,7 +66,10 @@ fn shown_change(alloc: Global, change: &Change) -> Result<String, Fail> {
     Ok(match change {
         Change::SetLot(places) => format!(in alloc; "lot {places:?}")?,
         Change::SetCertified(seats) => format!(in alloc; "certified {seats:?}")?,
-        Change::SetReopened(note) => format!(in alloc; "open, {note}")?,
+        Change::SetReopened(note, past) => {
+            let Past { edition, seats } = past;
+            format!(in alloc; "open, {note}, past {edition} {seats:?}")?
+        }
         Change::SetGone(gone, next) => {
             let Gone { list, place, note } = gone;
             format!(in alloc; "gone {list} {place} {note}, next {next:?}")?
@@ -273,7 +220,7 @@ draw c1 2 B,A = refused 9
 certify c1 2 = refused 9
 reopen c1 1 = refused 5
 reopen c1 2 count again = stale 1
-reopen c1 1 count again = open, count again
+reopen c1 1 count again = open, count again, past 1 [1, 2]
 vacate c1 B 1 resigned = gone 2 1 resigned, next None
 vacate c1 A 2 resigned = refused 21
 vacate c1 A 0 resigned = refused 3

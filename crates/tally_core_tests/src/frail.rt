@@ -14,6 +14,8 @@ pub struct Frail {
     pub turns: u32,
     /// The disk has failed.
     pub shut: bool,
+    /// No wrong answer of the disk has been taken as true.
+    pub clean: bool,
 }
 
 impl Frail {
@@ -22,6 +24,7 @@ impl Frail {
         ensures told { result ≡ self.new.shut }
         ensures stays { self.old.shut ≡ true → self.new.shut ≡ true }
         ensures book { self.new.book ≡ self.old.book }
+        ensures clean { self.new.clean ≡ self.old.clean }
     {
         if self.turns == 0 {
             self.shut = true;
@@ -38,11 +41,11 @@ impl Keeper for Frail {
 
     ghost content = { λ f. if f.shut then None else Some f.book.state };
 
-    ghost IsTrusted = { λ _. Unit {0} };
+    ghost IsTrusted = { λ f. f.clean ≡ true };
 
     ghost HasDatabase = { λ _. Unit {0} };
 
-    ghost memory_is_trusted = { λ _ _. tt };
+    ghost memory_is_trusted = { λ _ none. absurd (none tt) };
 
     fn setup(&self) -> &Setup {
         self.book.setup()

@@ -167,8 +167,8 @@ fn next_row<R: Read>(
     }
 }
 
-/// Reads the header, and goes on to the rows. It stands by itself, since a stage is some kilobytes
-/// large, and a function that holds one pays for it at each call.
+/// Reads the header, and goes on to the rows. It stands by itself, since a function pays for the room
+/// of its locals at each call, and only the first row needs these.
 fn start<R: Read>(
     alloc: Global,
     reader: &mut R,

@@ -332,17 +332,17 @@ fn small_reads_of_three_returns(rt: HostRuntime) -> Result<(), Fail> {
 
 #[test]
 fn lines_within_quotes_where_the_input_is_cut(rt: HostRuntime) -> Result<(), Fail> {
-    let expected = summary(rt.alloc(), "1, 0, 0, 0, 10001, 1 0, 0, 0, 1, 2")?;
-    for lines in 0..9 {
+    let expected = summary(rt.alloc(), "1, 0, 0, 0, 18001, 1 0, 0, 0, 1, 2")?;
+    for lines in 0..20 {
         let mut text = Vec::new(rt.alloc());
         text.extend_from_slice(HEADER.as_bytes())?;
         text.resize(HEADER.len() + lines, b'\n')?;
-        for _ in 0..10_000 {
-            text.extend_from_slice(b"\"x\n\nx\"\r")?;
+        for _ in 0..18_000 {
+            text.extend_from_slice(b"\"xxxxxxxx\n\nxxxxxx\"\r")?;
         }
         // a record that is longer than a piece
         let size = text.len();
-        text.resize(size + 200_000, b'x')?;
+        text.resize(size + 800_000, b'x')?;
         text.extend_from_slice(b"\ns,p,0,0,1,2\n")?;
         let found = check(rt.alloc(), text.as_slice(), Sep::Comma);
         assert!(rt; found.wrote(expected.as_bytes()), "at {lines}");

@@ -139,7 +139,7 @@ fn texts_whose_first_row_is_none(rt: HostRuntime) -> Result<(), Fail> {
 fn a_long_text_is_not_read_at_once(rt: HostRuntime) -> Result<(), Fail> {
     let mut text = Vec::new(rt.alloc());
     text.extend_from_slice(b"station,slip,blank,spoiled,A,B\n")?;
-    for _row in 0..20_000 {
+    for _row in 0..40_000 {
         text.extend_from_slice(b"s1,p1,0,0,10,20\n")?;
     }
     let mut reader = text_by_reads(text.as_slice(), 4096, false);

@@ -10,13 +10,15 @@ use Rattle.tally_rules.specs.Limits.{IsSetup}
 use Rattle.tally_rules.specs.Setup.{constituency_with}
 use Rattle.tally_machine.specs.ConStep.{ConChange, certified_with, changed, gone_for_good, lot_set, open_again}
 use Rattle.tally_returns.specs.GoneCandidate.{GoneCandidate}
+use Rattle.tally_returns.specs.PastSeats.{PastSeats}
 use Rattle.tally_returns.specs.Progress.{progress_row}
 use Rattle.tally_returns.specs.Return.{Returns}
 use Rattle.tally_returns.specs.State.{ConState, con_state, opening_con}
-use Rattle.tally_returns.specs.View.{View, gone_candidates, view_with}
-use Rattle.tally_ledger.specs.Kept.{Kept, seats_after, state_in, view_in, with_change, with_no_lot}
-use Rattle.tally_ledger.specs.Rows.{IsTallied, Views, con_of, cons_of, gone_of, row_of, seats_of, with_gone, with_view}
+use Rattle.tally_returns.specs.View.{View, gone_candidates, past_records, view_with}
+use Rattle.tally_ledger.specs.Kept.{AreEarlier, Kept, seats_after, state_in, view_in, with_change, with_no_lot}
+use Rattle.tally_ledger.specs.Rows.{IsTallied, Views, con_of, cons_of, gone_of, past_of, row_of, seats_of, with_gone, with_reopening, with_view}
 use Rattle.tally_ledger.proofs.GoneLemmas.{gone-stays, gone_of-insert, key_of}
+use Rattle.tally_ledger.proofs.PastLemmas.{AreBefore, past-stays, past_of-insert}
 use Rattle.tally_ledger.proofs.SetupLemmas.{Has, con-found, con-only}
 use Rattle.tally_ledger.proofs.TreeLemmas.{cons_of-changed, get-cons_of, get-seats_of, get-with_view, same_code, seats_of-changed, seats_of-kept}
 
@@ -91,9 +93,6 @@ with_lot lot view = record view { edition = view.edition + 1; lot = lot }
 abbrev pub with_seats : List ℕ → View → View
 with_seats seats view = record view { edition = view.edition + 1; certified = true; seats = seats }
 
-abbrev pub with_note : List ℕ → View → View
-with_note note view = record view { edition = view.edition + 1; certified = false; note = note; seats = [] }
-
 abbrev pub without_lot : View → View
 without_lot view = record view { lot = [] }
 
@@ -102,9 +101,6 @@ lot-seen returns lot view con seen = λ i. record (seen i) { edition = view.edit
 
 pub seats-seen : (returns : Returns) (seats : List ℕ) (view : View) → KeepsSeen returns (with_seats seats) view
 seats-seen returns seats view con seen = λ i. record (seen i) { edition = view.edition + 1; certified = true; seats = seats }
-
-pub note-seen : (returns : Returns) (note : List ℕ) (view : View) → KeepsSeen returns (with_note note) view
-note-seen returns note view con seen = λ i. record (seen i) { edition = view.edition + 1; certified = false; note = note; seats = [] }
 
 pub without-seen : (returns : Returns) (view : View) → KeepsSeen returns without_lot view
 without-seen returns view con seen = λ i. record (seen i) { lot = [] }
@@ -118,11 +114,6 @@ pub seats-kept : (setup : List Constituency) (returns : Returns) (views : Views)
     → kept setup returns (with_view views code (with_seats seats)) ≡ with_change (kept setup returns views) code (certified_with seats)
 seats-kept setup returns views code seats tallied known =
     kept-changed setup returns views code (certified_with seats) (with_seats seats) tallied known (λ view there. refl) (λ view there. seats_of-changed views code (with_seats seats) view seats there refl)
-
-pub note-kept : (setup : List Constituency) (returns : Returns) (views : Views) (code note : List ℕ) → IsTallied setup returns views → IsSome (constituency_with code setup)
-    → kept setup returns (with_view views code (with_note note)) ≡ with_change (kept setup returns views) code (open_again note)
-note-kept setup returns views code note tallied known =
-    kept-changed setup returns views code (open_again note) (with_note note) tallied known (λ view there. refl) (λ view there. seats_of-changed views code (with_note note) view [] there refl)
 
 pub without-kept : (setup : List Constituency) (returns : Returns) (views : Views) (code : List ℕ) → IsTallied setup returns views → IsSome (constituency_with code setup)
     → kept setup returns (with_view views code without_lot) ≡ with_no_lot (kept setup returns views) code
@@ -158,6 +149,31 @@ gone-kept setup returns views code g tallied known none =
     let gone : view.gone ≡ gone_candidates (gone_of view.gone) = ap (λ (v : View). v.gone) seen in
     λ i. record (con_of view) { gone = gone_of-insert g view.gone gone (was-here returns views code g none view there) i })
     (λ view there. seats_of-kept views code (one_gone g) (λ v. refl))
+
+-- ---- a certificate is reopened
+
+-- those on record of a constituency that is held are of earlier editions
+pub held-earlier : (setup : List Constituency) (returns : Returns) (views : Views) (code : List ℕ) (edition : ℕ) → IsTallied setup returns views
+    → AreEarlier (con_state (record { returns = returns; cons = cons_of views }) code).past edition → (view : View) → get views code ≡ Some view → AreBefore edition view.past
+held-earlier setup returns views code edition tallied earlier view there =
+    let seen : view.past ≡ past_records (past_of view.past) = ap (λ (v : View). v.past) (tallied.seen code view there).2 in
+    subst (AreBefore edition) (sym seen) (subst (λ (c : ConState). AreEarlier c.past edition) (con_state-is returns views code view there) earlier)
+
+pub reopening-seen : (returns : Returns) (note : List ℕ) (past : PastSeats) (view : View) → AreBefore past.edition view.past → KeepsSeen returns (with_reopening note past) view
+reopening-seen returns note past view before con seen =
+    let records : view.past ≡ past_records (past_of view.past) = ap (λ (v : View). v.past) seen in
+    λ i. record (seen i) { edition = view.edition + 1; certified = false; note = note; seats = []; past = past-stays past view.past records before i }
+
+pub reopening-kept : (setup : List Constituency) (returns : Returns) (views : Views) (code note : List ℕ) (past : PastSeats) → IsTallied setup returns views → IsSome (constituency_with code setup)
+    → AreEarlier (con_state (record { returns = returns; cons = cons_of views }) code).past past.edition
+    → kept setup returns (with_view views code (with_reopening note past)) ≡ with_change (kept setup returns views) code (open_again note past)
+reopening-kept setup returns views code note past tallied known earlier =
+    kept-changed setup returns views code (open_again note past) (with_reopening note past) tallied known
+    (λ view there.
+    let records : view.past ≡ past_records (past_of view.past) = ap (λ (v : View). v.past) (tallied.seen code view there).2 in
+    let before = held-earlier setup returns views code past.edition tallied earlier view there in
+    λ i. record (con_of view) { edition = view.edition + 1; certified = false; note = note; past = past_of-insert past view.past records before i })
+    (λ view there. seats_of-changed views code (with_reopening note past) view [] there refl)
 
 -- ---- what is held
 

@@ -30,10 +30,10 @@ abbrev ArePairs : List (List ℕ × List ℕ) → Type 0
 ArePairs [] = Unit {0}
 ArePairs (e ∷ es) = IsPair e.0 × ArePairs es
 
-pub entries-empty : {X : Type 0} → entries (empty {X = X} {R = code_cmp}) ≡ []
-entries-empty {X} = none (entries (empty {X = X} {R = code_cmp})) (sym (len-entries (empty {X = X} {R = code_cmp})) ∙ len-empty code_cmp X)
+pub entries-empty : {K X : Type 0} (R : K → K → Ordering) → entries (empty {X = X} {R = R}) ≡ []
+entries-empty {K} {X} R = none (entries (empty {X = X} {R = R})) (sym (len-entries (empty {X = X} {R = R})) ∙ len-empty R X)
   where
-    none : (es : List (List ℕ × X)) → length es ≡ 0 → es ≡ []
+    none : (es : List (K × X)) → length es ≡ 0 → es ≡ []
     none [] is = refl
     none (e ∷ es) is = absurd (omega (arith, is))
 
@@ -47,7 +47,7 @@ put-pairs key note (e ∷ es) is pairs = go (code_cmp key e.0) (put-pairs key no
     go Greater rest = (pairs.0, rest)
 
 gone_of-pairs : (gone : List GoneCandidate) → ArePairs (entries (gone_of gone))
-gone_of-pairs [] = subst ArePairs (sym entries-empty) tt
+gone_of-pairs [] = subst ArePairs (sym (entries-empty code_cmp)) tt
 gone_of-pairs (g ∷ gone) = subst ArePairs (sym (entries-insert nat_list_cmp_total (gone_of gone) (key_of g) g.note)) (put-pairs (key_of g) g.note (entries (gone_of gone)) refl (gone_of-pairs gone))
 
 -- a map of the keys of candidates is got back from its candidates

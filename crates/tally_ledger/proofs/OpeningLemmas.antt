@@ -3,6 +3,7 @@ use Rattle.std.proofs.Common.{◌≡◌, ◌+◌, ◌∷◌, ◌++◌, ◌∙◌
 use Rattle.std.specs.Prelude.{option_map, is_some}
 use Rattle.std.specs.Cmp.Lexicographic.{nat_list_cmp_total}
 use Rattle.std.specs.FinMap.{empty, find, from_entries, from_entries_push, get, get-empty, get-from_entries, insert, nat_cmp-IsAntisymmetric, slice_cmp-IsAntisymmetric}
+use Rattle.std.specs.Ordering.{nat_cmp}
 use Rattle.std.specs.Str.{bytes_eq}
 use Rattle.std.proofs.lemmas.List.{get_or-replicate, length-replicate, map-append}
 use Rattle.std.proofs.lemmas.Map.Text.{is_eq-slice_cmp}
@@ -14,7 +15,7 @@ use Rattle.tally_rules.specs.declared.constituency.Station.{Station}
 use Rattle.tally_returns.specs.Progress.{is_received, is_queried, is_corrected, is_closed, stations_in}
 use Rattle.tally_returns.specs.Return.{StationReturn}
 use Rattle.tally_returns.specs.State.{opening_con, opening_cons}
-use Rattle.tally_returns.specs.View.{View, blank_of, closed_counts, counts_if_closed, gone_candidate, spoiled_of, view_with, votes_at, votes_of_lists}
+use Rattle.tally_returns.specs.View.{View, blank_of, closed_counts, counts_if_closed, gone_candidate, past_record, spoiled_of, view_with, votes_at, votes_of_lists}
 use Rattle.tally_returns.specs.declared.returns.Status.{Status}
 use Rattle.tally_ledger.specs.Kept.{opening_kept}
 use Rattle.tally_ledger.specs.Rows.{IsTallied, con_of, cons_of, opening_view, opening_views, seats_of}
@@ -59,6 +60,7 @@ opened con votes = record {
   spoiled = 0;
   seats = [];
   gone = [];
+  past = [];
 }
 
 pub opened-is : (con : Constituency) → opened con (replicate (length con.lists) 0) ≡ opening_view con
@@ -76,11 +78,15 @@ opened-is con = λ i. record {
   blank = sym (ap blank_of (none-closed con.stations)) i;
   spoiled = sym (ap spoiled_of (none-closed con.stations)) i;
   seats = [];
-  gone = sym (ap (map gone_candidate) entries-empty) i;
+  gone = sym (ap (map gone_candidate) (entries-empty code_cmp)) i;
+  past = sym (ap (map past_record) (entries-empty nat_cmp)) i;
 }
 
 opening-con : (con : Constituency) → con_of (opening_view con) ≡ opening_con
-opening-con con = λ i. record opening_con { gone = ap (λ es. from_entries (map (λ g. (g.list ∷ g.place ∷ [], g.note)) (map gone_candidate es))) entries-empty i }
+opening-con con = λ i. record opening_con {
+  gone = ap (λ es. from_entries (map (λ g. (g.list ∷ g.place ∷ [], g.note)) (map gone_candidate es))) (entries-empty code_cmp) i;
+  past = ap (λ es. from_entries (map (λ p. (p.edition, p.seats)) (map past_record es))) (entries-empty nat_cmp) i;
+}
 
 -- ---- a value for each constituency
 

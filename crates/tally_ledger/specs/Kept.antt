@@ -1,12 +1,13 @@
 -- What is kept in memory of an election.
-use Rattle.std.specs.Prelude.{ℕ, List, [], map, unwrap_or}
+use Rattle.std.specs.Prelude.{◌<◌, ℕ, All, List, [], map, unwrap_or}
 use Rattle.std.specs.FinMap.{FinMap, get, empty, insert, from_entries}
 use Rattle.tally_rules.specs.Code.{code_cmp}
 use Rattle.tally_rules.specs.Constituency.{Constituency}
 use Rattle.tally_machine.specs.ConStep.{ConChange, certified_with, open_again, changed}
+use Rattle.tally_returns.specs.PastSeats.{PastSeats}
 use Rattle.tally_returns.specs.Return.{Returns}
-use Rattle.tally_returns.specs.State.{State, ConState, con_state, opening_cons}
-use Rattle.tally_returns.specs.View.{View, view_of}
+use Rattle.tally_returns.specs.State.{State, ConState, Records, con_state, opening_cons}
+use Rattle.tally_returns.specs.View.{View, past_records, view_of}
 
 -- the seats of each constituency, by its code: none where it is not certified
 abbrev pub Seats : Type 0
@@ -34,10 +35,14 @@ view_in k con = view_of con (state_in k) (seats_in k con.code)
 abbrev pub opening_kept : List Constituency → Kept
 opening_kept setup = record { setup = setup; returns = empty; cons = opening_cons setup; seats = from_entries (map (λ (con : Constituency). (con.code, [])) setup) }
 
+-- each certificate on record is of an earlier edition
+abbrev pub AreEarlier : Records → ℕ → Type 0
+AreEarlier past edition = All (λ (p : PastSeats). p.edition < edition) (past_records past)
+
 -- a certificate gives seats, and a reopening takes them
 abbrev pub seats_after : Seats → List ℕ → ConChange → Seats
 seats_after seats code (certified_with given) = insert seats code given
-seats_after seats code (open_again note) = insert seats code []
+seats_after seats code (open_again note past) = insert seats code []
 seats_after seats code other = seats
 
 -- a change of the constituency of a code

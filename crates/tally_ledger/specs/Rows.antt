@@ -1,5 +1,5 @@
 -- How what is kept stands in trees: the returns by station, and by constituency what is seen of it. No public contract speaks of it.
-use Rattle.std.specs.Prelude.{◌≡◌, ◌++◌, ◌&&◌, ◌||◌, ◌==◌, nat_lt, ℕ, Bool, false, List, [], ◌∷◌, map, take, drop, Option, Some, None, is_some}
+use Rattle.std.specs.Prelude.{◌≡◌, ◌+◌, ◌++◌, ◌&&◌, ◌||◌, ◌==◌, nat_lt, ℕ, Bool, false, List, [], ◌∷◌, map, take, drop, Option, Some, None, is_some}
 use Rattle.std.specs.BTreeMap.{BTreeMap}
 use Rattle.std.specs.FinMap.{FinMap, get, empty, entries, from_entries, insert}
 use Rattle.std.specs.List.{prefix_len}
@@ -10,8 +10,9 @@ use Rattle.tally_rules.specs.Setup.{constituency_with}
 use Rattle.tally_returns.specs.GoneCandidate.{GoneCandidate}
 use Rattle.tally_returns.specs.Lawful.{IsLawful}
 use Rattle.tally_returns.specs.Lodge.{StationLimits}
+use Rattle.tally_returns.specs.PastSeats.{PastSeats}
 use Rattle.tally_returns.specs.Return.{StationReturn, Returns}
-use Rattle.tally_returns.specs.State.{ConState, GoneCandidates, opening_con, stations_of}
+use Rattle.tally_returns.specs.State.{ConState, GoneCandidates, Records, opening_con, stations_of}
 use Rattle.tally_returns.specs.View.{View, view_with}
 use Rattle.tally_returns.specs.declared.progress.ProgressRow.{ProgressRow}
 use Rattle.tally_ledger.specs.Kept.{Seats}
@@ -31,9 +32,12 @@ views_of tree = from_entries tree.entries
 abbrev pub gone_of : List GoneCandidate → GoneCandidates
 gone_of gone = from_entries (map (λ (g : GoneCandidate). (g.list ∷ g.place ∷ [], g.note)) gone)
 
+abbrev pub past_of : List PastSeats → Records
+past_of past = from_entries (map (λ (p : PastSeats). (p.edition, p.seats)) past)
+
 -- what a constituency has come to, of what is seen of it
 abbrev pub con_of : View → ConState
-con_of view = record { edition = view.edition; certified = view.certified; note = view.note; lot = view.lot; gone = gone_of view.gone }
+con_of view = record { edition = view.edition; certified = view.certified; note = view.note; lot = view.lot; gone = gone_of view.gone; past = past_of view.past }
 
 abbrev pub cons_of : Views → FinMap code_cmp ConState
 cons_of views = from_entries (map (λ (e : List ℕ × View). (e.0, con_of e.1)) (entries views))
@@ -85,6 +89,10 @@ gone_place candidate gone = prefix_len (λ g. is_before g candidate) gone
 -- one more is gone, at its place
 abbrev pub with_gone : GoneCandidate → List GoneCandidate → List GoneCandidate
 with_gone candidate gone = take (gone_place candidate gone) gone ++ candidate ∷ drop (gone_place candidate gone) gone
+
+-- open again, with this note, and with the certificate that was reopened on record behind the others
+abbrev pub with_reopening : List ℕ → PastSeats → View → View
+with_reopening note past view = record view { edition = view.edition + 1; certified = false; note = note; seats = []; past = view.past ++ past ∷ [] }
 
 -- how far a constituency has come, of what is seen of it
 abbrev pub row_of : List ℕ → View → ProgressRow

@@ -3,7 +3,7 @@
 ghost use Rattle.std.specs.Prelude.{◌≡◌, ◌<◌, ◌+◌, ◌^◌, ◌∷◌, [], Some, None, OnOk, OnErr, IfOk, IsSome, option_map, string_bytes};
 ghost use Rattle.std.specs.FinMap.{get, insert, remove};
 ghost use Rattle.std.specs.Option.{option_copied};
-ghost use Rattle.tally_ledger.specs.Kept.{opening_kept, state_in, view_in, with_change, with_no_lot};
+ghost use Rattle.tally_ledger.specs.Kept.{AreEarlier, opening_kept, state_in, view_in, with_change, with_no_lot};
 ghost use Rattle.tally_machine.specs.ConStep.{certified_with, gone_for_good, lot_set, open_again};
 ghost use Rattle.tally_returns.specs.Lawful.{IsLawful};
 ghost use Rattle.tally_returns.specs.Lodge.{StationLimits};
@@ -19,7 +19,7 @@ use crate::views::{
 use std::alloc::{AllocError, Global};
 use std::collections::BTreeMap;
 use std::marker::Model;
-use tally_machine::{ConView, Gone, ProgressRow, Return};
+use tally_machine::{ConView, Gone, Past, ProgressRow, Return};
 use tally_rules::{Code, Setup};
 
 /// The returns of an election, and what is seen of each of its constituencies. The sums of closed
@@ -146,13 +146,16 @@ impl Ledger {
         set_certified(&mut self.views, con, seats);
     }
 
-    /// The constituency is open again, with this note, and the edition rises.
-    pub fn set_reopened(&mut self, con: Code, note: String)
+    /// The constituency is open again, with this note, the certificate that was reopened is on record
+    /// behind all earlier ones, and the edition rises.
+    pub fn set_reopened(&mut self, con: Code, note: String, past: Past) -> Result<(), AllocError>
         requires known { IsSome (constituency_with con self.now.setup) }
         requires edition { (con_state (state_in self.now) con).edition + 1 < 2 ^ 32 }
-        ensures { self.new ≡ with_change self.old con (open_again (string_bytes note)) }
+        requires later { AreEarlier (con_state (state_in self.now) con).past past.edition }
+        ensures reopened { OnOk result (self.new ≡ with_change self.old con (open_again (string_bytes note) past)) }
+        ensures kept { OnErr result (self.new ≡ self.old) }
     {
-        set_reopened(&mut self.views, con, note);
+        set_reopened(&mut self.views, con, note, past)
     }
 
     /// The candidate, who was not gone, is gone now.

@@ -3,7 +3,7 @@
 ghost use Rattle.std.specs.Prelude.{◌≡◌, ◌<◌, ◌+◌, ◌^◌, [], IfOk, OnErr, OnOk, false, true, string_bytes};
 ghost use Rattle.std.specs.FinMap.{empty, get};
 ghost use Rattle.std.specs.Option.{ForSome, option_copied};
-ghost use Rattle.tally_ledger.specs.Rows.{gone_place, is_before, opening_view, opening_views, row_of, views_of, with_gone, with_view};
+ghost use Rattle.tally_ledger.specs.Rows.{gone_place, is_before, opening_view, opening_views, row_of, views_of, with_gone, with_reopening, with_view};
 ghost use Rattle.tally_ledger.specs.Sums.{CanCount, with_return_counted};
 ghost use Rattle.tally_returns.specs.View.{View};
 ghost use Rattle.tally_rules.specs.Limits.{IsSetup};
@@ -11,7 +11,7 @@ ghost use Rattle.tally_rules.specs.Limits.{IsSetup};
 use crate::sums::count_return;
 use std::alloc::{AllocError, Global};
 use std::collections::BTreeMap;
-use tally_machine::{ConView, Gone, ProgressRow, Return};
+use tally_machine::{ConView, Gone, Past, ProgressRow, Return};
 use tally_rules::{Code, Constituency, Setup};
 
 /// What is seen of each constituency as it opens.
@@ -48,6 +48,7 @@ fn opening_view(alloc: Global, con: &Constituency) -> Result<ConView, AllocError
         spoiled: 0,
         seats: Vec::new(alloc),
         gone: Vec::new(alloc),
+        past: Vec::new(alloc),
     })
 }
 
@@ -97,16 +98,34 @@ pub(crate) fn set_certified(views: &mut BTreeMap<Code, ConView>, con: Code, seat
     }
 }
 
-pub(crate) fn set_reopened(views: &mut BTreeMap<Code, ConView>, con: Code, note: String)
+pub(crate) fn set_reopened(
+    views: &mut BTreeMap<Code, ConView>,
+    con: Code,
+    note: String,
+    past: Past,
+) -> Result<(), AllocError>
     requires { ForSome (get (views_of views.old) con) (λ view. view.edition + 1 < 2 ^ 32) }
-    ensures { views_of views.new ≡ with_view (views_of views.old) con (λ view. record view { edition = view.edition + 1; certified = false; note = string_bytes note; seats = [] }) }
+    ensures reopened { OnOk result (views_of views.new ≡ with_view (views_of views.old) con (with_reopening (string_bytes note) past)) }
+    ensures kept { OnErr result (views_of views.new ≡ views_of views.old) }
 {
-    if let Some(view) = views.get_mut(&con) {
-        view.edition += 1;
-        view.certified = false;
-        view.note = note;
-        view.seats.clear();
-    }
+    let Some(view) = views.get_mut(&con) else {
+        return Ok(());
+    };
+    open_again(view, note, past)
+}
+
+/// Opens a certified constituency again, and puts its certificate behind those on record.
+fn open_again(view: &mut ConView, note: String, past: Past) -> Result<(), AllocError>
+    requires { view.old.edition + 1 < 2 ^ 32 }
+    ensures reopened { OnOk result (view.new ≡ with_reopening (string_bytes note) past view.old) }
+    ensures kept { OnErr result (view.new ≡ view.old) }
+{
+    view.past.push(past)?;
+    view.edition += 1;
+    view.certified = false;
+    view.note = note;
+    view.seats.clear();
+    Ok(())
 }
 
 pub(crate) fn set_gone(

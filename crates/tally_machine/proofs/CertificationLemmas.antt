@@ -3,6 +3,8 @@ use Rattle.std.proofs.Common.{◌≡◌, ◌≢◌, ◌≤◌, ◌⊎◌, ◌∙
 use Rattle.std.proofs.lemmas.Bool.{false_from_ne_true}
 use Rattle.std.proofs.lemmas.List.{get_or_past}
 use Rattle.tally_rules.specs.Constituency.{Constituency}
+use Rattle.tally_rules.specs.Limits.{IsConstituency}
+use Rattle.tally_allot.specs.Conditions.{AreLimitsKept}
 use Rattle.tally_contest.specs.Allotment.{Rule, divisors, hare, IsAllotmentByVotes}
 use Rattle.tally_allot.specs.AllotFault.{IsFaultOf}
 use Rattle.tally_contest.specs.LotNeed.{IsDecidedByVotes, IsLotNeeded, IsLotTaken, IsLotWrong, IsNeed}
@@ -12,10 +14,23 @@ use Rattle.tally_allot.specs.declared.fault.AllotFault.TheVariants.{WrongLot}
 use Rattle.tally_machine.specs.Certification.{Certifies, Draws, RefusedOr, certified_by, count_checks, drawn_places, drawn_where, list_places}
 use Rattle.tally_returns.specs.Checks.{first_refusal}
 use Rattle.tally_machine.specs.Outcome.{Outcome, IsOutcome, MayStand, allotted, lot_missing, poll_in, rule_in}
-use Rattle.tally_returns.specs.View.{View}
+use Rattle.tally_returns.specs.View.{FitsView, View}
 use Rattle.tally_returns.specs.declared.refusal.Refusal.{Refusal}
 use Rattle.tally_returns.specs.declared.refusal.Refusal.TheVariants.{LotMissing, LotNotNeeded, LotStands}
 use Rattle.tally_machine.proofs.LotLemmas.{order-same}
+
+-- ---- limits
+
+-- the limits of an allotment are kept where the view fits
+pub fits-limits : (con : Constituency) (view : View) → IsConstituency con → FitsView con view → AreLimitsKept con.profile con.seats view.votes view.blank
+fits-limits con view limits fits = record {
+  some_list = omega (arith, fits.lists, limits.some_list);
+  few_lists = omega (arith, fits.lists, limits.lists);
+  few_votes = fits.votes;
+  some_seat = limits.some_seat;
+  few_seats = limits.seats;
+  whole_at_most = limits.profile;
+}
 
 -- ---- the lot
 

@@ -1,5 +1,5 @@
 -- In a lawful state each command is decided: its votes come to something, and of that something is decided.
-use Rattle.std.proofs.Common.{◌≡◌, ◌≤◌, ◌∷◌, ◌⊎◌, ℕ, zero, suc, List, [], Bool, true, false, Option, Some, None, Result, Err, get_or, refl, inl, inr}
+use Rattle.std.proofs.Common.{◌≡◌, ◌≤◌, ◌∷◌, ◌⊎◌, ℕ, zero, suc, List, [], Bool, true, false, Option, Some, None, Result, Err, get_or, length, refl, inl, inr, arith}
 use Rattle.std.proofs.lemmas.Bool.{false≢true}
 use Rattle.tally_rules.specs.Constituency.{Constituency}
 use Rattle.tally_rules.specs.Limits.{IsSetup}
@@ -22,6 +22,7 @@ use Rattle.tally_returns.specs.declared.ask.Ask.TheVariants.{Certify, Close, Cor
 use Rattle.tally_returns.specs.declared.refusal.Refusal.{Refusal}
 use Rattle.tally_returns.specs.declared.refusal.Refusal.TheVariants.{NoConstituency}
 use Rattle.tally_machine.proofs.LawLemmas.{AllotmentLaws, seats-stand, view-stands}
+use Rattle.tally_machine.proofs.NeedLemmas.{length-marks_60, marks_60, need-marked}
 use Rattle.tally_machine.proofs.ViewLemmas.{constituency-limits, view-lawful}
 
 -- some list is eligible, or none is
@@ -41,8 +42,8 @@ some_marked (false ∷ marks) = later (some_marked marks)
 -- ---- what the votes come to
 
 -- Where no lot stands, or one that may, the votes come to something.
-pub outcome-stands : AllotmentLaws → (con : Constituency) (view : View) → 1 ≤ con.seats → (view.lot ≡ []) ⊎ MayStand con view → (outcome : Outcome) × IsOutcome con view outcome
-outcome-stands laws con view some lot = by_eligible (some_marked (poll_in con view).eligible)
+pub outcome-stands : AllotmentLaws → (con : Constituency) (view : View) → 1 ≤ con.seats → length view.votes ≤ 60 → (view.lot ≡ []) ⊎ MayStand con view → (outcome : Outcome) × IsOutcome con view outcome
+outcome-stands laws con view some few lot = by_eligible (some_marked (poll_in con view).eligible)
   where
     rule : Rule
     rule = rule_in con
@@ -58,7 +59,7 @@ outcome-stands laws con view some lot = by_eligible (some_marked (poll_in con vi
     without : HasEligible poll → view.lot ≡ [] → IsDecidedByVotes rule poll con.seats ⊎ ((group : List Bool) × (in_question : ℕ) × IsNeed rule poll con.seats group in_question)
         → (outcome : Outcome) × IsOutcome con view outcome
     without has none (inl decided) = seated has (inl (decided, none))
-    without has none (inr need) = (lot_missing need.0 need.1, (has, need.2, none))
+    without has none (inr need) = (lot_missing (marks_60 need.0) need.1, (has, need-marked rule poll con.seats need.0 need.1 few need.2, none, length-marks_60 need.0))
 
     by_lot : HasEligible poll → (view.lot ≡ []) ⊎ MayStand con view → (outcome : Outcome) × IsOutcome con view outcome
     by_lot has (inl none) = without has none (laws.either con.profile view.votes view.blank con.seats some has)
@@ -104,7 +105,9 @@ decides-stands con view code (ShowCon its) named outcome = (_, refl)
 pub command-decided : AllotmentLaws → (setup : List Constituency) (s : State) (code : List ℕ) (con : Constituency) (view : View) (ask : Ask) → IsSetup setup → IsLawfulState setup s → constituency_with code setup ≡ Some con → IsView con s view
     → con_named ask ≡ Some code → (decided : Result ConChange Refusal) × Decides con view ask decided
 command-decided laws setup s code con view ask ok lawful is seen named =
-    decides-stands con view code ask named (outcome-stands laws con view (constituency-limits setup code con ok is).some_seat (view-lawful setup s code con view ok lawful is seen).lot)
+    let its = view-lawful setup s code con view ok lawful is seen in
+    let limits = constituency-limits setup code con ok is in
+    decides-stands con view code ask named (outcome-stands laws con view limits.some_seat (omega (arith, its.fits.lists, limits.lists)) its.lawful.lot)
 
 -- In a lawful state there is a step of each command.
 pub step-stands : AllotmentLaws → (setup : List Constituency) (s : State) (ask : Ask) → IsSetup setup → IsLawfulState setup s → (t : State) × (seen_as : Result Answer Refusal) × IsStepSeen setup s ask seen_as t

@@ -1,21 +1,22 @@
 -- The laws of steps and runs.
 use Rattle.std.proofs.Common.{◌≡◌, ◌≢◌, ◌≤◌, ◌↔◌, ◌∙◌, ◌-◌, ◌∷◌, ℕ, List, [], Bool, true, false, Option, Some, None, Result, Ok, Err, length, refl, sym, ap, subst, inl, inr, arith}
-use Rattle.std.specs.Prelude.{◌==◌, not, sum}
+use Rattle.std.specs.Prelude.{◌==◌, All, not}
+use Rattle.std.proofs.lemmas.List.Elements.{All-head, All-tail}
 use Rattle.tally_rules.specs.Constituency.{Constituency}
 use Rattle.tally_rules.specs.Limits.{IsSetup}
 use Rattle.tally_rules.specs.Setup.{constituency_with}
-use Rattle.tally_contest.specs.Allotment.{Rule, divisors, hare, IsAllotment}
+use Rattle.tally_contest.specs.Allotment.{IsAllotment}
 use Rattle.tally_contest.specs.LotNeed.{IsLotNeeded, IsLotTaken, IsNeed}
-use Rattle.tally_contest.specs.Poll.{HasEligible, Poll}
+use Rattle.tally_contest.specs.Poll.{HasEligible}
 use Rattle.tally_allot.specs.LawStatements.{AllotmentsAreUnique, AllotmentsExist, EachOrderGivesAChoice, GroupsAreOfOneNumberOfVotes, NoLotIsNeededWhereVotesDecide, VotesDecideOrALotIsNeeded}
-use Rattle.tally_machine.specs.Certification.{Certifies, RefusedOr, certified_by, count_checks, last_edition}
+use Rattle.tally_machine.specs.Certification.{Certifies, RefusedOr, certified_by, count_checks}
 use Rattle.tally_returns.specs.Checks.{check, first_refusal}
 use Rattle.tally_machine.specs.ConStep.{IsView, certified_with, changed_by}
 use Rattle.tally_machine.specs.LawfulState.{IsLawfulState}
-use Rattle.tally_returns.specs.Named.{con_named}
+use Rattle.tally_returns.specs.Named.{BringsCode, con_named}
 use Rattle.tally_machine.specs.Outcome.{HasSeats, IsCertificate, IsOutcome, MayStand, Outcome, allotted, lot_missing, nobody, poll_in, rule_in}
 use Rattle.tally_machine.specs.Replies.{IsAnswered, IsConStep, IsRun, IsStep, IsStepAt, con_answer, seen}
-use Rattle.tally_returns.specs.State.{State, con_state, opening}
+use Rattle.tally_returns.specs.State.{State, con_state, opening, last_edition}
 use Rattle.tally_returns.specs.View.{View, view_of}
 use Rattle.tally_returns.specs.declared.ask.Ask.{Ask}
 use Rattle.tally_returns.specs.declared.ask.Ask.TheVariants.{Certify}
@@ -24,31 +25,32 @@ use Rattle.tally_returns.specs.declared.refusal.Refusal.TheVariants.{Certified, 
 use Rattle.tally_returns.specs.declared.reply.Reply.{Reply}
 use Rattle.tally_machine.proofs.ConStepLemmas.{con-step-lawful}
 use Rattle.tally_machine.proofs.ReturnStepLemmas.{opening-lawful, return-step-lawful}
+use Rattle.tally_machine.proofs.VacancyLemmas.{allotted-sum}
 use Rattle.tally_machine.proofs.ViewLemmas.{constituency-limits}
 
 -- ---- steps and runs
 
-pub step-lawful : (setup : List Constituency) (s t : State) (ask : Ask) (r : Result Reply Refusal) → IsSetup setup → IsLawfulState setup s → IsStep setup s ask r t → IsLawfulState setup t
-step-lawful setup s t ask r ok lawful step = at (con_named ask) refl step
+pub step-lawful : (setup : List Constituency) (s t : State) (ask : Ask) (r : Result Reply Refusal) → BringsCode ask → IsSetup setup → IsLawfulState setup s → IsStep setup s ask r t → IsLawfulState setup t
+step-lawful setup s t ask r brings ok lawful step = at (con_named ask) refl step
   where
     at_con : (code : List ℕ) → con_named ask ≡ Some code → (found : Option Constituency) → constituency_with code setup ≡ found → IsConStep found s ask r t → IsLawfulState setup t
     at_con code named None is step = subst (IsLawfulState setup) (sym step.1) lawful
     at_con code named (Some con) is step = con-step-lawful setup s t ask r code con ok lawful is named step
 
     at : (named : Option (List ℕ)) → con_named ask ≡ named → IsStepAt named setup s ask r t → IsLawfulState setup t
-    at None is step = subst (IsLawfulState setup) (sym step.1) (return-step-lawful setup s ask ok lawful)
+    at None is step = subst (IsLawfulState setup) (sym step.1) (return-step-lawful setup s ask brings ok lawful)
     at (Some code) is step = at_con code is (constituency_with code setup) refl step
 
-answered-lawful : (setup : List Constituency) (s t : State) (ask : Ask) (r : Result Reply Refusal) → IsSetup setup → IsLawfulState setup s → IsAnswered setup s ask r t → IsLawfulState setup t
-answered-lawful setup s t ask r ok lawful (inl step) = step-lawful setup s t ask r ok lawful step
-answered-lawful setup s t ask r ok lawful (inr not_accepted) = subst (IsLawfulState setup) (sym not_accepted.1) lawful
+pub answered-lawful : (setup : List Constituency) (s t : State) (ask : Ask) (r : Result Reply Refusal) → BringsCode ask → IsSetup setup → IsLawfulState setup s → IsAnswered setup s ask r t → IsLawfulState setup t
+answered-lawful setup s t ask r brings ok lawful (inl step) = step-lawful setup s t ask r brings ok lawful step
+answered-lawful setup s t ask r brings ok lawful (inr not_accepted) = subst (IsLawfulState setup) (sym not_accepted.1) lawful
 
-pub run-lawful : (setup : List Constituency) (s t : State) (asks : List Ask) (rs : List (Result Reply Refusal)) → IsSetup setup → IsRun setup s asks rs t → IsLawfulState setup s → IsLawfulState setup t
-run-lawful setup s t [] [] ok run lawful = subst (IsLawfulState setup) (sym run) lawful
-run-lawful setup s t [] (r ∷ rs) ok run lawful = absurd run
-run-lawful setup s t (ask ∷ asks) [] ok run lawful = absurd run
-run-lawful setup s t (ask ∷ asks) (r ∷ rs) ok run lawful =
-    run-lawful setup run.0 t asks rs ok run.2 (answered-lawful setup s run.0 ask r ok lawful run.1)
+pub run-lawful : (setup : List Constituency) (s t : State) (asks : List Ask) (rs : List (Result Reply Refusal)) → All BringsCode asks → IsSetup setup → IsRun setup s asks rs t → IsLawfulState setup s → IsLawfulState setup t
+run-lawful setup s t [] [] brings ok run lawful = subst (IsLawfulState setup) (sym run) lawful
+run-lawful setup s t [] (r ∷ rs) brings ok run lawful = absurd run
+run-lawful setup s t (ask ∷ asks) [] brings ok run lawful = absurd run
+run-lawful setup s t (ask ∷ asks) (r ∷ rs) brings ok run lawful =
+    run-lawful setup run.0 t asks rs (All-tail BringsCode ask asks brings) ok run.2 (answered-lawful setup s run.0 ask r (All-head BringsCode ask asks brings) ok lawful run.1)
 
 -- ---- allotments
 
@@ -60,10 +62,6 @@ pub record AllotmentLaws : Type 0 where
   pub groups : GroupsAreOfOneNumberOfVotes
   pub either : VotesDecideOrALotIsNeeded
   pub never_both : NoLotIsNeededWhereVotesDecide
-
-allotted-sum : (rule : Rule) (poll : Poll) (lot : List ℕ) (seats : ℕ) (a : List ℕ) → IsAllotment rule poll lot seats a → sum a ≡ seats
-allotted-sum (divisors nth unit lot_rule) poll lot seats a is = is.shares.whole
-allotted-sum hare poll lot seats a is = is.shares.whole
 
 -- the lot that is to be taken stands where one is needed
 pub lot-stands : AllotmentLaws → (con : Constituency) (view : View) → 1 ≤ con.seats → IsLotTaken (rule_in con) (poll_in con view) con.seats view.lot → IsLotNeeded (rule_in con) (poll_in con view) con.seats → view.lot ≢ []
@@ -107,7 +105,7 @@ certificate-of_view laws setup t ok lawful code con is certified view seen =
     let here = view_of con t view.seats in
     let has : HasSeats con here true = subst (λ (b : Bool). HasSeats con here b) certified (subst (λ (v : View). HasSeats con v v.certified) seen.0 seen.1) in
     let certificate : IsCertificate con here = record {
-      closed = ((lawful.cons code con is).certified certified).0;
+      closed = ((lawful.cons code con is).seen.certified certified).0;
       allotment = has;
       exactly = allotted-sum (rule_in con) (poll_in con here) here.lot con.seats here.seats has.2;
       lot = lot-stands laws con here (constituency-limits setup code con ok is).some_seat has.1;
@@ -120,7 +118,7 @@ pub certificate-stands : AllotmentLaws → (setup : List Constituency) (t : Stat
 certificate-stands laws setup t ok lawful code con is certified =
     let some : 1 ≤ con.seats = (constituency-limits setup code con ok is).some_seat in
     let empty = view_of con t [] in
-    let may : MayStand con empty = (lawful.cons code con is).certified certified in
+    let may : MayStand con empty = (lawful.cons code con is).seen.certified certified in
     let a = seats-stand laws con empty some may.1 may.2 in
     let view = view_of con t a.0 in
     let has : HasSeats con view true = (may.1, may.2, a.1) in
@@ -135,9 +133,9 @@ view-stands laws setup s code con ok lawful is = go (con_state s con.code).certi
     go true certified = let stands = certificate-stands laws setup s ok lawful code con is certified in (stands.0, stands.1)
     go false opened = (view_of con s [], (refl, subst (λ (x : Bool). HasSeats con (view_of con s []) x) (sym opened) refl))
 
-pub certificate-of_run : AllotmentLaws → (setup : List Constituency) (t : State) (asks : List Ask) (rs : List (Result Reply Refusal)) → IsSetup setup → IsRun setup (opening setup) asks rs t
+pub certificate-of_run : AllotmentLaws → (setup : List Constituency) (t : State) (asks : List Ask) (rs : List (Result Reply Refusal)) → All BringsCode asks → IsSetup setup → IsRun setup (opening setup) asks rs t
     → (code : List ℕ) (con : Constituency) → constituency_with code setup ≡ Some con → (con_state t con.code).certified ≡ true → (view : View) × IsView con t view × IsCertificate con view
-certificate-of_run laws setup t asks rs ok run = certificate-stands laws setup t ok (run-lawful setup (opening setup) t asks rs ok run (opening-lawful setup ok))
+certificate-of_run laws setup t asks rs brings ok run = certificate-stands laws setup t ok (run-lawful setup (opening setup) t asks rs brings ok run (opening-lawful setup ok))
 
 -- ---- a missing lot
 

@@ -1,17 +1,20 @@
 -- What Draw and Certify leave is lawful.
-use Rattle.std.proofs.Common.{◌≡◌, ◌+◌, ◌-◌, ◌==◌, ◌∷◌, ℕ, List, [], Bool, true, false, Option, Some, None, Result, Ok, Err, refl, sym, subst, inr, arith}
+use Rattle.std.proofs.Common.{◌≡◌, ◌∙◌, ◌+◌, ◌-◌, ◌==◌, ◌∷◌, ℕ, List, [], Bool, true, false, Option, Some, None, Result, Ok, Err, refl, sym, subst, inr, arith}
 use Rattle.std.specs.Prelude.{not, if◌then◌else◌}
 use Rattle.std.proofs.lemmas.Bool.{eqb-true, eqb-false, not-true}
 use Rattle.tally_rules.specs.Constituency.{Constituency}
 use Rattle.tally_contest.specs.Lot.{IsOrderOf}
-use Rattle.tally_machine.specs.Certification.{Certifies, Draws, RefusedOr, certified_by, count_checks, drawn_places, drawn_where, last_edition, list_places, names_group}
+use Rattle.tally_machine.specs.Certification.{Certifies, Draws, RefusedOr, certified_by, count_checks, drawn_places, drawn_where, list_places, names_group}
 use Rattle.tally_returns.specs.Checks.{check, first_refusal}
-use Rattle.tally_machine.specs.Outcome.{Outcome, HasSeats, IsLawfulView, IsOutcome, allotted, lot_missing, nobody}
+use Rattle.tally_machine.specs.Outcome.{Outcome, HasSeats, IsLawfulView, IsOutcome, allotted, lot_missing, nobody, poll_in, rule_in}
+use Rattle.tally_returns.specs.State.{last_edition}
 use Rattle.tally_returns.specs.View.{View}
 use Rattle.tally_returns.specs.declared.refusal.Refusal.{Refusal}
 use Rattle.tally_returns.specs.declared.refusal.Refusal.TheVariants.{Certified, Exhausted, LotWrongGroup, NotAllClosed, Stale}
 use Rattle.tally_returns.proofs.DecideLemmas.{passed-first, passed-rest}
 use Rattle.tally_machine.proofs.LotLemmas.{order-from}
+use Rattle.tally_machine.proofs.PastLemmas.{past-later}
+use Rattle.tally_machine.proofs.VacancyLemmas.{allotted-long}
 
 -- ---- where something is given, no check failed
 
@@ -59,16 +62,27 @@ pub certified-lawful : (con : Constituency) (view : View) (edition : ℕ) (seats
     → IsLawfulView con (record view { edition = view.edition + 1; certified = true; seats = seats })
 certified-lawful con view edition seats lawful certifies =
     let g = given (first_refusal (count_checks view edition)) (λ result. (outcome : Outcome) × IsOutcome con view outcome × (result ≡ certified_by outcome)) seats certifies in
-    let p = passed view edition g.0 in record {
-      lists = lawful.lists;
-      limits = lawful.limits;
-      first = omega (arith, lawful.first);
-      last = omega (arith, lawful.last, p.not_last);
-      stations = lawful.stations;
+    let p = passed view edition g.0 in
+    let given_seats = certified-seats con view edition seats certifies in record {
+      fits = record {
+        lists = lawful.fits.lists;
+        votes = lawful.fits.votes;
+        edition = omega (arith, lawful.fits.edition, p.not_last);
+        stations = lawful.fits.stations;
+        seats = λ _. allotted-long (rule_in con) (poll_in con view) view.lot con.seats seats given_seats.2 ∙ lawful.fits.lists;
+        past = lawful.fits.past;
+      };
       few = lawful.few;
-      lot = lawful.lot;
-      seats = certified-seats con view edition seats certifies;
-      closed = λ _. p.all_closed;
+      lawful = record {
+        first = omega (arith, lawful.lawful.first);
+        last = omega (arith, lawful.lawful.last, p.not_last);
+        note = lawful.lawful.note;
+        lot = lawful.lawful.lot;
+        certified = λ _. (p.all_closed, given_seats.0, given_seats.1);
+        gone = lawful.lawful.gone;
+        past = past-later con view.edition view.past lawful.lawful.past;
+      };
+      seats = given_seats;
     }
 
 -- ---- Draw
@@ -124,13 +138,23 @@ drawn-lawful con view edition order places lawful draws =
     let p = passed view edition g.0 in
     let d = drawn-group con view edition order places draws in
     let none : HasSeats con view false = subst (λ (b : Bool). HasSeats con view b) p.not_certified lawful.seats in record {
-      lists = lawful.lists;
-      limits = lawful.limits;
-      first = omega (arith, lawful.first);
-      last = omega (arith, lawful.last, p.not_last);
-      stations = lawful.stations;
+      fits = record {
+        lists = lawful.fits.lists;
+        votes = lawful.fits.votes;
+        edition = omega (arith, lawful.fits.edition, p.not_last);
+        stations = lawful.fits.stations;
+        seats = lawful.fits.seats;
+        past = lawful.fits.past;
+      };
       few = lawful.few;
-      lot = inr (p.all_closed, d.missing.0, inr (d.group, d.in_question, d.missing.1, order-from d.group places d.named));
+      lawful = record {
+        first = omega (arith, lawful.lawful.first);
+        last = omega (arith, lawful.lawful.last, p.not_last);
+        note = lawful.lawful.note;
+        lot = inr (p.all_closed, d.missing.0, inr (d.group, d.in_question, d.missing.1, order-from d.group places d.named));
+        certified = λ certified. let never : false ≡ true = sym p.not_certified ∙ certified in cc;
+        gone = lawful.lawful.gone;
+        past = past-later con view.edition view.past lawful.lawful.past;
+      };
       seats = subst (λ (b : Bool). HasSeats con (record view { edition = view.edition + 1; lot = places }) b) (sym p.not_certified) none;
-      closed = λ is. p.all_closed;
     }

@@ -7,6 +7,7 @@ pub mod StayLemmas
 pub mod HolderLemmas
 pub mod LotLemmas
 pub mod CertificationLemmas
+pub mod PastLemmas
 pub mod LawfulViewLemmas
 pub mod VacancyLemmas
 pub mod ReturnStepLemmas
@@ -14,3 +15,9 @@ pub mod ViewLemmas
 pub mod ConStepLemmas
 pub mod LawLemmas
 pub mod DecidedLemmas
+pub mod NeedLemmas
+pub mod OneLemmas
+pub mod OwnLemmas
+pub mod DecisionLemmas
+pub mod RecordLemmas
+pub mod KindLemmas

@@ -54,7 +54,7 @@ changed-onward : (c : ConState) (change : ConChange) → IsConOnward c (changed 
 changed-onward c no_change = con_onward-same c
 changed-onward c (lot_set places) = record { edition = omega arith; gone = λ candidate there. there }
 changed-onward c (certified_with seats) = record { edition = omega arith; gone = λ candidate there. there }
-changed-onward c (open_again note) = record { edition = omega arith; gone = λ candidate there. there }
+changed-onward c (open_again note past) = record { edition = omega arith; gone = λ candidate there. there }
 changed-onward c (gone_for_good candidate next) =
     record { edition = omega arith; gone = insert-gone c.gone (candidate.list ∷ candidate.place ∷ []) candidate.note }
 
@@ -79,7 +79,7 @@ after_put-onward setup s (Query station rev note) q = without_lot-onward s (con_
 after_put-onward setup s other q = con_onward-same (con_state s q)
 
 -- a return that is put leaves what constituencies have come to
-with_return-cons : (s : State) (named : Option (List ℕ)) (standing : StationReturn) → (with_return s named standing).cons ≡ s.cons
+pub with_return-cons : (s : State) (named : Option (List ℕ)) (standing : StationReturn) → (with_return s named standing).cons ≡ s.cons
 with_return-cons s None standing = refl
 with_return-cons s (Some station) standing = refl
 

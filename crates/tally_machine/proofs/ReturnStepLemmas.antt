@@ -1,5 +1,5 @@
 -- A step on a return keeps a lawful state lawful.
-use Rattle.std.proofs.Common.{◌≡◌, ◌≢◌, ◌≤◌, ◌++◌, ◌∷◌, ◌⊎◌, ◌∙◌, ℕ, List, [], Bool, true, false, cond, map, Option, Some, None, Result, Ok, Err, refl, sym, ap, subst, inl, inr, arith}
+use Rattle.std.proofs.Common.{length, ◌≡◌, ◌≢◌, ◌≤◌, ◌++◌, ◌∷◌, ◌⊎◌, ◌∙◌, ℕ, List, [], Bool, true, false, cond, map, Option, Some, None, Result, Ok, Err, refl, sym, ap, subst, inl, inr, arith}
 use Rattle.std.specs.Prelude.{◌==◌, ◌&&◌, not, nat_eq, All, is_some, option_map, unwrap_or, string_bytes, if◌then◌else◌}
 use Rattle.std.specs.Cmp.Lexicographic.{pointwise, nat_list_cmp_total}
 use Rattle.std.specs.FinMap as fin
@@ -7,6 +7,7 @@ use Rattle.std.specs.Option.{ForSome, option_map_or}
 use Rattle.std.specs.Ordering.{eq_by_cmp}
 use Rattle.std.specs.Str.{bytes_eq}
 use Rattle.std.proofs.lemmas.Bool.{not-true}
+use Rattle.std.proofs.lemmas.List.Elements.{All-nil}
 use Rattle.std.proofs.lemmas.Slice.Eq.{bytes_eq-Decides}
 use Rattle.tally_rules.specs.Code.{code_cmp}
 use Rattle.tally_rules.specs.Constituency.{Constituency}
@@ -14,20 +15,20 @@ use Rattle.tally_rules.specs.Limits.{IsSetup}
 use Rattle.tally_rules.specs.Setup.{constituency_with, station_with}
 use Rattle.tally_rules.specs.Text.{is_note}
 use Rattle.tally_rules.specs.declared.constituency.Station.{Station}
-use Rattle.tally_machine.specs.Certification.{last_edition}
 use Rattle.tally_returns.specs.Checks.{check, first_refusal, refused_or}
 use Rattle.tally_returns.specs.Counts.{VoteCounts, same_counts}
 use Rattle.tally_returns.specs.Decide.{decided_return, limits_of, lodge_change, moved, put_next}
 use Rattle.tally_returns.specs.Lawful.{IsLawful, may_stand}
-use Rattle.tally_machine.specs.LawfulState.{IsLawfulCon, IsLawfulState, is_candidate}
+use Rattle.tally_machine.specs.LawfulState.{IsLawfulIn, IsLawfulState, IsUnderPlaces}
 use Rattle.tally_returns.specs.Lodge.{StationLimits, admitted, counts_checks, unless_refused}
 use Rattle.tally_returns.specs.Moves.{close_checks, closed, correct_checks, corrected, counts_checks_at, last_revision, may_close, may_correct, may_query, move_checks, queried, query_checks}
-use Rattle.tally_machine.specs.Outcome.{MayStand}
+use Rattle.tally_returns.specs.Named.{BringsCode}
+use Rattle.tally_machine.specs.Outcome.{IsLawfulCon, IsLawfulGone, IsLawfulPast, MayStand}
 use Rattle.tally_returns.specs.Progress.{is_closed}
 use Rattle.tally_returns.specs.Return.{StationReturn, Returns}
-use Rattle.tally_returns.specs.State.{State, ConState, con_state, opening, opening_con, opening_cons, stations_of}
+use Rattle.tally_returns.specs.State.{State, ConState, con_state, opening, opening_con, opening_cons, stations_of, last_edition}
 use Rattle.tally_returns.specs.Step.{after, after_return, con_of, decided_in, is_certified, with_return, without_lot}
-use Rattle.tally_returns.specs.View.{view_of, view_with}
+use Rattle.tally_returns.specs.View.{gone_candidate, gone_candidates, past_records, view_of, view_with}
 use Rattle.tally_returns.specs.declared.ask.Ask.{Ask}
 use Rattle.tally_returns.specs.declared.ask.Ask.TheVariants.{Certify, Close, Correct, Draw, Lodge, Query, Reopen, ShowCon, ShowProgress, ShowReturn, Vacate}
 use Rattle.tally_returns.specs.declared.change.Change.{Change}
@@ -40,46 +41,40 @@ use Rattle.tally_returns.specs.declared.returns.Status.TheVariants.{Closed, Corr
 use Rattle.tally_returns.proofs.ClosedLemmas.{IsSameAt, all_closed-at, closed_now, constituency_with-code, get-kept, get-put, put-elsewhere, same-tied, station-elsewhere, station_with-con, tied-same, view_with-same}
 use Rattle.tally_returns.proofs.DecideLemmas.{decided-lawful, passed-rest}
 use Rattle.tally_returns.proofs.StateLemmas.{station_with-in}
+use Rattle.tally_machine.proofs.PastLemmas.{no-past}
 
 -- ---- what is lawful of a constituency
 
 -- a constituency stays lawful where what it has come to is the same, and so are the returns of its stations
-pub IsLawfulCon-same : (con : Constituency) (s t : State) → con_state t con.code ≡ con_state s con.code → All (IsSameAt t.returns s.returns) con.stations → IsLawfulCon con s → IsLawfulCon con t
-IsLawfulCon-same con s t same returns lawful = record {
-  first = subst (λ (c : ConState). 1 ≤ c.edition) (sym same) lawful.first;
-  last = subst (λ (c : ConState). c.edition ≤ last_edition) (sym same) lawful.last;
-  note = subst (λ (c : ConState). may_stand c.note ≡ true) (sym same) lawful.note;
-  lot = go lawful.lot;
-  certified = λ is. stands (lawful.certified (ap (λ (c : ConState). c.certified) (sym same) ∙ is));
-  gone = subst (λ (c : ConState). (candidate : List ℕ) → ForSome (fin.get c.gone candidate) (λ note. (is_candidate con candidate ≡ true) × (is_note note ≡ true))) (sym same) lawful.gone;
+pub IsLawfulIn-same : (con : Constituency) (s t : State) → con_state t con.code ≡ con_state s con.code → All (IsSameAt t.returns s.returns) con.stations → IsLawfulIn con s → IsLawfulIn con t
+IsLawfulIn-same con s t same returns lawful = record {
+  seen = subst (IsLawfulCon con) seen lawful.seen;
+  gone = subst (λ (c : ConState). All IsUnderPlaces (fin.entries c.gone)) (sym same) lawful.gone;
 }
   where
     seen : view_of con s [] ≡ view_of con t []
     seen = ap (λ (c : ConState). view_with con c s.returns []) (sym same) ∙ sym (view_with-same con (con_state t con.code) t.returns s.returns [] returns)
 
-    stands : MayStand con (view_of con s []) → MayStand con (view_of con t [])
-    stands may = subst (MayStand con) seen may
-
-    go : ((con_state s con.code).lot ≡ []) ⊎ MayStand con (view_of con s []) → ((con_state t con.code).lot ≡ []) ⊎ MayStand con (view_of con t [])
-    go (inl none) = inl (ap (λ (c : ConState). c.lot) same ∙ none)
-    go (inr may) = inr (stands may)
-
 -- and where it is not certified, once its lot has gone, whatever becomes of its returns
-pub IsLawfulCon-open : (con : Constituency) (s t : State) → con_state t con.code ≡ record (con_state s con.code) { lot = [] } → (con_state s con.code).certified ≡ false
-    → IsLawfulCon con s → IsLawfulCon con t
-IsLawfulCon-open con s t now is_open lawful = record {
-  first = subst (λ (c : ConState). 1 ≤ c.edition) (sym now) lawful.first;
-  last = subst (λ (c : ConState). c.edition ≤ last_edition) (sym now) lawful.last;
-  note = subst (λ (c : ConState). may_stand c.note ≡ true) (sym now) lawful.note;
-  lot = inl (ap (λ (c : ConState). c.lot) now);
-  certified = λ is. let no : false ≡ true = sym (ap (λ (c : ConState). c.certified) now ∙ is_open) ∙ is in cc;
-  gone = subst (λ (c : ConState). (candidate : List ℕ) → ForSome (fin.get c.gone candidate) (λ note. (is_candidate con candidate ≡ true) × (is_note note ≡ true))) (sym now) lawful.gone;
+pub IsLawfulIn-open : (con : Constituency) (s t : State) → con_state t con.code ≡ record (con_state s con.code) { lot = [] } → (con_state s con.code).certified ≡ false
+    → IsLawfulIn con s → IsLawfulIn con t
+IsLawfulIn-open con s t now is_open lawful = record {
+  seen = record {
+    first = subst (λ (c : ConState). 1 ≤ c.edition) (sym now) lawful.seen.first;
+    last = subst (λ (c : ConState). c.edition ≤ last_edition) (sym now) lawful.seen.last;
+    note = subst (λ (c : ConState). may_stand c.note ≡ true) (sym now) lawful.seen.note;
+    lot = inl (ap (λ (c : ConState). c.lot) now);
+    certified = λ is. let no : false ≡ true = sym (ap (λ (c : ConState). c.certified) now ∙ is_open) ∙ is in cc;
+    gone = subst (λ (c : ConState). All (IsLawfulGone con) (gone_candidates c.gone)) (sym now) lawful.seen.gone;
+    past = subst (λ (c : ConState). All (IsLawfulPast con c.edition) (past_records c.past)) (sym now) lawful.seen.past;
+  };
+  gone = subst (λ (c : ConState). All IsUnderPlaces (fin.entries c.gone)) (sym now) lawful.gone;
 }
 
 -- where the return of a station is not closed, no lot stands in its constituency, and it is not certified
-pub open-station : (setup : List Constituency) (s : State) (code : List ℕ) (con : Constituency) (station : Station) → IsLawfulCon con s → station_with code setup ≡ Some (con, station)
+pub open-station : (setup : List Constituency) (s : State) (code : List ℕ) (con : Constituency) (station : Station) → IsLawfulIn con s → station_with code setup ≡ Some (con, station)
     → closed_now (fin.get s.returns code) ≡ false → ((con_state s con.code).lot ≡ []) × ((con_state s con.code).certified ≡ false)
-open-station setup s code con station lawful is is_open = (no_lot lawful.lot, not_certified (con_state s con.code).certified refl)
+open-station setup s code con station lawful is is_open = (no_lot lawful.seen.lot, not_certified (con_state s con.code).certified refl)
   where
     never : ¬ MayStand con (view_of con s [])
     never may = let closed : closed_now (fin.get s.returns code) ≡ true = all_closed-at con s.returns code station may.0 (station_with-in setup code con station is) in cc
@@ -89,7 +84,7 @@ open-station setup s code con station lawful is is_open = (no_lot lawful.lot, no
     no_lot (inr may) = absurd (never may)
 
     not_certified : (b : Bool) → (con_state s con.code).certified ≡ b → b ≡ false
-    not_certified true is_so = absurd (never (lawful.certified is_so))
+    not_certified true is_so = absurd (never (lawful.seen.certified is_so))
     not_certified false is_so = refl
 
 -- ---- a return that is put
@@ -126,15 +121,15 @@ put-lawful setup s t con place station r is_setup lawful is right is_open put = 
     own : constituency_with con.code setup ≡ Some con
     own = station_with-con setup station con place is_setup is
 
-    each : (code : List ℕ) (other : Constituency) → constituency_with code setup ≡ Some other → (b : Bool) → bytes_eq other.code con.code ≡ b → IsLawfulCon other t
+    each : (code : List ℕ) (other : Constituency) → constituency_with code setup ≡ Some other → (b : Bool) → bytes_eq other.code con.code ≡ b → IsLawfulIn other t
     each code other found true tied =
         let key : code ≡ con.code = sym (constituency_with-code setup code other found) ∙ (bytes_eq-Decides other.code con.code).0 tied in
         let again : Some con ≡ Some other = sym own ∙ ap (λ q. constituency_with q setup) (sym key) ∙ found in
         let same : con ≡ other = cc in
-        subst (λ (c : Constituency). IsLawfulCon c t) same (IsLawfulCon-open con s t put.here is_open (lawful.cons con.code con own))
+        subst (λ (c : Constituency). IsLawfulIn c t) same (IsLawfulIn-open con s t put.here is_open (lawful.cons con.code con own))
     each code other found false apart =
         let differ : other.code ≢ con.code = λ same. let tied : bytes_eq other.code con.code ≡ true = (bytes_eq-Decides other.code con.code).1 same in cc in
-        IsLawfulCon-same other s t (put.others other.code differ)
+        IsLawfulIn-same other s t (put.others other.code differ)
         (subst (λ (m : Returns). All (IsSameAt m s.returns) other.stations) (sym put.returns) (put-elsewhere s.returns station r other.stations (station-elsewhere setup code station con other place is_setup is found differ)))
         (lawful.cons code other found)
 
@@ -203,7 +198,7 @@ moved-from certified found rev may_start checks next r rest is = go (first_refus
         let moves = move-started certified standing rev may_start (subst (λ f. first_refusal (move_checks certified f rev may_start) ≡ None) some (rest none)) in
         record { standing = standing; found_is = some; started = moves.0; is_open = moves.1 }
 
-append-rest : (xs ys : List (Option Refusal)) → first_refusal (xs ++ ys) ≡ None → first_refusal ys ≡ None
+pub append-rest : (xs ys : List (Option Refusal)) → first_refusal (xs ++ ys) ≡ None → first_refusal ys ≡ None
 append-rest [] ys none = none
 append-rest (None ∷ xs) ys none = append-rest xs ys none
 append-rest (Some e ∷ xs) ys none = cc
@@ -278,9 +273,9 @@ pub record IsPlaced (setup : List Constituency) (station : List ℕ) (certified 
   pub lawful : IsLawful (limits_of con place) r
   pub decision : decided_return (Some (limits_of con place)) certified found ask ≡ Ok (PutReturn r)
 
-pub put-placed : (setup : List Constituency) (s : State) (station : List ℕ) (certified : Bool) (ask : Ask) (r : StationReturn) → IsLawfulState setup s
+pub put-placed : (setup : List Constituency) (s : State) (station : List ℕ) (certified : Bool) (ask : Ask) (r : StationReturn) → BringsCode ask → IsLawfulState setup s
     → decided_return (stations_of setup station) certified (fin.get s.returns station) ask ≡ Ok (PutReturn r) → IsPlaced setup station certified (fin.get s.returns station) ask r
-put-placed setup s station certified ask r lawful is = go (station_with station setup) refl is
+put-placed setup s station certified ask r brings lawful is = go (station_with station setup) refl is
   where
     go : (found : Option (Constituency × Station)) → station_with station setup ≡ found
         → decided_return (option_map (λ (place : Constituency × Station). limits_of place.0 place.1) found) certified (fin.get s.returns station) ask ≡ Ok (PutReturn r)
@@ -290,7 +285,7 @@ put-placed setup s station certified ask r lawful is = go (station_with station 
       con = place.0;
       place = place.1;
       is = there;
-      lawful = decided-lawful (limits_of place.0 place.1) certified (fin.get s.returns station) ask (PutReturn r) stood put;
+      lawful = decided-lawful (limits_of place.0 place.1) certified (fin.get s.returns station) ask (PutReturn r) brings stood put;
       decision = put;
     }
       where
@@ -327,44 +322,44 @@ query-put setup s station ask r is_setup lawful placed is_open =
     (with_lot-put s con.code station r (lawful.known con.code ∙ ap is_some own)))
 
 -- a step on a return from a lawful state leads to a lawful one
-pub return-step-lawful : (setup : List Constituency) (s : State) (ask : Ask) → IsSetup setup → IsLawfulState setup s → IsLawfulState setup (after_return setup s ask)
-return-step-lawful setup s ask is_setup lawful = go (decided_in setup s ask) refl
+pub return-step-lawful : (setup : List Constituency) (s : State) (ask : Ask) → BringsCode ask → IsSetup setup → IsLawfulState setup s → IsLawfulState setup (after_return setup s ask)
+return-step-lawful setup s ask brings is_setup lawful = go (decided_in setup s ask) refl
   where
-    put : (a : Ask) (r : StationReturn) → decided_in setup s a ≡ Ok (PutReturn r) → IsLawfulState setup (after setup s a (Ok (PutReturn r)))
-    put (Lodge station slip counts) r is =
-        let placed = put-placed setup s station (is_certified setup s station) (Lodge station slip counts) r lawful is in
+    put : (a : Ask) (r : StationReturn) → BringsCode a → decided_in setup s a ≡ Ok (PutReturn r) → IsLawfulState setup (after setup s a (Ok (PutReturn r)))
+    put (Lodge station slip counts) r brings is =
+        let placed = put-placed setup s station (is_certified setup s station) (Lodge station slip counts) r brings lawful is in
         open-put setup s station (is_certified setup s station) (Lodge station slip counts) r is_setup lawful placed
         (lodge-open (limits_of placed.con placed.place) (fin.get s.returns station) slip counts r placed.decision)
-    put (Query station rev note) r is =
-        let placed = put-placed setup s station (is_certified setup s station) (Query station rev note) r lawful is in
+    put (Query station rev note) r brings is =
+        let placed = put-placed setup s station (is_certified setup s station) (Query station rev note) r brings lawful is in
         query-put setup s station (Query station rev note) r is_setup lawful placed
         (query-open (stations_of setup station) (is_certified setup s station) (fin.get s.returns station) rev (string_bytes note) r is)
-    put (Correct station rev slip counts) r is =
-        let placed = put-placed setup s station (is_certified setup s station) (Correct station rev slip counts) r lawful is in
+    put (Correct station rev slip counts) r brings is =
+        let placed = put-placed setup s station (is_certified setup s station) (Correct station rev slip counts) r brings lawful is in
         open-put setup s station (is_certified setup s station) (Correct station rev slip counts) r is_setup lawful placed
         (correct-open (stations_of setup station) (is_certified setup s station) (fin.get s.returns station) rev slip counts r is)
-    put (Close station rev) r is =
-        let placed = put-placed setup s station (is_certified setup s station) (Close station rev) r lawful is in
+    put (Close station rev) r brings is =
+        let placed = put-placed setup s station (is_certified setup s station) (Close station rev) r brings lawful is in
         open-put setup s station (is_certified setup s station) (Close station rev) r is_setup lawful placed
         (close-open (stations_of setup station) (is_certified setup s station) (fin.get s.returns station) rev r is)
-    put (ShowReturn station) r is = shown (first_refusal (check (is_some (stations_of setup station)) NoStation ∷ check (is_some (fin.get s.returns station)) NoReturn ∷ [])) is
+    put (ShowReturn station) r brings is = shown (first_refusal (check (is_some (stations_of setup station)) NoStation ∷ check (is_some (fin.get s.returns station)) NoReturn ∷ [])) is
       where
         shown : (refused : Option Refusal) → refused_or refused (Ok Same) ≡ Ok (PutReturn r) → IsLawfulState setup (record s { returns = fin.insert s.returns station r })
         shown None ok = cc
         shown (Some e) ok = cc
-    put (Draw con edition order) r is = lawful
-    put (Certify con edition) r is = lawful
-    put (Reopen con edition note) r is = lawful
-    put (Vacate con list place note) r is = lawful
-    put (ShowCon con) r is = lawful
-    put ShowProgress r is = lawful
+    put (Draw con edition order) r brings is = lawful
+    put (Certify con edition) r brings is = lawful
+    put (Reopen con edition note) r brings is = lawful
+    put (Vacate con list place note) r brings is = lawful
+    put (ShowCon con) r brings is = lawful
+    put ShowProgress r brings is = lawful
 
     go : (d : Result Change Refusal) → decided_in setup s ask ≡ d → IsLawfulState setup (after setup s ask d)
     go (Ok Same) is = lawful
-    go (Ok (PutReturn r)) is = put ask r is
+    go (Ok (PutReturn r)) is = put ask r brings is
     go (Ok (SetLot places)) is = lawful
     go (Ok (SetCertified seats)) is = lawful
-    go (Ok (SetReopened note)) is = lawful
+    go (Ok (SetReopened note past)) is = lawful
     go (Ok (SetGone candidate next)) is = lawful
     go (Err refusal) is = lawful
 
@@ -390,6 +385,14 @@ opens (c ∷ setup) code = go (eq_by_cmp code_cmp code c.code) (bytes_eq code c.
 opening-found : (setup : List Constituency) (code : List ℕ) → fin.get (opening_cons setup) code ≡ option_map (λ (c : Constituency). opening_con) (constituency_with code setup)
 opening-found setup code = fin.get-from_entries nat_list_cmp_total (map (λ (x : Constituency). (x.code, opening_con)) setup) code ∙ opens setup code
 
+-- what the constituency of a code has come to as an office opens
+pub opening-state : (setup : List Constituency) (code : List ℕ) → con_state (opening setup) code ≡ opening_con
+opening-state setup code = ap (λ found. unwrap_or found opening_con) (opening-found setup code) ∙ opened (constituency_with code setup)
+  where
+    opened : (found : Option Constituency) → unwrap_or (option_map (λ (c : Constituency). opening_con) found) opening_con ≡ opening_con
+    opened None = refl
+    opened (Some c) = refl
+
 -- the state that an office opens with
 pub opening-lawful : (setup : List Constituency) → IsSetup setup → IsLawfulState setup (opening setup)
 opening-lawful setup is_setup = record {
@@ -402,22 +405,23 @@ opening-lawful setup is_setup = record {
     known None = refl
     known (Some c) = refl
 
-    opened : (found : Option Constituency) → unwrap_or (option_map (λ (c : Constituency). opening_con) found) opening_con ≡ opening_con
-    opened None = refl
-    opened (Some c) = refl
-
-    now : (code : List ℕ) → con_state (opening setup) code ≡ opening_con
-    now code = ap (λ found. unwrap_or found opening_con) (opening-found setup code) ∙ opened (constituency_with code setup)
-
-    each : (con : Constituency) → IsLawfulCon con (opening setup)
+    each : (con : Constituency) → IsLawfulIn con (opening setup)
     each con = record {
-      first = subst (λ (c : ConState). 1 ≤ c.edition) (sym (now con.code)) (omega arith);
-      last = subst (λ (c : ConState). c.edition ≤ last_edition) (sym (now con.code)) (omega arith);
-      note = ap (λ (c : ConState). may_stand c.note) (now con.code);
-      lot = inl (ap (λ (c : ConState). c.lot) (now con.code));
-      certified = λ is. let no : false ≡ true = sym (ap (λ (c : ConState). c.certified) (now con.code)) ∙ is in cc;
-      gone = λ candidate. subst (λ (c : ConState). ForSome (fin.get c.gone candidate) (λ note. (is_candidate con candidate ≡ true) × (is_note note ≡ true))) (sym (now con.code)) (nobody candidate con);
+      seen = record {
+        first = subst (λ (c : ConState). 1 ≤ c.edition) (sym (opening-state setup con.code)) (omega arith);
+        last = subst (λ (c : ConState). c.edition ≤ last_edition) (sym (opening-state setup con.code)) (omega arith);
+        note = ap (λ (c : ConState). may_stand c.note) (opening-state setup con.code);
+        lot = inl (ap (λ (c : ConState). c.lot) (opening-state setup con.code));
+        certified = λ is. let no : false ≡ true = sym (ap (λ (c : ConState). c.certified) (opening-state setup con.code)) ∙ is in cc;
+        gone = subst (λ (c : ConState). All (IsLawfulGone con) (gone_candidates c.gone)) (sym (opening-state setup con.code)) (subst (λ es. All (IsLawfulGone con) (map gone_candidate es)) (sym nobody) (All-nil (IsLawfulGone con)));
+        past = subst (λ (c : ConState). All (IsLawfulPast con c.edition) (past_records c.past)) (sym (opening-state setup con.code)) (subst (All (IsLawfulPast con opening_con.edition)) (sym no-past) (All-nil (IsLawfulPast con opening_con.edition)));
+      };
+      gone = subst (λ (c : ConState). All IsUnderPlaces (fin.entries c.gone)) (sym (opening-state setup con.code)) (subst (All IsUnderPlaces) (sym nobody) (All-nil IsUnderPlaces));
     }
       where
-        nobody : (candidate : List ℕ) (con : Constituency) → ForSome (fin.get opening_con.gone candidate) (λ note. (is_candidate con candidate ≡ true) × (is_note note ≡ true))
-        nobody candidate con note some = let none : fin.get opening_con.gone candidate ≡ None = fin.get-empty code_cmp candidate in cc
+        none : (es : List (List ℕ × List ℕ)) → length es ≡ 0 → es ≡ []
+        none [] is = refl
+        none (e ∷ es) is = absurd (omega (arith, is))
+
+        nobody : fin.entries opening_con.gone ≡ []
+        nobody = none (fin.entries opening_con.gone) (sym (fin.len-entries opening_con.gone) ∙ fin.len-empty code_cmp (List ℕ))

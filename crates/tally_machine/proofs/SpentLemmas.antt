@@ -10,16 +10,19 @@ use Rattle.std.proofs.lemmas.Bool.{eqb-true, eq-eqb, or_right}
 use Rattle.tally_rules.specs.Constituency.{Constituency}
 use Rattle.tally_rules.specs.Setup.{constituency_with}
 use Rattle.tally_rules.specs.Text.{is_note}
-use Rattle.tally_machine.specs.Certification.{ListFound, RefusedOr, count_checks, gone_of, has_candidate, holders_of, last_edition, list_found, reopened, reopen_checks, vacate_checks, vacated, vacates}
+use Rattle.tally_machine.specs.Certification.{ListFound, RefusedOr, certificate_of, count_checks, gone_of, has_candidate, holders_of, list_found, reopened, reopen_checks, vacate_checks, vacated, vacates}
 use Rattle.tally_returns.specs.Checks.{check, first_refusal, refused_or}
 use Rattle.tally_returns.specs.GoneCandidate.{GoneCandidate}
+use Rattle.tally_returns.specs.PastSeats.{PastSeats}
 use Rattle.tally_machine.specs.Holders.{is_among, newcomer}
 use Rattle.tally_returns.specs.View.{View, gone_candidate}
-use Rattle.tally_returns.specs.State.{State, ConState, GoneCandidates, con_state}
+use Rattle.tally_returns.specs.State.{State, ConState, GoneCandidates, con_state, last_edition}
 use Rattle.tally_machine.specs.ConStep.{ConChange, lot_set, certified_with, open_again, gone_for_good, changed, changed_by}
 use Rattle.tally_returns.specs.Named.{station_named}
 use Rattle.tally_machine.specs.Replies.{IsReturnStepSeen, IsAnswered, IsStep, is_act, seen}
 use Rattle.tally_machine.specs.Runs.{IsSameCommand}
+use Rattle.tally_returns.specs.AskSeen.{AskSeen, ask_seen}
+use Rattle.tally_returns.specs.AskSeen as seen_ask
 use Rattle.tally_returns.specs.declared.ask.Ask.{Ask}
 use Rattle.tally_returns.specs.declared.ask.Ask.TheVariants.{Lodge, Query, Correct, Close, ShowReturn, Draw, Certify, Reopen, Vacate, ShowCon, ShowProgress}
 use Rattle.tally_returns.specs.declared.refusal.Refusal.{Refusal}
@@ -52,13 +55,36 @@ mark (Vacate con list place note) = candidate con list place
 mark (ShowCon con) = nothing
 mark ShowProgress = nothing
 
+-- what is seen of a command tells on what it acts
+abbrev mark_seen : AskSeen → Mark
+mark_seen (seen_ask.lodge station slip counts) = revision station 0
+mark_seen (seen_ask.query station rev note) = revision station rev
+mark_seen (seen_ask.correct station rev slip counts) = revision station rev
+mark_seen (seen_ask.close station rev) = revision station rev
+mark_seen (seen_ask.show_return station) = revision station 0
+mark_seen (seen_ask.draw con n order) = edition con n
+mark_seen (seen_ask.certify con n) = edition con n
+mark_seen (seen_ask.reopen con n note) = edition con n
+mark_seen (seen_ask.vacate con list place note) = candidate con list place
+mark_seen (seen_ask.show_con con) = nothing
+mark_seen seen_ask.show_progress = nothing
+
+mark-seen : (ask : Ask) → mark ask ≡ mark_seen (ask_seen ask)
+mark-seen (Lodge station slip counts) = refl
+mark-seen (Query station rev note) = refl
+mark-seen (Correct station rev slip counts) = refl
+mark-seen (Close station rev) = refl
+mark-seen (ShowReturn station) = refl
+mark-seen (Draw con n order) = refl
+mark-seen (Certify con n) = refl
+mark-seen (Reopen con n note) = refl
+mark-seen (Vacate con list place note) = refl
+mark-seen (ShowCon con) = refl
+mark-seen ShowProgress = refl
+
 -- equal commands act on the same
 pub same-mark : (ask other : Ask) → IsSameCommand ask other → mark ask ≡ mark other
-same-mark (Query station rev note) (Query other_station other_rev other_note) alike = λ i. revision (alike.0 i) (alike.1 i)
-same-mark (Draw con n order) (Draw other_con other_n other_order) alike = λ i. edition (alike.0 i) (alike.1 i)
-same-mark (Reopen con n note) (Reopen other_con other_n other_note) alike = λ i. edition (alike.0 i) (alike.1 i)
-same-mark (Vacate con list place note) (Vacate other_con other_list other_place other_note) alike = λ i. candidate (alike.0 i) (alike.1 i) (alike.2 i)
-same-mark ask other alike = ap mark alike
+same-mark ask other alike = mark-seen ask ∙ ap mark_seen alike ∙ sym (mark-seen other)
 
 -- whether the candidate at a place of a list is gone, where the constituency and the list stand in the setup
 pub record IsGoneFlag (setup : List Constituency) (code list : List ℕ) (place : ℕ) (s : State) (b : Bool) : Type 0 where
@@ -117,7 +143,7 @@ count-edition view n none =
     let rest = check (not (view.edition == last_edition)) Exhausted ∷ check (view.closed == view.stations) (NotAllClosed (view.stations - view.closed)) ∷ [] in
     eqb-true view.edition n (passed-first (view.edition == n) (Stale view.edition) rest (passed-rest (not view.certified) Certified (check (view.edition == n) (Stale view.edition) ∷ rest) none))
 
-reopen-edition : (view : View) (n : ℕ) (note : List ℕ) → first_refusal (reopen_checks view n note) ≡ None → view.edition ≡ n
+pub reopen-edition : (view : View) (n : ℕ) (note : List ℕ) → first_refusal (reopen_checks view n note) ≡ None → view.edition ≡ n
 reopen-edition view n note none =
     let rest = check (not (view.edition == last_edition)) Exhausted ∷ [] in
     let named = check (view.edition == n) (Stale view.edition) ∷ rest in
@@ -160,12 +186,12 @@ count-used setup code n s ask t act by next set =
 
 -- a note that is set is the command's own
 reopen-used : (setup : List Constituency) (code : List ℕ) (n : ℕ) (note : List ℕ) (s : State) (ask : Ask) (t : State) (act : IsConAct setup code s ask t)
-    → Ok act.change ≡ changed_by open_again (reopened act.view n note) → IsUsed setup (edition code n) s t
+    → Ok act.change ≡ changed_by (λ (r : List ℕ × PastSeats). open_again r.0 r.1) (reopened act.view n note) → IsUsed setup (edition code n) s t
 reopen-used setup code n note s ask t act decides = go (first_refusal (reopen_checks act.view n note)) refl decides
   where
-    go : (refused : Option Refusal) → first_refusal (reopen_checks act.view n note) ≡ refused → Ok act.change ≡ changed_by open_again (refused_or refused (Ok note)) → IsUsed setup (edition code n) s t
+    go : (refused : Option Refusal) → first_refusal (reopen_checks act.view n note) ≡ refused → Ok act.change ≡ changed_by (λ (r : List ℕ × PastSeats). open_again r.0 r.1) (refused_or refused (Ok (note, certificate_of act.view))) → IsUsed setup (edition code n) s t
     go None none is =
-        let change : act.change ≡ open_again note = cc in
+        let change : act.change ≡ open_again note (certificate_of act.view) = cc in
         edition-used setup code n s ask t act (reopen-edition act.view n note none) (ap (λ (c : ConChange). (changed (con_state s code) c).edition) change)
     go (Some e) some is = cc
 

@@ -1,6 +1,6 @@
 -- What is decided of a Vacate, where the list of its code was found.
-use Rattle.std.proofs.Common.{◌≡◌, ◌≤◌, ◌<◌, ◌+◌, ◌-◌, ◌∙◌, ◌∷◌, ℕ, List, [], Bool, true, false, Option, Some, None, Ok, Err, cond, length, sym, ap, subst, arith}
-use Rattle.std.specs.Prelude.{nat_le, not, slice_index}
+use Rattle.std.proofs.Common.{◌≡◌, ◌≤◌, ◌<◌, ◌+◌, ◌-◌, ◌∙◌, ◌∷◌, ℕ, List, [], Bool, true, false, Option, Some, None, Ok, Err, cond, length, sym, ap, arith}
+use Rattle.std.specs.Prelude.{nat_le, not, slice_index, sum}
 use Rattle.std.specs.Str.{bytes_eq}
 use Rattle.std.proofs.lemmas.Bool.{and_from, le-leb}
 use Rattle.tally_rules.specs.Constituency.{Constituency, ListEntry}
@@ -10,8 +10,7 @@ use Rattle.tally_contest.specs.Poll.{Poll}
 use Rattle.tally_machine.specs.Certification.{ListFound, found_from, gone_of, has_candidate, holders_of, list_found, vacate_checks, vacated, vacates}
 use Rattle.tally_returns.specs.Checks.{check, first_refusal, refused_or}
 use Rattle.tally_machine.specs.Holders.{holders, is_among, newcomer}
-use Rattle.tally_machine.specs.Outcome.{HasSeats, IsLawfulView, poll_in, rule_in}
-use Rattle.tally_returns.specs.View.{View}
+use Rattle.tally_returns.specs.View.{FitsView, View}
 use Rattle.tally_returns.specs.declared.refusal.Refusal.{Refusal}
 use Rattle.tally_returns.specs.declared.refusal.Refusal.TheVariants.{NoCandidate, BadNote, NotCertified, AlreadyGone, NotHolder}
 use Rattle.tally_returns.proofs.DecideLemmas.{first_refusal-passed}
@@ -34,17 +33,20 @@ found-from p code (list ∷ lists) f is = by_cases (bytes_eq code list.code) is 
 pub found-place : (con : Constituency) (code : List ℕ) (f : ListFound) → list_found con code ≡ Some f → 1 ≤ f.place
 found-place con code f is = (found-from 1 code con.lists f is).0
 
-allotted-long : (rule : Rule) (poll : Poll) (lot : List ℕ) (seats : ℕ) (a : List ℕ) → IsAllotment rule poll lot seats a → length a ≡ length poll.votes
+pub allotted-long : (rule : Rule) (poll : Poll) (lot : List ℕ) (seats : ℕ) (a : List ℕ) → IsAllotment rule poll lot seats a → length a ≡ length poll.votes
 allotted-long (divisors nth unit lot_rule) poll lot seats a is = is.shares.one_each
 allotted-long hare poll lot seats a is = is.shares.one_each
 
+pub allotted-sum : (rule : Rule) (poll : Poll) (lot : List ℕ) (seats : ℕ) (a : List ℕ) → IsAllotment rule poll lot seats a → sum a ≡ seats
+allotted-sum (divisors nth unit lot_rule) poll lot seats a is = is.shares.whole
+allotted-sum hare poll lot seats a is = is.shares.whole
+
 -- a certified constituency has seats for the list
-pub found-seats : (con : Constituency) (view : View) (code : List ℕ) (f : ListFound) → IsLawfulView con view → view.certified ≡ true → list_found con code ≡ Some f → f.place ≤ length view.seats
-found-seats con view code f lawful certified is =
-    let has : HasSeats con view true = subst (λ (b : Bool). HasSeats con view b) certified lawful.seats in
-    let long : length view.seats ≡ length view.votes = allotted-long (rule_in con) (poll_in con view) view.lot con.seats view.seats has.2 in
+pub found-seats : (con : Constituency) (view : View) (code : List ℕ) (f : ListFound) → FitsView con view → view.certified ≡ true → list_found con code ≡ Some f → f.place ≤ length view.seats
+found-seats con view code f fits certified is =
+    let long = fits.seats certified in
     let r = found-from 1 code con.lists f is in
-    omega (arith, long, lawful.lists, r.0, r.1)
+    omega (arith, long, r.0, r.1)
 
 -- ---- the holders of its seats
 

@@ -12,18 +12,19 @@ use Rattle.std.proofs.lemmas.Slice.Eq.{bytes_eq-Decides}
 use Rattle.tally_rules.specs.Constituency.{Constituency}
 use Rattle.tally_rules.specs.Limits.{IsConstituency, IsSetup}
 use Rattle.tally_rules.specs.Setup.{all_stations, constituency_with, station_with}
+use Rattle.tally_rules.specs.Threshold.{IsWithinVotes}
 use Rattle.tally_rules.specs.declared.constituency.Station.{Station}
-use Rattle.tally_allot.specs.Conditions.{AreLimitsKept}
-use Rattle.tally_contest.specs.Sums.{sum_before}
+use Rattle.tally_contest.specs.internal.Sums.{sum_before}
 use Rattle.tally_machine.specs.ConStep.{IsView}
 use Rattle.tally_returns.specs.Counts.{VoteCounts, all_votes}
 use Rattle.tally_machine.specs.LawfulState.{IsLawfulState}
 use Rattle.tally_returns.specs.Lodge.{StationLimits}
-use Rattle.tally_machine.specs.Outcome.{HasSeats, IsLawfulView}
+use Rattle.tally_machine.specs.Outcome.{HasSeats, IsLawfulView, poll_in, rule_in}
 use Rattle.tally_returns.specs.Progress.{is_closed}
 use Rattle.tally_returns.specs.Return.{StationReturn, Returns}
 use Rattle.tally_returns.specs.State.{State, stations_of}
-use Rattle.tally_returns.specs.View.{View, blank_of, closed_counts, counts_if_closed, view_of, votes_at, votes_of_lists}
+use Rattle.tally_returns.specs.View.{View, blank_of, closed_counts, counts_if_closed, view_of, votes_at}
+use Rattle.tally_machine.proofs.VacancyLemmas.{allotted-long}
 
 -- ---- what was found
 
@@ -149,41 +150,51 @@ few-each setup s ok lawful station standing some =
 
 -- ---- the view
 
--- the limits of an allotment are kept
-pub view-limits : (setup : List Constituency) (s : State) (code : List ℕ) (con : Constituency) (seats : List ℕ) → IsSetup setup → IsLawfulState setup s → constituency_with code setup ≡ Some con
-    → AreLimitsKept con.profile con.seats (view_of con s seats).votes (view_of con s seats).blank
-view-limits setup s code con seats ok lawful is =
+-- its votes are within their limit
+view-votes : (setup : List Constituency) (s : State) (code : List ℕ) (con : Constituency) (seats : List ℕ) → IsSetup setup → IsLawfulState setup s → constituency_with code setup ≡ Some con
+    → IsWithinVotes (view_of con s seats).votes (view_of con s seats).blank
+view-votes setup s code con seats ok lawful is =
     let limits = constituency-limits setup code con ok is in
     let counts = closed_counts s.returns con.stations in
-    let long : length (votes_of_lists (length con.lists) counts) ≡ length con.lists = length-map-range_with_len (votes_at counts) 0 (length con.lists) in record {
-      some_list = omega (arith, long, limits.some_list);
-      few_lists = omega (arith, long, limits.lists);
-      few_votes = omega (
-        arith,
-        sum-each (votes_at counts) (length con.lists),
-        votes-cast (length con.lists) counts,
-        cast-within s.returns con.stations (few-each setup s ok lawful),
-        limits.stations,
-      );
-      some_seat = limits.some_seat;
-      few_seats = limits.seats;
-      whole_at_most = limits.profile;
-    }
+    omega (
+      arith,
+      sum-each (votes_at counts) (length con.lists),
+      votes-cast (length con.lists) counts,
+      cast-within s.returns con.stations (few-each setup s ok lawful),
+      limits.stations,
+    )
+
+-- where it is certified, there are seats for each list
+seats-long : (con : Constituency) (view : View) → view.certified ≡ true → HasSeats con view view.certified → length view.seats ≡ length view.votes
+seats-long con view certified has =
+    let allotment = subst (λ (b : Bool). HasSeats con view b) certified has in
+    allotted-long (rule_in con) (poll_in con view) view.lot con.seats view.seats allotment.2
 
 pub view-lawful : (setup : List Constituency) (s : State) (code : List ℕ) (con : Constituency) (view : View) → IsSetup setup → IsLawfulState setup s → constituency_with code setup ≡ Some con → IsView con s view
     → IsLawfulView con view
 view-lawful setup s code con view ok lawful is seen =
     let here = lawful.cons code con is in
     let has : HasSeats con (view_of con s view.seats) (view_of con s view.seats).certified = subst (λ (v : View). HasSeats con v v.certified) seen.0 seen.1 in
+    let lists : length (view_of con s view.seats).votes ≡ length con.lists = length-map-range_with_len (votes_at (closed_counts s.returns con.stations)) 0 (length con.lists) in
     let its : IsLawfulView con (view_of con s view.seats) = record {
-      lists = length-map-range_with_len (votes_at (closed_counts s.returns con.stations)) 0 (length con.lists);
-      limits = view-limits setup s code con view.seats ok lawful is;
-      first = here.first;
-      last = here.last;
-      stations = count_by-le-length _ con.stations;
+      fits = record {
+        lists = lists;
+        votes = view-votes setup s code con view.seats ok lawful is;
+        edition = here.seen.last;
+        stations = count_by-le-length _ con.stations;
+        seats = λ certified. seats-long con (view_of con s view.seats) certified has ∙ lists;
+        past = λ k d lt. (here.seen.past k d lt).lists;
+      };
       few = (constituency-limits setup code con ok is).stations;
-      lot = here.lot;
+      lawful = record {
+        first = here.seen.first;
+        last = here.seen.last;
+        note = here.seen.note;
+        lot = here.seen.lot;
+        certified = here.seen.certified;
+        gone = here.seen.gone;
+        past = here.seen.past;
+      };
       seats = has;
-      closed = λ certified. (here.certified certified).0;
     } in
     subst (IsLawfulView con) (sym seen.0) its

@@ -8,14 +8,12 @@ use Rattle.tally_contest.specs.ListSet.{has_place}
 use Rattle.tally_returns.specs.Checks.{check, check_found, first_refusal, refused_or}
 use Rattle.tally_machine.specs.Holders.{is_among, holders, newcomer}
 use Rattle.tally_returns.specs.GoneCandidate.{GoneCandidate}
+use Rattle.tally_returns.specs.PastSeats.{PastSeats}
+use Rattle.tally_returns.specs.State.{last_edition}
 use Rattle.tally_returns.specs.View.{View}
 use Rattle.tally_machine.specs.Outcome.{Outcome, nobody, lot_missing, allotted, IsOutcome}
 use Rattle.tally_returns.specs.declared.refusal.Refusal.{Refusal}
 use Rattle.tally_returns.specs.declared.refusal.Refusal.TheVariants.{NoCandidate, BadNote, Certified, NotCertified, Stale, Exhausted, NotAllClosed, NoEligible, LotStands, LotNotNeeded, LotWrongGroup, LotMissing, AlreadyGone, NotHolder}
-
--- the last edition that a constituency can have
-abbrev pub last_edition : ℕ
-last_edition = 9999
 
 -- the checks on the edition that a command names
 abbrev pub edition_checks : View → ℕ → List (Option Refusal)
@@ -115,9 +113,13 @@ reopen_checks view edition note =
     ∷ check (not (view.edition == last_edition)) Exhausted
     ∷ []
 
--- Reopen gives its note.
-abbrev pub reopened : View → ℕ → List ℕ → Result (List ℕ) Refusal
-reopened view edition note = refused_or (first_refusal (reopen_checks view edition note)) (Ok note)
+-- the certificate that stands, as it is put on record
+abbrev pub certificate_of : View → PastSeats
+certificate_of view = record { edition = view.edition; seats = view.seats }
+
+-- Reopen gives its note, and what is put on record.
+abbrev pub reopened : View → ℕ → List ℕ → Result (List ℕ × PastSeats) Refusal
+reopened view edition note = refused_or (first_refusal (reopen_checks view edition note)) (Ok (note, certificate_of view))
 
 -- ---- Vacate
 

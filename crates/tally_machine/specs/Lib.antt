@@ -5,3 +5,6 @@ pub mod LawfulState
 pub mod ConStep
 pub mod Replies
 pub mod Runs
+pub mod Decisions
+pub mod Records
+pub mod Kinds

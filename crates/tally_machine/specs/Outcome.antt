@@ -1,15 +1,22 @@
 -- What closed votes and a lot come to, and the views that a lawful state has.
-use Rattle.std.specs.Prelude.{◌≡◌, ◌≢◌, ◌≤◌, ◌⊎◌, ℕ, Bool, true, false, List, [], length, sum}
-use Rattle.tally_rules.specs.Constituency.{Constituency}
+use Rattle.std.specs.Prelude.{◌≡◌, ◌≢◌, ◌<◌, ◌≤◌, ◌⊎◌, ◌&&◌, ◌-◌, ℕ, nat_le, Bool, true, false, List, [], All, length, slice_get, sum}
+use Rattle.std.specs.Option.{option_map_or}
+use Rattle.tally_rules.specs.Constituency.{Constituency, ListEntry}
 use Rattle.tally_contest.specs.Poll.{Poll, HasEligible}
 use Rattle.tally_contest.specs.Allotment.{Rule}
 use Rattle.tally_allot.specs.AllotFault.{IsAllotmentUnderLot}
-use Rattle.tally_allot.specs.Conditions.{AreLimitsKept}
 use Rattle.tally_contest.specs.LotNeed.{IsLotNeeded, IsNeed, IsLotTaken}
 use Rattle.tally_contest.specs.Rules.{rule_of, poll_of}
-use Rattle.tally_returns.specs.View.{View}
+use Rattle.tally_returns.specs.GoneCandidate.{GoneCandidate}
+use Rattle.tally_returns.specs.Lawful.{is_kept_note, may_stand}
+use Rattle.tally_returns.specs.PastSeats.{PastSeats}
+use Rattle.tally_returns.specs.State.{last_edition}
+use Rattle.tally_returns.specs.View.{View, FitsView, HasEachList}
+use Rattle.tally_returns.specs.declared.refusal.Refusal.{Refusal}
+use Rattle.tally_returns.specs.declared.refusal.Refusal.TheVariants.{Memory}
 
--- No list is eligible; or a lot among a group is needed for so many seats, and none stands; or these are the seats of the lists.
+-- No list is eligible; or a lot among a group, told by a mark for each of 60 places, is needed for so many seats, and none stands; or these
+-- are the seats of the lists.
 pub data Outcome : Type 0 where
   nobody : Outcome
   lot_missing : List Bool → ℕ → Outcome
@@ -24,7 +31,7 @@ poll_in con view = poll_of con.profile view.votes view.blank
 
 abbrev pub IsOutcome : Constituency → View → Outcome → Type 0
 IsOutcome con view nobody = ¬ HasEligible (poll_in con view)
-IsOutcome con view (lot_missing group in_question) = HasEligible (poll_in con view) × IsNeed (rule_in con) (poll_in con view) con.seats group in_question × (view.lot ≡ [])
+IsOutcome con view (lot_missing group in_question) = HasEligible (poll_in con view) × IsNeed (rule_in con) (poll_in con view) con.seats group in_question × (view.lot ≡ []) × (length group ≡ 60)
 IsOutcome con view (allotted seats) = IsAllotmentUnderLot (rule_in con) (poll_in con view) view.lot con.seats seats
 
 -- where a constituency is certified its seats are those of the one allotment, and else none are shown
@@ -44,14 +51,41 @@ pub record IsCertificate (con : Constituency) (view : View) : Type 0 where
   pub exactly : sum view.seats ≡ con.seats
   pub lot : IsLotNeeded (rule_in con) (poll_in con view) con.seats → view.lot ≢ []
 
+-- a candidate of the constituency, by the place of the list and the candidate's own place there, both from 1
+abbrev pub is_candidate : Constituency → ℕ → ℕ → Bool
+is_candidate con list place = nat_le 1 list && option_map_or (λ (l : ListEntry). nat_le 1 place && nat_le place (length l.candidates)) (slice_get con.lists (list - 1)) false
+
+-- One who is gone is a candidate of the constituency, and the note is kept.
+pub record IsLawfulGone (con : Constituency) (gone : GoneCandidate) : Type 0 where
+  pub candidate : is_candidate con gone.list gone.place ≡ true
+  pub note : is_kept_note gone.note ≡ true
+
+-- A certificate that was reopened is of an edition before this one, and gave the lists all the seats together.
+pub record IsLawfulPast (con : Constituency) (edition : ℕ) (past : PastSeats) : Type 0 where
+  pub first : 1 ≤ past.edition
+  pub before : past.edition < edition
+  pub lists : HasEachList con past
+  pub exactly : sum past.seats ≡ con.seats
+
+-- What a constituency may have come to, by what is seen of it, be it in a state or of rows that were read, its seats aside: a lot stands
+-- only where all its stations are closed, some list is eligible and the lot is the one to be taken; it is certified only where, besides,
+-- a lot stands if one is needed; those who are gone are candidates; and its certificates that were reopened are of earlier editions.
+pub record IsLawfulCon (con : Constituency) (view : View) : Type 0 where
+  pub first : 1 ≤ view.edition
+  pub last : view.edition ≤ last_edition
+  pub note : may_stand view.note ≡ true
+  pub lot : (view.lot ≡ []) ⊎ MayStand con view
+  pub certified : view.certified ≡ true → MayStand con view
+  pub gone : All (IsLawfulGone con) view.gone
+  pub past : All (IsLawfulPast con view.edition) view.past
+
 -- A view that a constituency has in a lawful state.
 pub record IsLawfulView (con : Constituency) (view : View) : Type 0 where
-  pub lists : length view.votes ≡ length con.lists
-  pub limits : AreLimitsKept con.profile con.seats view.votes view.blank
-  pub first : 1 ≤ view.edition
-  pub last : view.edition ≤ 9999
-  pub stations : view.closed ≤ view.stations
+  pub fits : FitsView con view
   pub few : view.stations ≤ 5000
-  pub lot : (view.lot ≡ []) ⊎ MayStand con view
+  pub lawful : IsLawfulCon con view
   pub seats : HasSeats con view view.certified
-  pub closed : view.certified ≡ true → view.closed ≡ view.stations
+
+-- This is so of a refusal other than want of memory where the view is lawful. Of a view that a database gave that is not known.
+abbrev pub WhereLawful : Constituency → View → (Refusal → Type 0) → Refusal → Type 0
+WhereLawful con view IsSo refusal = refusal ≢ Memory → IsLawfulView con view → IsSo refusal

@@ -1,19 +1,14 @@
 -- Equal commands of a run, and what is left of it where some requests are left out.
-use Rattle.std.specs.Prelude.{◌≡◌, if◌then◌else◌, ◌+◌, ℕ, Bool, List, [], ◌∷◌, Result, string_bytes}
+use Rattle.std.specs.Prelude.{◌≡◌, if◌then◌else◌, ◌+◌, ℕ, Bool, List, [], ◌∷◌, Result}
 use Rattle.tally_machine.specs.Replies.{is_act}
+use Rattle.tally_returns.specs.AskSeen.{ask_seen}
 use Rattle.tally_returns.specs.declared.ask.Ask.{Ask}
-use Rattle.tally_returns.specs.declared.ask.Ask.TheVariants.{Query, Draw, Reopen, Vacate}
 use Rattle.tally_returns.specs.declared.refusal.Refusal.{Refusal}
 use Rattle.tally_returns.specs.declared.reply.Reply.{Reply}
 
 -- The same command: all its parts are equal. Of a note the text counts and of an order its codes, not how a program keeps them.
 abbrev pub IsSameCommand : Ask → Ask → Type 0
-IsSameCommand (Query station rev note) (Query other_station other_rev other_note) = (station ≡ other_station) × (rev ≡ other_rev) × (string_bytes note ≡ string_bytes other_note)
-IsSameCommand (Draw con edition order) (Draw other_con other_edition other_order) = (con ≡ other_con) × (edition ≡ other_edition) × (order.items ≡ other_order.items)
-IsSameCommand (Reopen con edition note) (Reopen other_con other_edition other_note) = (con ≡ other_con) × (edition ≡ other_edition) × (string_bytes note ≡ string_bytes other_note)
-IsSameCommand (Vacate con list place note) (Vacate other_con other_list other_place other_note) =
-    (con ≡ other_con) × (list ≡ other_list) × (place ≡ other_place) × (string_bytes note ≡ string_bytes other_note)
-IsSameCommand ask other = ask ≡ other
+IsSameCommand ask other = ask_seen ask ≡ ask_seen other
 
 -- the requests that acted, by what they were answered
 abbrev pub acting_asks : List Ask → List (Result Reply Refusal) → List Ask

@@ -5,29 +5,40 @@ ghost use Rattle.tally_allot.specs.AllotFault.{IsFaultOf};
 ghost use Rattle.tally_allot.specs.declared.fault.AllotFault.TheVariants.{WrongLot};
 ghost use Rattle.tally_machine.specs.Certification.{Certifies, Draws, count_checks, drawn_places, list_places, reopened};
 ghost use Rattle.tally_returns.specs.Checks.{first_refusal};
-ghost use Rattle.tally_machine.specs.Outcome.{IsLawfulView, IsOutcome, allotted, rule_in, poll_in};
+ghost use Rattle.tally_machine.specs.Outcome.{IsLawfulView, IsOutcome, WhereLawful, allotted, rule_in, poll_in};
+ghost use Rattle.tally_returns.specs.View.{FitsView};
 ghost use Rattle.tally_returns.specs.declared.refusal.Refusal.TheVariants.{Memory};
 
 use crate::list_order::{list_places, names_group};
 use std::alloc::Global;
 use tally_allot::{AllotFault, ListSet, allot};
-use tally_returns::{ConView, Refusal};
+use tally_returns::{ConView, Past, Refusal};
 use tally_rules::{Code, Constituency, good_note};
 
 /// The last edition that a constituency can have.
 const LAST_EDITION: u32 = 9_999;
 
+/// A certificate that is no longer in force.
+#[derive(Debug, Drop)]
+pub struct Reopening {
+    /// The note that says why.
+    pub note: String,
+    /// The seats that the certificate gave, and its edition.
+    pub past: Past,
+}
+
 /// The seats that certifying gives each list, in the setup's order (LOREG article 163.1), or why
-/// it is refused.
+/// it is refused. A view that came from a database may hold a lot that is none of its group: then
+/// the database is refused.
 pub fn certify(
     alloc: Global,
     con: &Constituency,
     view: &ConView,
     edition: u32,
 ) -> Result<Vec<u32>, Refusal>
-    requires { IsLawfulView con.now view.now }
+    requires { FitsView con.now view.now }
     ensures seats { IfOk result (λ seats. Certifies con.now view.now edition (Ok seats.items)) }
-    ensures refused { IfErr result (λ refusal. refusal ≢ Memory → Certifies con.now view.now edition (Err refusal)) }
+    ensures refused { IfErr result (WhereLawful con.now view.now (λ refusal. Certifies con.now view.now edition (Err refusal))) }
 {
     check_count(view, edition)?;
     let fault = match seats_by_votes(alloc, con, view) {
@@ -36,14 +47,17 @@ pub fn certify(
     };
     match fault {
         AllotFault::NoEligible => Err(Refusal::NoEligible),
-        AllotFault::LotMissing { group, seats } => Err(Refusal::LotMissing { group, seats }),
-        AllotFault::WrongLot => unreachable!(),
+        AllotFault::LotMissing { group, seats } => {
+            let _marks = group.limit();
+            Err(Refusal::LotMissing { group, seats })
+        }
+        AllotFault::WrongLot => Err(Refusal::Store),
         AllotFault::Memory => Err(Refusal::Memory),
     }
 }
 
 /// The places of the lists in the order of a lot that was drawn, or why it is refused. Lists are
-/// named by their codes.
+/// named by their codes. A lot that stands in the view is not taken for another, right or wrong.
 pub fn draw(
     alloc: Global,
     con: &Constituency,
@@ -51,9 +65,9 @@ pub fn draw(
     edition: u32,
     order: &[Code],
 ) -> Result<Vec<u32>, Refusal>
-    requires { IsLawfulView con.now view.now }
+    requires { FitsView con.now view.now }
     ensures places { IfOk result (λ places. Draws con.now view.now edition order.now (Ok places.items)) }
-    ensures refused { IfErr result (λ refusal. refusal ≢ Memory → Draws con.now view.now edition order.now (Err refusal)) }
+    ensures refused { IfErr result (WhereLawful con.now view.now (λ refusal. Draws con.now view.now edition order.now (Err refusal))) }
 {
     check_count(view, edition)?;
     let fault = match seats_by_votes(alloc, con, view) {
@@ -64,14 +78,14 @@ pub fn draw(
     match fault {
         AllotFault::NoEligible => Err(Refusal::NoEligible),
         AllotFault::LotMissing { group, .. } => drawn_places(alloc, con, &group, order),
-        AllotFault::WrongLot => unreachable!(),
+        AllotFault::WrongLot => Err(Refusal::LotStands),
         AllotFault::Memory => Err(Refusal::Memory),
     }
 }
 
-/// The note of a reopening of this view, or why it is refused.
-pub fn reopen(alloc: Global, view: &ConView, edition: u32, note: &str) -> Result<String, Refusal>
-    ensures note { IfOk result (λ kept. reopened view.now edition note.now ≡ Ok (string_bytes kept)) }
+/// The note of a reopening of this view and what is put on record, or why it is refused.
+pub fn reopen(alloc: Global, view: &ConView, edition: u32, note: &str) -> Result<Reopening, Refusal>
+    ensures reopened { IfOk result (λ reopening. reopened view.now edition note.now ≡ Ok (string_bytes reopening.note, reopening.past)) }
     ensures refused { IfErr result (λ refusal. refusal ≢ Memory → reopened view.now edition note.now ≡ Err refusal) }
 {
     if !good_note(note) {
@@ -86,7 +100,13 @@ pub fn reopen(alloc: Global, view: &ConView, edition: u32, note: &str) -> Result
     if view.edition == LAST_EDITION {
         return Err(Refusal::Exhausted);
     }
-    Ok(String::from_str(alloc, note)?)
+    Ok(Reopening {
+        note: String::from_str(alloc, note)?,
+        past: Past {
+            edition: view.edition,
+            seats: view.seats.as_slice().to_vec(alloc)?,
+        },
+    })
 }
 
 /// The checks of Draw and of Certify before the votes are looked at.
@@ -114,10 +134,10 @@ fn check_count(view: &ConView, edition: u32) -> Result<(), Refusal>
 
 /// The seats of each list by the closed votes and the lot that stands.
 fn seats_by_votes(alloc: Global, con: &Constituency, view: &ConView) -> Result<Vec<u32>, AllotFault>
-    requires { IsLawfulView con.now view.now }
+    requires { FitsView con.now view.now }
     ensures seats { IfOk result (λ seats. IsOutcome con.now view.now (allotted seats.items)) }
     ensures fault { IfErr result (IsFaultOf (rule_in con.now) (poll_in con.now view.now) con.now.seats view.now.lot) }
-    ensures right_lot { IfErr result (λ fault. fault ≢ WrongLot) }
+    ensures right_lot { IsLawfulView con.now view.now → IfErr result (λ fault. fault ≢ WrongLot) }
 {
     allot(
         alloc,
@@ -138,9 +158,11 @@ fn drawn_places(
     order: &[Code],
 ) -> Result<Vec<u32>, Refusal>
     requires { (l : ℕ) → length con.now.lists ≤ l → slice_index_or group.now l false ≡ false }
+    ensures marks { length group.now ≡ 60 }
     ensures places { IfOk result (λ places. drawn_places group.now (list_places con.now order.now) ≡ Ok places.items) }
     ensures refused { IfErr result (λ refusal. refusal ≢ Memory → drawn_places group.now (list_places con.now order.now) ≡ Err refusal) }
 {
+    let _marks = group.limit();
     let Some(places) = list_places(alloc, con, order)? else {
         return Err(Refusal::LotWrongGroup { group: *group });
     };

@@ -1,10 +1,10 @@
 //! What is decided of a command on a constituency.
 
-ghost use Rattle.std.specs.Prelude.{◌≡◌, ◌≢◌, Some, Ok, Err, IfOk, IfErr};
+ghost use Rattle.std.specs.Prelude.{◌≡◌, Some, Ok, Err, IfOk, IfErr};
 ghost use Rattle.tally_machine.specs.ConStep.{ConChange, Decides, con_change};
 ghost use Rattle.tally_returns.specs.Named.{con_named};
-ghost use Rattle.tally_machine.specs.Outcome.{IsLawfulView};
-ghost use Rattle.tally_returns.specs.declared.refusal.Refusal.TheVariants.{Memory};
+ghost use Rattle.tally_machine.specs.Outcome.{WhereLawful};
+ghost use Rattle.tally_returns.specs.View.{FitsView};
 
 use crate::certification::{certify, draw, reopen};
 use crate::vacancy::vacate;
@@ -21,9 +21,9 @@ pub fn decide_con(
     ask: &Ask,
 ) -> Result<Change, Refusal>
     requires named { con_named ask.now ≡ Some con.now.code }
-    requires lawful { IsLawfulView con.now view.now }
+    requires fits { FitsView con.now view.now }
     ensures decided { IfOk result (λ change. (decided : ConChange) × (con_change change ≡ Some decided) × Decides con.now view.now ask.now (Ok decided)) }
-    ensures refused { IfErr result (λ refusal. refusal ≢ Memory → Decides con.now view.now ask.now (Err refusal)) }
+    ensures refused { IfErr result (WhereLawful con.now view.now (λ refusal. Decides con.now view.now ask.now (Err refusal))) }
 {
     match ask {
         Ask::Draw { edition, order, .. } => {
@@ -33,7 +33,8 @@ pub fn decide_con(
             Ok(Change::SetCertified(certify(alloc, con, view, *edition)?))
         }
         Ask::Reopen { edition, note, .. } => {
-            Ok(Change::SetReopened(reopen(alloc, view, *edition, note)?))
+            let reopening = reopen(alloc, view, *edition, note)?;
+            Ok(Change::SetReopened(reopening.note, reopening.past))
         }
         Ask::Vacate {
             list,

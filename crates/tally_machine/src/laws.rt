@@ -1,6 +1,6 @@
 //! The laws of the office's steps and runs. The functions do nothing: each contract is a law.
 
-ghost use Rattle.std.specs.Prelude.{◌≡◌, ◌↔◌, ◌<◌, ℕ, Bool, List, [], Some, None, Err, Result, true, false, slice_get};
+ghost use Rattle.std.specs.Prelude.{◌≡◌, ◌↔◌, ◌<◌, ℕ, All, Bool, List, [], Some, None, Err, Result, true, false, slice_get};
 ghost use Rattle.std.specs.List.{filter};
 ghost use Rattle.tally_allot.specs.LawStatements.{AllotmentsAreUnique, AllotmentsExist, EachOrderGivesAChoice};
 ghost use Rattle.tally_allot.specs.LawStatements.{GroupsAreOfOneNumberOfVotes, NoLotIsNeededWhereVotesDecide, VotesDecideOrALotIsNeeded};
@@ -10,7 +10,7 @@ ghost use Rattle.tally_machine.specs.Certification.{count_checks};
 ghost use Rattle.tally_returns.specs.Checks.{first_refusal};
 ghost use Rattle.tally_machine.specs.ConStep.{ConChange, Decides, IsView};
 ghost use Rattle.tally_machine.specs.LawfulState.{IsLawfulState};
-ghost use Rattle.tally_returns.specs.Named.{con_named};
+ghost use Rattle.tally_returns.specs.Named.{BringsCode, con_named};
 ghost use Rattle.tally_machine.specs.Outcome.{IsCertificate, IsLawfulView, poll_in, rule_in};
 ghost use Rattle.tally_machine.specs.Replies.{Answer, IsRun, IsStep, IsStepSeen, is_act};
 ghost use Rattle.tally_machine.specs.Runs.{IsSameCommand, acting_asks, kept};
@@ -21,6 +21,8 @@ ghost use Rattle.tally_returns.specs.declared.refusal.Refusal.TheVariants.{LotMi
 ghost use Rattle.tally_rules.specs.Constituency.{Constituency};
 ghost use Rattle.tally_rules.specs.Limits.{IsSetup};
 ghost use Rattle.tally_rules.specs.Setup.{constituency_with};
+ghost use Rattle.tally_machine.specs.Decisions as decision;
+ghost use Rattle.tally_machine.specs.Records as records;
 
 use tally_allot::laws as allotment;
 use tally_returns::{Ask, Refusal, Reply};
@@ -29,15 +31,15 @@ use tally_returns::{Ask, Refusal, Reply};
 /// and so does a run.
 pub fn a_step_keeps_a_lawful_state()
     ensures opening { (setup : List Constituency) → IsSetup setup → IsLawfulState setup (opening setup) }
-    ensures step { (setup : List Constituency) (s t : State) (ask : Ask) (r : Result Reply Refusal) → IsSetup setup → IsLawfulState setup s → IsStep setup s ask r t → IsLawfulState setup t }
-    ensures run { (setup : List Constituency) (s t : State) (asks : List Ask) (rs : List (Result Reply Refusal)) → IsSetup setup → IsRun setup s asks rs t → IsLawfulState setup s → IsLawfulState setup t }
+    ensures step { (setup : List Constituency) (s t : State) (ask : Ask) (r : Result Reply Refusal) → BringsCode ask → IsSetup setup → IsLawfulState setup s → IsStep setup s ask r t → IsLawfulState setup t }
+    ensures run { (setup : List Constituency) (s t : State) (asks : List Ask) (rs : List (Result Reply Refusal)) → All BringsCode asks → IsSetup setup → IsRun setup s asks rs t → IsLawfulState setup s → IsLawfulState setup t }
 {}
 
 /// In every state that a run reaches from the opening one, a certified constituency has all its
 /// stations closed, exactly its seats are allotted, by the one allotment of its closed votes, and a
 /// lot stands wherever one is needed. So it is in any lawful state, and of each view: there is one.
 pub fn a_certificate_stands_on_closed_votes()
-    ensures of_run { (setup : List Constituency) (t : State) (asks : List Ask) (rs : List (Result Reply Refusal)) → IsSetup setup → IsRun setup (opening setup) asks rs t → (code : List ℕ) (con : Constituency) → constituency_with code setup ≡ Some con → (con_state t con.code).certified ≡ true → (view : View) × IsView con t view × IsCertificate con view }
+    ensures of_run { (setup : List Constituency) (t : State) (asks : List Ask) (rs : List (Result Reply Refusal)) → All BringsCode asks → IsSetup setup → IsRun setup (opening setup) asks rs t → (code : List ℕ) (con : Constituency) → constituency_with code setup ≡ Some con → (con_state t con.code).certified ≡ true → (view : View) × IsView con t view × IsCertificate con view }
     ensures each { (setup : List Constituency) (s : State) → IsSetup setup → IsLawfulState setup s → (code : List ℕ) (con : Constituency) (view : View) → constituency_with code setup ≡ Some con → (con_state s con.code).certified ≡ true → IsView con s view → IsCertificate con view }
     ensures one { (setup : List Constituency) (s : State) (code : List ℕ) (con : Constituency) (view other : View) → IsSetup setup → constituency_with code setup ≡ Some con → IsView con s view → IsView con s other → view ≡ other }
 {
@@ -82,6 +84,53 @@ pub fn requests_that_do_not_act_can_be_left_out()
     ensures all { (setup : List Constituency) (s t : State) (asks : List Ask) (rs : List (Result Reply Refusal)) → IsRun setup s asks rs t → IsRun setup s (acting_asks asks rs) (filter is_act rs) t }
     ensures some { (setup : List Constituency) (s t : State) (asks : List Ask) (rs : List (Result Reply Refusal)) → IsRun setup s asks rs t → (keep : ℕ → Bool) → ((i : ℕ) (r : Result Reply Refusal) → slice_get rs i ≡ Some r → keep i ≡ false → is_act r ≡ false) → IsRun setup s (kept keep asks) (kept keep rs) t }
 {}
+
+/// From a state and a command there is at most one answer and one state; no step is refused for want
+/// of memory or by a store; and what is answered is of the command's kind, where a view that is shown
+/// fits its constituency.
+pub fn a_step_is_one()
+    ensures one { decision.StepsAreOne }
+    ensures of_the_machine { decision.StepsAreOfTheMachine }
+    ensures kind { decision.AnswersAreOfTheirKind }
+{
+    laws_of_allotments();
+}
+
+/// What is decided of a command on a return, by what a state says of its station, is a step: its
+/// refusal is that of the step, or its change leads to the state of the step and tells its answer.
+pub fn a_decision_on_a_return_is_a_step()
+    ensures limits { decision.LimitsAreThoseOfTheSetup }
+    ensures refused { decision.RefusalsOnReturnsAreSteps }
+    ensures changed { decision.ChangesOfReturnsAreSteps }
+    ensures unknown { decision.UnknownStationsAreRefused }
+{}
+
+/// What is decided of a command on a constituency, by its view in a state, is a step. In a lawful
+/// state its change can be carried out: the edition stays within its limit, nobody goes twice, and
+/// a certificate that is put on record is of a later edition than those that are.
+pub fn a_decision_on_a_constituency_is_a_step()
+    ensures decided { decision.DecisionsOnConstituenciesAreSteps }
+    ensures unknown { decision.UnknownConstituenciesAreRefused }
+    ensures edition { decision.EditionsStayWithinTheirLimit }
+    ensures gone { decision.NobodyGoesTwice }
+    ensures past { decision.RecordsComeLast }
+{}
+
+/// A certificate that was reopened stays on record, word for word, through every later request.
+pub fn records_stay()
+    ensures step { records.RecordsStay }
+    ensures run { records.RecordsStayInRuns }
+{}
+
+/// What is on record of a constituency and an edition are the seats of a certificate that a request
+/// reopened: the one allotment of the closed votes in a state in which the constituency was
+/// certified at that edition. After a run from the opening state it is a state of that run.
+pub fn records_are_of_allotments()
+    ensures step { records.RecordsAreOfAllotments }
+    ensures run { records.RecordsOfRunsAreOfAllotments }
+{
+    laws_of_allotments();
+}
 
 /// The laws of allotments that the laws here rest on.
 fn laws_of_allotments()

@@ -10,11 +10,11 @@ mod list_order;
 mod seat_holders;
 mod vacancy;
 
-pub use certification::{certify, draw, reopen};
+pub use certification::{Reopening, certify, draw, reopen};
 pub use con_commands::decide_con;
 pub use seat_holders::holders;
 pub use tally_returns::{
-    Ask, Change, ConView, Counts, Gone, ListSet, LodgeReply, ProgressRow, Refusal, Reply, Return,
-    Status, decide_at, decide_lodge, decide_return,
+    Ask, Change, ConView, Counts, Gone, ListSet, LodgeReply, Past, ProgressRow, Refusal, Reply,
+    Return, Status, decide_at, decide_lodge, decide_return,
 };
 pub use vacancy::{Vacancy, vacate};

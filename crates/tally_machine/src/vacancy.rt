@@ -3,7 +3,7 @@
 ghost use Rattle.std.specs.Prelude.{◌≡◌, ◌≢◌, ◌≤◌, ◌∷◌, Ok, Err, IfOk, IfErr, length};
 ghost use Rattle.tally_machine.specs.Certification.{gone_of, holders_of, vacates};
 ghost use Rattle.tally_machine.specs.Holders.{newcomer};
-ghost use Rattle.tally_machine.specs.Outcome.{IsLawfulView};
+ghost use Rattle.tally_returns.specs.View.{FitsView};
 ghost use Rattle.tally_returns.specs.declared.refusal.Refusal.TheVariants.{Memory};
 
 use crate::list_order::{Found, list_found};
@@ -31,7 +31,7 @@ pub fn vacate(
     place: u32,
     note: &str,
 ) -> Result<Vacancy, Refusal>
-    requires { IsLawfulView con.now view.now }
+    requires { FitsView con.now view.now }
     ensures vacated { IfOk result (λ vacancy. vacates con.now view.now list place note.now ≡ Ok (vacancy.gone, vacancy.next)) }
     ensures refused { IfErr result (λ refusal. refusal ≢ Memory → vacates con.now view.now list place note.now ≡ Err refusal) }
 {

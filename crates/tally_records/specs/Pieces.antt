@@ -49,8 +49,8 @@ piece_rows sep end piece = records (config sep) (strip_bom (if is_whole end then
 
 -- what is left of records: the one ahead, which is not known to be complete, and those behind it
 abbrev pub IsRest : Bool → List (List (List ℕ)) → Rest → Type 0
-IsRest true rows rest = rows ≡ rows_left rest.reader
-IsRest false rows rest = rows ≡ fields_of rest.ahead ∷ rows_left rest.reader
+IsRest true rows rest = rows ≡ rows_left rest.reader.value
+IsRest false rows rest = rows ≡ fields_of rest.ahead ∷ rows_left rest.reader.value
 
 -- more may come behind the piece, which ends with a line; or the input ended behind it
 abbrev pub IsPiece : Option End → List ℕ → ℕ → Type 0
@@ -59,7 +59,7 @@ IsPiece (Some end) bytes piece = take piece bytes ≡ bytes
 
 -- the records of an input, at work
 pub record IsWorking (r : Work) : Type 0 where
-  pub reading : IsReading r.rest.reader
+  pub reading : IsReading r.rest.reader.value
   pub rest : IsRest (is_whole r.end) (drop r.given (piece_rows r.sep r.end (take r.piece r.bytes.value.items))) r.rest
   pub piece : IsPiece r.end r.bytes.value.items r.piece
   pub within : r.piece ≤ length r.bytes.value.items

@@ -14,7 +14,7 @@ const SIZE_LIMIT: usize = 16_777_216;
 const READ_SIZE: usize = 16_384;
 
 /// The room that is made for the bytes which are held on.
-const ROOM: usize = 65_538;
+const ROOM: usize = 262_146;
 
 /// Bytes of an input that are still needed.
 #[derive(Drop)]

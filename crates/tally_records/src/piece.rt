@@ -14,7 +14,7 @@ use std::io::Cursor;
 #[derive(Drop)]
 pub(crate) struct Rest {
     pub(crate) ahead: ByteRecord,
-    pub(crate) reader: Reader<Cursor<Vec<u8>>>,
+    pub(crate) reader: Box<Reader<Cursor<Vec<u8>>>>,
 }
 
 impl Rest {
@@ -30,10 +30,10 @@ impl Rest {
     ) -> Result<Rest, AllocError>
         requires some { is_whole ≡ false → given < length (text_rows sep text.items) }
         requires whole { is_whole ≡ true → given ≤ length (text_rows sep text.items) }
-        ensures reading { IfOk result (λ rest. IsReading rest.reader) }
+        ensures reading { IfOk result (λ rest. IsReading rest.reader.value) }
         ensures rest { IfOk result (IsRest is_whole (drop given (text_rows sep text.items))) }
     {
-        let mut reader = records_in(alloc, text, sep);
+        let mut reader = records_in(alloc, text, sep)?;
         let mut ahead = ByteRecord::new(alloc);
         if !pass_over(&mut reader, &mut ahead, given)? {
             unreachable!();

@@ -11,16 +11,28 @@ use csv::{ByteRecord, Reader, ReaderBuilder};
 use std::alloc::{AllocError, Global};
 use std::io::Cursor;
 
-/// A reader of a text's records, of any length, as they stand in it.
-pub(crate) fn records_in(alloc: Global, text: Vec<u8>, sep: Sep) -> Reader<Cursor<Vec<u8>>>
-    ensures reading { IsReading result }
-    ensures rows { rows_left result ≡ records (config sep) (strip_bom text.items) }
+/// A reader of a text's records, of any length, as they stand in it. It is on the heap, since it has
+/// some 16 KiB. Its header row is set to be empty, since a reader that has none yet keeps copies of
+/// the first record.
+pub(crate) fn records_in(
+    alloc: Global,
+    text: Vec<u8>,
+    sep: Sep,
+) -> Result<Box<Reader<Cursor<Vec<u8>>>>, AllocError>
+    ensures reading { IfOk result (λ reader. IsReading reader.value) }
+    ensures rows { IfOk result (λ reader. rows_left reader.value ≡ records (config sep) (strip_bom text.items)) }
 {
-    ReaderBuilder::new()
-        .delimiter(sep.byte())
-        .has_headers(false)
-        .flexible(true)
-        .from_reader(alloc, Cursor::new(text))
+    let mut reader = Box::new(
+        alloc,
+        ReaderBuilder::new()
+            .delimiter(sep.byte())
+            .flexible(true)
+            .from_reader(alloc, Cursor::new(text)),
+    )?;
+    if reader.set_byte_headers(ByteRecord::new(alloc)).is_err() {
+        return Err(AllocError);
+    }
+    Ok(reader)
 }
 
 /// Reads the next record, if there is one. A text in memory can always be read, and its records

@@ -18,7 +18,7 @@ use std::mem;
 use std::snapshot::Snapshot;
 
 /// How many bytes of an input are held, where no record is longer.
-const PIECE: usize = 65_536;
+const PIECE: usize = 262_144;
 
 /// The records of an input that is read by pieces.
 #[derive(Drop)]
@@ -169,7 +169,9 @@ impl Work {
             *self = Work::read(alloc, held, input, watch, self.sep, PIECE, 0)?;
             return Ok(());
         }
-        let size = held.bytes.len() + (7 * held.bytes.len()).max(PIECE);
+        let size = held.bytes.len() + (8 * held.bytes.len()).max(PIECE);
+        // what was read of the record that goes on is read anew with it
+        self.rest.ahead = ByteRecord::new(alloc);
         let held = mem::replace(held, Held::new(alloc));
         *self = Work::read(alloc, held, input, watch, self.sep, size, self.given)?;
         Ok(())

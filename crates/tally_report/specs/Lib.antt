@@ -1,3 +1,3 @@
+pub mod Awards
 pub mod Fault
 pub mod Texts
-pub mod Views

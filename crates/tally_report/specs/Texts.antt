@@ -1,6 +1,6 @@
 -- The texts of the reports. A text is lines, a line is columns with a line end behind them, and a column is a value at the
 -- left or at the right of so many places. Names stand last on a line, in no column.
-use Rattle.std.specs.Prelude.{◌≡◌, ℕ, ◌+◌, ◌-◌, ◌*◌, ◌/◌, ◌%◌, ◌++◌, ◌==◌, nat_le, max, Bool, true, false, List, [], ◌∷◌, length, replicate, slice_index, slice_index_or, sum, if◌then◌else◌, codes}
+use Rattle.std.specs.Prelude.{◌≡◌, ℕ, ◌+◌, ◌-◌, ◌*◌, ◌/◌, ◌%◌, ◌++◌, ◌==◌, nat_le, max, Bool, true, false, Option, Some, None, List, [], ◌∷◌, length, replicate, slice_index, slice_index_or, sum, if◌then◌else◌, codes}
 use Rattle.std.specs.Fmt.{decimal}
 use Rattle.std.specs.List.{flat_map, range_with_len, repeat}
 use Rattle.tally_frac.specs.Divisors.{dhondt_divisor, sainte_lague_divisor, modified_sainte_lague_divisor}
@@ -11,7 +11,9 @@ use Rattle.tally_rules.specs.Threshold.{base_of, eligible_lists}
 use Rattle.tally_contest.specs.HareAllotment.{whole_quotas, remainder}
 use Rattle.tally_contest.specs.Poll.{Poll, eligible_votes, votes_of}
 use Rattle.tally_allot.specs.Awards.{AreAwardsBy}
+use Rattle.tally_allot.specs.VotesShort.{AreVotesShort, IsNoneWhereNoMore}
 use Rattle.tally_allot.specs.declared.award.Award.{Award}
+use Rattle.tally_returns.specs.PastSeats.{PastSeats}
 use Rattle.tally_returns.specs.View.{View}
 use Rattle.tally_returns.specs.declared.progress.ProgressRow.{ProgressRow}
 use Rattle.tally_machine.specs.Certification.{gone_of}
@@ -99,15 +101,19 @@ tally_text con view =
 
 -- ---- seats
 
-abbrev pub seats_line : View → ℕ → ListEntry → List ℕ
-seats_line view place list = left 16 list.code ++ number 5 (slice_index view.seats place) ++ codes " " ++ list.name ++ line_end
+-- the line of a list, by the seats of all
+abbrev pub seats_line : List ℕ → ℕ → ListEntry → List ℕ
+seats_line seats place list = left 16 list.code ++ number 5 (slice_index seats place) ++ codes " " ++ list.name ++ line_end
+
+-- the lines of a certificate: its edition, and the seats that it gives each list
+abbrev pub certificate_lines : Constituency → ℕ → List ℕ → List ℕ
+certificate_lines con edition seats = codes "edition " ++ decimal edition ++ line_end ++ list_lines (seats_line seats) con
 
 -- the seats of each list, and of the constituency
 abbrev pub seats_text : Constituency → View → List ℕ
 seats_text con view =
     heading (codes "SEATS") con
-    ++ codes "edition " ++ decimal view.edition ++ line_end
-    ++ list_lines (seats_line view) con
+    ++ certificate_lines con view.edition view.seats
     ++ left 16 (codes "total") ++ number 5 con.seats ++ line_end
 
 -- ---- quotients
@@ -181,6 +187,36 @@ abbrev pub IsAwardsText : Constituency → View → List ℕ → Type 0
 IsAwardsText con view text =
     (awards : List Award) × AreAwardsBy (rule_in con) (poll_in con view) view.lot con.seats awards × (text ≡ awards_text con awards)
 
+-- ---- short
+
+-- These are the numbers of votes that the lists are short of one more seat, by the closed votes and the lot.
+abbrev pub AreVotesShortIn : Constituency → View → List (Option ℕ) → Type 0
+AreVotesShortIn con view numbers =
+    IsNoneWhereNoMore con.profile view.votes view.blank view.lot con.seats numbers
+    × AreVotesShort con.profile view.votes view.blank view.lot con.seats numbers
+
+-- a number of votes, and a dash where there is none
+abbrev pub votes_column : Option ℕ → List ℕ
+votes_column None = right 12 (codes "-")
+votes_column (Some votes) = number 12 votes
+
+-- the line of a list, from its seats and its number
+abbrev pub short_columns : ListEntry → ℕ → Option ℕ → List ℕ
+short_columns list seats short = left 16 list.code ++ number 5 seats ++ votes_column short ++ line_end
+
+-- the line of an eligible list; another list has none
+abbrev pub short_line : Constituency → View → List (Option ℕ) → ℕ → ListEntry → List ℕ
+short_line con view numbers place list =
+    if is_eligible_at con view place then short_columns list (slice_index view.seats place) (slice_index_or numbers place None) else []
+
+-- the seats of each eligible list, and its number
+abbrev pub short_text : Constituency → View → List (Option ℕ) → List ℕ
+short_text con view numbers = heading (codes "SHORT") con ++ list_lines (short_line con view numbers) con
+
+-- the text is that of the votes that the lists are short
+abbrev pub IsShortText : Constituency → View → List ℕ → Type 0
+IsShortText con view text = (numbers : List (Option ℕ)) × AreVotesShortIn con view numbers × (text ≡ short_text con view numbers)
+
 -- ---- quota
 
 -- the columns of a list: its votes, its whole quotas, what they leave over, and its seats
@@ -226,6 +262,16 @@ holder_lines view place list =
 -- who holds each seat
 abbrev pub holders_text : Constituency → View → List ℕ
 holders_text con view = heading (codes "HOLDERS") con ++ list_lines (holder_lines view) con
+
+-- ---- past
+
+-- the lines of a certificate that was reopened
+abbrev pub past_lines : Constituency → PastSeats → List ℕ
+past_lines con past = certificate_lines con past.edition past.seats
+
+-- the certificates that were reopened, in order of edition
+abbrev pub past_text : Constituency → View → List ℕ
+past_text con view = heading (codes "PAST") con ++ flat_map (past_lines con) view.past
 
 -- ---- progress
 

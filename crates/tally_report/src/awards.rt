@@ -5,23 +5,24 @@ ghost use Rattle.tally_rules.specs.declared.profile.Method.TheVariants.{Hare as 
 ghost use Rattle.tally_allot.specs.Awards.{AreAwardsBy};
 ghost use Rattle.tally_allot.specs.declared.award.Award.{Award as award_type};
 ghost use Rattle.tally_machine.specs.Outcome.{IsLawfulView, poll_in, rule_in};
+ghost use Rattle.tally_returns.specs.View.{FitsView};
 ghost use Rattle.tally_report.specs.Fault.{IsRefused, divisors_fault};
 ghost use Rattle.tally_report.specs.Texts.{IsAwardsText, award_line, award_lines};
-ghost use Rattle.tally_report.specs.Views.{IsAwardIn, IsViewOf};
-ghost use Rattle.tally_allot.specs.LawStatements.{GroupsAreOfOneNumberOfVotes, NoLotIsNeededWhereVotesDecide};
+ghost use Rattle.tally_report.specs.Awards.{IsAwardIn};
 ghost use Rattle.tally_report.specs.declared.fault.ReportFault.TheVariants.{Memory};
 
 use crate::column::{push_heading, push_left, push_number};
 use crate::fault::ReportFault;
+use crate::lots::laws_of_lots;
 use std::alloc::{AllocError, Global};
-use tally_allot::{AllotFault, Award, awards, laws};
+use tally_allot::{AllotFault, Award, awards};
 use tally_returns::ConView;
 use tally_rules::{Constituency, Method};
 
 /// The seats of a certified constituency in the order of their award, each with its quotient, under a
 /// divisor rule (LOREG article 163.1 c)).
 pub fn awards_text(alloc: Global, con: &Constituency, view: &ConView) -> Result<String, ReportFault>
-    requires { IsViewOf con.now view.now }
+    requires { FitsView con.now view.now }
     ensures text { IfOk result (λ text. IsLawfulView con.now view.now → IsAwardsText con.now view.now (string_bytes text)) }
     ensures fault { IsRefused (divisors_fault con.now view.now) result }
 {
@@ -41,7 +42,7 @@ pub fn awards_text(alloc: Global, con: &Constituency, view: &ConView) -> Result<
 /// The awards by the closed votes and the lot. There are none where these allot no seats, which is so
 /// of no lawful view.
 fn awards_in(alloc: Global, con: &Constituency, view: &ConView) -> Result<Vec<Award>, ReportFault>
-    requires view { IsViewOf con.now view.now }
+    requires view { FitsView con.now view.now }
     requires by_divisors { con.now.profile.method ≢ by_hare }
     ensures awards { IfOk result (λ awards. IsLawfulView con.now view.now → view.now.certified ≡ true → AreAwardsBy (rule_in con.now) (poll_in con.now view.now) view.now.lot con.now.seats awards.items) }
     ensures each { IfOk result (λ awards. (i : ℕ) (d : award_type) → i < length awards.items → IsAwardIn con.now (slice_index_or awards.items i d)) }
@@ -59,15 +60,6 @@ fn awards_in(alloc: Global, con: &Constituency, view: &ConView) -> Result<Vec<Aw
             Ok(Vec::new(alloc))
         }
     }
-}
-
-/// The laws by which a lot that is to be taken is neither missing nor wrong.
-fn laws_of_lots()
-    ensures groups { GroupsAreOfOneNumberOfVotes }
-    ensures never_both { NoLotIsNeededWhereVotesDecide }
-{
-    laws::groups_are_of_one_number_of_votes();
-    laws::votes_decide_or_a_lot_is_needed();
 }
 
 fn push_awards(text: &mut String, con: &Constituency, awards: &[Award]) -> Result<(), AllocError>

@@ -3,9 +3,9 @@
 ghost use Rattle.std.specs.Prelude.{◌≡◌, ℕ, ◌-◌, ◌<◌, ◌≤◌, ◌++◌, IfOk, OnOk, length, slice_index, string_bytes};
 ghost use Rattle.std.specs.List.{flat_map, repeat};
 ghost use Rattle.tally_machine.specs.Certification.{gone_of};
+ghost use Rattle.tally_returns.specs.View.{FitsView};
 ghost use Rattle.tally_report.specs.Fault.{IsRefused, seats_fault};
 ghost use Rattle.tally_report.specs.Texts.{empty_line, holder_line, holder_lines, holders_text, list_lines};
-ghost use Rattle.tally_report.specs.Views.{IsViewOf};
 
 use crate::column::{push_heading, push_left, push_number};
 use crate::fault::ReportFault;
@@ -21,7 +21,7 @@ pub fn holders_text(
     con: &Constituency,
     view: &ConView,
 ) -> Result<String, ReportFault>
-    requires { IsViewOf con.now view.now }
+    requires { FitsView con.now view.now }
     ensures text { IfOk result (λ text. string_bytes text ≡ holders_text con.now view.now) }
     ensures fault { IsRefused (seats_fault view.now) result }
 {

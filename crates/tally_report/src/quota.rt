@@ -1,12 +1,11 @@
 //! Quotas and remainders.
 
 ghost use Rattle.std.specs.Prelude.{◌≡◌, ◌<◌, ◌++◌, IfOk, OnOk, length, string_bytes};
-ghost use Rattle.tally_contest.specs.HareTerms.{poll_of};
+ghost use Rattle.tally_contest.specs.internal.KeptPoll.{kept_poll};
 ghost use Rattle.tally_contest.specs.Poll.{IsEligible, eligible_votes};
-ghost use Rattle.tally_contest.specs.Terms.{poll_under};
+ghost use Rattle.tally_returns.specs.View.{FitsView};
 ghost use Rattle.tally_report.specs.Fault.{IsRefused, quotas_fault};
 ghost use Rattle.tally_report.specs.Texts.{list_lines, quota_columns, quota_line, quota_text};
-ghost use Rattle.tally_report.specs.Views.{IsViewOf};
 
 use crate::column::{push_heading, push_left, push_number};
 use crate::fault::ReportFault;
@@ -18,7 +17,7 @@ use tally_rules::{Constituency, ListEntry, Method};
 /// The eligible votes and the seats of a certified constituency, and the whole quotas, remainder and
 /// seats of each eligible list, under Hare's rule.
 pub fn quota_text(alloc: Global, con: &Constituency, view: &ConView) -> Result<String, ReportFault>
-    requires { IsViewOf con.now view.now }
+    requires { FitsView con.now view.now }
     ensures text { IfOk result (λ text. string_bytes text ≡ quota_text con.now view.now) }
     ensures fault { IsRefused (quotas_fault con.now view.now) result }
 {
@@ -46,7 +45,7 @@ pub fn quota_text(alloc: Global, con: &Constituency, view: &ConView) -> Result<S
 
 /// The votes of the eligible lists together.
 fn eligible_votes(poll: &Poll) -> u64
-    ensures { result ≡ eligible_votes (poll_under poll.now.threshold poll.now.base poll.now.votes.now) }
+    ensures { result ≡ eligible_votes (kept_poll poll.now) }
 {
     let mut total = 0;
     for list in 0..poll.votes.len() {
@@ -65,7 +64,7 @@ fn push_lists(
 ) -> Result<(), AllocError>
     requires lists { length contest.now.poll.votes.now ≡ length con.now.lists }
     requires seats { length view.now.seats ≡ length con.now.lists }
-    ensures { OnOk result (string_bytes text.new ≡ string_bytes text.old ++ list_lines (quota_line (poll_of contest.now) contest.now.seats view.now) con.now) }
+    ensures { OnOk result (string_bytes text.new ≡ string_bytes text.old ++ list_lines (quota_line (kept_poll contest.now.poll) contest.now.seats view.now) con.now) }
 {
     for (place, list) in con.lists.iter().enumerate() {
         push_list(text, contest, view, place, list)?;
@@ -82,7 +81,7 @@ fn push_list(
 ) -> Result<(), AllocError>
     requires list { place < length contest.now.poll.votes.now }
     requires seats { place < length view.now.seats }
-    ensures { OnOk result (string_bytes text.new ≡ string_bytes text.old ++ quota_line (poll_of contest.now) contest.now.seats view.now place list.now) }
+    ensures { OnOk result (string_bytes text.new ≡ string_bytes text.old ++ quota_line (kept_poll contest.now.poll) contest.now.seats view.now place list.now) }
 {
     if !contest.poll.is_eligible(place) {
         return Ok(());
@@ -98,8 +97,8 @@ fn push_columns(
     seats: u32,
 ) -> Result<(), AllocError>
     requires list { place < length contest.now.poll.votes.now }
-    requires eligible { IsEligible (poll_of contest.now) place }
-    ensures { OnOk result (string_bytes text.new ≡ string_bytes text.old ++ quota_columns (poll_of contest.now) contest.now.seats place list.now seats) }
+    requires eligible { IsEligible (kept_poll contest.now.poll) place }
+    ensures { OnOk result (string_bytes text.new ≡ string_bytes text.old ++ quota_columns (kept_poll contest.now.poll) contest.now.seats place list.now seats) }
 {
     push_left(text, list.code.as_str(), 16)?;
     push_number(text, contest.poll.votes_of(place), 12)?;

@@ -3,9 +3,9 @@
 ghost use Rattle.std.specs.Prelude.{max, ◌≡◌, ◌≤◌, ◌++◌, IfOk, IfErr, OnOk, length, string_bytes};
 ghost use Rattle.std.specs.List.{flat_map, range_with_len};
 ghost use Rattle.tally_machine.specs.Outcome.{IsLawfulView};
+ghost use Rattle.tally_returns.specs.View.{FitsView};
 ghost use Rattle.tally_report.specs.Fault.{IsRefused, divisors_fault};
 ghost use Rattle.tally_report.specs.Texts.{list_lines, most, quotient_column, quotients_by, quotients_line, quotients_text};
-ghost use Rattle.tally_report.specs.Views.{IsViewOf};
 ghost use Rattle.tally_report.specs.declared.fault.ReportFault.TheVariants.{Memory};
 ghost use Rattle.tally_rules.specs.Threshold.{eligible_lists};
 
@@ -27,7 +27,7 @@ pub fn quotients_text(
     con: &Constituency,
     view: &ConView,
 ) -> Result<String, ReportFault>
-    requires { IsViewOf con.now view.now }
+    requires { FitsView con.now view.now }
     ensures text { IfOk result (λ text. IsLawfulView con.now view.now → string_bytes text ≡ quotients_text con.now view.now) }
     ensures fault { IsRefused (divisors_fault con.now view.now) result }
 {
@@ -49,7 +49,7 @@ fn text_by<D: Divisors>(
     con: &Constituency,
     view: &ConView,
 ) -> Result<String, ReportFault>
-    requires view { IsViewOf con.now view.now }
+    requires view { FitsView con.now view.now }
     requires seats { length view.now.seats ≡ length con.now.lists }
     ensures text { IfOk result (λ text. most view.now.seats ≤ 500 → string_bytes text ≡ quotients_by (D.divisor divisors.now) (D.unit_of divisors.now) con.now view.now) }
     ensures fault { IfErr result (λ fault. fault ≡ Memory) }
@@ -87,7 +87,7 @@ fn push_lists<D: Divisors>(
     marks: &[bool],
     last: u32,
 ) -> Result<(), AllocError>
-    requires view { IsViewOf con.now view.now }
+    requires view { FitsView con.now view.now }
     requires seats { length view.now.seats ≡ length con.now.lists }
     requires marks { marks.now ≡ eligible_lists con.now.profile view.now.votes view.now.blank }
     requires last { last ≤ 501 }

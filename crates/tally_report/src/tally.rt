@@ -2,8 +2,8 @@
 
 ghost use Rattle.std.specs.Prelude.{◌≡◌, ◌≤◌, ◌<◌, ◌*◌, ◌++◌, IfOk, IfErr, OnOk, length, slice_index, sum, string_bytes};
 ghost use Rattle.tally_rules.specs.Threshold.{IsWithinVotes, base_of, eligible_lists};
+ghost use Rattle.tally_returns.specs.View.{FitsView};
 ghost use Rattle.tally_report.specs.Texts.{hundredths, list_lines, right, share, tally_columns, tally_line, tally_text, valid_line};
-ghost use Rattle.tally_report.specs.Views.{IsViewOf};
 ghost use Rattle.tally_report.specs.declared.fault.ReportFault.TheVariants.{Memory};
 
 use crate::column::{push_heading, push_left, push_number};
@@ -16,7 +16,7 @@ use tally_rules::{Base, Constituency, ListEntry, eligible};
 /// blank and spoiled votes, and of each list its votes, their share in the base of the threshold, and
 /// whether it is eligible (LOREG articles 163.1 a) and 96.5).
 pub fn tally_text(alloc: Global, con: &Constituency, view: &ConView) -> Result<String, ReportFault>
-    requires { IsViewOf con.now view.now }
+    requires { FitsView con.now view.now }
     ensures text { IfOk result (λ text. string_bytes text ≡ tally_text con.now view.now) }
     ensures fault { IfErr result (λ fault. fault ≡ Memory) }
 {
@@ -45,7 +45,7 @@ fn push_lists(
     view: &ConView,
     marks: &[bool],
 ) -> Result<(), AllocError>
-    requires view { IsViewOf con.now view.now }
+    requires view { FitsView con.now view.now }
     requires marks { marks.now ≡ eligible_lists con.now.profile view.now.votes view.now.blank }
     ensures { OnOk result (string_bytes text.new ≡ string_bytes text.old ++ list_lines (tally_line con.now view.now) con.now) }
 {

@@ -5,6 +5,4 @@
 #[cfg(test)]
 mod reports;
 #[cfg(test)]
-mod shapes;
-#[cfg(test)]
 mod views;

@@ -1,6 +1,7 @@
 //! The texts of the reports, byte for byte.
 
 use crate::views::{PROVINCE, THREE_LISTS, TWIN_TOWN, shown, told};
+use std::alloc::Global;
 use std::test::*;
 use tally_machine::ProgressRow;
 use tally_report::progress_text;
@@ -47,6 +48,32 @@ B                   - empty
 B                   - empty
 ";
 
+const SHORT: &str = "SHORT c1 Twin Town
+A                   1           1
+B                   2         200
+";
+
+// The certificate of edition 3 was reopened.
+const REOPENED: &str = "4 1 1: 100 100: 0 0: : 1 2: 2 1 past 3 1 2";
+
+const PAST: &str = "PAST c1 Twin Town
+edition 3
+A                   1 Alpha
+B                   2 Beta
+";
+
+// Certified a third time, after two certificates were reopened.
+const REOPENED_TWICE: &str = "9 1 1: 120 120: 0 0: 2 1: 1 2: past 3 1 2; 6 0 3";
+
+const PAST_TWICE: &str = "PAST c1 Twin Town
+edition 3
+A                   1 Alpha
+B                   2 Beta
+edition 6
+A                   0 Alpha
+B                   3 Beta
+";
+
 // 480,000 votes for 8 seats are 60,000 a seat: A's 168,000 are 2 of them, and 48,000 times 8 is left.
 const QUOTA: &str = "QUOTA n Province
 votes 480000 seats 8
@@ -72,6 +99,36 @@ const FIFTHS_AWARDS: &str = "AWARDS m Fifths
    2 A                  2           265    15          17
 ";
 
+// B's first seat takes the place of A's second with 25 votes, since 25 / 1.4 is more than 53 / 3; A has all.
+const FIFTHS_SHORT: &str = "SHORT m Fifths
+A                   2           -
+B                   0           1
+C                   0           2
+";
+
+// The same lists by D'Hondt: the last seat is A's fourth, with 168,000 / 4 = 42,000. With 42,000 votes E
+// would only tie with it, and A has more.
+const PROVINCE_SHORT: &str = "SHORT n Province
+A                   4       92000
+B                   2       22001
+C-of-16-letters_    1       12001
+D                   1       20001
+E                   0        2001
+F                   0       10001
+";
+
+// B's 29 of 1,000 votes are below the threshold of 3 per cent. A's eighth seat has 900 / 8 = 112.5.
+const ELIGIBLE_SHORT: &str = "SHORT n Province
+A                   8           -
+C-of-16-letters_    0          42
+";
+
+// A's second seat has 200 / 2 = 100.
+const TWO_SEATS_SHORT: &str = "SHORT c1 Twin Town
+A                   2           -
+B                   0           1
+";
+
 // Of 1,000 votes one list has 300, which is 30 per cent, and the next 29; blank votes count.
 const SHARES: &str = "TALLY n Province
 stations 7 closed 6
@@ -92,9 +149,14 @@ fn the_texts_of_a_constituency(rt: HostRuntime) -> Result<(), Fail> {
         ("quotients", TWIN_TOWN, CERTIFIED, QUOTIENTS),
         ("awards", TWIN_TOWN, CERTIFIED, AWARDS),
         ("holders", TWIN_TOWN, VACATED, HOLDERS),
+        ("short", TWIN_TOWN, CERTIFIED, SHORT),
+        ("past", TWIN_TOWN, REOPENED, PAST),
+        ("past", TWIN_TOWN, REOPENED_TWICE, PAST_TWICE),
+        ("past", TWIN_TOWN, OPEN, "PAST c1 Twin Town\n"),
         ("quota", PROVINCE, LOREG, QUOTA),
         ("quotients", THREE_LISTS, FIFTHS, FIFTHS_QUOTIENTS),
         ("awards", THREE_LISTS, FIFTHS, FIFTHS_AWARDS),
+        ("short", THREE_LISTS, FIFTHS, FIFTHS_SHORT),
         (
             "tally",
             PROVINCE,
@@ -107,6 +169,8 @@ fn the_texts_of_a_constituency(rt: HostRuntime) -> Result<(), Fail> {
         ("quota", TWIN_TOWN, CERTIFIED, "fault 2"),
         ("quotients", PROVINCE, LOREG, "fault 2"),
         ("awards", PROVINCE, LOREG, "fault 2"),
+        ("short", TWIN_TOWN, OPEN, "fault 1"),
+        ("short", PROVINCE, LOREG, "fault 2"),
         (
             "awards",
             PROVINCE,
@@ -118,6 +182,36 @@ fn the_texts_of_a_constituency(rt: HostRuntime) -> Result<(), Fail> {
         assert!(rt; got.as_str() == want, "{report} of {view}\n{got}");
     }
     Ok(())
+}
+
+#[test]
+fn votes_short_of_one_more_seat(rt: HostRuntime) -> Result<(), Fail> {
+    let alloc = rt.alloc();
+    let two_seats = changed(alloc, TWIN_TOWN, "seats = 3", "seats = 2")?;
+    let by_divisors = changed(alloc, PROVINCE, "hare", "dhondt")?;
+    for (setup, view, want) in [
+        (&two_seats, "3 1 1: 200 100: 0 0: 2 0: : ", TWO_SEATS_SHORT),
+        (
+            &by_divisors,
+            "2 1 1: 168000 104000 72000 64000 40000 32000: 0 0: 4 2 1 1 0 0: : ",
+            PROVINCE_SHORT,
+        ),
+        (
+            &by_divisors,
+            "2 1 1: 900 29 71 0 0 0: 0 0: 8 0 0 0 0 0: : ",
+            ELIGIBLE_SHORT,
+        ),
+    ] {
+        let got = shown(alloc, setup, "short", view)?;
+        assert!(rt; got.as_str() == want, "{view}\n{got}");
+    }
+    Ok(())
+}
+
+/// The setup with one word in the place of another.
+fn changed(alloc: Global, setup: &str, old: &str, new: &str) -> Result<String, Fail> {
+    let (before, after) = setup.split_once(old).ok_or("no such word")?;
+    Ok(format!(in alloc; "{before}{new}{after}")?)
 }
 
 #[test]

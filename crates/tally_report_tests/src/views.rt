@@ -1,11 +1,11 @@
 //! Setups and views as text, and the reports of them.
 
-use crate::shapes::fits;
 use std::alloc::Global;
 use std::test::Fail;
-use tally_machine::{ConView, Gone};
+use tally_machine::{ConView, Gone, Past};
 use tally_report::{
-    ReportFault, awards_text, holders_text, quota_text, quotients_text, seats_text, tally_text,
+    ReportFault, awards_text, holders_text, past_text, quota_text, quotients_text, seats_text,
+    short_text, tally_text,
 };
 use tally_rules::read_setup;
 
@@ -123,8 +123,8 @@ pub(crate) fn shown(alloc: Global, setup: &str, report: &str, line: &str) -> Res
     let setup = read_setup(alloc, setup.as_bytes()).ok().ok_or("no setup")?;
     let con = setup.cons().first().ok_or("no constituency")?;
     let view = view_of(alloc, line)?;
-    if !fits(con, &view) {
-        return Err(Fail::from("a view of another shape"));
+    if !view.fits(con) {
+        return Err(Fail::from("a view that does not fit"));
     }
     let text = match report {
         "tally" => tally_text(alloc, con, &view),
@@ -133,6 +133,8 @@ pub(crate) fn shown(alloc: Global, setup: &str, report: &str, line: &str) -> Res
         "awards" => awards_text(alloc, con, &view),
         "quota" => quota_text(alloc, con, &view),
         "holders" => holders_text(alloc, con, &view),
+        "short" => short_text(alloc, con, &view),
+        "past" => past_text(alloc, con, &view),
         _ => return Err(Fail::from("no report")),
     };
     told(alloc, text)
@@ -147,9 +149,11 @@ pub(crate) fn told(alloc: Global, text: Result<String, ReportFault>) -> Result<S
 
 /// The view of a line such as `3 1 2: 200 199: 0 1: 1 2: 2 1: 2 1`: the edition, how many stations are
 /// closed and how many there are; the votes of the lists; the blank and the spoiled votes; the seats
-/// where it is certified; the lot; a list and a candidate of it who is gone.
+/// where it is certified; the lot; a list and a candidate of it who is gone. What follows after `past`,
+/// such as `past 3 1 2; 7 2 1`, are the editions and seats of the certificates that were reopened.
 fn view_of(alloc: Global, line: &str) -> Result<ConView, Fail> {
-    let (stations, rest) = line.split_once(":").ok_or("no votes")?;
+    let (standing, past) = line.split_once("past").unwrap_or((line, ""));
+    let (stations, rest) = standing.split_once(":").ok_or("no votes")?;
     let (votes, rest) = rest.split_once(":").ok_or("no blank votes")?;
     let (others, rest) = rest.split_once(":").ok_or("no seats")?;
     let (seats, rest) = rest.split_once(":").ok_or("no lot")?;
@@ -172,7 +176,20 @@ fn view_of(alloc: Global, line: &str) -> Result<ConView, Fail> {
         spoiled: *others.get(1).ok_or("no spoiled votes")?,
         seats,
         gone: gone_of(alloc, gone)?,
+        past: past_of(alloc, past)?,
     })
+}
+
+fn past_of(alloc: Global, text: &str) -> Result<Vec<Past>, Fail> {
+    let mut past = Vec::new(alloc);
+    for certificate in text.split(";") {
+        let mut seats = places(alloc, certificate)?;
+        if !seats.is_empty() {
+            let edition = seats.remove(0);
+            past.push(Past { edition, seats })?;
+        }
+    }
+    Ok(past)
 }
 
 fn gone_of(alloc: Global, text: &str) -> Result<Vec<Gone>, Fail> {

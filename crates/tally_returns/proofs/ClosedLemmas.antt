@@ -21,7 +21,7 @@ use Rattle.tally_returns.specs.Decide.{station_in}
 use Rattle.tally_returns.specs.Progress.{is_received, is_queried, is_corrected, is_closed, stations_in}
 use Rattle.tally_returns.specs.Return.{StationReturn, Returns}
 use Rattle.tally_returns.specs.State.{ConState}
-use Rattle.tally_returns.specs.View.{View, blank_of, closed_counts, counts_if_closed, gone_candidates, spoiled_of, view_with, votes_of_lists}
+use Rattle.tally_returns.specs.View.{View, blank_of, closed_counts, counts_if_closed, gone_candidates, past_records, spoiled_of, view_with, votes_of_lists}
 use Rattle.tally_returns.specs.Counts.{VoteCounts}
 use Rattle.tally_returns.specs.declared.returns.Status.{Status}
 use Rattle.tally_returns.proofs.StateLemmas.{either-in, place_with, places, station_of}
@@ -245,6 +245,7 @@ seen con c seats received queried corrected closed counts = record {
   spoiled = spoiled_of counts;
   seats = seats;
   gone = gone_candidates c.gone;
+  past = past_records c.past;
 }
 
 -- where the returns of its stations are the same, the same is seen of a constituency

@@ -1,20 +1,23 @@
 -- What a decision says where it is not a refusal, and that it leaves a lawful return.
-use Rattle.std.proofs.Common.{◌≡◌, ◌≤◌, ◌<◌, ◌++◌, ◌∷◌, ◌∙◌, ℕ, List, [], Bool, true, false, Option, Some, None, Result, Ok, Err, refl, ap, subst, arith}
+use Rattle.std.proofs.Common.{◌≡◌, ◌≤◌, ◌<◌, ◌++◌, ◌∷◌, ◌∙◌, ℕ, List, [], Bool, true, false, Option, Some, None, Result, Ok, Err, refl, sym, ap, subst, arith, String}
 use Rattle.std.specs.Prelude.{◌==◌, ◌&&◌, not, nat_eq, nat_le, is_some, IfOk, string_bytes, if◌then◌else◌}
 use Rattle.std.specs.Option.{ForSome, option_and_then, option_map}
 use Rattle.tally_rules.specs.declared.constituency.Station.{Station}
 use Rattle.std.specs.Cmp.Lexicographic.{pointwise}
-use Rattle.std.proofs.lemmas.Bool.{leb-true}
+use Rattle.std.proofs.lemmas.Bool.{and_from, leb-true}
+use Rattle.std.proofs.lemmas.Str.{IsUtf8-string_bytes, is_utf8-from_IsUtf8}
+use Rattle.std.specs.Str.{IsUtf8, is_utf8}
 use Rattle.tally_rules.specs.Constituency.{Constituency}
+use Rattle.tally_rules.specs.Code.{is_code}
 use Rattle.tally_rules.specs.Text.{is_note}
 use Rattle.tally_returns.specs.Checks.{check, first_refusal, refused_or}
 use Rattle.tally_returns.specs.Counts.{VoteCounts, are_counts, all_votes, same_counts}
 use Rattle.tally_returns.specs.Return.{StationReturn, first_return}
 use Rattle.tally_returns.specs.Lodge.{StationLimits, counts_checks, unless_refused, admitted}
 use Rattle.tally_returns.specs.Moves.{last_revision, may_query, may_correct, may_close, move_checks, counts_checks_at, query_checks, correct_checks, close_checks, queried, corrected, closed}
-use Rattle.tally_returns.specs.Lawful.{IsLawful, PutsLawful, may_stand}
+use Rattle.tally_returns.specs.Lawful.{IsLawful, PutsLawful, is_kept_note, may_stand}
 use Rattle.tally_returns.specs.Decide.{IsUnlessMemory, decided_return, limits_named, limits_of, lodge_change, moved, put_next, station_in}
-use Rattle.tally_returns.specs.Named.{station_named}
+use Rattle.tally_returns.specs.Named.{BringsCode, station_named}
 use Rattle.tally_returns.specs.declared.returns.Status.{Status}
 use Rattle.tally_returns.specs.declared.ask.Ask.{Ask}
 use Rattle.tally_returns.specs.declared.ask.Ask.TheVariants.{Lodge, Query, Correct, Close, ShowReturn, Draw, Certify, Reopen, Vacate, ShowCon, ShowProgress}
@@ -72,9 +75,26 @@ pub move-rises : (certified : Bool) (standing : StationReturn) (rev : ℕ) (may_
     → standing.rev ≤ last_revision → first_refusal (move_checks certified (Some standing) rev may_start) ≡ None → standing.rev < last_revision
 move-rises certified standing rev may_start few none = not-last standing.rev few (move-not_last certified standing rev may_start none)
 
-may_stand-note : (note : List ℕ) → is_note note ≡ true → may_stand note ≡ true
-may_stand-note [] is = refl
-may_stand-note (byte ∷ note) is = is
+-- the note of a command may be kept, and may stand
+pub kept-note : {Z : Type 0} (note : String Z) → is_note (string_bytes note) ≡ true → is_kept_note (string_bytes note) ≡ true
+kept-note note is = and_from (is_note (string_bytes note)) (is_utf8 (string_bytes note)) is (is_utf8-from_IsUtf8 (string_bytes note) (IsUtf8-string_bytes note))
+
+-- of a text the note alone is to be looked at
+abbrev pub plainly_stands : List ℕ → Bool
+plainly_stands [] = true
+plainly_stands (byte ∷ note) = is_note (byte ∷ note)
+
+pub plainly-stands : (note : List ℕ) → IsUtf8 note → plainly_stands note ≡ may_stand note
+plainly-stands [] text = refl
+plainly-stands (byte ∷ note) text = go (is_note (byte ∷ note)) (is_utf8 (byte ∷ note)) (is_utf8-from_IsUtf8 (byte ∷ note) text)
+  where
+    go : (a b : Bool) → b ≡ true → a ≡ (a && b)
+    go true b is = sym is
+    go false b is = refl
+
+pub may_stand-kept : (note : List ℕ) → is_kept_note note ≡ true → may_stand note ≡ true
+may_stand-kept [] is = refl
+may_stand-kept (byte ∷ note) is = is
 
 -- a decision to move a return, by what its checks say
 moved-lawful : (station : StationLimits) (checks : List (Option Refusal)) (found : Option StationReturn) (next : StationReturn → StationReturn) (change : Change)
@@ -90,10 +110,10 @@ moved-lawful station checks found next change is lawful = go (first_refusal chec
     go None (Some standing) none some ok =
         let put : PutReturn (next standing) ≡ change = cc in subst (PutsLawful station) put (lawful standing some none)
 
-lodged-lawful : (station : StationLimits) (found : Option StationReturn) (slip : List ℕ) (counts : VoteCounts) (change : Change)
+lodged-lawful : (station : StationLimits) (found : Option StationReturn) (slip : List ℕ) (counts : VoteCounts) (change : Change) → is_code slip ≡ true
     → lodge_change slip counts (unless_refused (first_refusal (counts_checks station counts)) (admitted found slip counts)) ≡ Ok change
     → PutsLawful station change
-lodged-lawful station found slip counts change is = go (first_refusal (counts_checks station counts)) found refl is
+lodged-lawful station found slip counts change code is = go (first_refusal (counts_checks station counts)) found refl is
   where
     again : (same : Bool) (rev : ℕ) (e : Refusal) → lodge_change slip counts (if same then Ok (reply.Same rev) else Err e) ≡ Ok change → PutsLawful station change
     again true rev e ok = let same : Same ≡ change = cc in subst (PutsLawful station) same tt
@@ -107,6 +127,7 @@ lodged-lawful station found slip counts change is = go (first_refusal (counts_ch
         subst (PutsLawful station) put (record {
           first = omega arith;
           last = omega arith;
+          slip = code;
           note = refl;
           counts = passed-first (are_counts station.lists counts) BadCounts (check (nat_le (all_votes counts) station.electors) TooManyVotes ∷ []) none;
           votes = leb-true (all_votes counts) station.electors (passed-first (nat_le (all_votes counts) station.electors) TooManyVotes [] (passed-rest (are_counts station.lists counts) BadCounts (check (nat_le (all_votes counts) station.electors) TooManyVotes ∷ []) none));
@@ -114,10 +135,10 @@ lodged-lawful station found slip counts change is = go (first_refusal (counts_ch
     go None (Some standing) none ok = again (pointwise nat_eq standing.slip slip && same_counts standing.counts counts) standing.rev (Differs standing.rev) ok
 
 -- a decision on a lawful return leaves a lawful one
-pub decided-lawful : (station : StationLimits) (certified : Bool) (found : Option StationReturn) (ask : Ask) (change : Change)
+pub decided-lawful : (station : StationLimits) (certified : Bool) (found : Option StationReturn) (ask : Ask) (change : Change) → BringsCode ask
     → ForSome found (IsLawful station) → decided_return (Some station) certified found ask ≡ Ok change → PutsLawful station change
-decided-lawful station certified found (Lodge code slip counts) change lawful is = lodged-lawful station found slip counts change is
-decided-lawful station certified found (Query code rev note) change lawful is =
+decided-lawful station certified found (Lodge code slip counts) change brings lawful is = lodged-lawful station found slip counts change (brings slip refl) is
+decided-lawful station certified found (Query code rev note) change brings lawful is =
     moved-lawful station (query_checks (Some station) certified found rev (string_bytes note)) found (queried (string_bytes note)) change is
     (λ standing some none.
     let old = lawful standing some in
@@ -125,11 +146,12 @@ decided-lawful station certified found (Query code rev note) change lawful is =
     let rises : standing.rev < last_revision = move-rises certified standing rev may_query old.last moves in record {
       first = omega arith;
       last = omega arith;
-      note = may_stand-note (string_bytes note) (passed-first (is_note (string_bytes note)) BadNote (move_checks certified found rev may_query) none);
+      slip = old.slip;
+      note = may_stand-kept (string_bytes note) (kept-note note (passed-first (is_note (string_bytes note)) BadNote (move_checks certified found rev may_query) none));
       counts = old.counts;
       votes = old.votes;
     })
-decided-lawful station certified found (Correct code rev slip counts) change lawful is =
+decided-lawful station certified found (Correct code rev slip counts) change brings lawful is =
     let are = are_counts station.lists counts in
     let votes = nat_le (all_votes counts) station.electors in
     let moves = move_checks certified found rev may_correct in
@@ -140,11 +162,12 @@ decided-lawful station certified found (Correct code rev slip counts) change law
     let rises : standing.rev < last_revision = move-rises certified standing rev may_correct old.last passed in record {
       first = omega arith;
       last = omega arith;
+      slip = brings slip refl;
       note = old.note;
       counts = passed-first are BadCounts (check votes TooManyVotes ∷ moves) none;
       votes = leb-true (all_votes counts) station.electors (passed-first votes TooManyVotes moves (passed-rest are BadCounts (check votes TooManyVotes ∷ moves) none));
     })
-decided-lawful station certified found (Close code rev) change lawful is =
+decided-lawful station certified found (Close code rev) change brings lawful is =
     moved-lawful station (close_checks (Some station) certified found rev) found closed change is
     (λ standing some none.
     let old = lawful standing some in
@@ -152,27 +175,28 @@ decided-lawful station certified found (Close code rev) change lawful is =
     let rises : standing.rev < last_revision = move-rises certified standing rev may_close old.last moves in record {
       first = omega arith;
       last = omega arith;
+      slip = old.slip;
       note = old.note;
       counts = old.counts;
       votes = old.votes;
     })
-decided-lawful station certified found (ShowReturn code) change lawful is = shown (is_some found) is
+decided-lawful station certified found (ShowReturn code) change brings lawful is = shown (is_some found) is
   where
     shown : (b : Bool) → refused_or (first_refusal (check b NoReturn ∷ [])) (Ok Same) ≡ Ok change → PutsLawful station change
     shown true ok = let same : Same ≡ change = cc in subst (PutsLawful station) same tt
     shown false ok = cc
-decided-lawful station certified found (Draw con edition order) change lawful is = let same : Same ≡ change = cc in subst (PutsLawful station) same tt
-decided-lawful station certified found (Certify con edition) change lawful is = let same : Same ≡ change = cc in subst (PutsLawful station) same tt
-decided-lawful station certified found (Reopen con edition note) change lawful is = let same : Same ≡ change = cc in subst (PutsLawful station) same tt
-decided-lawful station certified found (Vacate con list place note) change lawful is = let same : Same ≡ change = cc in subst (PutsLawful station) same tt
-decided-lawful station certified found (ShowCon con) change lawful is = let same : Same ≡ change = cc in subst (PutsLawful station) same tt
-decided-lawful station certified found ShowProgress change lawful is = let same : Same ≡ change = cc in subst (PutsLawful station) same tt
+decided-lawful station certified found (Draw con edition order) change brings lawful is = let same : Same ≡ change = cc in subst (PutsLawful station) same tt
+decided-lawful station certified found (Certify con edition) change brings lawful is = let same : Same ≡ change = cc in subst (PutsLawful station) same tt
+decided-lawful station certified found (Reopen con edition note) change brings lawful is = let same : Same ≡ change = cc in subst (PutsLawful station) same tt
+decided-lawful station certified found (Vacate con list place note) change brings lawful is = let same : Same ≡ change = cc in subst (PutsLawful station) same tt
+decided-lawful station certified found (ShowCon con) change brings lawful is = let same : Same ≡ change = cc in subst (PutsLawful station) same tt
+decided-lawful station certified found ShowProgress change brings lawful is = let same : Same ≡ change = cc in subst (PutsLawful station) same tt
 
 -- the same of an answer
-pub answered-lawful : (station : StationLimits) (certified : Bool) (found : Option StationReturn) (ask : Ask) (result : Result Change Refusal)
+pub answered-lawful : (station : StationLimits) (certified : Bool) (found : Option StationReturn) (ask : Ask) (result : Result Change Refusal) → BringsCode ask
     → ForSome found (IsLawful station) → IsUnlessMemory result (decided_return (Some station) certified found ask) → IfOk result (PutsLawful station)
-answered-lawful station certified found ask (Ok change) lawful is = decided-lawful station certified found ask change lawful is
-answered-lawful station certified found ask (Err e) lawful is = tt
+answered-lawful station certified found ask (Ok change) brings lawful is = decided-lawful station certified found ask change brings lawful is
+answered-lawful station certified found ask (Err e) brings lawful is = tt
 
 pub lawful-last : (station : StationLimits) (found : Option StationReturn) → ForSome found (IsLawful station) → ForSome found (λ standing. standing.rev ≤ last_revision)
 lawful-last station found lawful = λ standing is. (lawful standing is).last

@@ -1,5 +1,7 @@
 -- The returns that may stand.
-use Rattle.std.specs.Prelude.{◌≡◌, ◌≤◌, Bool, true, ℕ, List, [], ◌∷◌}
+use Rattle.std.specs.Prelude.{◌≡◌, ◌≤◌, ◌&&◌, Bool, true, ℕ, List, [], ◌∷◌}
+use Rattle.std.specs.Str.{is_utf8}
+use Rattle.tally_rules.specs.Code.{is_code}
 use Rattle.tally_rules.specs.Text.{is_note}
 use Rattle.tally_returns.specs.Counts.{are_counts, all_votes}
 use Rattle.tally_returns.specs.Return.{StationReturn}
@@ -8,15 +10,20 @@ use Rattle.tally_returns.specs.Moves.{last_revision}
 use Rattle.tally_returns.specs.declared.change.Change.{Change}
 use Rattle.tally_returns.specs.declared.change.Change.TheVariants.{Same, PutReturn}
 
--- empty, or one that a query may have
+-- a note that is kept, of a query, of a reopening or of one who is gone: it is UTF-8, as every text here is
+abbrev pub is_kept_note : List ℕ → Bool
+is_kept_note note = is_note note && is_utf8 note
+
+-- empty, or such a note
 abbrev pub may_stand : List ℕ → Bool
 may_stand [] = true
-may_stand (byte ∷ note) = is_note (byte ∷ note)
+may_stand (byte ∷ note) = is_kept_note (byte ∷ note)
 
 -- A lawful return of a station.
 pub record IsLawful (station : StationLimits) (standing : StationReturn) : Type 0 where
   pub first : 1 ≤ standing.rev
   pub last : standing.rev ≤ last_revision
+  pub slip : is_code standing.slip ≡ true
   pub note : may_stand standing.note ≡ true
   pub counts : are_counts station.lists standing.counts ≡ true
   pub votes : all_votes standing.counts ≤ station.electors

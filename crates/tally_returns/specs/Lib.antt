@@ -4,6 +4,7 @@ pub mod Refusals
 pub mod Reply
 pub mod Checks
 pub mod Named
+pub mod AskSeen
 pub mod Lodge
 pub mod Moves
 pub mod Lawful
@@ -12,4 +13,5 @@ pub mod State
 pub mod Step
 pub mod Progress
 pub mod GoneCandidate
+pub mod PastSeats
 pub mod View

@@ -14,22 +14,31 @@ use Rattle.tally_returns.specs.Decide.{limits_of}
 abbrev pub GoneCandidates : Type 0
 GoneCandidates = FinMap (slice_cmp nat_cmp) (List ℕ)
 
+-- the seats of each list of each certificate that was reopened, by the edition at which it stood
+abbrev pub Records : Type 0
+Records = FinMap nat_cmp (List ℕ)
+
 -- what a constituency has come to: its edition, whether it is certified, the note of its last reopening, its lot (the places of
--- lists, none where no lot stands) and the candidates who are gone
+-- lists, none where no lot stands), the candidates who are gone and the certificates that were reopened
 pub record ConState : Type 0 where
   pub edition : ℕ
   pub certified : Bool
   pub note : List ℕ
   pub lot : List ℕ
   pub gone : GoneCandidates
+  pub past : Records
 
 pub record State : Type 0 where
   pub returns : Returns
   pub cons : FinMap code_cmp ConState
 
+-- the last edition that a constituency can have
+abbrev pub last_edition : ℕ
+last_edition = 9999
+
 -- a constituency as it opens
 abbrev pub opening_con : ConState
-opening_con = record { edition = 1; certified = false; note = []; lot = []; gone = empty }
+opening_con = record { edition = 1; certified = false; note = []; lot = []; gone = empty; past = empty }
 
 abbrev pub opening_cons : List Constituency → FinMap code_cmp ConState
 opening_cons setup = from_entries (map (λ (con : Constituency). (con.code, opening_con)) setup)

@@ -1,17 +1,20 @@
 -- What is seen of a constituency: what it has come to, how many of its returns are in each status, and its closed votes.
-use Rattle.std.specs.Prelude.{◌++◌, ℕ, Bool, List, [], ◌∷◌, length, map, sum_by, slice_index, Option, Some, None, if◌then◌else◌}
+use Rattle.std.specs.Prelude.{◌≡◌, ◌≤◌, ◌++◌, ℕ, All, Bool, true, List, [], ◌∷◌, length, map, sum_by, slice_index, Option, Some, None, if◌then◌else◌}
 use Rattle.std.specs.List.{range_with_len}
 use Rattle.std.specs.FinMap.{get, entries}
 use Rattle.tally_rules.specs.Constituency.{Constituency}
+use Rattle.tally_rules.specs.Threshold.{IsWithinVotes}
 use Rattle.tally_rules.specs.declared.constituency.Station.{Station}
 use Rattle.tally_returns.specs.GoneCandidate.{GoneCandidate}
+use Rattle.tally_returns.specs.PastSeats.{PastSeats}
 use Rattle.tally_returns.specs.Counts.{VoteCounts}
 use Rattle.tally_returns.specs.Return.{StationReturn, Returns}
-use Rattle.tally_returns.specs.State.{State, ConState, GoneCandidates, con_state}
+use Rattle.tally_returns.specs.State.{State, ConState, GoneCandidates, Records, con_state, last_edition}
 use Rattle.tally_returns.specs.Progress.{is_received, is_queried, is_corrected, is_closed, stations_in}
 
 -- how many stations there are and how many of their returns are in each status; votes, blank and spoiled ones are those of the
--- closed returns; seats are those of each list where the constituency is certified, and else there are none
+-- closed returns; seats are those of each list where the constituency is certified, and else there are none; past are the
+-- certificates that were reopened, in order of edition
 pub record View : Type 0 where
   pub edition : ℕ
   pub certified : Bool
@@ -27,6 +30,20 @@ pub record View : Type 0 where
   pub spoiled : ℕ
   pub seats : List ℕ
   pub gone : List GoneCandidate
+  pub past : List PastSeats
+
+-- A certificate that was reopened gave each list a number of seats.
+abbrev pub HasEachList : Constituency → PastSeats → Type 0
+HasEachList con past = length past.seats ≡ length con.lists
+
+-- The shape of a view of this constituency. One that a database gave may have it and yet be no view of a state that an office comes to.
+pub record FitsView (con : Constituency) (view : View) : Type 0 where
+  pub lists : length view.votes ≡ length con.lists
+  pub votes : IsWithinVotes view.votes view.blank
+  pub edition : view.edition ≤ last_edition
+  pub stations : view.closed ≤ view.stations
+  pub seats : view.certified ≡ true → length view.seats ≡ length con.lists
+  pub past : All (HasEachList con) view.past
 
 -- ---- closed votes
 
@@ -62,6 +79,13 @@ gone_candidate entry = record { list = slice_index entry.0 0; place = slice_inde
 abbrev pub gone_candidates : GoneCandidates → List GoneCandidate
 gone_candidates gone = map gone_candidate (entries gone)
 
+-- the certificates that were reopened, in order of edition
+abbrev pub past_record : ℕ × List ℕ → PastSeats
+past_record entry = record { edition = entry.0; seats = entry.1 }
+
+abbrev pub past_records : Records → List PastSeats
+past_records past = map past_record (entries past)
+
 abbrev pub view_with : Constituency → ConState → Returns → List ℕ → View
 view_with con c returns seats = record {
   edition = c.edition;
@@ -78,6 +102,7 @@ view_with con c returns seats = record {
   spoiled = spoiled_of (closed_counts returns con.stations);
   seats = seats;
   gone = gone_candidates c.gone;
+  past = past_records c.past;
 }
 
 -- the view of a constituency in a state, but for its seats

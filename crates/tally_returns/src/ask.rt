@@ -1,7 +1,8 @@
 //! Commands.
 
-ghost use Rattle.std.specs.Prelude.{◌≡◌};
-ghost use Rattle.tally_returns.specs.Named.{con_named, station_named};
+ghost use Rattle.std.specs.Prelude.{◌≡◌, true};
+ghost use Rattle.tally_returns.specs.Named.{BringsCode, con_named, slip_named, station_named};
+ghost use Rattle.tally_rules.specs.Code.{is_code};
 
 use crate::counts::Counts;
 use tally_rules::Code;
@@ -93,6 +94,18 @@ impl Ask {
         }
     }
 
+    /// The code of the slip that a command brings.
+    pub fn slip(&self) -> Option<Code>
+        ensures slip { result ≡ slip_named self.now }
+        ensures code { BringsCode self.now }
+    {
+        match self {
+            Ask::Lodge { slip, .. } => Some(known(*slip)),
+            Ask::Correct { slip, .. } => Some(known(*slip)),
+            _ => None,
+        }
+    }
+
     /// The constituency that a command on one names.
     pub fn con(&self) -> Option<Code>
         ensures { result ≡ con_named self.now }
@@ -111,4 +124,13 @@ impl Ask {
             Ask::ShowProgress => None,
         }
     }
+}
+
+/// The same code, of which contracts then know that it is one.
+fn known(code: Code) -> Code
+    ensures same { result ≡ code }
+    ensures code { is_code code ≡ true }
+{
+    let _characters = code.as_bytes();
+    code
 }

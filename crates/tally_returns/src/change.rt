@@ -1,7 +1,7 @@
 //! Changes.
 
 use crate::returns::Return;
-use crate::view::Gone;
+use crate::view::{Gone, Past};
 
 /// What a command that was accepted changes.
 #[derive(Debug, Drop)]
@@ -14,8 +14,9 @@ pub enum Change {
     SetLot(Vec<u32>),
     /// The constituency is certified, with these seats of its lists.
     SetCertified(Vec<u32>),
-    /// The constituency is no longer certified, and this is the note of its last reopening.
-    SetReopened(String),
+    /// The constituency is no longer certified; this is the note of its last reopening, and what
+    /// its certificate had given is on record.
+    SetReopened(String, Past),
     /// The candidate is gone, and the one at this place of the list, from 1, moves in.
     SetGone(Gone, Option<u32>),
 }

@@ -58,6 +58,7 @@ pub fn decide_at(
     ensures decided { IsUnlessMemory result (decided_return (Some (limits_of con.now station.now)) certified (option_copied found.entry) ask.now) }
     ensures lawful { IfOk result (PutsLawful (limits_of con.now station.now)) }
 {
+    let _slip = ask.slip();
     match ask {
         Ask::Lodge { slip, counts, .. } => decide_first(alloc, con, station, found, *slip, counts),
         Ask::Query { rev, note, .. } => decide_query(alloc, certified, found, *rev, note),

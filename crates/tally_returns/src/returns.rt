@@ -82,6 +82,7 @@ impl Return {
         if !self.counts.are_for(lists) {
             return false;
         }
+        let _slip = self.slip.as_bytes();
         self.rev >= 1
             && self.rev <= LAST_REVISION
             && may_stand(self.note.as_str())

@@ -26,6 +26,7 @@ pub(super) fn answer_in(alloc: Global, ledger: &mut Ledger, ask: &Ask) -> Result
     ensures setup { ledger.new.setup ≡ ledger.old.setup }
     ensures held { IsHeld ledger.new }
 {
+    let _slip = ask.slip();
     if let Some(con) = ask.con() {
         return answer_on(alloc, ledger, con, ask);
     }
@@ -57,6 +58,7 @@ fn lodge(
     let LodgeReply::Lodged { .. } = reply else {
         return Ok(Reply::from(reply));
     };
+    let _slip = slip.as_bytes();
     let first = Return::lodged(alloc, slip, counts.try_copy(alloc)?);
     ledger.put(station, first)?;
     Ok(Reply::from(reply))

@@ -55,7 +55,7 @@ fn carry_out(
     match change {
         Change::SetLot(lot) => ledger.set_lot(code, lot),
         Change::SetCertified(seats) => ledger.set_certified(code, seats),
-        Change::SetReopened(note) => ledger.set_reopened(code, note),
+        Change::SetReopened(note, past) => ledger.set_reopened(code, note, past)?,
         Change::SetGone(gone, next) => {
             ledger.set_gone(code, gone)?;
             return Ok(Reply::Vacated { next });

@@ -2,7 +2,8 @@ use Rattle.std.proofs.Common.{◌≡◌, List, length, map, sym, ap, ◌∙◌, 
 use Rattle.std.proofs.lemmas.List.{take_all}
 use Rattle.tally_allot.specs.declared.award.Award.{Award}
 use Rattle.tally_allot.specs.Awards.{AreAwardsOf, award_of}
-use Rattle.tally_contest.specs.Terms.{AreDivisors, poll_under}
+use Rattle.tally_contest.specs.internal.KeptPoll.{kept_poll}
+use Rattle.tally_contest.specs.internal.Terms.{AreDivisors}
 use Rattle.tally_contest.proofs.PollLemmas.{sound_under}
 use Rattle.tally_allot.proofs.AwardLemmas.{awards_of_won}
 use Rattle.tally_allot.proofs.award_table.awards_of.Goals as goal
@@ -12,7 +13,7 @@ returns g c =
     let p = c.args.poll.now in
     let nth = g.D.Divisors.divisor c.args.divisors.now in
     let unit = g.D.Divisors.unit_of c.args.divisors.now in
-    let poll = poll_under p.threshold p.base p.votes.now in
+    let poll = kept_poll p in
     let given = c.args.given.now in
     let d : AreDivisors nth = record { positive = g.met.D.Divisors.positive c.args.divisors.now; rises = g.met.D.Divisors.rises c.args.divisors.now } in
     λ lot_rule lot seats proper allotment won.

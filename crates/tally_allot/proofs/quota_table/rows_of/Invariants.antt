@@ -1,7 +1,7 @@
 use Rattle.std.proofs.Common.{◌≡◌}
-use Rattle.tally_contest.specs.HareTerms.{poll_of}
+use Rattle.tally_contest.specs.internal.KeptPoll.{kept_poll}
 use Rattle.tally_allot.specs.QuotaRows.{quota_rows}
 use Rattle.tally_allot.proofs.quota_table.rows_of.Given as goal
 
 abbrev pub invariant-loop-list : goal.invariant-loop-list
-invariant-loop-list l = l.rows.items ≡ quota_rows (poll_of l.contest) l.contest.seats l.given l.list
+invariant-loop-list l = l.rows.items ≡ quota_rows (kept_poll l.contest.poll) l.contest.seats l.given l.list

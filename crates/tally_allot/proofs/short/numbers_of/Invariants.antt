@@ -1,8 +1,8 @@
 use Rattle.tally_rules.specs.declared.profile.LotRule.{LotRule}
+use Rattle.tally_contest.specs.internal.KeptPoll.{kept_poll}
 use Rattle.tally_contest.specs.Allotment.{divisors}
-use Rattle.tally_contest.specs.Terms.{poll_under}
-use Rattle.tally_allot.specs.ShortSteps.{AreAnswers}
+use Rattle.tally_allot.specs.internal.ShortSteps.{AreAnswers}
 use Rattle.tally_allot.proofs.short.numbers_of.Given as goal
 
 abbrev pub invariant-loop-list : goal.invariant-loop-list
-invariant-loop-list g l = (lot_rule : LotRule) → AreAnswers (divisors (g.D.Divisors.divisor l.divisors) (g.D.Divisors.unit_of l.divisors) lot_rule) (poll_under l.poll.threshold l.poll.base l.poll.votes.now) l.seats l.held l.list l.numbers.items
+invariant-loop-list g l = (lot_rule : LotRule) → AreAnswers (divisors (g.D.Divisors.divisor l.divisors) (g.D.Divisors.unit_of l.divisors) lot_rule) (kept_poll l.poll) l.seats l.held l.list l.numbers.items

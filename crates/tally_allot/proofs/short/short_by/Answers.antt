@@ -1,17 +1,18 @@
-use Rattle.std.proofs.Common.{◌≡◌, ℕ, length, sym, subst}
+use Rattle.std.proofs.Common.{◌≡◌, length, sym, subst}
+use Rattle.tally_contest.specs.internal.KeptPoll.{kept_poll}
 use Rattle.tally_contest.specs.Allotment.{divisors}
 use Rattle.tally_contest.specs.Poll.{Poll}
-use Rattle.tally_contest.specs.Terms.{AreDivisors, poll_under}
+use Rattle.tally_contest.specs.internal.Terms.{AreDivisors}
 use Rattle.tally_contest.proofs.PollLemmas.{sound_under}
 use Rattle.tally_contest.proofs.DivisorRace.{by_votes_from_allotment}
-use Rattle.tally_allot.specs.ShortSteps.{AreAnswers, IsByVotes}
+use Rattle.tally_allot.specs.internal.ShortSteps.{AreAnswers, IsByVotes}
 use Rattle.tally_allot.proofs.ShortLemmas.{without_unit}
 use Rattle.tally_allot.proofs.short.short_by.Goals as goal
 
 pub numbers_of-requires-clause-allotment : goal.numbers_of-requires-clause-allotment
 numbers_of-requires-clause-allotment g c =
     let p = c.args.poll.now in
-    let poll : Poll = poll_under p.threshold p.base p.votes.now in
+    let poll : Poll = kept_poll p in
     let nth = g.D.Divisors.divisor c.args.divisors in
     let unit = g.D.Divisors.unit_of c.args.divisors in
     let some_unit = g.met.D.Divisors.unit_from_one c.args.divisors in
@@ -23,7 +24,7 @@ numbers_of-requires-clause-allotment g c =
 pub returns-clause-numbers : goal.returns-clause-numbers
 returns-clause-numbers g c =
     let p = c.args.poll.now in
-    let poll : Poll = poll_under p.threshold p.base p.votes.now in
+    let poll : Poll = kept_poll p in
     let rule = divisors (g.D.Divisors.divisor c.args.divisors) (g.D.Divisors.unit_of c.args.divisors) c.args.lot_rule in
     let held = c.in_ok-held.held.items in
     let answers : AreAnswers rule poll c.args.seats held (length held) c.in_ok-numbers.numbers.items = subst (λ a. AreAnswers rule poll c.args.seats a (length a) c.in_ok-numbers.numbers.items) c.deref.ensures.value (c.in_ok-numbers.ensures c.args.lot_rule) in

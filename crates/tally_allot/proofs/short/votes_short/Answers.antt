@@ -1,11 +1,9 @@
-use Rattle.std.proofs.Common.{◌≡◌, ℕ, List, Option, length, IfOk, OnOk, IfErr, Result, Ok, Err, sym, ap}
+use Rattle.std.proofs.Common.{IfOk, OnOk, IfErr, sym, ap}
 use Rattle.tally_contest.specs.LotNeed.{IsLotTaken}
-use Rattle.tally_contest.specs.Poll.{Poll, HasEligible}
-use Rattle.tally_contest.specs.Allotment.{Rule}
 use Rattle.tally_contest.specs.Rules.{rule_of, rule_by, poll_of}
 use Rattle.tally_contest.proofs.PollLemmas.{carried}
 use Rattle.tally_allot.specs.AllotFault.{IsFaultOf}
-use Rattle.tally_allot.specs.ShortSteps.{AreAnswersOf}
+use Rattle.tally_allot.specs.internal.ShortSteps.{AreAnswersOf}
 use Rattle.tally_allot.proofs.ShortLemmas.{ok_and, none_is, shorts, leasts}
 use Rattle.tally_allot.proofs.short.votes_short.Goals as goal
 

@@ -1,6 +1,6 @@
 use Rattle.std.proofs.Common.{◌≡◌, ℕ, ◌+◌, sum, subst, arith}
-use Rattle.tally_contest.specs.Race.{IsFair}
-use Rattle.tally_contest.specs.Terms.{placed_race}
+use Rattle.tally_contest.specs.internal.Race.{IsFair}
+use Rattle.tally_contest.specs.internal.Terms.{placed_race}
 use Rattle.tally_contest.proofs.TermsRace.{races, within_placed, within_from_fair}
 use Rattle.tally_contest.proofs.AwardStep as Award
 use Rattle.tally_contest.proofs.Scan.{cap_small, not_full}

@@ -1,6 +1,6 @@
 use Rattle.std.proofs.Common.{◌+◌, sum}
-use Rattle.tally_contest.specs.Race.{IsFair}
-use Rattle.tally_contest.specs.Terms.{placed_race}
+use Rattle.tally_contest.specs.internal.Race.{IsFair}
+use Rattle.tally_contest.specs.internal.Terms.{placed_race}
 use Rattle.tally_contest.proofs.contest.award.Given as goal
 
 -- what the race allows for the seats given so far

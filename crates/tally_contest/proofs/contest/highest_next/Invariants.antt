@@ -1,5 +1,5 @@
-use Rattle.tally_contest.specs.Race.{IsHighestBefore}
-use Rattle.tally_contest.specs.Terms.{placed_race}
+use Rattle.tally_contest.specs.internal.Race.{IsHighestBefore}
+use Rattle.tally_contest.specs.internal.Terms.{placed_race}
 use Rattle.tally_contest.proofs.contest.highest_next.Given as goal
 
 -- the highest among the lists so far

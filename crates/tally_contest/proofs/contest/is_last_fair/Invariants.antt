@@ -1,6 +1,6 @@
 use Rattle.std.proofs.Common.{ℕ, ◌+◌, ◌<◌, ◌≢◌, get_or}
-use Rattle.tally_contest.specs.Race.{NotBelow}
-use Rattle.tally_contest.specs.Terms.{placed_race}
+use Rattle.tally_contest.specs.internal.Race.{NotBelow}
+use Rattle.tally_contest.specs.internal.Terms.{placed_race}
 use Rattle.tally_contest.proofs.contest.is_last_fair.Given as goal
 
 -- none of the other lists so far has a higher next pair

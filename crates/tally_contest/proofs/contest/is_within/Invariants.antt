@@ -1,5 +1,5 @@
 use Rattle.std.proofs.Common.{ℕ, ◌<◌, ◌≤◌, get_or}
-use Rattle.tally_contest.specs.Terms.{placed_race}
+use Rattle.tally_contest.specs.internal.Terms.{placed_race}
 use Rattle.tally_contest.proofs.contest.is_within.Given as goal
 
 -- the lists so far are within their limits

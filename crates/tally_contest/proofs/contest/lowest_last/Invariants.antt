@@ -1,5 +1,5 @@
-use Rattle.tally_contest.specs.Race.{IsLowestBefore}
-use Rattle.tally_contest.specs.Terms.{placed_race}
+use Rattle.tally_contest.specs.internal.Race.{IsLowestBefore}
+use Rattle.tally_contest.specs.internal.Terms.{placed_race}
 use Rattle.tally_contest.proofs.contest.lowest_last.Given as goal
 
 -- the lowest among the lists so far

@@ -1,11 +1,13 @@
 use Rattle.std.proofs.Common.{◌≡◌, ℕ, ◌+◌, List, [], ◌∷◌, ◌++◌, length, get_or, set, take, drop, heap_items, sym, ap, ◌∙◌, subst, arith}
 use Rattle.std.proofs.Math.Seq.{take-append_seam}
 use Rattle.std.proofs.lemmas.List.{length-set}
+use Rattle.tally_contest.specs.internal.KeptPoll.{kept_poll}
+use Rattle.tally_contest.specs.internal.ContestTerms.{divisor_terms}
 use Rattle.tally_contest.specs.declared.won.Won.{Won}
-use Rattle.tally_contest.specs.NextPairs.{AreNext, poll_of, terms_of}
-use Rattle.tally_contest.specs.Race.{IsFair, IsHighestNext}
-use Rattle.tally_contest.specs.Terms.{placed_race}
-use Rattle.tally_contest.specs.Won.{AreWon}
+use Rattle.tally_contest.specs.internal.NextPairs.{AreNext}
+use Rattle.tally_contest.specs.internal.Race.{IsFair, IsHighestNext}
+use Rattle.tally_contest.specs.internal.Terms.{placed_race}
+use Rattle.tally_contest.specs.internal.Won.{AreWon}
 use Rattle.tally_contest.proofs.AwardStep.{award, one_more}
 use Rattle.tally_contest.proofs.TermsRace.{races, within_placed, total_placed}
 use Rattle.tally_contest.proofs.WonLemmas.{won_more}
@@ -14,7 +16,7 @@ use Rattle.tally_contest.proofs.heap_award.award_from_heap.Goals as goal
 pub loop-seat-preserved : goal.loop-seat-preserved
 loop-seat-preserved g c =
     let t = c.args.contest.now in
-    let terms = terms_of g.D.Divisors.divisor g.D.Divisors.unit_of t in
+    let terms = divisor_terms g.D.Divisors.divisor g.D.Divisors.unit_of t in
     let r = races terms c.requires.sound in
     let a = c.loop-seat.seats.items in
     let n = c.loop-seat._seat in
@@ -33,7 +35,7 @@ loop-seat-preserved g c =
     let B : ℕ → Type 0 = λ k. AreWon (placed_race terms) (one_more a w.list) (c.loop-seat.rows.items ++ record { list = w.list; seat = k } ∷ []) in
     let C : List Won → Type 0 = λ rows. AreWon (placed_race terms) (one_more a w.list) rows in
     let D : List ℕ → Type 0 = λ s. AreWon (placed_race terms) s c.push.new.self.items in
-    let E : List ℕ → Type 0 = λ s. AreNext (g.D.Divisors.divisor t.divisors) t.lot_rule (poll_of t) t.lot.now (length t.poll.votes.now) s (heap_items c.award_next.new.next) in
+    let E : List ℕ → Type 0 = λ s. AreNext (g.D.Divisors.divisor t.divisors) t.lot_rule (kept_poll t.poll) t.lot.now (length t.poll.votes.now) s (heap_items c.award_next.new.next) in
     record {
       fair = subst A (sym same) fair;
       won = subst D (sym same) (subst C (sym c.in_ok-push.ensures.items) (subst B (sym seat) won));

@@ -1,6 +1,7 @@
 use Rattle.std.proofs.Common.{◌∷◌, length, heap_items, IsPermutation, sym, ◌∙◌, subst}
-use Rattle.tally_contest.specs.NextPairs.{Keyed, poll_of}
-use Rattle.tally_contest.specs.Won.{none_held}
+use Rattle.tally_contest.specs.internal.KeptPoll.{kept_poll}
+use Rattle.tally_contest.specs.internal.NextPairs.{Keyed}
+use Rattle.tally_contest.specs.internal.Won.{none_held}
 use Rattle.tally_contest.proofs.HeapLemmas.{one_passed, one_pushed}
 use Rattle.tally_contest.proofs.Room.{at-replicate_zero}
 use Rattle.tally_contest.proofs.heap_award.first_pairs.Goals as goal
@@ -18,7 +19,7 @@ loop-list-preserved g c =
           let P : Keyed → Type 0 = λ x. IsPermutation (x ∷ heap_items c.loop-list.next) (heap_items w.push.new.self) in
           rw w.next-is (record {
             order = w.in_ok-push.ensures.heap_order i.order;
-            next = one_pushed nth t.lot_rule (poll_of t) t.lot.now n (none_held count) _ i.next (sym c.is_eligible.ensures ∙ w.if-is_eligible.true) (at-replicate_zero count n) _ (subst P w.keyed_pair.ensures w.in_ok-push.ensures.permutation);
+            next = one_pushed nth t.lot_rule (kept_poll t.poll) t.lot.now n (none_held count) _ i.next (sym c.is_eligible.ensures ∙ w.if-is_eligible.true) (at-replicate_zero count n) _ (subst P w.keyed_pair.ensures w.in_ok-push.ensures.permutation);
           })
-      | else-is_eligible w ↦ rw w.next-is (record { order = i.order; next = one_passed nth t.lot_rule (poll_of t) t.lot.now n (none_held count) _ i.next (sym c.is_eligible.ensures ∙ w.if-is_eligible.false) })
+      | else-is_eligible w ↦ rw w.next-is (record { order = i.order; next = one_passed nth t.lot_rule (kept_poll t.poll) t.lot.now n (none_held count) _ i.next (sym c.is_eligible.ensures ∙ w.if-is_eligible.false) })
     ]

@@ -1,9 +1,5 @@
-use Rattle.std.proofs.Common.{◌≡◌, length}
 use Rattle.tally_contest.proofs.PlaceLemmas.{ArePlaces}
 use Rattle.tally_contest.proofs.lot.places_under.Given as goal
 
 abbrev pub invariant-loop-i : goal.invariant-loop-i
-invariant-loop-i l = record {
-  long : length l.places ≡ 60;
-  places : ArePlaces l.lot l.i l.places;
-}
+invariant-loop-i l = ArePlaces l.lot l.i l.places

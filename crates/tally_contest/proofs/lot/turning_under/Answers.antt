@@ -1,6 +1,6 @@
 use Rattle.std.proofs.Common.{ap, sym, ◌∙◌, get_or, false}
 use Rattle.std.proofs.lemmas.List.{get_or-replicate}
-use Rattle.tally_contest.specs.Pairs.{turns}
+use Rattle.tally_contest.specs.internal.Pairs.{turns}
 use Rattle.tally_contest.proofs.lot.turning_under.Goals as goal
 
 pub returns-in-Fixed : goal.returns-in-Fixed

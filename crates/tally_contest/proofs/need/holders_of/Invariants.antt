@@ -1,5 +1,5 @@
 use Rattle.std.proofs.Common.{◌≡◌, ◌≤◌}
-use Rattle.tally_contest.specs.Sums.{sum_before, holds_at}
+use Rattle.tally_contest.specs.internal.Sums.{sum_before, holds_at}
 use Rattle.tally_contest.proofs.need.holders_of.Given as goal
 
 abbrev pub invariant-loop-list : goal.invariant-loop-list

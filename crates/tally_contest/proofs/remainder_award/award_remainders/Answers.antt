@@ -1,13 +1,13 @@
 use Rattle.std.proofs.Common.{◌≡◌, ℕ, ◌+◌, ◌-◌, sum, subst, arith}
-use Rattle.tally_contest.specs.HareTerms.{terms_of}
-use Rattle.tally_contest.specs.Race.{CanHold}
-use Rattle.tally_contest.specs.Terms.{placed_race}
+use Rattle.tally_contest.specs.internal.ContestTerms.{hare_terms}
+use Rattle.tally_contest.specs.internal.Race.{CanHold}
+use Rattle.tally_contest.specs.internal.Terms.{placed_race}
 use Rattle.tally_contest.proofs.Room.{room}
 use Rattle.tally_contest.proofs.remainder_award.award_remainders.Goals as goal
 
 pub give_to_greatest-requires-clause-room : goal.give_to_greatest-requires-clause-room
 give_to_greatest-requires-clause-room c =
-    let terms = terms_of c.args.contest.now in
+    let terms = hare_terms c.args.contest.now in
     let e = c.requires.eligible in
     let P : ℕ → Type 0 = λ n. CanHold (placed_race terms) n in
     let s : sum c.deref_mut.result.now ≡ sum c.in_ok-seats.seats.items = cc in

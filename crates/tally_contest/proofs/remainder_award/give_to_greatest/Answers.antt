@@ -1,8 +1,9 @@
 use Rattle.std.proofs.Common.{◌≡◌, ℕ, ◌+◌, ◌<◌, ◌≤◌, ◌⊎◌, length, get_or, sum, heap_items, subst, inl, inr, arith}
 use Rattle.std.proofs.lemmas.Bool.{cases_lt}
-use Rattle.tally_contest.specs.HareTerms.{poll_of, terms_of}
-use Rattle.tally_contest.specs.Race.{IsFair}
-use Rattle.tally_contest.specs.Terms.{placed_race, most_for}
+use Rattle.tally_contest.specs.internal.KeptPoll.{kept_poll}
+use Rattle.tally_contest.specs.internal.ContestTerms.{hare_terms}
+use Rattle.tally_contest.specs.internal.Race.{IsFair}
+use Rattle.tally_contest.specs.internal.Terms.{placed_race, most_for}
 use Rattle.tally_contest.proofs.AwardStep as Award
 use Rattle.tally_contest.proofs.ClaimLemmas.{one_seat, some_claim, popped_listed, popped_runs, popped_highest, popped_rest}
 use Rattle.tally_contest.proofs.Scan.{cap_small, not_full, runs_within}
@@ -13,45 +14,45 @@ pub offset_bounds-seats-list : goal.offset_bounds-seats-list
 offset_bounds-seats-list c =
     let t = c.args.contest.now in
     let w = c.loop-seat.invariant in
-    omega (arith, popped_listed (poll_of t) t.lot.now t.seats (length t.poll.votes.now) c.loop-seat.seats _ _ _ w.claims c.in-Some.ensures.permutation, t.poll.few_lists)
+    omega (arith, popped_listed (kept_poll t.poll) t.lot.now t.seats (length t.poll.votes.now) c.loop-seat.seats _ _ _ w.claims c.in-Some.ensures.permutation, t.poll.few_lists)
 
 pub bounds-seats-list : goal.bounds-seats-list
 bounds-seats-list c =
     let t = c.args.contest.now in
     let w = c.loop-seat.invariant in
-    omega (arith, popped_listed (poll_of t) t.lot.now t.seats (length t.poll.votes.now) c.loop-seat.seats _ _ _ w.claims c.in-Some.ensures.permutation, w.fair.one_each)
+    omega (arith, popped_listed (kept_poll t.poll) t.lot.now t.seats (length t.poll.votes.now) c.loop-seat.seats _ _ _ w.claims c.in-Some.ensures.permutation, w.fair.one_each)
 
 pub bounds-seats-list-in-loop-seat : goal.bounds-seats-list-in-loop-seat
 bounds-seats-list-in-loop-seat c =
     let t = c.args.contest.now in
     let w = c.loop-seat.invariant in
-    omega (arith, popped_listed (poll_of t) t.lot.now t.seats (length t.poll.votes.now) c.loop-seat.seats _ _ _ w.claims c.in-Some.ensures.permutation, w.fair.one_each)
+    omega (arith, popped_listed (kept_poll t.poll) t.lot.now t.seats (length t.poll.votes.now) c.loop-seat.seats _ _ _ w.claims c.in-Some.ensures.permutation, w.fair.one_each)
 
 pub overflow_add-seats : goal.overflow_add-seats
 overflow_add-seats c =
     let t = c.args.contest.now in
     let w = c.loop-seat.invariant in
-    omega (arith, popped_runs (poll_of t) t.lot.now t.seats (length t.poll.votes.now) c.loop-seat.seats _ _ _ w.claims c.in-Some.ensures.permutation, cap_small (terms_of t) c.requires.sound c.in-Some.claim.list)
+    omega (arith, popped_runs (kept_poll t.poll) t.lot.now t.seats (length t.poll.votes.now) c.loop-seat.seats _ _ _ w.claims c.in-Some.ensures.permutation, cap_small (hare_terms t) c.requires.sound c.in-Some.claim.list)
 
 pub unreachable-requires : goal.unreachable-requires
 unreachable-requires c =
     let t = c.args.contest.now in
     let w = c.loop-seat.invariant in
     let room = c.requires.room in
-    not_full (placed_race (terms_of t)) _ c.loop-seat.seats room.0 w.fair (λ m. full m (cases_lt (get_or c.loop-seat.seats m 0) (most_for (poll_of t) t.seats m))) room.1 room.2 (omega (arith, room.3, c.loop-seat-test.true))
+    not_full (placed_race (hare_terms t)) _ c.loop-seat.seats room.0 w.fair (λ m. full m (cases_lt (get_or c.loop-seat.seats m 0) (most_for (kept_poll t.poll) t.seats m))) room.1 room.2 (omega (arith, room.3, c.loop-seat-test.true))
   where
-    full : (m : ℕ) → (get_or c.loop-seat.seats m 0 < most_for (poll_of c.args.contest.now) c.args.contest.now.seats m) ⊎ (most_for (poll_of c.args.contest.now) c.args.contest.now.seats m ≤ get_or c.loop-seat.seats m 0) → most_for (poll_of c.args.contest.now) c.args.contest.now.seats m ≤ get_or c.loop-seat.seats m 0
+    full : (m : ℕ) → (get_or c.loop-seat.seats m 0 < most_for (kept_poll c.args.contest.now.poll) c.args.contest.now.seats m) ⊎ (most_for (kept_poll c.args.contest.now.poll) c.args.contest.now.seats m ≤ get_or c.loop-seat.seats m 0) → most_for (kept_poll c.args.contest.now.poll) c.args.contest.now.seats m ≤ get_or c.loop-seat.seats m 0
     full m (inr le) = le
     full m (inl lt) =
         let t = c.args.contest.now in
         let w = c.loop-seat.invariant in
-        some_claim (poll_of t) t.lot.now t.seats (length t.poll.votes.now) c.loop-seat.seats (heap_items c.loop-seat.claims) w.claims (omega (arith, c.in-None.ensures.none, c.loop-seat.claims.data.ok.0)) m (runs_within (terms_of t) c.requires.sound m (get_or c.loop-seat.seats m 0) (w.fair.low m) lt)
+        some_claim (kept_poll t.poll) t.lot.now t.seats (length t.poll.votes.now) c.loop-seat.seats (heap_items c.loop-seat.claims) w.claims (omega (arith, c.in-None.ensures.none, c.loop-seat.claims.data.ok.0)) m (runs_within (hare_terms t) c.requires.sound m (get_or c.loop-seat.seats m 0) (w.fair.low m) lt)
 
 pub loop-seat-preserved : goal.loop-seat-preserved
 loop-seat-preserved c =
     let t = c.args.contest.now in
-    let poll = poll_of t in
-    let terms = terms_of t in
+    let poll = kept_poll t.poll in
+    let terms = hare_terms t in
     let r = races terms c.requires.sound in
     let a = c.loop-seat.seats in
     let l = c.in-Some.claim.list in

@@ -1,5 +1,5 @@
 use Rattle.std.proofs.Common.{◌≡◌, ℕ, ◌<◌, vec_len, get_or}
-use Rattle.tally_contest.specs.Terms.{placed_race}
+use Rattle.tally_contest.specs.internal.Terms.{placed_race}
 use Rattle.tally_contest.proofs.scan_award.certain_seats.Given as goal
 
 abbrev pub invariant-loop-list : goal.invariant-loop-list

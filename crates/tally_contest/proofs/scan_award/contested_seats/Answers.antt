@@ -1,6 +1,6 @@
 use Rattle.std.proofs.Common.{◌≡◌, ℕ, ◌+◌, ◌-◌, sum, subst, arith}
-use Rattle.tally_contest.specs.Race.{CanHold}
-use Rattle.tally_contest.specs.Terms.{placed_race}
+use Rattle.tally_contest.specs.internal.Race.{CanHold}
+use Rattle.tally_contest.specs.internal.Terms.{placed_race}
 use Rattle.tally_contest.proofs.Room.{room}
 use Rattle.tally_contest.proofs.scan_award.contested_seats.Goals as goal
 

@@ -23,5 +23,6 @@ returns c =
       spoiled = 0;
       seats = c.new-3.ensures.items i;
       gone = c.new-4.ensures.items i;
+      past = c.new-5.ensures.items i;
     })
     ∙ opened-is con

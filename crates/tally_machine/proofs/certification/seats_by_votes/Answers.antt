@@ -1,5 +1,7 @@
-use Rattle.std.proofs.Common.{◌≢◌, ◌∙◌, ℕ, List, IfOk, IfErr, OnOk, ap}
+use Rattle.std.proofs.Common.{◌≢◌, ◌∙◌, ℕ, List, IfOk, IfErr, OnOk, ap, sym, subst}
 use Rattle.tally_rules.specs.Constituency.{Constituency}
+use Rattle.tally_rules.specs.Limits.{IsConstituency}
+use Rattle.tally_allot.specs.Conditions.{AreLimitsKept}
 use Rattle.tally_rules.specs.declared.profile.Profile.{Profile}
 use Rattle.tally_contest.specs.Allotment.{IsAllotment}
 use Rattle.tally_contest.specs.Poll.{HasEligible}
@@ -9,8 +11,20 @@ use Rattle.tally_contest.specs.Rules.{rule_of, poll_of}
 use Rattle.tally_allot.specs.declared.fault.AllotFault.TheVariants.{WrongLot}
 use Rattle.tally_machine.specs.Outcome.{poll_in, rule_in}
 use Rattle.tally_returns.specs.View.{View}
-use Rattle.tally_machine.proofs.CertificationLemmas.{all_three, carried, lot-right, on_fault}
+use Rattle.tally_machine.proofs.CertificationLemmas.{all_three, carried, fits-limits, lot-right, on_fault}
 use Rattle.tally_machine.proofs.certification.seats_by_votes.Goals as goal
+
+pub allot-requires : goal.allot-requires
+allot-requires c =
+    let con = c.args.con.now in
+    let view = c.args.view.now in
+    let profile = ap (λ (k : Constituency). k.profile) c.con.view_is in
+    let seats = ap (λ (k : Constituency). k.seats) c.con.view_is in
+    let votes = c.deref.ensures.value ∙ ap (λ (v : View). v.votes) c.view.view_is in
+    let blank = ap (λ (v : View). v.blank) c.view.view_is in
+    let lot = c.deref-2.ensures.value ∙ ap (λ (v : View). v.lot) c.view.view_is in
+    let Kept : Profile → ℕ → List ℕ → ℕ → List ℕ → Type 0 = λ profile seats votes blank lot. AreLimitsKept profile seats votes blank in
+    carried Kept (sym profile) (sym seats) (sym votes) (sym blank) (sym lot) (fits-limits con view (subst IsConstituency c.con.view_is c.con.invariant) c.requires)
 
 pub returns-clause-seats : goal.returns-clause-seats
 returns-clause-seats c =
@@ -40,7 +54,7 @@ returns-clause-fault c =
     carried Fault profile seats votes blank lot c.allot.ensures.fault
 
 pub returns-clause-right_lot : goal.returns-clause-right_lot
-returns-clause-right_lot c =
+returns-clause-right_lot c = λ lawful.
     let con = c.args.con.now in
     let view = c.args.view.now in
-    on_fault c.allot.result (IsFaultOf (rule_in con) (poll_in con view) con.seats view.lot) (λ f. f ≢ WrongLot) (λ f says. lot-right con view c.requires.lot f says) (returns-clause-fault c)
+    on_fault c.allot.result (IsFaultOf (rule_in con) (poll_in con view) con.seats view.lot) (λ f. f ≢ WrongLot) (λ f says. lot-right con view lawful.lawful.lot f says) (returns-clause-fault c)

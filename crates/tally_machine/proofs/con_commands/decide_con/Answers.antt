@@ -21,15 +21,16 @@ returns-in_ok-certify-in-Certify-clause-decided c =
     let seats = c.in_ok-certify-in-Certify.field-0.items in
     (certified_with seats, refl, subst (λ (ask : Ask). Decides con view ask (Ok (certified_with seats))) (sym c.in-Certify.is) (Ok seats, c.in_ok-certify-in-Certify.ensures.seats, refl))
 
-pub returns-in_ok-reopen-in-Reopen-clause-decided :
-    goal.returns-in_ok-reopen-in-Reopen-clause-decided
-returns-in_ok-reopen-in-Reopen-clause-decided c =
+pub returns-in_ok-reopening-in-Reopen-clause-decided :
+    goal.returns-in_ok-reopening-in-Reopen-clause-decided
+returns-in_ok-reopening-in-Reopen-clause-decided c =
     let con = c.args.con.now in
     let view = c.args.view.now in
-    let note = string_bytes c.in_ok-reopen-in-Reopen.field-0 in
-    let kept : reopened view c.in-Reopen.edition (string_bytes c.in-Reopen.note) ≡ Ok note =
-    subst (λ (n : List ℕ). reopened view c.in-Reopen.edition n ≡ Ok note) c.deref-in-Reopen.ensures c.in_ok-reopen-in-Reopen.ensures.note in
-    (open_again note, refl, subst (λ (ask : Ask). Decides con view ask (Ok (open_again note))) (sym c.in-Reopen.is) (sym (ap (changed_by open_again) kept)))
+    let note = string_bytes c.in_ok-reopening-in-Reopen.reopening.note in
+    let past = c.in_ok-reopening-in-Reopen.reopening.past in
+    let kept : reopened view c.in-Reopen.edition (string_bytes c.in-Reopen.note) ≡ Ok (note, past) =
+    subst (λ (n : List ℕ). reopened view c.in-Reopen.edition n ≡ Ok (note, past)) c.deref-in-Reopen.ensures c.in_ok-reopening-in-Reopen.ensures.reopened in
+    (open_again note past, refl, subst (λ (ask : Ask). Decides con view ask (Ok (open_again note past))) (sym c.in-Reopen.is) (sym (ap (changed_by (λ r. open_again r.0 r.1)) kept)))
 
 pub returns-in_ok-vacancy-in-Vacate-clause-decided :
     goal.returns-in_ok-vacancy-in-Vacate-clause-decided

@@ -4,4 +4,4 @@ use Rattle.tally_report.proofs.seats.push_lists.Given as goal
 
 abbrev pub invariant-loop-place : goal.invariant-loop-place
 invariant-loop-place l =
-    string_bytes l.text ++ lines_from (seats_line l.view) l.place (drop l.place l.con.lists) ≡ string_bytes l.fn.text ++ list_lines (seats_line l.view) l.con
+    string_bytes l.text ++ lines_from (seats_line l.seats) l.place (drop l.place l.con.lists) ≡ string_bytes l.fn.text ++ list_lines (seats_line l.seats) l.con

@@ -17,13 +17,13 @@ pub returns-in-Lodge-clause-lawful : goal.returns-in-Lodge-clause-lawful
 returns-in-Lodge-clause-lawful c =
     let limits = limits_of c.args.con.now c.args.station.now in
     let is : IsUnlessMemory c.decide_first.result (decided_return (Some limits) c.args.certified (option_copied c.args.found) c.args.ask.now) = search rules in
-    answered-lawful limits c.args.certified (option_copied c.args.found) c.args.ask.now c.decide_first.result c.requires.lawful is
+    answered-lawful limits c.args.certified (option_copied c.args.found) c.args.ask.now c.decide_first.result c.slip-slip.ensures.code c.requires.lawful is
 
 pub returns-in-Query-clause-lawful : goal.returns-in-Query-clause-lawful
 returns-in-Query-clause-lawful c =
     let limits = limits_of c.args.con.now c.args.station.now in
     let is : IsUnlessMemory c.decide_query.result (decided_return (Some limits) c.args.certified (option_copied c.args.found) c.args.ask.now) = search rules in
-    answered-lawful limits c.args.certified (option_copied c.args.found) c.args.ask.now c.decide_query.result c.requires.lawful is
+    answered-lawful limits c.args.certified (option_copied c.args.found) c.args.ask.now c.decide_query.result c.slip-slip.ensures.code c.requires.lawful is
 
 pub returns-in_err-check_counts-in-Correct-clause-decided :
     goal.returns-in_err-check_counts-in-Correct-clause-decided
@@ -50,10 +50,10 @@ pub returns-in-Close-clause-lawful : goal.returns-in-Close-clause-lawful
 returns-in-Close-clause-lawful c =
     let limits = limits_of c.args.con.now c.args.station.now in
     let is : IsUnlessMemory c.decide_close.result (decided_return (Some limits) c.args.certified (option_copied c.args.found) c.args.ask.now) = search rules in
-    answered-lawful limits c.args.certified (option_copied c.args.found) c.args.ask.now c.decide_close.result c.requires.lawful is
+    answered-lawful limits c.args.certified (option_copied c.args.found) c.args.ask.now c.decide_close.result c.slip-slip.ensures.code c.requires.lawful is
 
 pub returns-in_ok-check_counts-in-Correct-clause-lawful :
     goal.returns-in_ok-check_counts-in-Correct-clause-lawful
 returns-in_ok-check_counts-in-Correct-clause-lawful c =
     let limits = limits_of c.args.con.now c.args.station.now in
-    answered-lawful limits c.args.certified (option_copied c.args.found) c.args.ask.now c.decide_correct.result c.requires.lawful (returns-in_ok-check_counts-in-Correct-clause-decided c)
+    answered-lawful limits c.args.certified (option_copied c.args.found) c.args.ask.now c.decide_correct.result c.slip-slip.ensures.code c.requires.lawful (returns-in_ok-check_counts-in-Correct-clause-decided c)

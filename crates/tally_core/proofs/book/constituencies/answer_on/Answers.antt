@@ -16,13 +16,13 @@ decide_con-requires-clause-named c =
     ap (constituency_with c.args.code) (sym c.setup.ensures) ∙ sym c.con.ensures.found ∙ ap option_copied c.in-Some.is in
     c.requires.named ∙ ap Some (sym (constituency_with-code k.setup c.args.code c.in-Some.con.now found))
 
-pub decide_con-requires-clause-lawful : goal.decide_con-requires-clause-lawful
-decide_con-requires-clause-lawful c =
+pub decide_con-requires-clause-fits : goal.decide_con-requires-clause-fits
+decide_con-requires-clause-fits c =
     let k = c.args.ledger.now in
     let con = c.in-Some.con.now in
     let found : constituency_with c.args.code k.setup ≡ Some con =
     ap (constituency_with c.args.code) (sym c.setup.ensures) ∙ sym c.con.ensures.found ∙ ap option_copied c.in-Some.is in
-    held-view k c.args.code con c.in-Some-view.view.now c.requires.held found (view-found k c.args.code con c.view.result c.in-Some-view.view found c.view.ensures c.in-Some-view.is)
+    (held-view k c.args.code con c.in-Some-view.view.now c.requires.held found (view-found k c.args.code con c.view.result c.in-Some-view.view found c.view.ensures c.in-Some-view.is)).fits
 
 pub carry_out-requires : goal.carry_out-requires
 carry_out-requires c =
@@ -71,7 +71,8 @@ returns-in_err-change c =
     let seen : view ≡ view_in k con = view-found k c.args.code con c.view.result c.in-Some-view.view found c.view.ensures c.in-Some-view.is in
     let e = c.in_err-change.field-0.0 in
     let is : c.from_residual.result ≡ Err e = search rules in
-    let done = refused-done k c.args.code con c.args.ask.now view e c.requires.held found seen c.in_err-change.ensures.refused in
+    let lawful = held-view k c.args.code con view c.requires.held found seen in
+    let done = refused-done k c.args.code con c.args.ask.now view e c.requires.held found seen (λ other. c.in_err-change.ensures.refused other lawful) in
     record { step = subst (λ r. IsAnsweredOn c.args.code k c.args.ask.now r k) (sym is) done.step; setup = done.setup; held = done.held }
 
 pub returns-in_ok-try_copy-in-Same : goal.returns-in_ok-try_copy-in-Same

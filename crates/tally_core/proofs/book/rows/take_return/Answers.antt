@@ -16,7 +16,7 @@ put-requires c =
     let way = c.in-Ok-Lodged in
     let answer : c.decide_first-answer.result ≡ Ok (Lodged way.field-0-0) = way.is ∙ ap Ok (rw way.is at way.field-0-is) in
     let stations = stations_of k.setup in
-    let lawful = first-lawful stations k.returns c.args.station c.args.slip c.args.counts way.field-0-0 (sym c.decide_first-answer.ensures ∙ answer) in
+    let lawful = first-lawful stations k.returns c.args.station c.args.slip c.args.counts way.field-0-0 c.as_bytes-slip.ensures.code (sym c.decide_first-answer.ensures ∙ answer) in
     record { lawful = (lawful.0, lawful.1, subst (IsLawful lawful.0) (sym c.lodged.ensures) lawful.2) }
 
 pub returns-clause-undone : goal.returns-clause-undone

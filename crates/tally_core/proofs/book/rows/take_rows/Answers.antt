@@ -29,7 +29,7 @@ loop-before-preserved g c =
     record {
       so_far =
           SoFar-taken old mid new.returns (left c.args.source.now) came comes c.loop-before.count c.add_row.new.self c.loop-before.before row c.in_ok-answer.answer
-          was.so_far was.kept given c.in_ok-answer.ensures.answer c.in_ok-answer.ensures.returns c.add_row.ensures;
+          was.so_far was.kept c.take_row.ensures.codes given c.in_ok-answer.ensures.answer c.in_ok-answer.ensures.returns c.add_row.ensures;
       kept = kept-next old mid new was.kept c.in_ok-answer.ensures.kept;
       undone = undone ∙ was.undone;
     }

@@ -1,0 +1,12 @@
+-- Words of private contracts and of proofs. No promise to a caller speaks of them.
+pub mod Pairs
+pub mod Premises
+pub mod Sums
+pub mod Race
+pub mod Terms
+pub mod KeptPoll
+pub mod ContestTerms
+pub mod Quotas
+pub mod Claims
+pub mod Won
+pub mod NextPairs

@@ -1,0 +1,106 @@
+-- The terms that the seats of a poll are contested on, and the races that they make. No promise to a caller speaks of
+-- them.
+use Rattle.std.specs.Prelude.{ℕ, ◌≡◌, ◌+◌, ◌≤◌, ◌↔◌, List, [], Bool, true, false, length, slice_index_or, map}
+use Rattle.std.specs.Prelude.{if◌then◌else◌}
+use Rattle.tally_frac.specs.Limits.{most_lists, most_seats}
+use Rattle.tally_frac.specs.Rank.{RanksAbove, RanksAboveByVotes}
+use Rattle.tally_rules.specs.Threshold.{is_eligible}
+use Rattle.tally_rules.specs.declared.profile.LotRule.{LotRule}
+use Rattle.tally_rules.specs.declared.profile.LotRule.TheVariants.{Fixed}
+use Rattle.tally_contest.specs.Poll.{Poll, IsEligible, votes_of}
+use Rattle.tally_contest.specs.internal.Pairs.{pair_of}
+use Rattle.tally_contest.specs.HareAllotment.{whole_quotas, claim_of, ClaimsAbove, ClaimsAboveByVotes}
+use Rattle.tally_contest.specs.Allotment.{Rule, divisors, hare}
+use Rattle.tally_contest.specs.internal.Race.{Race}
+pub use Rattle.tally_contest.specs.internal.Premises.{AreDivisors, IsRule, IsSound, ArePlacedApart, IsProperLot}
+
+-- the poll of lists with these votes under a threshold of so many ten-thousandths of a base
+abbrev pub poll_under : ℕ → ℕ → List ℕ → Poll
+poll_under threshold base votes = record { votes = votes; eligible = map (is_eligible threshold base) votes }
+
+pub record Terms : Type 0 where
+  pub rule : Rule
+  pub poll : Poll
+  pub lot : List ℕ
+  pub seats : ℕ
+
+-- The rule and the poll are sound, and the numbers are within their limits.
+pub record AreSound (terms : Terms) : Type 0 where
+  pub rule : IsRule terms.rule
+  pub poll : IsSound terms.poll
+  pub some_seat : 1 ≤ terms.seats
+  pub few_seats : terms.seats ≤ most_seats
+  pub few_lists : length terms.poll.votes ≤ most_lists
+
+-- Under a divisor rule an eligible list has 0 seats or more, up to all.
+abbrev pub seats_for : Poll → ℕ → ℕ → ℕ
+seats_for poll seats l = if slice_index_or poll.eligible l false then seats else 0
+
+abbrev pub divisor_race : (ℕ → ℕ) → Poll → ℕ → Race
+divisor_race nth poll seats = record {
+  count = length poll.votes;
+  floor = λ _. 0;
+  cap = seats_for poll seats;
+  Above = λ l k m j. RanksAboveByVotes (pair_of nth Fixed poll [] l k) (pair_of nth Fixed poll [] m j);
+}
+
+abbrev pub placed_divisor_race : (ℕ → ℕ) → LotRule → Poll → List ℕ → ℕ → Race
+placed_divisor_race nth lot_rule poll lot seats = record {
+  count = length poll.votes;
+  floor = λ _. 0;
+  cap = seats_for poll seats;
+  Above = λ l k m j. RanksAbove (pair_of nth lot_rule poll lot l k) (pair_of nth lot_rule poll lot m j);
+}
+
+-- Under Hare's rule an eligible list has its whole quotas, or one seat more.
+abbrev pub quotas_for : Poll → ℕ → ℕ → ℕ
+quotas_for poll seats l = if slice_index_or poll.eligible l false then whole_quotas poll seats l else 0
+
+abbrev pub most_for : Poll → ℕ → ℕ → ℕ
+most_for poll seats l = if slice_index_or poll.eligible l false then whole_quotas poll seats l + 1 else 0
+
+abbrev pub remainder_race : Poll → ℕ → Race
+remainder_race poll seats = record {
+  count = length poll.votes;
+  floor = quotas_for poll seats;
+  cap = most_for poll seats;
+  Above = λ l k m j. ClaimsAboveByVotes (claim_of poll [] seats l) (claim_of poll [] seats m);
+}
+
+abbrev pub placed_remainder_race : Poll → List ℕ → ℕ → Race
+placed_remainder_race poll lot seats = record {
+  count = length poll.votes;
+  floor = quotas_for poll seats;
+  cap = most_for poll seats;
+  Above = λ l k m j. ClaimsAbove (claim_of poll lot seats l) (claim_of poll lot seats m);
+}
+
+-- how the lots of a rule decide; Hare's rule reads each as fixed
+abbrev pub lot_rule_of : Rule → LotRule
+lot_rule_of (divisors nth unit lot_rule) = lot_rule
+lot_rule_of hare = Fixed
+
+-- the race by the votes alone
+abbrev pub vote_race : Terms → Race
+vote_race terms = for_rule terms.rule terms.poll terms.seats
+  where
+    for_rule : Rule → Poll → ℕ → Race
+    for_rule (divisors nth unit lot_rule) poll seats = divisor_race nth poll seats
+    for_rule hare poll seats = remainder_race poll seats
+
+-- and with the places under the lot
+abbrev pub placed_race : Terms → Race
+placed_race terms = for_rule terms.rule terms.poll terms.lot terms.seats
+  where
+    for_rule : Rule → Poll → List ℕ → ℕ → Race
+    for_rule (divisors nth unit lot_rule) poll lot seats = placed_divisor_race nth lot_rule poll lot seats
+    for_rule hare poll lot seats = placed_remainder_race poll lot seats
+
+-- The lists that are marked are the eligible ones with so many votes.
+abbrev pub HaveVotes : Poll → ℕ → List Bool → Type 0
+HaveVotes poll votes group =
+    (x : ℕ) → (slice_index_or group x false ≡ true) ↔ (IsEligible poll x × (votes_of poll x ≡ votes))
+
+-- .. with the votes of list l
+abbrev pub IsClassOf : Poll → ℕ → List Bool → Type 0
+IsClassOf poll l group = HaveVotes poll (votes_of poll l) group

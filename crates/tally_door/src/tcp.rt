@@ -1,0 +1,205 @@
+//! Connections over TCP.
+
+ghost use Rattle.std.specs.Prelude.{◌≤◌, length, IfOk};
+
+use crate::door::{Door, DoorFault};
+use std::io;
+use std::io::{ErrorKind, Read, Write};
+use std::net::{Shutdown, TcpListener, TcpStream};
+use std::time::{Clock, Duration, Instant};
+
+/// How long a read or a write may wait, in seconds.
+const WAIT_SECONDS: u64 = 10;
+
+/// How long a connection may take altogether where a clock is at hand, in seconds.
+const CONNECTION_SECONDS: u64 = 30;
+
+/// How long what a client still sends is read and thrown away before its connection is closed, in milliseconds.
+const LINGER_MILLISECONDS: u64 = 2_000;
+
+/// How much of that is read.
+const LINGER_BYTES: usize = 2_097_152;
+
+/// How much of it is read at a time, and how many times at most without a clock.
+const PIECE: usize = 65_536;
+
+const LINGER_PIECES: u64 = 32;
+
+/// In place of a clock where there is none.
+#[derive(Clone, Copy)]
+pub struct NoClock;
+
+impl Clock for NoClock {
+    fn monotonic(&self) -> io::Result<Duration> {
+        Err(ErrorKind::Unsupported.into())
+    }
+
+    fn since_1970(&self) -> io::Result<Duration> {
+        Err(ErrorKind::Unsupported.into())
+    }
+}
+
+/// A connection, and when its time is over.
+#[derive(Drop)]
+struct Timed {
+    stream: TcpStream,
+    end: Option<Instant>,
+}
+
+/// The connections of a listener, one after the other. Nothing is known of what they give and take.
+///
+/// A read or a write fails where it waits for longer than ten seconds. With a clock it also fails once the connection
+/// has taken thirty seconds altogether, so that no client holds the door for longer.
+///
+/// Where a connection ends, when the door takes the next one or is dropped, its client can still read what was
+/// written: writing is shut, and what the client still sends is read and thrown away up to its end, 2 MiB or two
+/// seconds. A socket that is closed with bytes unread would be reset, and the client might lose its answer
+/// (RFC 9112, section 9.6).
+pub struct TcpDoor<C: Clock + Drop = NoClock> {
+    listener: TcpListener,
+    clock: C,
+    current: Option<Timed>,
+}
+
+impl Timed {
+    fn read<C: Clock>(&mut self, clock: &C, buf: &mut [u8]) -> Result<usize, DoorFault>
+        ensures { IfOk result (λ n. n ≤ length buf.new) }
+    {
+        let wait = time_left(clock, self.end, Duration::from_secs(WAIT_SECONDS));
+        if self.stream.set_read_timeout(Some(wait)).is_err() {
+            return Err(DoorFault::Failed);
+        }
+        match self.stream.read(buf) {
+            Ok(count) => Ok(count),
+            Err(_) => Err(DoorFault::Failed),
+        }
+    }
+
+    fn write<C: Clock>(&mut self, clock: &C, bytes: &[u8]) -> Result<usize, DoorFault>
+        ensures { IfOk result (λ n. n ≤ length bytes.now) }
+    {
+        let wait = time_left(clock, self.end, Duration::from_secs(WAIT_SECONDS));
+        if self.stream.set_write_timeout(Some(wait)).is_err() {
+            return Err(DoorFault::Failed);
+        }
+        match self.stream.write(bytes) {
+            Ok(count) => Ok(count),
+            Err(_) => Err(DoorFault::Failed),
+        }
+    }
+}
+
+impl TcpDoor<NoClock> {
+    /// A door that has no clock.
+    pub fn new(listener: TcpListener) -> TcpDoor<NoClock> {
+        TcpDoor::timed(listener, NoClock)
+    }
+}
+
+impl<C: Clock + Drop> TcpDoor<C> {
+    /// A door that also bounds the whole time of each connection.
+    pub fn timed(listener: TcpListener, clock: C) -> TcpDoor<C> {
+        TcpDoor {
+            listener,
+            clock,
+            current: None,
+        }
+    }
+}
+
+impl<C: Clock + Drop> Drop for TcpDoor<C> {
+    fn drop(self) {
+        let TcpDoor {
+            listener: _,
+            clock,
+            current,
+        } = self;
+        if let Some(timed) = current {
+            end(timed.stream, &clock);
+        }
+    }
+}
+
+/// When so long a time from now is over, where a clock says so.
+fn end_of<C: Clock>(clock: &C, time: Duration) -> Option<Instant> {
+    match Instant::now(clock) {
+        Ok(now) => now.checked_add(time),
+        Err(_) => None,
+    }
+}
+
+/// How long a call may wait: at most so long, and no longer than up to the end of the time. Nothing is left behind it.
+fn time_left<C: Clock>(clock: &C, end: Option<Instant>, most: Duration) -> Duration {
+    let Some(end) = end else {
+        return most;
+    };
+    match Instant::now(clock) {
+        Ok(now) => end.duration_since(now).min(most),
+        Err(_) => most,
+    }
+}
+
+/// Ends a connection so that its client can still read what was written.
+fn end<C: Clock>(mut stream: TcpStream, clock: &C) {
+    if stream.shutdown(Shutdown::Write).is_ok() {
+        let _ended = discard(&mut stream, clock);
+    }
+}
+
+/// Reads what a client still sends and throws it away. Without a clock each read counts as a whole piece and waits for
+/// the same part of the time, so that the number of reads bounds the time.
+fn discard<C: Clock>(stream: &mut TcpStream, clock: &C) -> io::Result<()> {
+    let end = end_of(clock, Duration::from_millis(LINGER_MILLISECONDS));
+    let wait = if end.is_some() {
+        LINGER_MILLISECONDS
+    } else {
+        LINGER_MILLISECONDS / LINGER_PIECES
+    };
+    let mut piece = [0u8; PIECE];
+    let mut left = LINGER_BYTES;
+    for _ in 0..LINGER_BYTES {
+        let wait = time_left(clock, end, Duration::from_millis(wait));
+        stream.set_read_timeout(Some(wait))?;
+        let count = stream.read(&mut piece)?;
+        let taken = if end.is_some() { count } else { PIECE };
+        if count == 0 || taken >= left {
+            return Ok(());
+        }
+        left -= taken;
+    }
+    Ok(())
+}
+
+impl<C: Clock + Drop> Door for TcpDoor<C> {
+    ghost use Rattle.std.specs.Prelude.{None, is_some};
+
+    ghost known = { λ _. None };
+
+    ghost connected = { λ d. is_some d.current };
+
+    fn next(&mut self) -> Result<(), DoorFault> {
+        if let Some(timed) = self.current.take() {
+            end(timed.stream, &self.clock);
+        }
+        let Ok((stream, _)) = self.listener.accept() else {
+            return Err(DoorFault::Failed);
+        };
+        let end = end_of(&self.clock, Duration::from_secs(CONNECTION_SECONDS));
+        self.current = Some(Timed { stream, end });
+        Ok(())
+    }
+
+    fn read(&mut self, buf: &mut [u8]) -> Result<usize, DoorFault> {
+        let Some(timed) = &mut self.current else {
+            unreachable!()
+        };
+        timed.read(&self.clock, buf)
+    }
+
+    fn write(&mut self, bytes: &[u8]) -> Result<usize, DoorFault> {
+        let Some(timed) = &mut self.current else {
+            unreachable!()
+        };
+        timed.write(&self.clock, bytes)
+    }
+}

@@ -1,0 +1,54 @@
+use Rattle.std.proofs.Common.{◌≡◌, ◌++◌, List, ℕ, Bool, Err, Ok, sym, ap, subst, refl}
+use Rattle.tally_door.specs.Connection.{Connection}
+use Rattle.tally_message.specs.Message.{IsFault, IsMessageOrFault}
+use Rattle.tally_message.specs.Reading.{IsBodyOrFault}
+use Rattle.tally_message.specs.Start.{IsStart, IsFaultyStart}
+use Rattle.tally_message.specs.declared.message.Message.{Message}
+use Rattle.tally_message.proofs.StartLemmas.{whole_fault, cut_fault, whole_message, reads_on}
+use Rattle.tally_message.proofs.read.read_message.Goals as goal
+
+pub returns-in-Err-clause-message : goal.returns-in-Err-clause-message
+returns-in-Err-clause-message g c ended coming connection is =
+    let at = c.in_ok-head.ensures.known ended coming connection is in
+    let bytes = c.read_head.new.bytes.items in
+    let fault = c.in-Err.fault in
+    let bad : IsFaultyStart bytes fault = subst (λ (b : List ℕ). IsFaultyStart b fault) c.deref.ensures.value c.in-Err.ensures.err in
+    (at.0, at.1, (at.2.0, subst (λ (t : List ℕ). IsFault t connection.fails fault) (sym at.2.1) (whole_fault bytes at.0.input connection.fails fault bad)))
+
+pub returns-clause-message : goal.returns-clause-message
+returns-clause-message g c ended coming connection is =
+    let at = c.in_ok-head.ensures.known ended coming connection is in
+    let bytes = c.read_head.new.bytes.items in
+    let fault = c.in-Err-read_body.fault in
+    let start = c.in-Ok.start in
+    let started : IsStart bytes start = subst (λ (b : List ℕ). IsStart b start) c.deref.ensures.value c.in-Ok.ensures.ok in
+    let after = c.in-Err-read_body.ensures.known ended coming at.0 at.1 in
+    let same : at.0.fails ≡ connection.fails = ap (λ (t : Connection). t.fails) at.2.0 in
+    let reads : IsBodyOrFault (start.body.items ++ at.0.input) connection.fails start.length (Err fault) c.read_body.new.body.items =
+    subst (λ (f : Bool). IsBodyOrFault (start.body.items ++ at.0.input) f start.length (Err fault) c.read_body.new.body.items) same after.2.1 in (
+      after.0,
+      after.1,
+      (
+        reads_on connection at.0 after.0 at.2.0 after.2.0,
+        subst (λ (t : List ℕ). IsFault t connection.fails fault) (sym at.2.1) (cut_fault bytes at.0.input connection.fails start fault c.read_body.new.body.items started reads),
+      ),
+    )
+
+pub returns-in-Ok-read_body-clause-message : goal.returns-in-Ok-read_body-clause-message
+returns-in-Ok-read_body-clause-message g c ended coming connection is =
+    let at = c.in_ok-head.ensures.known ended coming connection is in
+    let bytes = c.read_head.new.bytes.items in
+    let start = c.in-Ok.start in
+    let started : IsStart bytes start = subst (λ (b : List ℕ). IsStart b start) c.deref.ensures.value c.in-Ok.ensures.ok in
+    let after = c.in-Ok-read_body.ensures.known ended coming at.0 at.1 in
+    let same : at.0.fails ≡ connection.fails = ap (λ (t : Connection). t.fails) at.2.0 in
+    let m : Message = record { method = start.method; target = start.target; body = c.read_body.new.body } in
+    let reads : IsBodyOrFault (start.body.items ++ at.0.input) connection.fails start.length (Ok tt) m.body.items =
+    subst (λ (f : Bool). IsBodyOrFault (start.body.items ++ at.0.input) f start.length (Ok tt) m.body.items) same after.2.1 in (
+      after.0,
+      after.1,
+      (
+        reads_on connection at.0 after.0 at.2.0 after.2.0,
+        subst (λ (t : List ℕ). IsMessageOrFault t connection.fails (Ok m)) (sym at.2.1) (whole_message bytes at.0.input connection.fails start m started refl refl reads),
+      ),
+    )

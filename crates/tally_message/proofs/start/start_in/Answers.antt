@@ -1,0 +1,36 @@
+use Rattle.std.proofs.Common.{◌≡◌, List, ℕ, length, take, drop, sym, ap, subst, ◌∙◌, arith, rules, Err}
+use Rattle.http.specs.Token.{IsToken}
+use Rattle.httparse.specs.Grammar.{RequestHead}
+use Rattle.tally_message.specs.Message.{BeginsWithHead, body_length}
+use Rattle.tally_message.proofs.StartLemmas.{begins, same_length, faulty_start, token}
+use Rattle.tally_message.proofs.HeadLemmas.{rest_all}
+use Rattle.tally_message.proofs.start.start_in.Goals as goal
+
+pub method_of-requires : goal.method_of-requires
+method_of-requires c =
+    let at = c.requires.head.1 in
+    subst IsToken (sym (c.of.ensures ∙ at.method)) (token c.requires.head.0.method at.reads.0.method)
+
+pub returns-in-Err-clause-err : goal.returns-in-Err-clause-err
+returns-in-Err-clause-err c =
+    let h = c.requires.head.0 in
+    let at = c.requires.head.1 in
+    let bytes = c.args.bytes.now in
+    let head = begins bytes c.args.headers.now c.args.head h c.requires.short c.requires.room c.requires.within at in
+    faulty_start bytes _ h (drop c.args.head.len bytes) head (sym (same_length bytes c.args.headers.now c.args.head h at) ∙ sym c.in-Err.ensures)
+
+pub returns-clause-ok : goal.returns-clause-ok
+returns-clause-ok c =
+    let h = c.requires.head.0 in
+    let at = c.requires.head.1 in
+    let bytes = c.args.bytes.now in
+    let head = begins bytes c.args.headers.now c.args.head h c.requires.short c.requires.room c.requires.within at in (
+      h,
+      drop c.args.head.len bytes,
+      record {
+        announces = record { begins = head; length = sym (same_length bytes c.args.headers.now c.args.head h at) ∙ sym c.in-Ok.ensures };
+        method = c.in_ok-method.ensures ∙ c.of.ensures ∙ at.method;
+        target = c.in_ok-target.ensures.items ∙ c.of-2.ensures ∙ at.path;
+        body = c.in_ok-body.ensures ∙ ap (take c.in-Ok.length) (rest_all bytes c.args.head.len);
+      },
+    )

@@ -1,0 +1,3 @@
+pub mod Message
+pub mod Reading
+pub mod Start

@@ -1,0 +1,39 @@
+-- What the steps of reading a message leave.
+use Rattle.std.specs.Prelude.{◌≡◌, ◌⊎◌, ℕ, ◌<◌, ◌≤◌, Bool, true, false, List, [], ◌++◌, length, take, Result, Ok, Err, ⊤}
+use Rattle.std.specs.declared.alloc.AllocError.{AllocError}
+use Rattle.httparse.specs.Grammar.{HasNoRequest}
+use Rattle.httparse.specs.Spans.{RequestOverflows}
+use Rattle.tally_door.specs.Connection.{Connection}
+use Rattle.tally_message.specs.Message.{field_limit}
+use Rattle.tally_message.specs.declared.message.MessageFault.{MessageFault}
+use Rattle.tally_message.specs.declared.message.MessageFault.TheVariants.{BadHead, HeadTooLong, LengthRequired, BadLength, BodyTooLong, EndedEarly, Read, Memory}
+use Rattle.tally_message.specs.declared.input.Input.{Input}
+use Rattle.tally_message.specs.declared.input.Input.TheVariants.{Bytes, End, Failure}
+
+-- Some of a connection's input was taken, and nothing else of it changed.
+abbrev pub OnlyReads : Connection → Connection → Type 0
+OnlyReads c d = d ≡ record c { input = d.input }
+
+-- What was taken from the input stands behind the bytes that were there.
+abbrev pub HasReadOnto : Connection → List ℕ → Result Input AllocError → List ℕ → Connection → Type 0
+HasReadOnto c old (Ok Bytes) new d = old ++ c.input ≡ new ++ d.input
+HasReadOnto c old (Ok End) new d = (c.input ≡ []) × (c.fails ≡ false) × (d.input ≡ []) × (new ≡ old)
+HasReadOnto c old (Ok Failure) new d = (c.input ≡ []) × (c.fails ≡ true) × (d.input ≡ []) × (new ≡ old)
+HasReadOnto c old (Err refused) new d = ⊤
+
+-- Why these bytes have no head: none is whole yet, which has the fault that is at hand, or none can come of them.
+abbrev pub HaveNoHead : List ℕ → MessageFault → MessageFault → Type 0
+HaveNoHead bytes at_hand found =
+    ((found ≡ at_hand) × HasNoRequest bytes) ⊎ ((found ≡ BadHead) × RequestOverflows field_limit bytes)
+
+-- the body of so many bytes with which a text begins, or the fault
+abbrev pub IsBodyOrFault : List ℕ → Bool → ℕ → Result ⊤ MessageFault → List ℕ → Type 0
+IsBodyOrFault text fails count (Ok _) body = (count ≤ length text) × (body ≡ take count text)
+IsBodyOrFault text fails count (Err BadHead) body = ⊥
+IsBodyOrFault text fails count (Err HeadTooLong) body = ⊥
+IsBodyOrFault text fails count (Err LengthRequired) body = ⊥
+IsBodyOrFault text fails count (Err BadLength) body = ⊥
+IsBodyOrFault text fails count (Err BodyTooLong) body = ⊥
+IsBodyOrFault text fails count (Err EndedEarly) body = (length text < count) × (fails ≡ false)
+IsBodyOrFault text fails count (Err Read) body = (length text < count) × (fails ≡ true)
+IsBodyOrFault text fails count (Err Memory) body = ⊤

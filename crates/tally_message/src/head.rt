@@ -1,0 +1,91 @@
+//! Reading a head.
+
+ghost use Rattle.std.specs.Prelude.{◌≡◌, ◌≤◌, ◌++◌, [], true, length, IfOk, IfErr, IfSome, IfNone};
+ghost use Rattle.httparse.specs.Grammar.{HasNoRequest};
+ghost use Rattle.httparse.specs.Spans.{IsRequestWithin, IsRequestOf, RequestOverflows};
+ghost use Rattle.tally_door.specs.Connection.{ChangesCurrent};
+ghost use Rattle.tally_message.specs.Message.{head_limit, field_limit, IsFault};
+ghost use Rattle.tally_message.specs.Reading.{OnlyReads, HaveNoHead};
+ghost use Rattle.tally_message.specs.declared.message.MessageFault.TheVariants.{BadHead};
+
+use crate::input::{Input, read_more};
+use crate::lines::Lines;
+use crate::message::MessageFault;
+use httparse::Status;
+use httparse::spans::{HeaderSpan, RequestSpans, parse_request};
+use tally_door::Door;
+
+/// The most bytes of a head.
+pub(crate) const HEAD_LIMIT: usize = 16_384;
+
+/// The most fields of a head.
+pub(crate) const FIELD_LIMIT: usize = 64;
+
+/// The head that the bytes begin with, or none where it is not whole yet.
+fn head_in(bytes: &[u8], headers: &mut [HeaderSpan]) -> Result<Option<RequestSpans>, MessageFault>
+    requires { length headers.old ≡ field_limit }
+    ensures within { IfOk result (λ found. IfSome found (IsRequestWithin bytes.now headers.new)) }
+    ensures head { IfOk result (λ found. IfSome found (IsRequestOf bytes.now headers.new)) }
+    ensures none { IfOk result (λ found. IfNone found (HasNoRequest bytes.now)) }
+    ensures err { IfErr result (λ fault. (fault ≡ BadHead) × RequestOverflows field_limit bytes.now) }
+{
+    match parse_request(bytes, headers) {
+        Ok(Status::Complete(head)) => Ok(Some(head)),
+        Ok(Status::Partial) => Ok(None),
+        Err(_) => Err(MessageFault::BadHead),
+    }
+}
+
+/// The head that the bytes begin with, or the fault that is at hand where it is not whole.
+fn head_or(
+    bytes: &[u8],
+    headers: &mut [HeaderSpan],
+    at_hand: MessageFault,
+) -> Result<RequestSpans, MessageFault>
+    requires { length headers.old ≡ field_limit }
+    ensures within { IfOk result (IsRequestWithin bytes.now headers.new) }
+    ensures head { IfOk result (IsRequestOf bytes.now headers.new) }
+    ensures none { IfErr result (HaveNoHead bytes.now at_hand) }
+{
+    match head_in(bytes, headers) {
+        Ok(Some(head)) => Ok(head),
+        Ok(None) => Err(at_hand),
+        Err(fault) => Err(fault),
+    }
+}
+
+/// Reads up to the end of the head, and perhaps some of what follows it.
+pub(crate) fn read_head<D: Door>(
+    door: &mut D,
+    bytes: &mut Vec<u8>,
+    headers: &mut [HeaderSpan],
+) -> Result<RequestSpans, MessageFault>
+    requires connected { D.connected door.old ≡ true }
+    requires empty { bytes.old.items ≡ [] }
+    requires room { length headers.old ≡ field_limit }
+    ensures connected { D.connected door.new ≡ true }
+    ensures short { length bytes.new.items ≤ head_limit }
+    ensures within { IfOk result (IsRequestWithin bytes.new.items headers.new) }
+    ensures head { IfOk result (IsRequestOf bytes.new.items headers.new) }
+    ensures known { ChangesCurrent (D.known door.old) (D.known door.new) (λ c d. OnlyReads c d × IfOk result (λ _. c.input ≡ bytes.new.items ++ d.input) × IfErr result (IsFault c.input c.fails)) }
+{
+    let mut lines = Lines::new();
+    loop {
+        let count = bytes.len();
+        if count >= HEAD_LIMIT {
+            return head_or(bytes, headers, MessageFault::HeadTooLong);
+        }
+        match read_more(door, bytes, HEAD_LIMIT - count)? {
+            Input::Bytes => {}
+            Input::End => return head_or(bytes, headers, MessageFault::BadHead),
+            Input::Failure => return head_or(bytes, headers, MessageFault::Read),
+        }
+        if lines.end_in(&bytes[count..]) {
+            match head_in(bytes, headers) {
+                Ok(Some(head)) => return Ok(head),
+                Ok(None) => {}
+                Err(fault) => return Err(fault),
+            }
+        }
+    }
+}

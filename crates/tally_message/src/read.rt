@@ -1,0 +1,37 @@
+//! Reading a message.
+
+ghost use Rattle.std.specs.Prelude.{◌≡◌, true};
+ghost use Rattle.tally_door.specs.Connection.{ChangesCurrent};
+ghost use Rattle.tally_message.specs.Message.{IsMessageOrFault};
+ghost use Rattle.tally_message.specs.Reading.{OnlyReads};
+
+use crate::body::read_body;
+use crate::head::{FIELD_LIMIT, HEAD_LIMIT, read_head};
+use crate::message::{Message, MessageFault};
+use crate::start::start_in;
+use httparse::spans::EMPTY_HEADER_SPAN;
+use std::alloc::Global;
+use tally_door::Door;
+
+/// Reads a message from the current connection. What follows its body is not looked at. Nothing is written.
+pub fn read_message<D: Door>(alloc: Global, door: &mut D) -> Result<Message, MessageFault>
+    requires { D.connected door.old ≡ true }
+    ensures connected { D.connected door.new ≡ true }
+    ensures message { ChangesCurrent (D.known door.old) (D.known door.new) (λ c d. OnlyReads c d × IsMessageOrFault c.input c.fails result) }
+{
+    let mut bytes = Vec::with_capacity(alloc, HEAD_LIMIT)?;
+    let mut headers = [EMPTY_HEADER_SPAN; FIELD_LIMIT];
+    let head = read_head(door, &mut bytes, &mut headers)?;
+    let mut start = match start_in(alloc, &bytes, &headers, head) {
+        Ok(start) => start,
+        Err(fault) => return Err(fault),
+    };
+    match read_body(door, &mut start.body, start.length) {
+        Ok(()) => Ok(Message {
+            method: start.method,
+            target: start.target,
+            body: start.body,
+        }),
+        Err(fault) => Err(fault),
+    }
+}

@@ -1,0 +1,14 @@
+//! What is known of lots, by which the votes of a certificate allot its seats.
+
+ghost use Rattle.tally_allot.specs.LawStatements.{GroupsAreOfOneNumberOfVotes, NoLotIsNeededWhereVotesDecide};
+
+use tally_allot::laws;
+
+/// The laws by which a lot that is to be taken is neither missing nor wrong.
+pub(crate) fn laws_of_lots()
+    ensures groups { GroupsAreOfOneNumberOfVotes }
+    ensures never_both { NoLotIsNeededWhereVotesDecide }
+{
+    laws::groups_are_of_one_number_of_votes();
+    laws::votes_decide_or_a_lot_is_needed();
+}

@@ -1,0 +1,13 @@
+pub mod SameLemmas
+pub mod StatementLemmas
+pub mod RowidLemmas
+pub mod EntryLemmas
+pub mod AnswerLemmas
+pub mod RowsLemmas
+pub mod InsertLemmas
+pub mod UpdateLemmas
+pub mod DeleteLemmas
+pub mod CreateLemmas
+pub mod ReadLemmas
+pub mod RisingRowidLemmas
+pub mod ColumnLemmas

@@ -1,0 +1,72 @@
+-- What making the tables leaves.
+use Rattle.std.specs.Prelude.{◌≡◌, ◌+◌, ◌||◌, ℕ, Bool, IsTrue, is_some, List, [], ◌∷◌, codes, Result, Ok, OnOk}
+use Rattle.std.specs.List.{AllByRecursion, list_all, list_any}
+use Rattle.sqlite_schema.specs.declared.schema.Schema.{Schema}
+use Rattle.sqlite_schema.specs.declared.schema.Table.{Table}
+use Rattle.sqlite_schema.specs.Names.{table_named, index_named, view_named}
+use Rattle.sqlite.specs.declared.error.Error.{Error}
+use Rattle.sqlite.specs.State.{State as Seen, HasCleanDisk, KeepsCommit, ExecutesInside}
+use Rattle.tally_schema.specs.Tables.{schema_with, past_tree}
+
+-- ---- making tables
+
+-- the first so many tables of the office are there, and a transaction is open
+pub record HasTables (n : ℕ) (s : Seen) : Type 0 where
+  pub schema : s.now.schema ≡ schema_with n
+  pub inside : IsTrue s.in_transaction
+
+-- they are there without rows
+pub record HasEmptyTables (n : ℕ) (s : Seen) : Type 0 where
+  pub tables : HasTables n s
+  pub empty : AllByRecursion (λ (t : Table). s.now.trees t.tree ≡ []) (schema_with n).tables
+
+-- After the first `n` tables the next one is made, in this tree: it has no row, and the others are as they were.
+pub record AddsTable (n : ℕ) (tree : ℕ) (old new : Seen) : Type 0 where
+  pub tables : HasTables (n + 1) new
+  pub empty : new.now.trees tree ≡ []
+  pub others : AllByRecursion (λ (t : Table). new.now.trees t.tree ≡ old.now.trees t.tree) (schema_with n).tables
+
+-- the text was run as a statement of a transaction, without parameters
+abbrev pub HasRun : List ℕ → Seen → Seen → Type 0
+HasRun sql old new = (count : ℕ) × ExecutesInside 0 sql [] old new (Ok count)
+
+-- ---- what a call says, of a disk that returned what was written
+
+-- whatever it answers, nothing was committed
+abbrev pub KeepsCommitIfClean : Seen → Seen → Type 0
+KeepsCommitIfClean old new = HasCleanDisk new → KeepsCommit old new
+
+abbrev pub Runs : List ℕ → Seen → Seen → Result Unit Error → Type 0
+Runs sql old new result = HasCleanDisk new → IsTrue old.in_transaction → OnOk result (HasRun sql old new)
+
+-- from the first `n` tables without rows to the first `m` without rows
+abbrev pub Makes : ℕ → ℕ → Seen → Seen → Result Unit Error → Type 0
+Makes n m old new result = HasCleanDisk new → HasEmptyTables n old → OnOk result (HasEmptyTables m new)
+
+-- from the tables of version 1, whatever their rows are, to those and an empty `past`
+abbrev pub MakesPast : Seen → Seen → Result Unit Error → Type 0
+MakesPast old new result = HasCleanDisk new → HasTables 8 old → OnOk result (AddsTable 8 past_tree old new)
+
+-- ---- names
+
+abbrev pub former_names : List (List ℕ)
+former_names = codes "setup" ∷ codes "returns" ∷ codes "counts" ∷ codes "cons" ∷ codes "lots" ∷ codes "seats" ∷ codes "gone" ∷ codes "totals" ∷ []
+
+abbrev pub office_names : List (List ℕ)
+office_names = codes "past" ∷ former_names
+
+-- a table of the name, in any letter case
+abbrev pub has_table : Schema → List ℕ → Bool
+has_table schema name = is_some (table_named schema name)
+
+-- a table, an index or a view of the name, in any letter case
+abbrev pub has_name : Schema → List ℕ → Bool
+has_name schema name = has_table schema name || is_some (index_named schema name) || is_some (view_named schema name)
+
+-- each table of version 1 is there, with whatever columns
+abbrev pub has_former_tables : Schema → Bool
+has_former_tables schema = list_all (has_table schema) former_names
+
+-- a name of the office's tables is taken
+abbrev pub takes_office_name : Schema → Bool
+takes_office_name schema = list_any (has_name schema) office_names

@@ -1,0 +1,10 @@
+//! The tables of the office: making them, and seeing whether a database has them.
+#![tactic(auto)]
+
+mod comparison;
+mod making;
+mod names;
+
+pub use comparison::{is_former_schema, is_office_schema};
+pub use making::{create_past, create_tables};
+pub use names::{has_former_tables, has_past, takes_office_name};

@@ -1,0 +1,195 @@
+//! CREATE TABLE of each table of the office, in a transaction.
+
+ghost use Rattle.std.specs.Prelude.{◌≡◌};
+ghost use Rattle.sqlite.specs.State.{Survives};
+ghost use Rattle.sqlite.specs.Held.{state};
+ghost use Rattle.tally_schema.specs.Made.{KeepsCommitIfClean, Runs, Makes, MakesPast};
+
+use sqlite::{Alter, Error, Transaction};
+
+/// Runs a text that has no parameters.
+fn run<S: Alter>(tx: &mut Transaction<'_, S>, sql: &str) -> Result<(), Error>
+    ensures same_reference { tx.new.conn.ghost_name ≡ tx.old.conn.ghost_name }
+    ensures kept { KeepsCommitIfClean (state S.Store tx.old.conn.now) (state S.Store tx.new.conn.now) }
+    ensures ran { Runs sql.now (state S.Store tx.old.conn.now) (state S.Store tx.new.conn.now) result }
+    ensures survives { Survives (state S.Store tx.old.conn.now) (state S.Store tx.new.conn.now) (λ _. ⊥) }
+{
+    tx.execute(sql, &[])?;
+    Ok(())
+}
+
+/// Makes the table `setup`.
+fn create_setup<S: Alter>(tx: &mut Transaction<'_, S>) -> Result<(), Error>
+    ensures same_reference { tx.new.conn.ghost_name ≡ tx.old.conn.ghost_name }
+    ensures kept { KeepsCommitIfClean (state S.Store tx.old.conn.now) (state S.Store tx.new.conn.now) }
+    ensures made { Makes 0 1 (state S.Store tx.old.conn.now) (state S.Store tx.new.conn.now) result }
+    ensures survives { Survives (state S.Store tx.old.conn.now) (state S.Store tx.new.conn.now) (λ _. ⊥) }
+{
+    run(
+        tx,
+        "CREATE TABLE setup (id INTEGER NOT NULL PRIMARY KEY, version INTEGER NOT NULL, text TEXT NOT NULL) STRICT",
+    )
+}
+
+/// Makes the table `returns`.
+fn create_returns<S: Alter>(tx: &mut Transaction<'_, S>) -> Result<(), Error>
+    ensures same_reference { tx.new.conn.ghost_name ≡ tx.old.conn.ghost_name }
+    ensures kept { KeepsCommitIfClean (state S.Store tx.old.conn.now) (state S.Store tx.new.conn.now) }
+    ensures made { Makes 1 2 (state S.Store tx.old.conn.now) (state S.Store tx.new.conn.now) result }
+    ensures survives { Survives (state S.Store tx.old.conn.now) (state S.Store tx.new.conn.now) (λ _. ⊥) }
+{
+    run(
+        tx,
+        "CREATE TABLE returns (station TEXT NOT NULL PRIMARY KEY, con TEXT NOT NULL, rev INTEGER NOT NULL, slip TEXT NOT NULL, status INTEGER NOT NULL CHECK (status >= 1 AND status <= 4), note TEXT NOT NULL) STRICT",
+    )
+}
+
+/// Makes the table `counts`.
+fn create_counts<S: Alter>(tx: &mut Transaction<'_, S>) -> Result<(), Error>
+    ensures same_reference { tx.new.conn.ghost_name ≡ tx.old.conn.ghost_name }
+    ensures kept { KeepsCommitIfClean (state S.Store tx.old.conn.now) (state S.Store tx.new.conn.now) }
+    ensures made { Makes 2 3 (state S.Store tx.old.conn.now) (state S.Store tx.new.conn.now) result }
+    ensures survives { Survives (state S.Store tx.old.conn.now) (state S.Store tx.new.conn.now) (λ _. ⊥) }
+{
+    run(
+        tx,
+        "CREATE TABLE counts (station TEXT NOT NULL, item INTEGER NOT NULL, n INTEGER NOT NULL CHECK (n >= 0), PRIMARY KEY (station, item)) STRICT",
+    )
+}
+
+/// Makes the table `cons`.
+fn create_cons<S: Alter>(tx: &mut Transaction<'_, S>) -> Result<(), Error>
+    ensures same_reference { tx.new.conn.ghost_name ≡ tx.old.conn.ghost_name }
+    ensures kept { KeepsCommitIfClean (state S.Store tx.old.conn.now) (state S.Store tx.new.conn.now) }
+    ensures made { Makes 3 4 (state S.Store tx.old.conn.now) (state S.Store tx.new.conn.now) result }
+    ensures survives { Survives (state S.Store tx.old.conn.now) (state S.Store tx.new.conn.now) (λ _. ⊥) }
+{
+    run(
+        tx,
+        "CREATE TABLE cons (con TEXT NOT NULL PRIMARY KEY, edition INTEGER NOT NULL, certified INTEGER NOT NULL, note TEXT NOT NULL) STRICT",
+    )
+}
+
+/// Makes the table `lots`.
+fn create_lots<S: Alter>(tx: &mut Transaction<'_, S>) -> Result<(), Error>
+    ensures same_reference { tx.new.conn.ghost_name ≡ tx.old.conn.ghost_name }
+    ensures kept { KeepsCommitIfClean (state S.Store tx.old.conn.now) (state S.Store tx.new.conn.now) }
+    ensures made { Makes 4 5 (state S.Store tx.old.conn.now) (state S.Store tx.new.conn.now) result }
+    ensures survives { Survives (state S.Store tx.old.conn.now) (state S.Store tx.new.conn.now) (λ _. ⊥) }
+{
+    run(
+        tx,
+        "CREATE TABLE lots (con TEXT NOT NULL, place INTEGER NOT NULL, list INTEGER NOT NULL, PRIMARY KEY (con, place)) STRICT",
+    )
+}
+
+/// Makes the table `seats`.
+fn create_seats<S: Alter>(tx: &mut Transaction<'_, S>) -> Result<(), Error>
+    ensures same_reference { tx.new.conn.ghost_name ≡ tx.old.conn.ghost_name }
+    ensures kept { KeepsCommitIfClean (state S.Store tx.old.conn.now) (state S.Store tx.new.conn.now) }
+    ensures made { Makes 5 6 (state S.Store tx.old.conn.now) (state S.Store tx.new.conn.now) result }
+    ensures survives { Survives (state S.Store tx.old.conn.now) (state S.Store tx.new.conn.now) (λ _. ⊥) }
+{
+    run(
+        tx,
+        "CREATE TABLE seats (con TEXT NOT NULL, list INTEGER NOT NULL, n INTEGER NOT NULL, PRIMARY KEY (con, list)) STRICT",
+    )
+}
+
+/// Makes the table `gone`.
+fn create_gone<S: Alter>(tx: &mut Transaction<'_, S>) -> Result<(), Error>
+    ensures same_reference { tx.new.conn.ghost_name ≡ tx.old.conn.ghost_name }
+    ensures kept { KeepsCommitIfClean (state S.Store tx.old.conn.now) (state S.Store tx.new.conn.now) }
+    ensures made { Makes 6 7 (state S.Store tx.old.conn.now) (state S.Store tx.new.conn.now) result }
+    ensures survives { Survives (state S.Store tx.old.conn.now) (state S.Store tx.new.conn.now) (λ _. ⊥) }
+{
+    run(
+        tx,
+        "CREATE TABLE gone (con TEXT NOT NULL, list INTEGER NOT NULL, place INTEGER NOT NULL, note TEXT NOT NULL, PRIMARY KEY (con, list, place)) STRICT",
+    )
+}
+
+/// Makes the table `totals`.
+fn create_totals<S: Alter>(tx: &mut Transaction<'_, S>) -> Result<(), Error>
+    ensures same_reference { tx.new.conn.ghost_name ≡ tx.old.conn.ghost_name }
+    ensures kept { KeepsCommitIfClean (state S.Store tx.old.conn.now) (state S.Store tx.new.conn.now) }
+    ensures made { Makes 7 8 (state S.Store tx.old.conn.now) (state S.Store tx.new.conn.now) result }
+    ensures survives { Survives (state S.Store tx.old.conn.now) (state S.Store tx.new.conn.now) (λ _. ⊥) }
+{
+    run(
+        tx,
+        "CREATE TABLE totals (con TEXT NOT NULL, item INTEGER NOT NULL, n INTEGER NOT NULL CHECK (n >= 0), PRIMARY KEY (con, item)) STRICT",
+    )
+}
+
+/// Makes the table `past` beside those of version 1, and leaves their rows as they are.
+pub fn create_past<S: Alter>(tx: &mut Transaction<'_, S>) -> Result<(), Error>
+    ensures same_reference { tx.new.conn.ghost_name ≡ tx.old.conn.ghost_name }
+    ensures kept { KeepsCommitIfClean (state S.Store tx.old.conn.now) (state S.Store tx.new.conn.now) }
+    ensures made { Makes 8 9 (state S.Store tx.old.conn.now) (state S.Store tx.new.conn.now) result }
+    ensures past { MakesPast (state S.Store tx.old.conn.now) (state S.Store tx.new.conn.now) result }
+    ensures survives { Survives (state S.Store tx.old.conn.now) (state S.Store tx.new.conn.now) (λ _. ⊥) }
+{
+    run(
+        tx,
+        "CREATE TABLE past (con TEXT NOT NULL, edition INTEGER NOT NULL, list INTEGER NOT NULL, n INTEGER NOT NULL, PRIMARY KEY (con, edition, list)) STRICT",
+    )
+}
+
+/// Makes `setup`, `returns` and `counts`.
+fn create_return_tables<S: Alter>(tx: &mut Transaction<'_, S>) -> Result<(), Error>
+    ensures same_reference { tx.new.conn.ghost_name ≡ tx.old.conn.ghost_name }
+    ensures kept { KeepsCommitIfClean (state S.Store tx.old.conn.now) (state S.Store tx.new.conn.now) }
+    ensures made { Makes 0 3 (state S.Store tx.old.conn.now) (state S.Store tx.new.conn.now) result }
+    ensures survives { Survives (state S.Store tx.old.conn.now) (state S.Store tx.new.conn.now) (λ _. ⊥) }
+{
+    create_setup(tx)?;
+    create_returns(tx)?;
+    create_counts(tx)
+}
+
+/// Makes `cons`, `lots` and `seats`.
+fn create_seat_tables<S: Alter>(tx: &mut Transaction<'_, S>) -> Result<(), Error>
+    ensures same_reference { tx.new.conn.ghost_name ≡ tx.old.conn.ghost_name }
+    ensures kept { KeepsCommitIfClean (state S.Store tx.old.conn.now) (state S.Store tx.new.conn.now) }
+    ensures made { Makes 3 6 (state S.Store tx.old.conn.now) (state S.Store tx.new.conn.now) result }
+    ensures survives { Survives (state S.Store tx.old.conn.now) (state S.Store tx.new.conn.now) (λ _. ⊥) }
+{
+    create_cons(tx)?;
+    create_lots(tx)?;
+    create_seats(tx)
+}
+
+/// Makes `gone` and `totals`.
+fn create_sum_tables<S: Alter>(tx: &mut Transaction<'_, S>) -> Result<(), Error>
+    ensures same_reference { tx.new.conn.ghost_name ≡ tx.old.conn.ghost_name }
+    ensures kept { KeepsCommitIfClean (state S.Store tx.old.conn.now) (state S.Store tx.new.conn.now) }
+    ensures made { Makes 6 8 (state S.Store tx.old.conn.now) (state S.Store tx.new.conn.now) result }
+    ensures survives { Survives (state S.Store tx.old.conn.now) (state S.Store tx.new.conn.now) (λ _. ⊥) }
+{
+    create_gone(tx)?;
+    create_totals(tx)
+}
+
+/// Makes the eight tables of version 1, in a database without tables.
+pub fn create_former_tables<S: Alter>(tx: &mut Transaction<'_, S>) -> Result<(), Error>
+    ensures same_reference { tx.new.conn.ghost_name ≡ tx.old.conn.ghost_name }
+    ensures kept { KeepsCommitIfClean (state S.Store tx.old.conn.now) (state S.Store tx.new.conn.now) }
+    ensures made { Makes 0 8 (state S.Store tx.old.conn.now) (state S.Store tx.new.conn.now) result }
+    ensures survives { Survives (state S.Store tx.old.conn.now) (state S.Store tx.new.conn.now) (λ _. ⊥) }
+{
+    create_return_tables(tx)?;
+    create_seat_tables(tx)?;
+    create_sum_tables(tx)
+}
+
+/// Makes the nine tables of the office, without rows, in a database without tables.
+pub fn create_tables<S: Alter>(tx: &mut Transaction<'_, S>) -> Result<(), Error>
+    ensures same_reference { tx.new.conn.ghost_name ≡ tx.old.conn.ghost_name }
+    ensures kept { KeepsCommitIfClean (state S.Store tx.old.conn.now) (state S.Store tx.new.conn.now) }
+    ensures made { Makes 0 9 (state S.Store tx.old.conn.now) (state S.Store tx.new.conn.now) result }
+    ensures survives { Survives (state S.Store tx.old.conn.now) (state S.Store tx.new.conn.now) (λ _. ⊥) }
+{
+    create_former_tables(tx)?;
+    create_past(tx)
+}
