@@ -27,8 +27,9 @@ def need(command):
         sys.exit(f"the command {command!r} is not on the PATH")
 
 
-def build_office(folder, name, libraries):
-    """Proves and builds the Rattle program `name`.rattle, and copies it to `folder`: its path.
+def build_office(folder, name, libraries, modules=()):
+    """Proves and builds the Rattle program `name`.rattle, and copies it to `folder`: its path. Files
+    of its modules may be those of a crate.
 
     It is built in a folder within the repository, so that it finds the crates below it with what
     earlier proofs of them left. That folder is then removed, since the gate refuses a Rattle source
@@ -40,6 +41,8 @@ def build_office(folder, name, libraries):
         crate = Path(crate)
         (crate / "src").mkdir()
         shutil.copy(HERE / f"{name}.rattle", crate / "src" / "main.rt")
+        for module in modules:
+            shutil.copy(module, crate / "src")
         (crate / "BUILD.bazel").write_text(BUILD.format(name=name, libraries=json.dumps(libraries)))
         # It also runs the program, which ends with an error here, having no arguments.
         ran = subprocess.run(

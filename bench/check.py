@@ -1,5 +1,6 @@
 #!/usr/bin/env python3
-"""Measures the time and the memory of `office check` against plain programs in Python and in Rust.
+"""Measures the time and the memory of `office check` against plain programs in Python and in Rust, and
+on texts of one long record against the kit's `csv` alone.
 
 The workloads are made in a temporary folder, the same ones on every run. The programs run in
 turn, and what they write is compared byte for byte. A time is the processor's, for the program and
@@ -7,7 +8,7 @@ for the system on its behalf, so that other work on the machine disturbs it litt
 as medians and as the ratio of the medians, since a ratio says the same on a faster or a slower
 machine.
 
-    bench/check.py [--program PATH] [--rounds N]
+    bench/check.py [--program PATH] [--csv PATH] [--rounds N]
 """
 
 import argparse
@@ -21,7 +22,7 @@ from pathlib import Path
 
 # What is imported from here is not to be left beside it in compiled form.
 sys.dont_write_bytecode = True
-from building import build_plain
+from building import build_office, build_plain
 from measuring import Numbers, run
 
 HERE = Path(__file__).resolve().parent
@@ -183,17 +184,21 @@ def compare(office, rust, path, rounds):
         )
 
 
-def hold(office, rust, path, rounds):
+def hold(office, rust, alone, path, rounds):
     """Prints the time and the memory on texts of one long record, which are refused."""
-    print("\nhostile text          MiB   office ms   Rust ms   ratio   office MiB   a byte   Rust MiB")
+    print(
+        "\nhostile text          MiB   office ms   Rust ms   ratio   csv ms   office / csv"
+        "   office MiB   a byte   Rust MiB   csv MiB"
+    )
     for name, make in HOSTILE.items():
         path.write_bytes(make())
         size = path.stat().st_size / 2**20
         own, fast = medians([office, rust], path, rounds, status=1)
-        low, least = peak_of(office, path), peak_of(rust, path)
+        (bare,) = medians([alone], path, rounds)
+        low, least, little = (peak_of(command, path) for command in (office, rust, alone))
         print(
-            f"{name:18} {size:6.2f} {own:11.1f} {fast:9.1f} {fast / own:7.2f}"
-            f" {told(low):>12} {told(low and low / size):>8} {told(least):>10}"
+            f"{name:18} {size:6.2f} {own:11.1f} {fast:9.1f} {fast / own:7.2f} {bare:8.1f} {own / bare:14.2f}"
+            f" {told(low):>12} {told(low and low / size):>8} {told(least):>10} {told(little):>9}"
         )
 
 
@@ -209,6 +214,7 @@ def grow(office, path, rounds):
 def main():
     parser = argparse.ArgumentParser(description="Measures `office check` against plain programs in Python and in Rust.")
     parser.add_argument("--program", type=Path, default=PROGRAM, help="the built program")
+    parser.add_argument("--csv", type=Path, help="csv_alone, where it is built already")
     parser.add_argument("--rounds", type=int, default=9, help="how often each program runs on a file")
     args = parser.parse_args()
     if not args.program.is_file():
@@ -218,8 +224,9 @@ def main():
     with tempfile.TemporaryDirectory() as folder:
         path = Path(folder) / "returns.csv"
         rust = [str(build_plain(Path(folder), "check_plain"))]
+        alone = [str(args.csv or build_office(Path(folder), "csv_alone", ["@rattle//csv"]))]
         compare(office, rust, path, args.rounds)
-        hold(office, rust, path, args.rounds)
+        hold(office, rust, alone, path, args.rounds)
         grow(office, path, args.rounds)
 
 

@@ -82,22 +82,41 @@ def texts():
     }
 
 
+def library_in(folder):
+    """Builds the library in a folder: its path."""
+    source = Path(folder) / "refuse.c"
+    library = Path(folder) / "refuse.so"
+    source.write_text(LIBRARY)
+    subprocess.run(["cc", "-O1", "-shared", "-fPIC", "-o", library, source, "-ldl"], check=True)
+    return str(library)
+
+
+class Runs:
+    """Runs of a command under the library."""
+
+    def __init__(self, library):
+        self.library = library
+
+    def run(self, command, text, first, last):
+        """Refuses these requests: how many there were, and what the run wrote and answered."""
+        reader, writer = os.pipe()
+        names = {"LD_PRELOAD": self.library, "REFUSE_FIRST": str(first), "REFUSE_LAST": str(last), "REFUSE_TOLD": str(writer)}
+        done = subprocess.run(command, input=text, capture_output=True, env=names, pass_fds=[writer])
+        os.close(writer)
+        with os.fdopen(reader) as told:
+            asked = int(told.read())
+        return asked, (done.returncode, done.stdout, done.stderr)
+
+
 class Checks:
     """Runs of a check under the library."""
 
     def __init__(self, program, library):
         self.program = program
-        self.library = library
+        self.runs = Runs(library)
 
     def run(self, text, first, last):
-        """Refuses these requests: how many there were, and what the run wrote and answered."""
-        reader, writer = os.pipe()
-        names = {"LD_PRELOAD": self.library, "REFUSE_FIRST": str(first), "REFUSE_LAST": str(last), "REFUSE_TOLD": str(writer)}
-        done = subprocess.run([self.program, "check"], input=text.encode(), capture_output=True, env=names, pass_fds=[writer])
-        os.close(writer)
-        with os.fdopen(reader) as told:
-            asked = int(told.read())
-        return asked, (done.returncode, done.stdout, done.stderr)
+        return self.runs.run([self.program, "check"], text.encode(), first, last)
 
     def refuse_each(self, name, text):
         asked, ample = self.run(text, WHOLE, WHOLE)
@@ -125,13 +144,10 @@ def main():
     words.add_argument("--program", type=Path, default=PROGRAM)
     given = words.parse_args()
     with tempfile.TemporaryDirectory() as folder:
-        source = Path(folder) / "refuse.c"
-        library = Path(folder) / "refuse.so"
-        source.write_text(LIBRARY)
-        subprocess.run(["cc", "-O1", "-shared", "-fPIC", "-o", library, source, "-ldl"], check=True)
-        checks = Checks(given.program.resolve(), str(library))
+        checks = Checks(given.program.resolve(), library_in(folder))
         for name, text in texts().items():
             checks.refuse_each(name, text)
 
 
-main()
+if __name__ == "__main__":
+    main()

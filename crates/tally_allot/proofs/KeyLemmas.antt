@@ -1,22 +1,21 @@
--- The pairs of eligible lists have keys, under the setup's places and under the lot that is to be taken.
+-- The pairs of eligible lists have keys, under the setup's places and under a lot that may be taken.
 use Rattle.std.proofs.Common.{◌≡◌, ℕ, zero, suc, ◌+◌, ◌-◌, ◌%◌, ◌<◌, ◌≤◌, ◌≢◌, ◌⊎◌, ◌&&◌, List, ◌∷◌, Bool, true, false, cond, eqb, length, get_or, AllPairs, sum, sym, ap, ◌∙◌, inl, inr, arith}
-use Rattle.std.proofs.lemmas.Bool.{cases_lt, cases_Bool, eqb-true, false≢true}
+use Rattle.std.proofs.lemmas.Bool.{cases_Bool, eqb-true, false≢true}
 use Rattle.std.proofs.lemmas.Bool.Decides.{Decides-eqb}
-use Rattle.std.proofs.lemmas.List.{get_or_default, get_or_past}
+use Rattle.std.proofs.lemmas.List.{get_or_default}
 use Rattle.std.proofs.lemmas.List.Folds.{Any-from_list_any}
 use Rattle.std.proofs.lemmas.Map.Made.{IsDistinct-from_AllPairs}
 use Rattle.std.proofs.lemmas.Map.Steps.{length-le_from_distinct_below}
 use Rattle.std.specs.List.{list_any}
 use Rattle.tally_contest.specs.ListSet.{has_place}
 use Rattle.tally_contest.specs.Lot.{place_of}
-use Rattle.tally_contest.specs.LotNeed.{IsInGroup, IsLotTaken, IsNeed}
 use Rattle.tally_contest.specs.internal.NextPairs.{HaveKeys}
+use Rattle.tally_contest.specs.internal.Orders.{MayBeTaken}
 use Rattle.tally_contest.specs.internal.Pairs.{last_place, turns, place_at}
 use Rattle.tally_rules.specs.declared.profile.LotRule.{LotRule}
 use Rattle.tally_contest.specs.Poll.{Poll}
-use Rattle.tally_contest.specs.internal.Terms.{Terms, AreDivisors, IsSound}
+use Rattle.tally_contest.specs.internal.Terms.{AreDivisors, IsClassOf, IsSound}
 use Rattle.tally_allot.proofs.LotLaws.{IsPlaced, at_name, at_setup, placed_at}
-use Rattle.tally_contest.proofs.TermsRace.{AreRaces}
 use Rattle.tally_contest.proofs.Vectors.{get_or-le-sum}
 
 -- numbers of which no two are equal, all from 1 to n, are at most n
@@ -39,24 +38,14 @@ few_distinct n lot range once = omega (arith, length-le_from_distinct_below (0 �
     below : (q : ℕ) → list_any (eqb q) (0 ∷ lot) ≡ true → q < n + 1
     below q t = let w = Any-from_list_any (eqb q) (0 ∷ lot) t in by_place q w.0 w.1 w.2 w.3 w.4
 
-in_group_listed : (terms : Terms) → AreRaces terms → (l : ℕ) → IsInGroup terms.rule terms.poll terms.seats l → l < length terms.poll.votes
-in_group_listed terms r l w = by_cases (cases_lt l (length terms.poll.votes))
-  where
-    by_cases : (l < length terms.poll.votes) ⊎ (length terms.poll.votes ≤ l) → l < length terms.poll.votes
-    by_cases (inl lt) = lt
-    by_cases (inr ge) =
-        let one = get_or_past w.0 l 0 (omega (arith, (r.to_fair w.0 w.2).one_each, r.count_is)) in
-        let other = get_or_past w.1 l 0 (omega (arith, (r.to_fair w.1 w.3).one_each, r.count_is)) in
-        absurd (w.4 (one ∙ sym other))
+place_listed : (poll : Poll) → IsSound poll → (l : ℕ) (group : List Bool) → IsClassOf poll l group → (place : ℕ) → has_place group place ≡ true → (1 ≤ place) × (place ≤ length poll.votes)
+place_listed poll s l group class zero e = absurd (false≢true e)
+place_listed poll s l group class (suc x) e = let lt = s.listed x ((class x).0 e).0 in (omega arith, omega (arith, lt))
 
-place_listed : (terms : Terms) → AreRaces terms → (group : List Bool) (n : ℕ) → IsNeed terms.rule terms.poll terms.seats group n → (place : ℕ) → has_place group place ≡ true → (1 ≤ place) × (place ≤ length terms.poll.votes)
-place_listed terms r group n need zero e = absurd (false≢true e)
-place_listed terms r group n need (suc l) e = let lt = in_group_listed terms r l ((need.group_is l).0 e) in (omega arith, omega (arith, lt))
-
--- the lot that is to be taken names no more lists than there are
-pub few_in_lot : (terms : Terms) → AreRaces terms → (lot : List ℕ) → IsLotTaken terms.rule terms.poll terms.seats lot → length lot ≤ length terms.poll.votes
-few_in_lot terms r lot (inl w) = omega (arith, ap length w.1)
-few_in_lot terms r lot (inr w) = few_distinct (length terms.poll.votes) lot (λ i lt. place_listed terms r w.0 w.1 w.2 (get_or lot i 0) (w.3.no_other i lt)) w.3.once
+-- a lot that may be taken names no more lists than there are
+pub few_in_lot : (poll : Poll) → IsSound poll → (lot : List ℕ) → MayBeTaken poll lot → length lot ≤ length poll.votes
+few_in_lot poll s lot (inl e) = omega (arith, ap length e)
+few_in_lot poll s lot (inr w) = few_distinct (length poll.votes) lot (λ i lt. place_listed poll s w.0 w.1 w.3 (get_or lot i 0) (w.4.no_other i lt)) w.4.once
 
 place_from_one : (lot : List ℕ) (l : ℕ) → 1 ≤ place_of lot l
 place_from_one lot l = by_cases (placed_at 1 lot l)

@@ -8,3 +8,4 @@ pub mod KeyLemmas
 pub mod DecidedOrNeeded
 pub mod ProfileLaws
 pub mod ShortLemmas
+pub mod OrderLemmas

@@ -138,7 +138,7 @@ apart_if_taken terms r taken l m el em ne same = by_cases taken
     by_cases (inr w) = order_apart w.0 terms.lot w.3 l m ne (group_is_class terms r w.0 w.1 w.2 l m em same) (group_is_class terms r w.0 w.1 w.2 m l el (sym same))
 
 -- a lot names a list exactly where the list is in the group that it orders
-named-marked : (group : List Bool) (lot : List ℕ) → IsOrderOf group lot → (l : ℕ) → is_named lot l ≡ get_or group l false
+pub named-marked : (group : List Bool) (lot : List ℕ) → IsOrderOf group lot → (l : ℕ) → is_named lot l ≡ get_or group l false
 named-marked group lot o l = both_ways (is_named lot l) (get_or group l false) there back
   where
     there : is_named lot l ≡ true → get_or group l false ≡ true

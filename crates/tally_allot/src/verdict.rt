@@ -1,9 +1,6 @@
 //! What is to be said of a lot.
 
-ghost use Rattle.std.specs.Prelude.{◌≡◌, ℕ};
-ghost use Rattle.tally_allot.specs.AllotFault.{IsNeedOrNone, IsVerdictOn};
-ghost use Rattle.tally_contest.specs.Allotment.{Rule};
-ghost use Rattle.tally_contest.specs.Poll.{Poll};
+ghost use Rattle.tally_allot.specs.AllotFault.{IsVerdictOn};
 ghost use Rattle.tally_contest.specs.internal.Race.{IsFair};
 ghost use Rattle.tally_contest.specs.internal.Terms.{AreSound, placed_race};
 
@@ -26,15 +23,8 @@ pub(crate) fn verdict_on_lot<C: Contest>(contest: &C, seats: &[u32]) -> LotVerdi
     ensures { IsVerdictOn (C.terms contest.now).rule (C.terms contest.now).poll (C.terms contest.now).seats
         (C.terms contest.now).lot result }
 {
-    verdict_where(need_of(contest, seats), contest.lot())
-}
-
-/// What is to be said of a lot where this one is needed, or none.
-pub(crate) fn verdict_where(need: Option<Need>, lot: &[u32]) -> LotVerdict
-    ensures { (rule : Rule) (poll : Poll) (seats : ℕ) → IsNeedOrNone rule poll seats need →
-        IsVerdictOn rule poll seats lot.now result }
-{
-    match need {
+    let lot = contest.lot();
+    match need_of(contest, seats) {
         None => {
             if lot.is_empty() {
                 LotVerdict::Right

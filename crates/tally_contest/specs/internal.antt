@@ -10,3 +10,4 @@ pub mod Quotas
 pub mod Claims
 pub mod Won
 pub mod NextPairs
+pub mod Orders

@@ -22,7 +22,7 @@ pub use hare_contest::HareContest;
 pub use heap_award::{Given, award_from_heap};
 pub use list_set::ListSet;
 pub use lot::{is_order_of, places_under, turning_under};
-pub use need::{Need, need_of};
+pub use need::{Need, may_be_taken, need_of};
 pub use poll::Poll;
 pub use quota::{Quota, quotas_of};
 pub use remainder_award::award_remainders;

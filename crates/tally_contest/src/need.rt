@@ -1,14 +1,16 @@
 //! Whether a lot is needed.
 
-ghost use Rattle.std.specs.Prelude.{◌≡◌, ℕ, ◌<◌, ◌≤◌, MatchOption, length, slice_index, sum};
+ghost use Rattle.std.specs.Prelude.{◌≡◌, ℕ, ◌<◌, ◌≤◌, ◌↔◌, IsTrue, MatchOption, length, slice_index, sum};
 ghost use Rattle.tally_frac.specs.Limits.{most_lists};
 ghost use Rattle.tally_contest.specs.LotNeed.{IsDecidedByVotes, IsNeed};
+ghost use Rattle.tally_contest.specs.internal.Orders.{IsOrderOfEquals, MayBeTaken};
 ghost use Rattle.tally_contest.specs.internal.Race.{IsFair};
 ghost use Rattle.tally_contest.specs.internal.Sums.{sum_before, holds_at};
 ghost use Rattle.tally_contest.specs.internal.Terms.{AreSound, HaveVotes, placed_race};
 
 use crate::contest::{Contest, highest_next, lowest_last};
 use crate::list_set::ListSet;
+use crate::lot::is_order_of;
 
 /// The lot that is needed where the votes leave a choice (LOREG article 163.1 d)): the lists among
 /// which it decides, and the seats in question.
@@ -47,6 +49,35 @@ pub fn need_of<C: Contest>(contest: &C, seats: &[u32]) -> Option<Need>
         group,
         seats: holders_of(&group, seats, last_held),
     })
+}
+
+/// Whether the contest's lot may be the one to be taken: none, or all the eligible lists of one
+/// number of votes in some order. Any other is wrong, whether or not a lot is needed.
+pub fn may_be_taken<C: Contest>(contest: &C) -> bool
+    requires sound { AreSound (C.terms contest.now) }
+    ensures { IsTrue result ↔ MayBeTaken (C.terms contest.now).poll (C.terms contest.now).lot }
+{
+    if contest.lot().is_empty() {
+        return true;
+    }
+    is_order_of_equals(contest, contest.lot())
+}
+
+/// Whether a lot names all the eligible lists of one number of votes, each once, and no other.
+fn is_order_of_equals<C: Contest>(contest: &C, lot: &[u32]) -> bool
+    requires sound { AreSound (C.terms contest.now) }
+    requires some { 1 ≤ length lot.now }
+    ensures { IsTrue result ↔ IsOrderOfEquals (C.terms contest.now).poll lot.now }
+{
+    let first = lot[0] as usize;
+    if first < 1 || first > contest.count() {
+        return false;
+    }
+    if !contest.is_eligible(first - 1) {
+        return false;
+    }
+    let group = lists_with(contest, contest.votes(first - 1));
+    is_order_of(lot, &group)
 }
 
 /// The eligible lists with so many votes.

@@ -11,7 +11,7 @@ use Rattle.tally_returns.specs.declared.reply.LodgeReply.{LodgeReply}
 use Rattle.tally_returns.specs.declared.reply.LodgeReply.TheVariants.{Lodged, Same}
 use Rattle.tally_machine.proofs.StayLemmas.{Stay, run-stays, lodge-stays, not_lodged-again}
 use Rattle.tally_core.specs.Events.{answers_of, asks_of}
-use Rattle.tally_core.specs.Import.{Answer, row_answer, after_row, answers, imported, is_lodged}
+use Rattle.tally_core.specs.Import.{RowAnswer, row_answer, after_row, answers, imported, is_lodged}
 use Rattle.tally_core.specs.Keeper.{Event, Happen, Happens, IsImport, whole_import}
 use Rattle.tally_core.specs.declared.import.ImportCount.{ImportCount}
 use Rattle.tally_core.specs.declared.import.Row.{Row}
@@ -55,7 +55,7 @@ settled-none stations m n (r ∷ rows) settled stay =
     ∙ omega arith
 
 -- the same import lodges nothing where no return was taken away since
-again-none : (setup : List Constituency) (rows : List Row) (answered others : List Answer) (count again : ImportCount) (s mid later t : State)
+again-none : (setup : List Constituency) (rows : List Row) (answered others : List RowAnswer) (count again : ImportCount) (s mid later t : State)
     → IsImport setup s rows answered count mid → Stay mid.returns later.returns → IsImport setup later rows others again t → again.lodged ≡ 0
 again-none setup rows answered others count again s mid later t first stay second =
     let stations = stations_of setup in
@@ -65,7 +65,7 @@ again-none setup rows answered others count again s mid later t first stay secon
     ∙ settled-none stations mid.returns later.returns rows settled stay
 
 -- whatever happened between
-pub again-happens : (setup : List Constituency) (rows : List Row) (answered others : List Answer) (count again : ImportCount)
+pub again-happens : (setup : List Constituency) (rows : List Row) (answered others : List RowAnswer) (count again : ImportCount)
     → (old mid later new : Option State) (events : List Event)
     → Happens setup old (whole_import rows answered count) mid → Happen setup mid events later → Happens setup later (whole_import rows others again) new
     → again.lodged ≡ 0

@@ -4,12 +4,11 @@ use Rattle.std.specs.Prelude.{IsSome, IfErr, IfOk, IfSome, OnErr, OnOk, is_some,
 use Rattle.std.specs.FinMap as fin
 use Rattle.tally_rules.specs.Constituency.{Constituency}
 use Rattle.tally_rules.specs.Setup.{constituency_with}
-use Rattle.tally_machine.specs.ConStep.{ConChange, Decides, after_change, certified_with, changed, con_change, gone_for_good, lot_set, no_change, open_again}
+use Rattle.tally_machine.specs.Step.{ConChange, Decides, after_change, certified_with, changed, con_change, gone_for_good, lot_set, no_change, open_again, IsConStep, answer_seen, con_answer, con_shown, edition_now, seen}
 use Rattle.tally_returns.specs.GoneCandidate.{GoneCandidate}
 use Rattle.tally_returns.specs.Named.{con_named}
 use Rattle.tally_returns.specs.PastSeats.{PastSeats}
 use Rattle.tally_machine.specs.Outcome.{IsLawfulView}
-use Rattle.tally_machine.specs.Replies.{IsConStep, answer_seen, con_answer, con_shown, edition_now, seen}
 use Rattle.tally_returns.specs.State.{con_state, last_edition}
 use Rattle.tally_returns.specs.View.{View}
 use Rattle.tally_returns.specs.declared.ask.Ask.{Ask}

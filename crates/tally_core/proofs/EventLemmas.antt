@@ -9,8 +9,7 @@ use Rattle.tally_rules.specs.Limits.{IsSetup}
 use Rattle.tally_returns.specs.Named.{BringsCode}
 use Rattle.tally_returns.specs.State.{State}
 use Rattle.tally_machine.specs.LawfulState.{IsLawfulState}
-use Rattle.tally_machine.specs.Replies.{IsRun, is_act}
-use Rattle.tally_machine.specs.Runs.{IsSameCommand, kept}
+use Rattle.tally_machine.specs.Runs.{IsRun, is_act, IsSameCommand, kept}
 use Rattle.tally_returns.specs.declared.ask.Ask.{Ask}
 use Rattle.tally_returns.specs.declared.ask.Ask.TheVariants.{Lodge}
 use Rattle.tally_returns.specs.declared.refusal.Refusal.{Refusal}
@@ -20,7 +19,7 @@ use Rattle.tally_machine.proofs.ActLemmas.{answered-idle}
 use Rattle.tally_machine.proofs.LawLemmas.{run-lawful}
 use Rattle.tally_machine.proofs.RunLemmas.{second-idle}
 use Rattle.tally_core.specs.Events.{BringsCodes, acts, answers_of, asks_of, lodge_answers, lodges}
-use Rattle.tally_core.specs.Import.{Answer, IsCodedRow, is_lodged}
+use Rattle.tally_core.specs.Import.{RowAnswer, IsCodedRow, is_lodged}
 use Rattle.tally_core.specs.Keeper.{Event, Happen, Happens, IsTaken, failed_import, request, whole_import}
 use Rattle.tally_core.specs.declared.import.Row.{Row}
 use Rattle.tally_core.specs.declared.import.Row.TheVariants as row
@@ -85,7 +84,7 @@ run-idle setup s t (ask ∷ asks) (r ∷ rs) is idle =
     run-idle setup is.0 t asks rs is.2 none.1 ∙ answered-idle setup s ask r is.0 is.1 none.0
 
 -- a Lodge of an import acts where its row was lodged
-lodges-act : (answered : List Answer) → list_any is_act (lodge_answers answered) ≡ list_any is_lodged answered
+lodges-act : (answered : List RowAnswer) → list_any is_act (lodge_answers answered) ≡ list_any is_lodged answered
 lodges-act [] = refl
 lodges-act (None ∷ answered) = lodges-act answered
 lodges-act (Some (Ok (Lodged rev)) ∷ answered) = refl

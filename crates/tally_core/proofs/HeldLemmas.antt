@@ -13,20 +13,18 @@ use Rattle.tally_rules.specs.Text.{is_note}
 use Rattle.tally_rules.specs.declared.constituency.Station.{Station}
 use Rattle.tally_machine.specs.Certification.{Certifies, Draws, vacates, reopened}
 use Rattle.tally_returns.specs.Checks.{check, first_refusal, refused_or}
-use Rattle.tally_machine.specs.ConStep.{ConChange, Decides, IsView, after_change, certified_with, changed, gone_for_good, lot_set, no_change, open_again}
+use Rattle.tally_machine.specs.Step.{ConChange, Decides, IsView, after_change, certified_with, changed, gone_for_good, lot_set, no_change, open_again, con_answer, seen, after, after_put, after_return, con_of_station, decided_at_station, decided_in, is_certified, with_return, without_lot}
 use Rattle.tally_returns.specs.Counts.{VoteCounts, same_counts}
-use Rattle.tally_returns.specs.Decide.{decided_return, limits_of, lodge_change, moved, put_next}
+use Rattle.tally_returns.specs.Decide.{decided_return, limits_of, lodge_change, decided_move, put_next}
 use Rattle.tally_returns.specs.GoneCandidate.{GoneCandidate}
 use Rattle.tally_machine.specs.LawfulState.{IsLawfulState}
-use Rattle.tally_returns.specs.Lodge.{StationLimits, admitted, after_lodge, counts_checks, lodge, lodge_answer, unless_refused}
+use Rattle.tally_returns.specs.Lodge.{StationLimits, admitted, after_lodge, counts_checks, lodge, lodge_answer}
 use Rattle.tally_returns.specs.Moves.{close_checks, closed, correct_checks, corrected, counts_checks_at, may_close, may_correct, may_query, move_checks, queried, query_checks}
 use Rattle.tally_returns.specs.Named.{BringsCode, con_named, station_named}
 use Rattle.tally_machine.specs.Outcome.{HasSeats}
-use Rattle.tally_machine.specs.Replies.{con_answer, seen}
 use Rattle.tally_returns.specs.PastSeats.{PastSeats}
 use Rattle.tally_returns.specs.Return.{StationReturn, Returns}
 use Rattle.tally_returns.specs.State.{State, ConState, con_state, opening, opening_con, stations_of}
-use Rattle.tally_returns.specs.Step.{after, after_put, after_return, con_of, decided_at_station, decided_in, is_certified, with_return, without_lot}
 use Rattle.tally_returns.specs.View.{View, view_of, view_with}
 use Rattle.tally_returns.specs.declared.ask.Ask.{Ask}
 use Rattle.tally_returns.specs.declared.ask.Ask.TheVariants.{Lodge, Query, Correct, Close, ShowReturn, Draw, Certify, Reopen, Vacate, ShowCon, ShowProgress}
@@ -45,7 +43,7 @@ use Rattle.tally_machine.proofs.ConStepLemmas.{con-step-lawful}
 use Rattle.tally_returns.proofs.DecideLemmas.{passed-first, passed-rest}
 use Rattle.tally_machine.proofs.DecisionLemmas.{certified-found, con_of-found, given-by}
 use Rattle.tally_machine.proofs.LawfulViewLemmas.{certified-seats, drawn-open}
-use Rattle.tally_returns.proofs.LifeLemmas.{after_put-returns}
+use Rattle.tally_machine.proofs.LifeLemmas.{after_put-returns}
 use Rattle.tally_machine.proofs.ReturnStepLemmas.{open-station, opening-lawful, put-placed, return-step-lawful}
 use Rattle.tally_ledger.specs.Kept.{Kept, opening_kept, seats_in, state_in, view_in, with_change}
 use Rattle.tally_core.specs.Held.{IsHeld, IsLodged, IsMoved, with_state}
@@ -102,7 +100,7 @@ append-rest (Some e ∷ xs) ys none = cc
 
 move-open : (certified : Bool) (found : Option StationReturn) (rev : ℕ) (may_start : Status → Bool) (checks : List (Option Refusal)) (next : StationReturn → StationReturn) (r : StationReturn)
     → (first_refusal checks ≡ None → first_refusal (move_checks certified found rev may_start) ≡ None)
-    → moved checks found next ≡ Ok (PutReturn r) → certified ≡ false
+    → decided_move checks found next ≡ Ok (PutReturn r) → certified ≡ false
 move-open certified found rev may_start checks next r rest is = go (first_refusal checks) refl is
   where
     go : (refused : Option Refusal) → first_refusal checks ≡ refused → refused_or refused (Ok (put_next found next)) ≡ Ok (PutReturn r) → certified ≡ false
@@ -113,14 +111,14 @@ move-open certified found rev may_start checks next r rest is = go (first_refusa
         not-true certified (passed-first (not certified) Certified _ third)
 
 lodge-open : (limits : StationLimits) (found : Option StationReturn) (slip : List ℕ) (counts : VoteCounts) (r : StationReturn)
-    → lodge_change slip counts (unless_refused (first_refusal (counts_checks limits counts)) (admitted found slip counts)) ≡ Ok (PutReturn r) → closed_now found ≡ false
+    → lodge_change slip counts (refused_or (first_refusal (counts_checks limits counts)) (admitted found slip counts)) ≡ Ok (PutReturn r) → closed_now found ≡ false
 lodge-open limits found slip counts r is = go (first_refusal (counts_checks limits counts)) found is
   where
     again : (same : Bool) (rev : ℕ) (e : Refusal) → lodge_change slip counts (if same then Ok (reply.Same rev) else Err e) ≢ Ok (PutReturn r)
     again true rev e ok = cc
     again false rev e ok = cc
 
-    go : (refused : Option Refusal) (f : Option StationReturn) → lodge_change slip counts (unless_refused refused (admitted f slip counts)) ≡ Ok (PutReturn r) → closed_now f ≡ false
+    go : (refused : Option Refusal) (f : Option StationReturn) → lodge_change slip counts (refused_or refused (admitted f slip counts)) ≡ Ok (PutReturn r) → closed_now f ≡ false
     go (Some e) f ok = cc
     go None None ok = refl
     go None (Some standing) ok = absurd (again (pointwise nat_eq standing.slip slip && same_counts standing.counts counts) standing.rev (Differs standing.rev) ok)
@@ -160,7 +158,7 @@ lot-certified s code q = ap (λ (c : ConState). c.certified) (con_state-with_con
     go false apart = refl
 
 put-certified : (setup : List Constituency) (s : State) (ask : Ask) (q : List ℕ) → (con_state (after_put setup s ask) q).certified ≡ (con_state s q).certified
-put-certified setup s (Query station rev note) q = go (con_of setup station)
+put-certified setup s (Query station rev note) q = go (con_of_station setup station)
   where
     go : (code : Option (List ℕ)) → (con_state (without_lot s code) q).certified ≡ (con_state s q).certified
     go None = refl
@@ -173,7 +171,7 @@ put-others : (setup : List Constituency) (s : State) (ask : Ask) (station : List
 put-others setup s (Query code rev note) station con place named is q apart =
     let same : code ≡ station = cc in
     let now : ConState = record (con_state s con.code) { lot = [] } in
-    ap (λ found. con_state (without_lot s found) q) (ap (con_of setup) same ∙ con_of-found setup station con place is)
+    ap (λ found. con_state (without_lot s found) q) (ap (con_of_station setup) same ∙ con_of-found setup station con place is)
     ∙ con_state-with_con s con.code now q
     ∙ ap (λ b. cond b now (con_state s q)) (apart-untied q con.code apart)
 put-others setup s other station con place named is q apart = refl

@@ -3,7 +3,8 @@ use Rattle.std.proofs.Common.{◌≡◌, ◌↔◌, ◌++◌, List, [], ◌∷�
 use Rattle.tally_rules.specs.Constituency.{Constituency}
 use Rattle.tally_returns.specs.State.{State, stations_of}
 use Rattle.tally_returns.specs.Lodge.{lodge, lodge_answer}
-use Rattle.tally_machine.specs.Replies.{IsRun, seen, lodge_reply}
+use Rattle.tally_machine.specs.Step.{seen, lodge_reply}
+use Rattle.tally_machine.specs.Runs.{IsRun}
 use Rattle.tally_returns.specs.declared.ask.Ask.{Ask}
 use Rattle.tally_returns.specs.declared.ask.Ask.TheVariants.{Lodge}
 use Rattle.tally_returns.specs.declared.refusal.Refusal.{Refusal}
@@ -11,7 +12,7 @@ use Rattle.tally_returns.specs.declared.reply.LodgeReply.{LodgeReply}
 use Rattle.tally_returns.specs.declared.reply.LodgeReply.TheVariants.{Lodged, Same}
 use Rattle.tally_returns.specs.declared.reply.Reply.{Reply}
 use Rattle.tally_core.specs.Events.{answers_of, as_answer, asks_of, lodge_answers, lodges}
-use Rattle.tally_core.specs.Import.{Answer, answers, count_of, imported}
+use Rattle.tally_core.specs.Import.{RowAnswer, answers, count_of, imported}
 use Rattle.tally_core.specs.Keeper.{Event, Happen, Happens, IsImport, IsNotTaken, IsTaken, Runs, failed_import, request, requests, whole_import}
 use Rattle.tally_core.specs.declared.import.ImportCount.{ImportCount}
 use Rattle.tally_core.specs.declared.import.Row.{Row}
@@ -44,7 +45,7 @@ rows-run setup s (row.Lodge (Lodge station slip counts) ∷ rows) =
 rows-run setup s (other ∷ rows) = rows-run setup s rows
 
 -- an import is the run of its Lodge commands
-pub import-run : (setup : List Constituency) (rows : List Row) (answered : List Answer) (count : ImportCount) (s t : State) → IsImport setup s rows answered count t
+pub import-run : (setup : List Constituency) (rows : List Row) (answered : List RowAnswer) (count : ImportCount) (s t : State) → IsImport setup s rows answered count t
     → (count ≡ count_of answered) × IsRun setup s (lodges rows) (lodge_answers answered) t
 import-run setup rows answered count s t is = (
   is.2,

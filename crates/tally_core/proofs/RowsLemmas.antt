@@ -2,7 +2,7 @@
 use Rattle.std.proofs.Common.{◌≡◌, ◌≤◌, ◌++◌, ◌∷◌, suc, List, [], Some, Ok, length, refl, ap, arith}
 use Rattle.tally_returns.specs.Return.{Returns}
 use Rattle.tally_returns.specs.Lodge.{Stations}
-use Rattle.tally_core.specs.Import.{Answer, row_answer, after_row, answers, imported, lodged_counts}
+use Rattle.tally_core.specs.Import.{RowAnswer, row_answer, after_row, answers, imported, lodged_counts}
 use Rattle.tally_returns.specs.declared.ask.Ask.TheVariants.{Lodge}
 use Rattle.tally_returns.specs.declared.reply.LodgeReply.TheVariants.{Lodged}
 use Rattle.tally_core.specs.declared.import.Row.{Row}
@@ -22,7 +22,7 @@ pub length-answers : (stations : Stations) (s : Returns) (rows : List Row) → l
 length-answers stations s [] = refl
 length-answers stations s (q ∷ rows) = ap suc (length-answers stations (after_row stations s q) rows)
 
-pub lodged_counts-push : (rows : List Row) (answered : List Answer) (r : Row) (a : Answer) → length answered ≡ length rows
+pub lodged_counts-push : (rows : List Row) (answered : List RowAnswer) (r : Row) (a : RowAnswer) → length answered ≡ length rows
     → lodged_counts (rows ++ r ∷ []) (answered ++ a ∷ []) ≡ lodged_counts rows answered ++ lodged_counts (r ∷ []) (a ∷ [])
 lodged_counts-push [] [] r a same = refl
 lodged_counts-push [] (b ∷ answered) r a same = absurd (omega arith)
@@ -30,7 +30,7 @@ lodged_counts-push (q ∷ rows) [] r a same = absurd (omega arith)
 lodged_counts-push (row.Lodge (Lodge station slip counts) ∷ rows) (Some (Ok (Lodged rev)) ∷ answered) r a same = ap (λ l. counts ∷ l) (lodged_counts-push rows answered r a (omega arith))
 lodged_counts-push (q ∷ rows) (b ∷ answered) r a same = lodged_counts-push rows answered r a (omega arith)
 
-pub length-lodged_counts : (rows : List Row) (answered : List Answer) → length (lodged_counts rows answered) ≤ length rows
+pub length-lodged_counts : (rows : List Row) (answered : List RowAnswer) → length (lodged_counts rows answered) ≤ length rows
 length-lodged_counts [] answered = omega arith
 length-lodged_counts (q ∷ rows) [] = omega arith
 length-lodged_counts (row.Lodge (Lodge station slip counts) ∷ rows) (Some (Ok (Lodged rev)) ∷ answered) = omega (arith, length-lodged_counts rows answered)

@@ -9,17 +9,16 @@ use Rattle.tally_rules.specs.Code.{is_code}
 use Rattle.tally_rules.specs.Constituency.{Constituency}
 use Rattle.tally_rules.specs.Setup.{constituency_with, station_with}
 use Rattle.tally_rules.specs.declared.constituency.Station.{Station}
-use Rattle.tally_returns.specs.Checks.{check, first_refusal}
+use Rattle.tally_returns.specs.Checks.{check, first_refusal, refused_or}
 use Rattle.tally_returns.specs.Counts.{VoteCounts, all_votes, are_counts, same_counts}
 use Rattle.tally_returns.specs.Decide.{IsUnlessMemory, decided_return, limits_of}
 use Rattle.tally_returns.specs.Lawful.{IsLawful}
 use Rattle.tally_machine.specs.LawfulState.{IsLawfulState}
-use Rattle.tally_returns.specs.Lodge.{StationLimits, Stations, admitted, counts_checks, decided, lodge_answer, unless_refused}
+use Rattle.tally_returns.specs.Lodge.{StationLimits, Stations, admitted, counts_checks, decided_at_code, lodge_answer}
 use Rattle.tally_returns.specs.Named.{station_named}
-use Rattle.tally_machine.specs.Replies.{move_reply}
+use Rattle.tally_machine.specs.Step.{move_reply, after, after_put, con_of_station, decided_in, is_certified, with_return, without_lot}
 use Rattle.tally_returns.specs.Return.{StationReturn, Returns, first_return}
 use Rattle.tally_returns.specs.State.{State, con_state, stations_of}
-use Rattle.tally_returns.specs.Step.{after, after_put, con_of, decided_in, is_certified, with_return, without_lot}
 use Rattle.tally_returns.specs.View.{View}
 use Rattle.tally_returns.specs.declared.ask.Ask.{Ask}
 use Rattle.tally_returns.specs.declared.ask.Ask.TheVariants.{Lodge, Query, Correct, Close, ShowReturn, Draw, Certify, Reopen, Vacate, ShowCon, ShowProgress}
@@ -198,7 +197,7 @@ query-put : (k : Kept) (ask : Ask) (station : List ℕ) (con : Constituency) (pl
     → after_put k.setup (state_in k) ask ≡ without_lot (state_in k) (Some con.code)
 query-put k (Query code rev note) station con place named is query =
     let same : code ≡ station = cc in
-    ap (without_lot (state_in k)) (ap (con_of k.setup) same ∙ con_of-found k.setup station con place is)
+    ap (without_lot (state_in k)) (ap (con_of_station k.setup) same ∙ con_of-found k.setup station con place is)
 query-put k (Lodge code slip counts) station con place named is query = cc
 query-put k (Correct code rev slip counts) station con place named is query = cc
 query-put k (Close code rev) station con place named is query = cc
@@ -251,7 +250,7 @@ first-lawful stations m station slip counts rev code is = go (stations station) 
     again false now e ok = cc
 
     at : (limits : StationLimits) (refused : Option Refusal) (found : Option StationReturn) → first_refusal (counts_checks limits counts) ≡ refused
-        → unless_refused refused (admitted found slip counts) ≡ Ok (reply.Lodged rev) → IsLawful limits (first_return slip counts)
+        → refused_or refused (admitted found slip counts) ≡ Ok (reply.Lodged rev) → IsLawful limits (first_return slip counts)
     at limits (Some e) found none ok = cc
     at limits None (Some standing) none ok = absurd (again (pointwise nat_eq standing.slip slip && same_counts standing.counts counts) standing.rev (Differs standing.rev) ok)
     at limits None None none ok =
@@ -264,7 +263,7 @@ first-lawful stations m station slip counts rev code is = go (stations station) 
           votes = leb-true (all_votes counts) limits.electors (passed-first (nat_le (all_votes counts) limits.electors) TooManyVotes [] (passed-rest (are_counts limits.lists counts) BadCounts votes none));
         }
 
-    go : (known : Option StationLimits) → stations station ≡ known → decided known (fin.get m station) slip counts ≡ Ok (reply.Lodged rev)
+    go : (known : Option StationLimits) → stations station ≡ known → decided_at_code known (fin.get m station) slip counts ≡ Ok (reply.Lodged rev)
         → (limits : StationLimits) × (stations station ≡ Some limits) × IsLawful limits (first_return slip counts)
     go None there ok = cc
     go (Some limits) there ok = (limits, there, at limits (first_refusal (counts_checks limits counts)) (fin.get m station) refl ok)

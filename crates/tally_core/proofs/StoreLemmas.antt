@@ -10,7 +10,7 @@ use Rattle.tally_returns.specs.declared.refusal.Refusal.TheVariants.{Memory, Sto
 use Rattle.tally_returns.specs.declared.reply.Reply.{Reply}
 use Rattle.tally_machine.specs.Kinds.{IsReplyTo}
 use Rattle.tally_machine.specs.LawfulState.{IsLawfulState}
-use Rattle.tally_machine.specs.Replies.{IsAnswered, IsStep, answer_seen}
+use Rattle.tally_machine.specs.Step.{IsAnswered, IsStep, answer_seen}
 use Rattle.tally_machine.proofs.KindLemmas.{step-kind}
 use Rattle.tally_machine.proofs.OwnLemmas.{steps-own}
 use Rattle.tally_core.specs.Held.{IsAnsweredInMemory}

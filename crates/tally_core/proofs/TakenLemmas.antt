@@ -8,7 +8,7 @@ use Rattle.tally_returns.specs.Return.{Returns}
 use Rattle.tally_returns.specs.State.{State, stations_of}
 use Rattle.tally_returns.specs.declared.ask.Ask.TheVariants.{Lodge}
 use Rattle.tally_core.specs.Held.{IsHeld}
-use Rattle.tally_core.specs.Import.{Answer, IsBelow, IsCodedRow, row_answer, after_row, answers, imported, count_of, counted}
+use Rattle.tally_core.specs.Import.{RowAnswer, IsBelow, IsCodedRow, row_answer, after_row, answers, imported, count_of, counted}
 use Rattle.tally_core.specs.Keeper.{IsFault, IsImportOf}
 use Rattle.tally_core.specs.Source.{Coming, Ending, IsSudden, IsWithin, GivesNext, row_limit}
 use Rattle.tally_core.specs.declared.import.ImportCount.{ImportCount}
@@ -48,7 +48,7 @@ taken-push (Some known) left next rows r taken given =
     let at = subst (λ l. IfSome l (λ (coming : Coming). (rest : List Row) × (coming.rows ≡ r ∷ rest) × (next ≡ Some (record coming { rows = rest })))) taken.1 given in
     (at.0, at.2, taken.2 ∙ ap (λ l. rows ++ l) at.1 ∙ sym (append_assoc rows (r ∷ []) at.0))
 
-pub SoFar-next : (stations : Stations) (old now new : Returns) (all left next : Option Coming) (count more : ImportCount) (many : ℕ) (r : Row) (answer : Answer)
+pub SoFar-next : (stations : Stations) (old now new : Returns) (all left next : Option Coming) (count more : ImportCount) (many : ℕ) (r : Row) (answer : RowAnswer)
     → SoFar stations old now all left count many → IsCodedRow r → GivesNext left (Ok (Some r)) next
     → row_answer stations now r ≡ answer → new ≡ after_row stations now r → more ≡ counted count (many + 1) answer
     → SoFar stations old new all next more (many + 1)
@@ -78,7 +78,7 @@ all-taken (Some known) left rows taken ended =
     (taken.2 ∙ ap (λ l. rows ++ l) none.0 ∙ append-nil rows, none.1)
 
 -- the same of a keeper that has changed its returns alone
-pub SoFar-taken : (old mid : Kept) (new : Returns) (all left next : Option Coming) (count more : ImportCount) (many : ℕ) (r : Row) (answer : Answer)
+pub SoFar-taken : (old mid : Kept) (new : Returns) (all left next : Option Coming) (count more : ImportCount) (many : ℕ) (r : Row) (answer : RowAnswer)
     → SoFar (stations_of old.setup) old.returns mid.returns all left count many → mid ≡ record old { returns = mid.returns } → IsCodedRow r → GivesNext left (Ok (Some r)) next
     → row_answer (stations_of mid.setup) mid.returns r ≡ answer → new ≡ after_row (stations_of mid.setup) mid.returns r → more ≡ counted count (many + 1) answer
     → SoFar (stations_of old.setup) old.returns new all next more (many + 1)

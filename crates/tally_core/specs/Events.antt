@@ -1,7 +1,7 @@
 -- What happened to a keeper, as requests with their answers: an import is its Lodge commands, one by one.
 use Rattle.std.specs.Prelude.{List, [], ◌∷◌, ◌++◌, Bool, false, Some, None, Result, Ok, Err}
 use Rattle.std.specs.List.{list_any}
-use Rattle.tally_machine.specs.Replies.{is_act}
+use Rattle.tally_machine.specs.Runs.{is_act}
 use Rattle.tally_returns.specs.Named.{BringsCode}
 use Rattle.tally_returns.specs.Reply.{as_reply}
 use Rattle.tally_returns.specs.declared.ask.Ask.{Ask}
@@ -9,7 +9,7 @@ use Rattle.tally_returns.specs.declared.ask.Ask.TheVariants.{Lodge}
 use Rattle.tally_returns.specs.declared.refusal.Refusal.{Refusal}
 use Rattle.tally_returns.specs.declared.reply.LodgeReply.{LodgeReply}
 use Rattle.tally_returns.specs.declared.reply.Reply.{Reply}
-use Rattle.tally_core.specs.Import.{Answer, is_lodged}
+use Rattle.tally_core.specs.Import.{RowAnswer, is_lodged}
 use Rattle.tally_core.specs.Keeper.{Event, request, whole_import, failed_import}
 use Rattle.tally_core.specs.declared.import.Row.{Row}
 use Rattle.tally_core.specs.declared.import.Row.TheVariants as row
@@ -26,7 +26,7 @@ as_answer (Ok reply) = Ok (as_reply reply)
 as_answer (Err refusal) = Err refusal
 
 -- what the Lodge commands of the rows were answered, by the answers of all rows
-abbrev pub lodge_answers : List Answer → List (Result Reply Refusal)
+abbrev pub lodge_answers : List RowAnswer → List (Result Reply Refusal)
 lodge_answers [] = []
 lodge_answers (Some answer ∷ answered) = as_answer answer ∷ lodge_answers answered
 lodge_answers (None ∷ answered) = lodge_answers answered

@@ -9,14 +9,12 @@ use Rattle.tally_rules.specs.Constituency.{Constituency}
 use Rattle.tally_rules.specs.Limits.{IsSetup}
 use Rattle.tally_rules.specs.Setup.{constituency_with}
 use Rattle.tally_rules.specs.contracts.setup.Setup.{the_row as setup_row}
-use Rattle.tally_machine.specs.ConStep.{ConChange, IsView, gone_for_good}
+use Rattle.tally_machine.specs.Step.{ConChange, IsView, gone_for_good, Answer, edition_now, vacated, IsConStep, IsStep, seen, lodge_reply, move_reply, after_return, decided_in}
 use Rattle.tally_returns.specs.Counts.{VoteCounts}
 use Rattle.tally_machine.specs.LawfulState.{IsLawfulState}
 use Rattle.tally_returns.specs.Lodge.{lodge, lodge_answer}
-use Rattle.tally_machine.specs.Replies.{Answer, edition_now, vacated, IsConStep, IsStep, seen, lodge_reply, move_reply}
 use Rattle.tally_returns.specs.Return.{Returns}
 use Rattle.tally_returns.specs.State.{State, con_state, stations_of}
-use Rattle.tally_returns.specs.Step.{after_return, decided_in}
 use Rattle.tally_returns.specs.declared.ask.Ask.{Ask}
 use Rattle.tally_returns.specs.declared.ask.Ask.TheVariants.{Query}
 use Rattle.tally_returns.specs.declared.change.Change.{Change}

@@ -17,15 +17,15 @@ use Rattle.tally_core.specs.declared.source.ImportFault.{ImportFault}
 use Rattle.tally_core.specs.declared.source.ImportFault.TheVariants as fault
 
 -- what a row was answered: a bad one nothing, and so one of another command than Lodge
-abbrev pub Answer : Type 0
-Answer = Option (Result LodgeReply Refusal)
+abbrev pub RowAnswer : Type 0
+RowAnswer = Option (Result LodgeReply Refusal)
 
 -- The slip of a row is a code.
 abbrev pub IsCodedRow : Row → Type 0
 IsCodedRow (row.Lodge (Lodge station slip counts)) = is_code slip ≡ true
 IsCodedRow other = Unit {0}
 
-abbrev pub row_answer : Stations → Returns → Row → Answer
+abbrev pub row_answer : Stations → Returns → Row → RowAnswer
 row_answer stations returns (row.Lodge (Lodge station slip counts)) = Some (lodge_answer stations returns station slip counts)
 row_answer stations returns other = None
 
@@ -35,7 +35,7 @@ after_row stations returns (row.Lodge (Lodge station slip counts)) = lodge stati
 after_row stations returns other = returns
 
 -- what the rows are answered, in order
-abbrev pub answers : Stations → Returns → List Row → List Answer
+abbrev pub answers : Stations → Returns → List Row → List RowAnswer
 answers stations returns [] = []
 answers stations returns (r ∷ rows) = row_answer stations returns r ∷ answers stations (after_row stations returns r) rows
 
@@ -45,31 +45,31 @@ imported stations returns [] = returns
 imported stations returns (r ∷ rows) = imported stations (after_row stations returns r) rows
 
 -- one thing of a row that was lodged, another of one that was there already, of a refused one, of a bad one
-abbrev pub by_answer : {X : Type 0} → X → X → (Refusal → X) → X → Answer → X
+abbrev pub by_answer : {X : Type 0} → X → X → (Refusal → X) → X → RowAnswer → X
 by_answer lodged same refused bad (Some (Ok (Lodged rev))) = lodged
 by_answer lodged same refused bad (Some (Ok (Same rev))) = same
 by_answer lodged same refused bad (Some (Err refusal)) = refused refusal
 by_answer lodged same refused bad None = bad
 
-abbrev pub is_lodged : Answer → Bool
+abbrev pub is_lodged : RowAnswer → Bool
 is_lodged = by_answer true false (λ e. false) false
 
-abbrev pub is_same : Answer → Bool
+abbrev pub is_same : RowAnswer → Bool
 is_same = by_answer false true (λ e. false) false
 
 -- another return of the station stands
-abbrev pub is_differing : Answer → Bool
+abbrev pub is_differing : RowAnswer → Bool
 is_differing = by_answer false false (λ e. number e == 7) false
 
 -- refused for another reason
-abbrev pub is_refused : Answer → Bool
+abbrev pub is_refused : RowAnswer → Bool
 is_refused = by_answer false false (λ e. not (number e == 7)) false
 
-abbrev pub is_bad : Answer → Bool
+abbrev pub is_bad : RowAnswer → Bool
 is_bad = by_answer false false (λ e. false) true
 
 -- what is noted of a row that was neither lodged nor there already: its refusal's number, or 0 of a bad one
-abbrev pub noted : Answer → Option ℕ
+abbrev pub noted : RowAnswer → Option ℕ
 noted = by_answer None None (λ e. Some (number e)) (Some 0)
 
 abbrev pub or_else : {X : Type 0} → Option X → Option X → Option X
@@ -82,7 +82,7 @@ note_at at (Some n) = Some (record { row = at; number = n })
 note_at at None = None
 
 -- the first note, where the first row of the list has this number
-abbrev pub first_note : ℕ → List Answer → Option FirstRow
+abbrev pub first_note : ℕ → List RowAnswer → Option FirstRow
 first_note at [] = None
 first_note at (a ∷ rest) = or_else (note_at at (noted a)) (first_note (at + 1) rest)
 
@@ -95,7 +95,7 @@ with_refusal c row n = record c {
 }
 
 -- the count with one row more
-abbrev pub counted : ImportCount → ℕ → Answer → ImportCount
+abbrev pub counted : ImportCount → ℕ → RowAnswer → ImportCount
 counted c row a = record {
   lodged = c.lodged + (if is_lodged a then 1 else 0);
   same = c.same + (if is_same a then 1 else 0);
@@ -114,7 +114,7 @@ pub record IsBelow (c : ImportCount) (row : ℕ) : Type 0 where
   pub bad : c.bad < row
 
 -- how many rows were answered what
-abbrev pub count_of : List Answer → ImportCount
+abbrev pub count_of : List RowAnswer → ImportCount
 count_of answered = record {
   lodged = count_by is_lodged answered;
   same = count_by is_same answered;
@@ -125,7 +125,7 @@ count_of answered = record {
 }
 
 -- the counts of the returns that rows lodged, in order
-abbrev pub lodged_counts : List Row → List Answer → List VoteCounts
+abbrev pub lodged_counts : List Row → List RowAnswer → List VoteCounts
 lodged_counts (row.Lodge (Lodge station slip counts) ∷ rows) (Some (Ok (Lodged rev)) ∷ answered) = counts ∷ lodged_counts rows answered
 lodged_counts (r ∷ rows) (a ∷ answered) = lodged_counts rows answered
 lodged_counts [] answered = []

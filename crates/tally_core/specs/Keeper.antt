@@ -2,11 +2,11 @@
 use Rattle.std.specs.Prelude.{◌≡◌, ◌≤◌, ◌⊎◌, All, List, [], ◌∷◌, length, Option, Some, None, Result, Ok, Err, IfSome}
 use Rattle.tally_rules.specs.Constituency.{Constituency}
 use Rattle.tally_returns.specs.State.{State, stations_of}
-use Rattle.tally_machine.specs.Replies.{IsAnswered, IsNotAccepted}
+use Rattle.tally_machine.specs.Step.{IsAnswered, IsNotAccepted}
 use Rattle.tally_returns.specs.declared.ask.Ask.{Ask}
 use Rattle.tally_returns.specs.declared.refusal.Refusal.{Refusal}
 use Rattle.tally_returns.specs.declared.reply.Reply.{Reply}
-use Rattle.tally_core.specs.Import.{Answer, IsCodedRow, answers, imported, count_of}
+use Rattle.tally_core.specs.Import.{RowAnswer, IsCodedRow, answers, imported, count_of}
 use Rattle.tally_core.specs.Source.{Coming, Ending, IsSudden, row_limit}
 use Rattle.tally_core.specs.declared.import.ImportCount.{ImportCount}
 use Rattle.tally_core.specs.declared.import.Row.{Row}
@@ -17,11 +17,11 @@ use Rattle.tally_core.specs.declared.source.ImportFault.TheVariants.{TooLong, Me
 -- answered and the count of that; or an import with a fault.
 pub data Event : Type 0 where
   request : Ask → Result Reply Refusal → Event
-  whole_import : List Row → List Answer → ImportCount → Event
+  whole_import : List Row → List RowAnswer → ImportCount → Event
   failed_import : ImportFault → Event
 
 -- An import that was done leaves what the Lodge commands of its rows leave one by one, refused and bad rows passed over. Their slips are codes.
-abbrev pub IsImport : List Constituency → State → List Row → List Answer → ImportCount → State → Type 0
+abbrev pub IsImport : List Constituency → State → List Row → List RowAnswer → ImportCount → State → Type 0
 IsImport setup s rows answered count t = (length rows ≤ row_limit)
     × (answered ≡ answers (stations_of setup) s.returns rows)
     × (count ≡ count_of answered)
@@ -89,7 +89,7 @@ AreAllOf known rows = IfSome known (λ coming. (coming.rows ≡ rows) × (coming
 
 -- an import of all rows of a source, and what it leaves
 abbrev pub IsImportOf : List Constituency → Option State → Option Coming → ImportCount → Option State → Type 0
-IsImportOf setup old known count new = (rows : List Row) × (answered : List Answer) × AreAllOf known rows × Happens setup old (whole_import rows answered count) new
+IsImportOf setup old known count new = (rows : List Row) × (answered : List RowAnswer) × AreAllOf known rows × Happens setup old (whole_import rows answered count) new
 
 -- What an import comes to, by what was known of its source and by how the source ended.
 abbrev pub Imports : List Constituency → Option State → Option Coming → Ending → Result ImportCount ImportFault → Option State → Type 0

@@ -2,4 +2,5 @@ pub mod Events
 pub mod Held
 pub mod Import
 pub mod Keeper
+pub mod LawStatements
 pub mod Source

@@ -40,7 +40,7 @@ pub struct ImportCount {
 }
 
 impl ImportCount {
-    ghost use Rattle.tally_core.specs.Import.{Answer, IsBelow, count_of, counted, or_else, with_refusal};
+    ghost use Rattle.tally_core.specs.Import.{RowAnswer, IsBelow, count_of, counted, or_else, with_refusal};
 
     /// The count of no row.
     pub fn new() -> ImportCount
@@ -58,7 +58,7 @@ impl ImportCount {
 
     /// Counts one more row, by its number and what it was answered; a bad row was answered nothing.
     pub fn add(&mut self, row: u32, answer: Option<Result<LodgeReply, Refusal>>)
-        ghost answered: { List Answer }
+        ghost answered: { List RowAnswer }
         requires count { self.old ≡ count_of answered }
         requires row { row ≡ length answered + 1 }
         ensures { self.new ≡ count_of (answered ++ answer ∷ []) }

@@ -1,6 +1,7 @@
 //! Answers as text.
 
 use crate::commands::command;
+use crate::setups::fresh;
 use std::alloc::Global;
 use std::test::Fail;
 use tally_core::{Book, ConView, Keeper, ListSet, ProgressRow, Refusal, Reply, Return};
@@ -106,15 +107,26 @@ fn told_group(alloc: Global, front: &str, group: &ListSet) -> Result<String, Fai
     Ok(text)
 }
 
+/// What a keeper answers to the command of a line, as text.
+fn answered(alloc: Global, book: &mut Book, line: &str) -> Result<String, Fail> {
+    let answer = book.answer(&command(alloc, line)?);
+    told(alloc, &answer)
+}
+
 /// The first of these lines, `COMMAND = ANSWER`, whose answer is another, with that answer.
 pub(crate) fn first_wrong(alloc: Global, book: &mut Book, script: &str) -> Result<String, Fail> {
     for line in script.lines() {
         let (ask, wanted) = line.split_once(" = ").ok_or("no answer")?;
-        let answer = book.answer(&command(alloc, ask)?);
-        let told = told(alloc, &answer)?;
+        let told = answered(alloc, book, ask)?;
         if told.as_str() != wanted {
             return Ok(format!(in alloc; "{line}, and not {told}")?);
         }
     }
     Ok(String::new(alloc))
+}
+
+/// The same of a keeper of the setup of a text, in which no return stands.
+pub(crate) fn first_wrong_in(alloc: Global, setup: &str, script: &str) -> Result<String, Fail> {
+    let mut book = fresh(alloc, setup)?;
+    first_wrong(alloc, &mut book, script)
 }

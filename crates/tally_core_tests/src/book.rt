@@ -1,10 +1,11 @@
 //! A keeper in memory.
 
-use crate::answers::{first_wrong, told};
+use crate::answers::{first_wrong_in, told};
 use crate::commands::command;
-use crate::setups::{TWIN_TOWN, fresh, twin_town};
+use crate::setups::{TWIN_TOWN, fresh, twin_town, with};
+use std::alloc::Global;
 use std::test::*;
-use tally_core::{Ask, run};
+use tally_core::{Ask, Refusal, Reply, run};
 
 // 8 is NoReturn, 1 NoStation, 4 BadCounts, 5 BadNote.
 const LIFE: &str = "close s1 1 = refused 8
@@ -21,28 +22,52 @@ return s1 = 3 p2 Corrected [1, 1] 7 0 sum";
 
 #[test]
 fn the_life_of_a_return(rt: HostRuntime) -> Result<(), Fail> {
-    let mut book = fresh(rt.alloc(), TWIN_TOWN)?;
-    let wrong = first_wrong(rt.alloc(), &mut book, LIFE)?;
+    let wrong = first_wrong_in(rt.alloc(), TWIN_TOWN, LIFE)?;
     assert!(rt; wrong.is_empty(), "{wrong}");
     Ok(())
 }
 
-#[test]
-fn a_run_and_the_progress_after_it(rt: HostRuntime) -> Result<(), Fail> {
-    let alloc = rt.alloc();
-    let mut book = fresh(alloc, TWIN_TOWN)?;
+fn asks(alloc: Global, lines: &str) -> Result<Vec<Ask>, Fail> {
     let mut asks = Vec::new(alloc);
-    for line in "lodge s1 p1 100,100;lodge s1 p1 100,100;close s1 1;close s1 1".split(";") {
+    for line in lines.lines() {
         asks.push(command(alloc, line)?)?;
     }
     asks.push(Ask::ShowProgress)?;
+    Ok(asks)
+}
+
+/// What a new keeper answers to a run of these commands and to one that shows the progress, a line each.
+fn answers(alloc: Global, lines: &str) -> Result<String, Fail> {
+    let asks = asks(alloc, lines)?;
+    let mut book = fresh(alloc, TWIN_TOWN)?;
+    all_told(alloc, &run(alloc, &mut book, &asks)?)
+}
+
+fn all_told(alloc: Global, answers: &[Result<Reply, Refusal>]) -> Result<String, Fail> {
     let mut text = String::new(alloc);
-    for answer in &run(alloc, &mut book, &asks)? {
-        text.push_str(told(alloc, answer)?.as_str())?;
-        text.push_str(";")?;
+    for answer in answers {
+        let line = told(alloc, answer)?;
+        writeln!(text, "{line}")?;
     }
-    let wanted = "lodged 1;same 1;moved 2;stale 2;progress c1 1: 0 0 0 1 1 false;";
-    assert!(rt; text.as_str() == wanted, "{text}");
+    Ok(text)
+}
+
+const RUN: &str = "lodge s1 p1 100,100
+lodge s1 p1 100,100
+close s1 1
+close s1 1";
+
+const RUN_ANSWERED: &str = "lodged 1
+same 1
+moved 2
+stale 2
+progress c1 1: 0 0 0 1 1 false
+";
+
+#[test]
+fn a_run_and_the_progress_after_it(rt: HostRuntime) -> Result<(), Fail> {
+    let told = answers(rt.alloc(), RUN)?;
+    assert!(rt; told.as_str() == RUN_ANSWERED, "{told}");
     Ok(())
 }
 
@@ -52,8 +77,7 @@ lodge s1 p1 150,150 = lodged 1";
 
 #[test]
 fn blank_votes_fit_the_electors_too(rt: HostRuntime) -> Result<(), Fail> {
-    let mut book = fresh(rt.alloc(), TWIN_TOWN)?;
-    let wrong = first_wrong(rt.alloc(), &mut book, ELECTORS)?;
+    let wrong = first_wrong_in(rt.alloc(), TWIN_TOWN, ELECTORS)?;
     assert!(rt; wrong.is_empty(), "{wrong}");
     Ok(())
 }
@@ -63,10 +87,8 @@ const LAST_REVISION: &str = "query s1 9999 sum = refused 12
 close s1 9999 = refused 12
 return s1 = 9999 p1 Corrected [1, 1] 0 0 sum";
 
-#[test]
-fn a_return_at_its_last_revision(rt: HostRuntime) -> Result<(), Fail> {
-    let alloc = rt.alloc();
-    let mut book = fresh(alloc, TWIN_TOWN)?;
+/// A return that is queried and corrected in turn, up to its last revision.
+fn to_the_last_revision(alloc: Global) -> Result<String, Fail> {
     let mut script = String::from_str(alloc, "lodge s1 p1 1,1 = lodged 1\n")?;
     for turn in 0..4_999u32 {
         let rev = 2 * turn + 1;
@@ -75,7 +97,13 @@ fn a_return_at_its_last_revision(rt: HostRuntime) -> Result<(), Fail> {
         writeln!(script, "correct s1 {next} p1 1,1 = moved {after}")?;
     }
     script.push_str(LAST_REVISION)?;
-    let wrong = first_wrong(alloc, &mut book, script.as_str())?;
+    Ok(script)
+}
+
+#[test]
+fn a_return_at_its_last_revision(rt: HostRuntime) -> Result<(), Fail> {
+    let script = to_the_last_revision(rt.alloc())?;
+    let wrong = first_wrong_in(rt.alloc(), TWIN_TOWN, script.as_str())?;
     assert!(rt; wrong.is_empty(), "{wrong}");
     Ok(())
 }
@@ -115,8 +143,46 @@ lodge s1 p2 120,120 = same 5";
 
 #[test]
 fn a_tie_a_lot_a_vacancy_and_a_recount(rt: HostRuntime) -> Result<(), Fail> {
-    let mut book = fresh(rt.alloc(), TWIN_TOWN)?;
-    let wrong = first_wrong(rt.alloc(), &mut book, RECOUNT)?;
+    let wrong = first_wrong_in(rt.alloc(), TWIN_TOWN, RECOUNT)?;
+    assert!(rt; wrong.is_empty(), "{wrong}");
+    Ok(())
+}
+
+// The same where lots alternate: a lot is turned round for second seats, so that by the lot B, A the third
+// seat is A's.
+const ALTERNATING: &str = "lodge s1 p1 100,100 = lodged 1
+certify c1 1 = left 1
+close s1 1 = moved 2
+close s1 1 = stale 2
+certify c1 1 = lot of 1 2 for 1
+draw c1 1 A = no order of 1 2
+draw c1 1 B,A = edition 2
+draw c1 1 B,A = stale 2
+draw c1 2 A,B = refused 16
+certify c1 2 = edition 3
+show c1 = certified 3 1/1 [100, 100] [2, 1] [2, 1]
+certify c1 2 = refused 9
+query s1 2 sum = refused 9
+vacate c1 B 1 resigned = vacated None
+vacate c1 B 1 resigned = refused 20
+vacate c1 A 2 moved = vacated None
+reopen c1 3 recount = edition 4
+vacate c1 A 1 moved = refused 10
+query s1 2 sum = moved 3
+correct s1 3 p2 120,120 = moved 4
+close s1 4 = moved 5
+certify c1 4 = lot of 1 2 for 1
+draw c1 4 A,B = edition 5
+certify c1 5 = edition 6
+show c1 = certified 6 1/1 [120, 120] [1, 2] [1, 2] recount 1.2 moved 2.1 resigned past 3 [2, 1]
+lodge s1 p1 100,100 = differs 5
+lodge s1 p2 120,120 = same 5";
+
+#[test]
+fn a_recount_where_lots_alternate(rt: HostRuntime) -> Result<(), Fail> {
+    let rule = "base = \"valid\"\nlot = \"alternating\"";
+    let setup = with(rt.alloc(), TWIN_TOWN, "base = \"valid\"", rule)?;
+    let wrong = first_wrong_in(rt.alloc(), setup.as_str(), ALTERNATING)?;
     assert!(rt; wrong.is_empty(), "{wrong}");
     Ok(())
 }
@@ -131,8 +197,7 @@ show c1 = certified 2 1/1 [100, 100] [] [2, 2]";
 #[test]
 fn what_the_votes_decide(rt: HostRuntime) -> Result<(), Fail> {
     let setup = twin_town(rt.alloc(), "dhondt", 4)?;
-    let mut book = fresh(rt.alloc(), setup.as_str())?;
-    let wrong = first_wrong(rt.alloc(), &mut book, DECIDED)?;
+    let wrong = first_wrong_in(rt.alloc(), setup.as_str(), DECIDED)?;
     assert!(rt; wrong.is_empty(), "{wrong}");
     Ok(())
 }
@@ -145,8 +210,7 @@ certify c1 1 = refused 15";
 
 #[test]
 fn where_nobody_voted_no_list_is_eligible(rt: HostRuntime) -> Result<(), Fail> {
-    let mut book = fresh(rt.alloc(), TWIN_TOWN)?;
-    let wrong = first_wrong(rt.alloc(), &mut book, NOBODY)?;
+    let wrong = first_wrong_in(rt.alloc(), TWIN_TOWN, NOBODY)?;
     assert!(rt; wrong.is_empty(), "{wrong}");
     Ok(())
 }
@@ -164,8 +228,7 @@ show c1 = certified 2 1/1 [100, 50] [] [1, 0] 1.1 moved 1.2 moved";
 #[test]
 fn who_moves_in(rt: HostRuntime) -> Result<(), Fail> {
     let setup = twin_town(rt.alloc(), "dhondt", 1)?;
-    let mut book = fresh(rt.alloc(), setup.as_str())?;
-    let wrong = first_wrong(rt.alloc(), &mut book, VACANCIES)?;
+    let wrong = first_wrong_in(rt.alloc(), setup.as_str(), VACANCIES)?;
     assert!(rt; wrong.is_empty(), "{wrong}");
     Ok(())
 }
@@ -247,8 +310,7 @@ certify zz 1 = refused 2";
 
 #[test]
 fn a_threshold_a_tie_of_remainders_and_a_reopening(rt: HostRuntime) -> Result<(), Fail> {
-    let mut book = fresh(rt.alloc(), RIVERS)?;
-    let wrong = first_wrong(rt.alloc(), &mut book, HARE)?;
+    let wrong = first_wrong_in(rt.alloc(), RIVERS, HARE)?;
     assert!(rt; wrong.is_empty(), "{wrong}");
     Ok(())
 }
@@ -258,13 +320,10 @@ reopen c1 9999 sum = refused 10
 draw c1 9999 A,B = refused 12
 certify c1 9998 = stale 9999";
 
-#[test]
-fn a_constituency_at_its_last_edition(rt: HostRuntime) -> Result<(), Fail> {
-    let alloc = rt.alloc();
-    let mut book = fresh(alloc, TWIN_TOWN)?;
-    let mut script = String::new(alloc);
-    writeln!(script, "lodge s1 p1 100,50 = lodged 1")?;
-    writeln!(script, "close s1 1 = moved 2")?;
+/// A constituency that is certified and opened again in turn, up to its last edition.
+fn to_the_last_edition(alloc: Global) -> Result<String, Fail> {
+    let front = "lodge s1 p1 100,50 = lodged 1\nclose s1 1 = moved 2\n";
+    let mut script = String::from_str(alloc, front)?;
     for turn in 0..4_999u32 {
         let edition = 2 * turn + 1;
         let (next, after) = (edition + 1, edition + 2);
@@ -272,7 +331,13 @@ fn a_constituency_at_its_last_edition(rt: HostRuntime) -> Result<(), Fail> {
         writeln!(script, "reopen c1 {next} sum = edition {after}")?;
     }
     script.push_str(LAST_EDITION)?;
-    let wrong = first_wrong(alloc, &mut book, script.as_str())?;
+    Ok(script)
+}
+
+#[test]
+fn a_constituency_at_its_last_edition(rt: HostRuntime) -> Result<(), Fail> {
+    let script = to_the_last_edition(rt.alloc())?;
+    let wrong = first_wrong_in(rt.alloc(), TWIN_TOWN, script.as_str())?;
     assert!(rt; wrong.is_empty(), "{wrong}");
     Ok(())
 }

@@ -5,31 +5,70 @@ ghost use Rattle.tally_returns.specs.Named.{con_named};
 
 use crate::answers::told_refusal;
 use crate::commands::command;
-use crate::setups::{code, setup, twin_town};
-use std::alloc::{AllocError, Global};
+use crate::setups::{code, number, setup, twin_town};
+use std::alloc::Global;
 use std::test::*;
 use tally_core::{Ask, Change, ConView, Gone, Past, Refusal, decide_con};
 use tally_rules::Constituency;
 
-/// What is seen where the station is closed with these votes.
-fn open_view(alloc: Global, votes: &[u64]) -> Result<ConView, AllocError> {
+/// What is seen of a text such as `1 1: 100,100: 2,1: 1,2: 2.1`: the edition, how many of its one station are
+/// closed, the votes, the lot; the seats, where it is certified; the list and place of one who is gone.
+fn view_of(alloc: Global, text: &str) -> Result<ConView, Fail> {
+    let (front, text) = text.split_once(": ").ok_or("no votes")?;
+    let (edition, closed) = front.split_once(" ").ok_or("no number of stations")?;
+    let (votes, text) = text.split_once(": ").ok_or("no lot")?;
+    let (lot, text) = text.split_once(": ").ok_or("no seats")?;
+    let (seats, gone) = text.split_once(": ").ok_or("nobody gone")?;
     Ok(ConView {
-        edition: 1,
-        certified: false,
+        edition: number(edition)?,
+        certified: !seats.is_empty(),
         note: String::new(alloc),
-        lot: Vec::new(alloc),
+        lot: numbers(alloc, lot)?,
         stations: 1,
         received: 0,
         queried: 0,
         corrected: 0,
-        closed: 1,
-        votes: votes.to_vec(alloc)?,
+        closed: number(closed)?,
+        votes: all_votes(alloc, votes)?,
         blank: 0,
         spoiled: 0,
-        seats: Vec::new(alloc),
-        gone: Vec::new(alloc),
+        seats: numbers(alloc, seats)?,
+        gone: gone_of(alloc, gone)?,
         past: Vec::new(alloc),
     })
+}
+
+/// The numbers of a text such as `2,1`, or of an empty one none.
+fn numbers(alloc: Global, text: &str) -> Result<Vec<u32>, Fail> {
+    let mut found = Vec::new(alloc);
+    if text.is_empty() {
+        return Ok(found);
+    }
+    for word in text.split(",") {
+        found.push(number(word)?)?;
+    }
+    Ok(found)
+}
+
+fn all_votes(alloc: Global, text: &str) -> Result<Vec<u64>, Fail> {
+    let mut votes = Vec::new(alloc);
+    for word in text.split(",") {
+        votes.push(u64::from(number(word)?))?;
+    }
+    Ok(votes)
+}
+
+/// The one of a text such as `2.1`, list and place, or of an empty text nobody.
+fn gone_of(alloc: Global, text: &str) -> Result<Vec<Gone>, Fail> {
+    let mut gone = Vec::new(alloc);
+    if let Some((list, place)) = text.split_once(".") {
+        gone.push(Gone {
+            list: number(list)?,
+            place: number(place)?,
+            note: String::from_str(alloc, "died")?,
+        })?;
+    }
+    Ok(gone)
 }
 
 fn names(con: &Constituency, ask: &Ask) -> bool
@@ -79,25 +118,39 @@ fn shown_change(alloc: Global, change: &Change) -> Result<String, Fail> {
     })
 }
 
-/// In a setup of this method and so many seats, the first of these lines, `COMMAND = TEXT`, of which
-/// something else is decided.
-fn first_wrong<'a>(
+/// What is decided of the command of a line, as text.
+fn answered(alloc: Global, con: &Constituency, view: &ConView, line: &str) -> Result<String, Fail> {
+    let decided = decided(alloc, con, view, &command(alloc, line)?);
+    shown(alloc, &decided)
+}
+
+/// The first of these lines, `COMMAND = TEXT`, of which something else is decided.
+fn first_other<'a>(
     alloc: Global,
-    method: &str,
-    seats: u32,
+    con: &Constituency,
     view: &ConView,
     script: &'a str,
 ) -> Result<&'a str, Fail> {
-    let setup = setup(alloc, twin_town(alloc, method, seats)?.as_str())?;
-    let con = setup.con(code("c1")?).ok_or("c1 is there")?;
     for line in script.lines() {
         let (ask, wanted) = line.split_once(" = ").ok_or("no text")?;
-        let decided = decided(alloc, con, view, &command(alloc, ask)?);
-        if shown(alloc, &decided)?.as_str() != wanted {
+        if answered(alloc, con, view, ask)?.as_str() != wanted {
             return Ok(line);
         }
     }
     Ok("")
+}
+
+/// The same in a setup of this method and so many seats, of a view of a text.
+fn first_wrong<'a>(
+    alloc: Global,
+    method: &str,
+    seats: u32,
+    view: &str,
+    script: &'a str,
+) -> Result<&'a str, Fail> {
+    let setup = setup(alloc, twin_town(alloc, method, seats)?.as_str())?;
+    let con = setup.con(code("c1")?).ok_or("c1 is there")?;
+    first_other(alloc, con, &view_of(alloc, view)?, script)
 }
 
 // 3 seats and the quotients 100, 100, 50 and 50.
@@ -114,8 +167,8 @@ show c1 = same";
 
 #[test]
 fn a_lot_names_each_list_of_its_group_once(rt: HostRuntime) -> Result<(), Fail> {
-    let view = open_view(rt.alloc(), &[100, 100])?;
-    let wrong = first_wrong(rt.alloc(), "dhondt", 3, &view, LOT_MISSING)?;
+    let view = "1 1: 100,100: : : ";
+    let wrong = first_wrong(rt.alloc(), "dhondt", 3, view, LOT_MISSING)?;
     assert!(rt; wrong.is_empty(), "{wrong}");
     Ok(())
 }
@@ -126,8 +179,8 @@ draw c1 1 A,B = lot [1, 2]";
 
 #[test]
 fn a_lot_is_drawn_by_hare_too(rt: HostRuntime) -> Result<(), Fail> {
-    let view = open_view(rt.alloc(), &[50, 50])?;
-    let wrong = first_wrong(rt.alloc(), "hare", 1, &view, LOT_MISSING_BY_HARE)?;
+    let view = "1 1: 50,50: : : ";
+    let wrong = first_wrong(rt.alloc(), "hare", 1, view, LOT_MISSING_BY_HARE)?;
     assert!(rt; wrong.is_empty(), "{wrong}");
     Ok(())
 }
@@ -138,9 +191,8 @@ certify c1 1 = certified [1, 2]";
 
 #[test]
 fn a_lot_that_stands_gives_the_seats(rt: HostRuntime) -> Result<(), Fail> {
-    let mut view = open_view(rt.alloc(), &[100, 100])?;
-    view.lot = [2, 1].to_vec(rt.alloc())?;
-    let wrong = first_wrong(rt.alloc(), "dhondt", 3, &view, LOT_STANDS)?;
+    let view = "1 1: 100,100: 2,1: : ";
+    let wrong = first_wrong(rt.alloc(), "dhondt", 3, view, LOT_STANDS)?;
     assert!(rt; wrong.is_empty(), "{wrong}");
     Ok(())
 }
@@ -152,8 +204,8 @@ certify c1 1 = certified [2, 2]";
 
 #[test]
 fn no_lot_is_drawn_where_the_votes_decide(rt: HostRuntime) -> Result<(), Fail> {
-    let view = open_view(rt.alloc(), &[100, 100])?;
-    let wrong = first_wrong(rt.alloc(), "dhondt", 4, &view, VOTES_DECIDE)?;
+    let view = "1 1: 100,100: : : ";
+    let wrong = first_wrong(rt.alloc(), "dhondt", 4, view, VOTES_DECIDE)?;
     assert!(rt; wrong.is_empty(), "{wrong}");
     Ok(())
 }
@@ -164,8 +216,8 @@ certify c1 1 = refused 15";
 
 #[test]
 fn no_list_without_votes_is_eligible(rt: HostRuntime) -> Result<(), Fail> {
-    let view = open_view(rt.alloc(), &[0, 0])?;
-    let wrong = first_wrong(rt.alloc(), "dhondt", 3, &view, NO_VOTES)?;
+    let view = "1 1: 0,0: : : ";
+    let wrong = first_wrong(rt.alloc(), "dhondt", 3, view, NO_VOTES)?;
     assert!(rt; wrong.is_empty(), "{wrong}");
     Ok(())
 }
@@ -183,9 +235,8 @@ vacate c1 Z 1 = refused 3";
 
 #[test]
 fn what_is_refused_while_a_station_is_open(rt: HostRuntime) -> Result<(), Fail> {
-    let mut view = open_view(rt.alloc(), &[100, 100])?;
-    view.closed = 0;
-    let wrong = first_wrong(rt.alloc(), "dhondt", 3, &view, OPEN)?;
+    let view = "1 0: 100,100: : : ";
+    let wrong = first_wrong(rt.alloc(), "dhondt", 3, view, OPEN)?;
     assert!(rt; wrong.is_empty(), "{wrong}");
     Ok(())
 }
@@ -197,24 +248,14 @@ certify c1 9998 = stale 9999";
 
 #[test]
 fn nothing_follows_the_last_edition(rt: HostRuntime) -> Result<(), Fail> {
-    let mut view = open_view(rt.alloc(), &[100, 100])?;
-    view.edition = 9_999;
-    view.closed = 0;
-    let wrong = first_wrong(rt.alloc(), "dhondt", 3, &view, LAST_EDITION_OPEN)?;
+    let view = "9999 0: 100,100: : : ";
+    let wrong = first_wrong(rt.alloc(), "dhondt", 3, view, LAST_EDITION_OPEN)?;
     assert!(rt; wrong.is_empty(), "{wrong}");
     Ok(())
 }
 
-/// 3 seats, and the third is that of the first in the lot.
-fn certified_view(alloc: Global) -> Result<ConView, AllocError> {
-    let mut view = open_view(alloc, &[100, 100])?;
-    view.certified = true;
-    view.lot = [2, 1].to_vec(alloc)?;
-    view.seats = [1, 2].to_vec(alloc)?;
-    Ok(view)
-}
-
-// 9 is Certified, 21 NotHolder. B has one candidate, so that its second seat is empty.
+// 3 seats, and the third is that of the first in the lot. 9 is Certified, 21 NotHolder. B has one candidate,
+// so that its second seat is empty.
 const CERTIFIED: &str = "draw c1 1 B,A = refused 9
 draw c1 2 B,A = refused 9
 certify c1 2 = refused 9
@@ -230,18 +271,17 @@ vacate c1 A 2 = refused 5";
 
 #[test]
 fn what_is_decided_where_it_is_certified(rt: HostRuntime) -> Result<(), Fail> {
-    let view = certified_view(rt.alloc())?;
-    let wrong = first_wrong(rt.alloc(), "dhondt", 3, &view, CERTIFIED)?;
+    let view = "1 1: 100,100: 2,1: 1,2: ";
+    let wrong = first_wrong(rt.alloc(), "dhondt", 3, view, CERTIFIED)?;
     assert!(rt; wrong.is_empty(), "{wrong}");
     Ok(())
 }
 
 #[test]
 fn the_last_edition_is_not_opened_again(rt: HostRuntime) -> Result<(), Fail> {
-    let mut view = certified_view(rt.alloc())?;
-    view.edition = 9_999;
+    let view = "9999 1: 100,100: 2,1: 1,2: ";
     let lines = "reopen c1 9999 count again = refused 12";
-    let wrong = first_wrong(rt.alloc(), "dhondt", 3, &view, lines)?;
+    let wrong = first_wrong(rt.alloc(), "dhondt", 3, view, lines)?;
     assert!(rt; wrong.is_empty(), "{wrong}");
     Ok(())
 }
@@ -249,26 +289,18 @@ fn the_last_edition_is_not_opened_again(rt: HostRuntime) -> Result<(), Fail> {
 // 20 is AlreadyGone.
 #[test]
 fn nobody_goes_twice(rt: HostRuntime) -> Result<(), Fail> {
-    let mut view = certified_view(rt.alloc())?;
-    let note = String::from_str(rt.alloc(), "died")?;
-    view.gone.push(Gone {
-        list: 2,
-        place: 1,
-        note,
-    })?;
+    let view = "1 1: 100,100: 2,1: 1,2: 2.1";
     let lines = "vacate c1 B 1 resigned = refused 20";
-    let wrong = first_wrong(rt.alloc(), "dhondt", 3, &view, lines)?;
+    let wrong = first_wrong(rt.alloc(), "dhondt", 3, view, lines)?;
     assert!(rt; wrong.is_empty(), "{wrong}");
     Ok(())
 }
 
 #[test]
 fn the_next_candidate_moves_in(rt: HostRuntime) -> Result<(), Fail> {
-    let mut view = open_view(rt.alloc(), &[100, 50])?;
-    view.certified = true;
-    view.seats = [1, 0].to_vec(rt.alloc())?;
+    let view = "1 1: 100,50: : 1,0: ";
     let lines = "vacate c1 A 1 resigned = gone 1 1 resigned, next Some(2)";
-    let wrong = first_wrong(rt.alloc(), "dhondt", 1, &view, lines)?;
+    let wrong = first_wrong(rt.alloc(), "dhondt", 1, view, lines)?;
     assert!(rt; wrong.is_empty(), "{wrong}");
     Ok(())
 }

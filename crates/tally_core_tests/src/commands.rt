@@ -6,9 +6,11 @@ use std::test::Fail;
 use tally_core::{Ask, Counts};
 use tally_rules::Code;
 
-/// The counts of a text such as `100,50 3`: the votes of the lists, and blank ones if there are any.
-fn counts(alloc: Global, text: &str) -> Result<Counts, Fail> {
-    let (lists, blank) = text.split_once(" ").unwrap_or((text, "0"));
+/// The counts of a text such as `100,50 3 1`: the votes of the lists, and blank and spoiled ones if there are
+/// any.
+pub(crate) fn counts(alloc: Global, text: &str) -> Result<Counts, Fail> {
+    let (lists, others) = text.split_once(" ").unwrap_or((text, "0"));
+    let (blank, spoiled) = others.split_once(" ").unwrap_or((others, "0"));
     let mut votes = Vec::new(alloc);
     for votes_of_a_list in lists.split(",") {
         votes.push(number(votes_of_a_list)?)?;
@@ -16,7 +18,7 @@ fn counts(alloc: Global, text: &str) -> Result<Counts, Fail> {
     Ok(Counts {
         votes,
         blank: number(blank)?,
-        spoiled: 0,
+        spoiled: number(spoiled)?,
     })
 }
 

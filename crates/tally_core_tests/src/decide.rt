@@ -10,7 +10,7 @@ use crate::commands::command;
 use crate::setups::{TWIN_TOWN, code, setup};
 use std::alloc::Global;
 use std::test::*;
-use tally_core::{Ask, Change, Return, decide_return};
+use tally_core::{Ask, Change, Refusal, Return, decide_return};
 use tally_rules::{Code, Constituency, Station};
 
 /// Whether a command may be decided: its station is one of the constituency, and the return that
@@ -37,19 +37,27 @@ fn station_of(con: &Constituency, station: Code) -> Option<&Station>
     con.stations.iter().find(|place| station == place.code)
 }
 
-/// Decides a command and carries out what it changes. What was decided, as text.
-fn carry_out(
+/// What is decided of a command. One that may not be decided is answered NoStation.
+fn decided(
     alloc: Global,
     con: &Constituency,
     certified: bool,
-    standing: &mut Option<Return>,
+    found: Option<&Return>,
     ask: &Ask,
-) -> Result<String, Fail> {
-    let found = standing.as_ref();
+) -> Result<Change, Refusal> {
     if !may_decide(con, found, ask) {
-        return Err(Fail::from("it may not be decided"));
+        return Err(Refusal::NoStation);
     }
-    match decide_return(alloc, con, certified, found, ask) {
+    decide_return(alloc, con, certified, found, ask)
+}
+
+/// Carries out what was decided, and shows it.
+fn carry_out(
+    alloc: Global,
+    standing: &mut Option<Return>,
+    decided: Result<Change, Refusal>,
+) -> Result<String, Fail> {
+    match decided {
         Ok(Change::PutReturn(put)) => {
             let text = format!(in alloc; "revision {}", put.rev)?;
             *standing = Some(put);
@@ -60,20 +68,41 @@ fn carry_out(
     }
 }
 
+/// Decides the command of a line and carries it out: what was decided, as text.
+fn answered(
+    alloc: Global,
+    con: &Constituency,
+    certified: bool,
+    standing: &mut Option<Return>,
+    line: &str,
+) -> Result<String, Fail> {
+    let ask = command(alloc, line)?;
+    let decided = decided(alloc, con, certified, standing.as_ref(), &ask);
+    carry_out(alloc, standing, decided)
+}
+
 /// The first of these lines, `COMMAND = TEXT`, of which something else is decided.
-fn first_wrong<'a>(alloc: Global, certified: bool, script: &'a str) -> Result<&'a str, Fail> {
-    let setup = setup(alloc, TWIN_TOWN)?;
-    let con = setup.con(code("c1")?).ok_or("c1 is there")?;
+fn first_other<'a>(
+    alloc: Global,
+    con: &Constituency,
+    certified: bool,
+    script: &'a str,
+) -> Result<&'a str, Fail> {
     let mut standing = None;
     for line in script.lines() {
         let (ask, wanted) = line.split_once(" = ").ok_or("no text")?;
-        let ask = command(alloc, ask)?;
-        let decided = carry_out(alloc, con, certified, &mut standing, &ask)?;
-        if decided.as_str() != wanted {
+        if answered(alloc, con, certified, &mut standing, ask)?.as_str() != wanted {
             return Ok(line);
         }
     }
     Ok("")
+}
+
+/// The same in the setup of Twin Town.
+fn first_wrong<'a>(alloc: Global, certified: bool, script: &'a str) -> Result<&'a str, Fail> {
+    let setup = setup(alloc, TWIN_TOWN)?;
+    let con = setup.con(code("c1")?).ok_or("c1 is there")?;
+    first_other(alloc, con, certified, script)
 }
 
 // A station of 300 electors; 6 is TooManyVotes.

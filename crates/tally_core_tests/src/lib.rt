@@ -22,5 +22,3 @@ mod lodge;
 mod rows;
 #[cfg(test)]
 mod setups;
-#[cfg(test)]
-mod view;

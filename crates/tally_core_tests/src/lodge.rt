@@ -1,71 +1,85 @@
 //! What the return of a station is answered, and who holds seats.
 
-use crate::setups::code;
-use std::alloc::{AllocError, Global};
+use crate::commands::counts;
+use crate::setups::{code, number};
+use std::alloc::Global;
 use std::test::*;
-use tally_core::{Counts, Return, decide_lodge, holders};
+use tally_core::{Counts, LodgeReply, Refusal, Return, decide_lodge, holders};
 use tally_rules::Code;
 
-fn counts(alloc: Global, votes: &[u32], blank: u32, spoiled: u32) -> Result<Counts, AllocError> {
-    Ok(Counts {
-        votes: votes.to_vec(alloc)?,
-        blank,
-        spoiled,
-    })
+/// The return that stands: slip p1, revision 3, votes 50 and 40, 2 blank and 1 spoiled.
+fn standing(alloc: Global) -> Result<Return, Fail> {
+    let mut standing = Return::lodged(alloc, code("p1")?, counts(alloc, "50,40 2 1")?);
+    standing.rev = 3;
+    Ok(standing)
 }
 
-/// The number of the refusal of a return, or 0, at a station of 2 lists and 100 electors.
-fn refused(found: Option<&Return>, slip: Code, counts: &Counts) -> u32 {
-    match decide_lodge(2, 100, found, slip, counts) {
+/// What a Lodge is answered at a station of 2 lists and 100 electors.
+fn decided(found: Option<&Return>, slip: Code, counts: &Counts) -> Result<LodgeReply, Refusal> {
+    decide_lodge(2, 100, found, slip, counts)
+}
+
+/// The number of its refusal, or 0.
+fn refused(answer: Result<LodgeReply, Refusal>) -> u32 {
+    match answer {
         Ok(_) => 0,
         Err(refusal) => refusal.number(),
     }
 }
 
+/// The first of these lines, `SLIP COUNTS = NUMBER`, that is answered otherwise.
+fn first_wrong<'a>(
+    alloc: Global,
+    found: Option<&Return>,
+    script: &'a str,
+) -> Result<&'a str, Fail> {
+    for line in script.lines() {
+        let (given, wanted) = line.split_once(" = ").ok_or("no number")?;
+        let (slip, given) = given.split_once(" ").ok_or("no counts")?;
+        let answer = decided(found, code(slip)?, &counts(alloc, given)?);
+        if refused(answer) != number(wanted)? {
+            return Ok(line);
+        }
+    }
+    Ok("")
+}
+
+// Votes, blank and spoiled ones; 4 is BadCounts, 6 TooManyVotes.
+const FIRST: &str = "p1 50,40 7 3 = 0
+p1 0,0 0 0 = 0
+p1 50,40 8 3 = 6
+p1 50,40 7 4 = 6
+p1 1000000,0 0 0 = 6
+p1 1000001,0 0 0 = 4
+p1 0,0 1000001 0 = 4
+p1 0 0 0 = 4
+p1 0,0,0 0 0 = 4";
+
 #[test]
 fn what_the_first_return_of_a_station_is_answered(rt: HostRuntime) -> Result<(), Fail> {
-    let slip = code("p1")?;
-    // 4 is BadCounts, 6 TooManyVotes
-    let cases: [(&[u32], u32, u32, u32); 9] = [
-        (&[50, 40], 7, 3, 0),
-        (&[0, 0], 0, 0, 0),
-        (&[50, 40], 8, 3, 6),
-        (&[50, 40], 7, 4, 6),
-        (&[1_000_000, 0], 0, 0, 6),
-        (&[1_000_001, 0], 0, 0, 4),
-        (&[0, 0], 1_000_001, 0, 4),
-        (&[0], 0, 0, 4),
-        (&[0, 0, 0], 0, 0, 4),
-    ];
-    for (votes, blank, spoiled, wanted) in cases {
-        let given = counts(rt.alloc(), votes, blank, spoiled)?;
-        assert!(rt; refused(None, slip, &given) == wanted, "at {votes:?}");
-    }
+    let wrong = first_wrong(rt.alloc(), None, FIRST)?;
+    assert!(rt; wrong.is_empty(), "{wrong}");
     Ok(())
+}
+
+// 7 is Differs; the checks on counts come first.
+const SECOND: &str = "p1 50,40 2 1 = 0
+p2 50,40 2 1 = 7
+p1 40,50 2 1 = 7
+p1 50,40 1 2 = 7
+p1 50,40 2 2 = 7
+p1 50,40 2 9 = 6
+p1 50 2 1 = 4";
+
+fn second_wrong(alloc: Global) -> Result<&'static str, Fail> {
+    let standing = standing(alloc)?;
+    first_wrong(alloc, Some(&standing), SECOND)
 }
 
 #[test]
 fn what_a_second_return_of_a_station_is_answered(rt: HostRuntime) -> Result<(), Fail> {
-    let slip = code("p1")?;
-    let other = code("p2")?;
-    let mut standing = Return::lodged(rt.alloc(), slip, counts(rt.alloc(), &[50, 40], 2, 1)?);
-    standing.rev = 3;
-    // 7 is Differs
-    let cases: [(Code, &[u32], u32, u32, u32); 7] = [
-        (slip, &[50, 40], 2, 1, 0),
-        (other, &[50, 40], 2, 1, 7),
-        (slip, &[40, 50], 2, 1, 7),
-        (slip, &[50, 40], 1, 2, 7),
-        (slip, &[50, 40], 2, 2, 7),
-        // the checks on counts come first
-        (slip, &[50, 40], 2, 9, 6),
-        (slip, &[50], 2, 1, 4),
-    ];
-    for (slip, votes, blank, spoiled, wanted) in cases {
-        let given = counts(rt.alloc(), votes, blank, spoiled)?;
-        let found = refused(Some(&standing), slip, &given);
-        assert!(rt; found == wanted, "at {votes:?}");
-    }
+    let wrong = second_wrong(rt.alloc())?;
+    assert!(rt; wrong.is_empty(), "{wrong}");
     Ok(())
 }
 
@@ -79,5 +93,10 @@ fn held(alloc: Global, candidates: u32, seats: u32, gone: &[u32]) -> Result<Stri
 fn who_holds_the_seats_of_a_list(rt: HostRuntime) -> Result<(), Fail> {
     assert!(rt; held(rt.alloc(), 3, 2, &[1])?.as_str() == "[2, 3]");
     assert!(rt; held(rt.alloc(), 1, 2, &[])?.as_str() == "[1]");
+    // after the recount where lots are fixed, and where they alternate
+    assert!(rt; held(rt.alloc(), 2, 2, &[])?.as_str() == "[1, 2]");
+    assert!(rt; held(rt.alloc(), 1, 1, &[1])?.as_str() == "[]");
+    assert!(rt; held(rt.alloc(), 2, 1, &[2])?.as_str() == "[1]");
+    assert!(rt; held(rt.alloc(), 1, 2, &[1])?.as_str() == "[]");
     Ok(())
 }

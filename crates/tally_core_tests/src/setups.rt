@@ -40,11 +40,15 @@ pub(crate) fn setup(alloc: Global, text: &str) -> Result<Setup, Fail> {
 
 /// The setup above by another rule, and with another number of seats.
 pub(crate) fn twin_town(alloc: Global, method: &str, seats: u32) -> Result<String, Fail> {
-    let (front, rest) = TWIN_TOWN
-        .split_once("dhondt")
-        .ok_or("the rule stands there")?;
-    let (middle, back) = rest.split_once("seats = 3").ok_or("seats stand there")?;
-    Ok(format!(in alloc; "{front}{method}{middle}seats = {seats}{back}")?)
+    let setup = with(alloc, TWIN_TOWN, "dhondt", method)?;
+    let seats = format!(in alloc; "seats = {seats}")?;
+    with(alloc, setup.as_str(), "seats = 3", seats.as_str())
+}
+
+/// A text with another piece in the place of this one.
+pub(crate) fn with(alloc: Global, text: &str, piece: &str, other: &str) -> Result<String, Fail> {
+    let (front, back) = text.split_once(piece).ok_or("the piece stands there")?;
+    Ok(format!(in alloc; "{front}{other}{back}")?)
 }
 
 /// A keeper of the setup of a text, in which no return stands.

@@ -1,6 +1,6 @@
 -- The count of an import, by the count of one more row alone.
 use Rattle.std.proofs.Common.{◌≡◌, ◌+◌, ◌++◌, ◌∷◌, ◌∙◌, ℕ, List, [], cond, Option, Some, None, length, refl, ap, arith}
-use Rattle.tally_core.specs.Import.{Answer, is_lodged, is_same, is_differing, is_refused, is_bad, noted, note_at, or_else, count_of, counted}
+use Rattle.tally_core.specs.Import.{RowAnswer, is_lodged, is_same, is_differing, is_refused, is_bad, noted, note_at, or_else, count_of, counted}
 use Rattle.tally_core.specs.declared.import.FirstRow.{FirstRow}
 use Rattle.tally_core.specs.declared.import.ImportCount.{ImportCount}
 use Rattle.tally_core.proofs.ImportLemmas.{count_of-push, push_is}
@@ -13,7 +13,7 @@ note-row : (row : ℕ) (o : Option ℕ) → with_row row (note_at 1 o) ≡ note_
 note-row row None = refl
 note-row row (Some n) = refl
 
-pub counted-one : (old one : ImportCount) (answered : List Answer) (a : Answer) (row : ℕ) (first : Option FirstRow)
+pub counted-one : (old one : ImportCount) (answered : List RowAnswer) (a : RowAnswer) (row : ℕ) (first : Option FirstRow)
     → old ≡ count_of answered → row ≡ length answered + 1 → one ≡ count_of (a ∷ []) → first ≡ or_else old.first (with_row row one.first)
     → record { lodged = old.lodged + one.lodged; same = old.same + one.same; differs = old.differs + one.differs; refused = old.refused + one.refused; bad = old.bad + one.bad; first = first }
     ≡ count_of (answered ++ a ∷ [])

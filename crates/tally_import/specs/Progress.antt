@@ -8,7 +8,7 @@ use Rattle.std.specs.declared.hash.FoldHasher.{FoldHasher}
 use Rattle.tally_returns.specs.Counts.{VoteCounts}
 use Rattle.tally_returns.specs.Return.{StationReturn, Returns}
 use Rattle.tally_returns.specs.Lodge.{Stations}
-use Rattle.tally_core.specs.Import.{Answer, answers, imported, count_of, lodged_counts}
+use Rattle.tally_core.specs.Import.{RowAnswer, answers, imported, count_of, lodged_counts}
 use Rattle.tally_core.specs.declared.import.Row.{Row}
 use Rattle.tally_returns.specs.declared.refusal.Refusal.{Refusal}
 use Rattle.tally_returns.specs.declared.reply.LodgeReply.{LodgeReply}
@@ -41,7 +41,7 @@ abbrev pub stations : Taken → Stations
 stations taken = every_code taken.lists
 
 -- what the rows were answered
-abbrev pub answered : Taken → List Answer
+abbrev pub answered : Taken → List RowAnswer
 answered taken = answers (stations taken) map.empty taken.rows
 
 -- the import has taken these rows

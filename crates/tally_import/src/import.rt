@@ -3,7 +3,7 @@
 ghost use Rattle.std.specs.Prelude.{◌≡◌, ◌+◌, ◌<◌, ◌≤◌, ◌++◌, List, [], ◌∷◌, length, Some, IfOk, OnOk};
 ghost use Rattle.tally_core.specs.Import.{row_answer, after_row, lodged_counts};
 ghost use Rattle.tally_returns.specs.Counts.{VoteCounts};
-ghost use Rattle.tally_core.specs.Import.{Answer, count_of, or_else};
+ghost use Rattle.tally_core.specs.Import.{RowAnswer, count_of, or_else};
 ghost use Rattle.tally_returns.specs.Lodge.{lodge, lodge_answer};
 ghost use Rattle.tally_returns.specs.Return.{Returns};
 ghost use Rattle.tally_core.specs.declared.import.Row.{Row};
@@ -130,9 +130,9 @@ impl Import {
 // Counts one more row, by its number and what it was answered. A count of this row alone tells what
 // it adds.
 fn count_row(count: &mut ImportCount, number: u32, answer: Option<Result<LodgeReply, Refusal>>)
-    requires before { (answered : List Answer) × (count.old ≡ count_of answered) × (number ≡ length answered + 1) }
+    requires before { (answered : List RowAnswer) × (count.old ≡ count_of answered) × (number ≡ length answered + 1) }
     requires few { number ≤ 20000 }
-    ensures { (answered : List Answer) → count.old ≡ count_of answered → number ≡ length answered + 1 → count.new ≡ count_of (answered ++ answer ∷ []) }
+    ensures { (answered : List RowAnswer) → count.old ≡ count_of answered → number ≡ length answered + 1 → count.new ≡ count_of (answered ++ answer ∷ []) }
 {
     let mut one = ImportCount::new();
     one.add(1, answer);

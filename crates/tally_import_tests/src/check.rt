@@ -1,12 +1,14 @@
-//! Checks of texts.
+//! Checks of texts. What a check comes to is shown as text, so that the tests know as little as they need.
 
-use crate::readers::{Pieces, Room};
+use crate::readers::{Pieces, Room, text_by_reads};
 use std::alloc::{AllocError, Global};
 use std::io::{ErrorKind, Read};
 use std::test::*;
 use tally_import::{CheckFault, Sep, check_csv};
 
 const HEADER: &str = "station,slip,blank,spoiled,A,B\n";
+
+const ROW: &str = "s,p,0,0,1,2\n";
 
 const RETURNS: &str = "\
 station,slip,blank,spoiled,A,B
@@ -31,45 +33,37 @@ A 80
 B 100
 ";
 
-// What the check of a text answers, and what it writes.
-#[derive(Drop)]
-struct Outcome {
-    answer: Result<(), CheckFault>,
-    output: Vec<u8>,
-}
-
-impl Outcome {
-    fn wrote(&self, text: &[u8]) -> bool {
-        self.answer.is_ok() && self.output.as_slice() == text
-    }
-
-    // With a fault nothing is written.
-    fn has_failed(&self, fault: CheckFault) -> bool {
-        self.answer == Err(fault) && self.output.is_empty()
+fn fault_name(fault: CheckFault) -> &'static str {
+    match fault {
+        CheckFault::BadHeader => "BadHeader",
+        CheckFault::TooLong => "TooLong",
+        CheckFault::Read => "Read",
+        CheckFault::Memory => "Memory",
+        CheckFault::Write => "Write",
     }
 }
 
-fn check_from<R: Read>(alloc: Global, reader: &mut R, sep: Sep) -> Outcome {
+// What the check of a reader's text writes, and behind it the fault if there is one.
+fn checked<R: Read>(alloc: Global, reader: &mut R, sep: Sep) -> Result<Vec<u8>, AllocError> {
     let mut output = Vec::new(alloc);
-    let answer = check_csv(alloc, reader, &mut output, sep);
-    Outcome { answer, output }
-}
-
-fn check(alloc: Global, text: &[u8], sep: Sep) -> Outcome {
-    let mut reader = text;
-    check_from(alloc, &mut reader, sep)
-}
-
-// A reader of a text that fails where the text would end.
-fn broken(text: &[u8]) -> Pieces<'_> {
-    Pieces {
-        text,
-        piece: 4096,
-        failure: Some(ErrorKind::BrokenPipe),
+    if let Err(fault) = check_csv(alloc, reader, &mut output, sep) {
+        output.extend_from_slice(fault_name(fault).as_bytes())?;
     }
+    Ok(output)
 }
 
-// The text for two lists, A and B, of numbers such as `1, 0, 0, 0, 0, -, 3, 4, 1, 2`.
+// Whether the check of a reader's text comes to just this text, or just this fault.
+fn comes_to<R: Read>(
+    alloc: Global,
+    reader: &mut R,
+    sep: Sep,
+    wanted: &str,
+) -> Result<bool, AllocError> {
+    let found = checked(alloc, reader, sep)?;
+    Ok(found.as_slice() == wanted.as_bytes())
+}
+
+// The check text for two lists, A and B, of numbers such as `1, 0, 0, 0, 0, -, 3, 4, 1, 2`.
 fn summary(alloc: Global, numbers: &str) -> Result<String, AllocError> {
     let mut text = String::new(alloc);
     let names = "lodged same differs refused bad first blank spoiled A B";
@@ -79,28 +73,55 @@ fn summary(alloc: Global, numbers: &str) -> Result<String, AllocError> {
     Ok(text)
 }
 
-// The bytes of a text in which `/` stands for a line feed and `~` for a carriage return, behind others.
-fn unfolded(alloc: Global, front: &str, folded: &str) -> Result<Vec<u8>, AllocError> {
+// The byte that a byte of a table stands for: `/` is a line feed, `~` a carriage return, and `!` and `?` are bytes
+// that no text in UTF-8 has there.
+fn meant(byte: u8) -> u8 {
+    match byte {
+        b'/' => b'\n',
+        b'~' => b'\r',
+        b'!' => 0xFF,
+        b'?' => 0xC3,
+        other => other,
+    }
+}
+
+// The bytes that a line of a table stands for, between others.
+fn unfolded(alloc: Global, front: &str, folded: &str, behind: &str) -> Result<Vec<u8>, AllocError> {
     let mut text = Vec::new(alloc);
     text.extend_from_slice(front.as_bytes())?;
     for byte in folded.as_bytes() {
-        text.push(match *byte {
-            b'/' => b'\n',
-            b'~' => b'\r',
-            other => other,
-        })?;
+        text.push(meant(*byte))?;
     }
+    text.extend_from_slice(behind.as_bytes())?;
+    Ok(text)
+}
+
+// A front, so many times the same, and an end.
+fn repeated(
+    alloc: Global,
+    front: &str,
+    count: usize,
+    line: &str,
+    behind: &str,
+) -> Result<Vec<u8>, AllocError> {
+    let mut text = Vec::new(alloc);
+    text.extend_from_slice(front.as_bytes())?;
+    for _line in 0..count {
+        text.extend_from_slice(line.as_bytes())?;
+    }
+    text.extend_from_slice(behind.as_bytes())?;
     Ok(text)
 }
 
 #[test]
-fn the_worked_example(rt: HostRuntime) {
-    let found = check(rt.alloc(), RETURNS.as_bytes(), Sep::Comma);
-    assert!(rt; found.wrote(CHECKED.as_bytes()));
+fn the_worked_example(rt: HostRuntime) -> Result<(), Fail> {
+    let mut reader = RETURNS.as_bytes();
+    assert!(rt; comes_to(rt.alloc(), &mut reader, Sep::Comma, CHECKED)?);
+    Ok(())
 }
 
-// No row, and numbers. Of each line the rows, with `/` for a line feed and `~` for a carriage return, and
-// what they come to: lodged, same, differs, refused, bad, the first, blank, spoiled, A, B.
+// No row, and numbers. Of each line the rows, as `meant` says, and what they come to: lodged, same, differs,
+// refused, bad, the first, blank, spoiled, A, B.
 const NUMBERS: &str = r#" = 0, 0, 0, 0, 0, -, 0, 0, 0, 0
 s,p,0,0,000000001,000000002/ = 1, 0, 0, 0, 0, -, 0, 0, 1, 2
 s,p,0,0,123456789,2/ = 0, 0, 0, 1, 0, 1 4, 0, 0, 0, 0
@@ -118,7 +139,8 @@ ABCDEFGHIJKLMNOPQ,p,3,4,1,2/ = 0, 0, 0, 0, 1, 1 0, 0, 0, 0, 0
 s,A-Z_a-z_01234567,3,4,1,2/ = 1, 0, 0, 0, 0, -, 3, 4, 1, 2
 s,A-Z_a-z_012345678,3,4,1,2/ = 0, 0, 0, 0, 1, 1 0, 0, 0, 0, 0
 ,p,0,0,1,2/ = 0, 0, 0, 0, 1, 1 0, 0, 0, 0, 0
-s,,0,0,1,2/ = 0, 0, 0, 0, 1, 1 0, 0, 0, 0, 0"#;
+s,,0,0,1,2/ = 0, 0, 0, 0, 1, 1 0, 0, 0, 0, 0
+!,p,0,0,1,2/s,p,0,0,?,2/s,p,0,0,1,2/ = 1, 0, 0, 0, 2, 1 0, 0, 0, 1, 2"#;
 
 // Fields and lines.
 const LINES: &str = r#"s,p,0,0,1/ = 0, 0, 0, 0, 1, 1 0, 0, 0, 0, 0
@@ -144,32 +166,26 @@ s,p,0,0,1000001,0/s,p,1,0,0,0/s,p,1,0,0,0/s,q,1,0,0,0/s,p,0,1,0,0/ = 1, 1, 2, 1,
 s,p,0,0,1,2/s,p,0,0,2,1/S,p,0,0,1,2/ = 2, 0, 1, 0, 0, 2 7, 0, 0, 2, 4
 s,p,0,0,1,2/s,p,0,0,1,2/x/s,q,0,0,1,2/ = 1, 1, 1, 0, 1, 3 0, 0, 0, 1, 2"#;
 
+// Whether the rows of a line come to its numbers.
+fn holds(alloc: Global, line: &str) -> Result<bool, Fail> {
+    let (rows, numbers) = line.split_once(" = ").ok_or("no numbers")?;
+    let text = unfolded(alloc, HEADER, rows, "")?;
+    let wanted = summary(alloc, numbers)?;
+    let mut reader = text.as_slice();
+    Ok(comes_to(alloc, &mut reader, Sep::Comma, wanted.as_str())?)
+}
+
 #[test]
 fn rows_and_what_is_counted_of_them(rt: HostRuntime) -> Result<(), Fail> {
     for lines in [NUMBERS, CODES, LINES, ANSWERS] {
         for line in lines.lines() {
-            let (rows, numbers) = line.split_once(" = ").ok_or("no numbers")?;
-            let text = unfolded(rt.alloc(), HEADER, rows)?;
-            let expected = summary(rt.alloc(), numbers)?;
-            let found = check(rt.alloc(), text.as_slice(), Sep::Comma);
-            assert!(rt; found.wrote(expected.as_bytes()), "at {rows}");
+            assert!(rt; holds(rt.alloc(), line)?, "{line}");
         }
     }
     Ok(())
 }
 
-#[test]
-fn rows_of_bytes_that_are_no_text_are_bad(rt: HostRuntime) -> Result<(), Fail> {
-    let expected = summary(rt.alloc(), "1, 0, 0, 0, 2, 1 0, 0, 0, 1, 2")?;
-    let mut text = Vec::new(rt.alloc());
-    text.extend_from_slice(HEADER.as_bytes())?;
-    text.extend_from_slice(b"\xFF,p,0,0,1,2\ns,p,0,0,\xC3,2\ns,p,0,0,1,2\n")?;
-    let found = check(rt.alloc(), text.as_slice(), Sep::Comma);
-    assert!(rt; found.wrote(expected.as_bytes()));
-    Ok(())
-}
-
-// Headers, each with the row below; `/` is a line feed and `~` a carriage return.
+// Headers, each with the row below, as `meant` says.
 const HEADERS: &str = "good station,slip,blank,spoiled,A,B/
 good /~/station,slip,blank,spoiled,A,B~
 good \"station\",\"slip\",\"blank\",\"spoiled\",\"A\",\"B\"~/
@@ -191,195 +207,242 @@ bad station;slip;blank;spoiled;A;B/
 bad \"\"/
 bad station,slip,blank,spoiled,A,\"B/";
 
-const ROW: &str = "s,p,0,0,1,2\n";
+// Whether the header of a line is taken, or refused, as its first word says.
+fn is_judged(alloc: Global, line: &str) -> Result<bool, Fail> {
+    let (word, header) = line.split_once(" ").ok_or("no header")?;
+    let text = unfolded(alloc, "", header, ROW)?;
+    let mut reader = text.as_slice();
+    let found = checked(alloc, &mut reader, Sep::Comma)?;
+    if word == "good" {
+        return Ok(found.starts_with(b"lodged 1\n"));
+    }
+    Ok(found.as_slice() == b"BadHeader".as_slice())
+}
 
 #[test]
 fn headers(rt: HostRuntime) -> Result<(), Fail> {
     for line in HEADERS.lines() {
-        let (is_good, header) = line.split_once(" ").ok_or("no header")?;
-        let mut text = unfolded(rt.alloc(), "", header)?;
-        text.extend_from_slice(ROW.as_bytes())?;
-        let found = check(rt.alloc(), text.as_slice(), Sep::Comma);
-        if is_good == "good" {
-            assert!(rt; found.answer.is_ok(), "at {header}");
-        } else {
-            assert!(rt; found.has_failed(CheckFault::BadHeader), "at {header}");
-        }
+        assert!(rt; is_judged(rt.alloc(), line)?, "{line}");
     }
     Ok(())
 }
 
 #[test]
-fn a_text_without_a_record_has_no_header(rt: HostRuntime) {
+fn a_text_without_a_record_has_no_header(rt: HostRuntime) -> Result<(), Fail> {
     for text in ["", "\n", "\r\n\n", "\u{feff}"] {
-        let found = check(rt.alloc(), text.as_bytes(), Sep::Comma);
-        assert!(rt; found.has_failed(CheckFault::BadHeader), "at {text}");
+        let mut reader = text.as_bytes();
+        assert!(rt;
+            comes_to(rt.alloc(), &mut reader, Sep::Comma, "BadHeader")?,
+            "at {text}"
+        );
     }
+    Ok(())
 }
+
+// A front, and of each list its code between two others.
+fn listed(
+    alloc: Global,
+    front: &str,
+    lists: u32,
+    before: &str,
+    behind: &str,
+) -> Result<String, AllocError> {
+    let mut text = String::from_str(alloc, front)?;
+    for list in 0..lists {
+        write!(text, "{before}L{list}{behind}")?;
+    }
+    Ok(text)
+}
+
+const NO_ROWS: &str =
+    "lodged 0\nsame 0\ndiffers 0\nrefused 0\nbad 0\nfirst -\nblank 0\nspoiled 0\n";
 
 #[test]
 fn sixty_lists_and_one_more(rt: HostRuntime) -> Result<(), Fail> {
-    let mut text = String::new(rt.alloc());
-    text.push_str("station,slip,blank,spoiled")?;
-    for list in 1..61 {
-        write!(text, ",L{list}")?;
+    let wanted = listed(rt.alloc(), NO_ROWS, 60, "", " 0\n")?;
+    for (lists, wanted) in [(60, wanted.as_str()), (61, "BadHeader")] {
+        let header = listed(rt.alloc(), "station,slip,blank,spoiled", lists, ",", "")?;
+        let mut reader = header.as_bytes();
+        assert!(rt;
+            comes_to(rt.alloc(), &mut reader, Sep::Comma, wanted)?,
+            "at {lists}"
+        );
     }
-    let found = check(rt.alloc(), text.as_bytes(), Sep::Comma);
-    assert!(rt; found.output.ends_with(b"\nL59 0\nL60 0\n"));
-    text.push_str(",L61")?;
-    let found = check(rt.alloc(), text.as_bytes(), Sep::Comma);
-    assert!(rt; found.has_failed(CheckFault::BadHeader));
     Ok(())
 }
 
+const SEMICOLONS: &str = "station;slip;blank;spoiled;A;B\ns;p;3;4;1;2\nt,p,3,4,1,2\n";
+
 #[test]
 fn semicolons(rt: HostRuntime) -> Result<(), Fail> {
-    let text = "station;slip;blank;spoiled;A;B\ns;p;3;4;1;2\nt,p,3,4,1,2\n";
-    let expected = summary(rt.alloc(), "1, 0, 0, 0, 1, 2 0, 3, 4, 1, 2")?;
-    let found = check(rt.alloc(), text.as_bytes(), Sep::Semicolon);
-    assert!(rt; found.wrote(expected.as_bytes()));
-    let found = check(rt.alloc(), RETURNS.as_bytes(), Sep::Semicolon);
-    assert!(rt; found.has_failed(CheckFault::BadHeader));
+    let wanted = summary(rt.alloc(), "1, 0, 0, 0, 1, 2 0, 3, 4, 1, 2")?;
+    for (text, wanted) in [(SEMICOLONS, wanted.as_str()), (RETURNS, "BadHeader")] {
+        let mut reader = text.as_bytes();
+        assert!(rt;
+            comes_to(rt.alloc(), &mut reader, Sep::Semicolon, wanted)?,
+            "{text}"
+        );
+    }
     Ok(())
+}
+
+// Whether 20,000 rows and what stands behind them, read by so many bytes until the reader ends or fails, come to
+// just this.
+fn many_come_to(
+    alloc: Global,
+    behind: &str,
+    fails: bool,
+    sep: Sep,
+    wanted: &str,
+) -> Result<bool, AllocError> {
+    let mut text = repeated(alloc, HEADER, 19_999, "x\n", ROW)?;
+    text.extend_from_slice(behind.as_bytes())?;
+    let mut reader = text_by_reads(text.as_slice(), 4096, fails);
+    comes_to(alloc, &mut reader, sep, wanted)
 }
 
 #[test]
 fn twenty_thousand_rows_and_one_more(rt: HostRuntime) -> Result<(), Fail> {
-    let mut text = Vec::new(rt.alloc());
-    text.extend_from_slice(HEADER.as_bytes())?;
-    for _ in 0..19_999 {
-        text.extend_from_slice(b"x\n")?;
+    let wanted = summary(rt.alloc(), "1, 0, 0, 0, 19999, 1 0, 0, 0, 1, 2")?;
+    for (behind, fails, sep, wanted) in [
+        ("", false, Sep::Comma, wanted.as_str()),
+        // a row that a read cuts off is not looked at
+        ("x", false, Sep::Comma, "TooLong"),
+        ("x", true, Sep::Comma, "Read"),
+        ("x\n", true, Sep::Comma, "TooLong"),
+        ("x\n", false, Sep::Semicolon, "BadHeader"),
+    ] {
+        assert!(rt;
+            many_come_to(rt.alloc(), behind, fails, sep, wanted)?,
+            "{wanted}"
+        );
     }
-    text.extend_from_slice(b"s,p,0,0,1,2\n")?;
-    let expected = summary(rt.alloc(), "1, 0, 0, 0, 19999, 1 0, 0, 0, 1, 2")?;
-    let found = check(rt.alloc(), text.as_slice(), Sep::Comma);
-    assert!(rt; found.wrote(expected.as_bytes()));
-
-    // a row that a read cuts off is not looked at
-    text.push(b'x')?;
-    let found = check(rt.alloc(), text.as_slice(), Sep::Comma);
-    assert!(rt; found.has_failed(CheckFault::TooLong));
-    let found = check_from(rt.alloc(), &mut broken(text.as_slice()), Sep::Comma);
-    assert!(rt; found.has_failed(CheckFault::Read));
-    text.push(b'\n')?;
-    let found = check_from(rt.alloc(), &mut broken(text.as_slice()), Sep::Comma);
-    assert!(rt; found.has_failed(CheckFault::TooLong));
-    let found = check(rt.alloc(), text.as_slice(), Sep::Semicolon);
-    assert!(rt; found.has_failed(CheckFault::BadHeader));
     Ok(())
+}
+
+// Whether a text that is made this long by such bytes comes to just this.
+fn long_comes_to(
+    alloc: Global,
+    front: &str,
+    size: usize,
+    fill: u8,
+    sep: Sep,
+    wanted: &str,
+) -> Result<bool, AllocError> {
+    let mut text = Vec::new(alloc);
+    text.extend_from_slice(front.as_bytes())?;
+    text.resize(size, fill)?;
+    let mut reader = text.as_slice();
+    comes_to(alloc, &mut reader, sep, wanted)
 }
 
 #[test]
 fn sixteen_mebibytes_and_one_more(rt: HostRuntime) -> Result<(), Fail> {
-    let mut text = Vec::new(rt.alloc());
-    text.extend_from_slice(RETURNS.as_bytes())?;
-    text.resize(16_777_216, b'\n')?;
-    let found = check(rt.alloc(), text.as_slice(), Sep::Comma);
-    assert!(rt; found.wrote(CHECKED.as_bytes()));
-    text.push(b'\n')?;
-    let found = check(rt.alloc(), text.as_slice(), Sep::Comma);
-    assert!(rt; found.has_failed(CheckFault::TooLong));
-    let found = check(rt.alloc(), text.as_slice(), Sep::Semicolon);
-    assert!(rt; found.has_failed(CheckFault::BadHeader));
-    Ok(())
-}
-
-#[test]
-fn a_header_that_goes_on_past_the_limit_is_not_looked_at(rt: HostRuntime) -> Result<(), Fail> {
-    let mut text = Vec::new(rt.alloc());
-    text.resize(16_777_217, b'x')?;
-    let found = check(rt.alloc(), text.as_slice(), Sep::Comma);
-    assert!(rt; found.has_failed(CheckFault::TooLong));
-    Ok(())
-}
-
-#[test]
-fn reads_of_few_bytes_give_the_same_text(rt: HostRuntime) {
-    for piece in [1, 2, 7] {
-        let mut reader = Pieces {
-            text: RETURNS.as_bytes(),
-            piece,
-            failure: None,
-        };
-        let found = check_from(rt.alloc(), &mut reader, Sep::Comma);
-        assert!(rt; found.wrote(CHECKED.as_bytes()), "at {piece}");
-    }
-}
-
-#[test]
-fn small_reads_of_three_returns(rt: HostRuntime) -> Result<(), Fail> {
-    let text =
-        b"station,slip,blank,spoiled,A,B\ns1,p1,0,0,10,20\ns2,p2,1,0,30,40\ns3,p3,0,2,50,60\n";
-    let expected = summary(rt.alloc(), "3, 0, 0, 0, 0, -, 1, 2, 90, 120")?;
-    for piece in [1, 2, 7] {
-        let mut reader = Pieces {
-            text: text.as_slice(),
-            piece,
-            failure: None,
-        };
-        let found = check_from(rt.alloc(), &mut reader, Sep::Comma);
-        assert!(rt; found.wrote(expected.as_bytes()), "at {piece}");
-        let mut reader = Pieces {
-            text: &text[..60],
-            piece,
-            failure: Some(ErrorKind::BrokenPipe),
-        };
-        let found = check_from(rt.alloc(), &mut reader, Sep::Comma);
-        assert!(rt; found.has_failed(CheckFault::Read), "at {piece}");
+    for (front, size, fill, sep, wanted) in [
+        (RETURNS, 16_777_216, b'\n', Sep::Comma, CHECKED),
+        (RETURNS, 16_777_217, b'\n', Sep::Comma, "TooLong"),
+        (RETURNS, 16_777_217, b'\n', Sep::Semicolon, "BadHeader"),
+        // a header that goes on past the limit is not looked at
+        ("", 16_777_217, b'x', Sep::Comma, "TooLong"),
+    ] {
+        assert!(rt;
+            long_comes_to(rt.alloc(), front, size, fill, sep, wanted)?,
+            "{wanted}"
+        );
     }
     Ok(())
+}
+
+const THREE: &str =
+    "station,slip,blank,spoiled,A,B\ns1,p1,0,0,10,20\ns2,p2,1,0,30,40\ns3,p3,0,2,50,60\n";
+
+const FRONT: &str = "station,slip,blank,spoiled,A,B\ns1,p1,0,0,10,20\ns2,p2,1,0,30,";
+
+#[test]
+fn reads_of_few_bytes(rt: HostRuntime) -> Result<(), Fail> {
+    let three = summary(rt.alloc(), "3, 0, 0, 0, 0, -, 1, 2, 90, 120")?;
+    for (text, piece, fails, wanted) in [
+        (RETURNS, 1, false, CHECKED),
+        (RETURNS, 2, false, CHECKED),
+        (RETURNS, 7, false, CHECKED),
+        (THREE, 1, false, three.as_str()),
+        (THREE, 2, false, three.as_str()),
+        (THREE, 7, false, three.as_str()),
+        (FRONT, 1, true, "Read"),
+        (FRONT, 2, true, "Read"),
+        (FRONT, 7, true, "Read"),
+    ] {
+        let mut reader = text_by_reads(text.as_bytes(), piece, fails);
+        assert!(rt;
+            comes_to(rt.alloc(), &mut reader, Sep::Comma, wanted)?,
+            "at {piece}: {text}"
+        );
+    }
+    Ok(())
+}
+
+// Records with line ends in quotes, and one that is longer than a piece, behind so many empty lines.
+fn cut_text(alloc: Global, lines: usize) -> Result<Vec<u8>, AllocError> {
+    let mut text = repeated(alloc, HEADER, lines, "\n", "")?;
+    for _record in 0..18_000 {
+        text.extend_from_slice(b"\"xxxxxxxx\n\nxxxxxx\"\r")?;
+    }
+    let size = text.len();
+    text.resize(size + 800_000, b'x')?;
+    text.extend_from_slice(b"\ns,p,0,0,1,2\n")?;
+    Ok(text)
 }
 
 #[test]
 fn lines_within_quotes_where_the_input_is_cut(rt: HostRuntime) -> Result<(), Fail> {
-    let expected = summary(rt.alloc(), "1, 0, 0, 0, 18001, 1 0, 0, 0, 1, 2")?;
+    let wanted = summary(rt.alloc(), "1, 0, 0, 0, 18001, 1 0, 0, 0, 1, 2")?;
     for lines in 0..20 {
-        let mut text = Vec::new(rt.alloc());
-        text.extend_from_slice(HEADER.as_bytes())?;
-        text.resize(HEADER.len() + lines, b'\n')?;
-        for _ in 0..18_000 {
-            text.extend_from_slice(b"\"xxxxxxxx\n\nxxxxxx\"\r")?;
-        }
-        // a record that is longer than a piece
-        let size = text.len();
-        text.resize(size + 800_000, b'x')?;
-        text.extend_from_slice(b"\ns,p,0,0,1,2\n")?;
-        let found = check(rt.alloc(), text.as_slice(), Sep::Comma);
-        assert!(rt; found.wrote(expected.as_bytes()), "at {lines}");
+        let text = cut_text(rt.alloc(), lines)?;
+        let mut reader = text.as_slice();
+        assert!(rt;
+            comes_to(rt.alloc(), &mut reader, Sep::Comma, wanted.as_str())?,
+            "at {lines}"
+        );
     }
     Ok(())
 }
 
 #[test]
-fn a_read_that_fails_at_any_byte(rt: HostRuntime) {
+fn a_read_that_fails_at_any_byte(rt: HostRuntime) -> Result<(), Fail> {
     let text = RETURNS.as_bytes();
     for came in 0..=text.len() {
-        let found = check_from(rt.alloc(), &mut broken(&text[..came]), Sep::Comma);
-        assert!(rt; found.has_failed(CheckFault::Read), "at {came}");
+        let front = &text[..came];
         // with semicolons the first line is no header, once its end has come
-        let fault = if came < HEADER.len() {
-            CheckFault::Read
+        let other = if came < HEADER.len() {
+            "Read"
         } else {
-            CheckFault::BadHeader
+            "BadHeader"
         };
-        let found = check_from(rt.alloc(), &mut broken(&text[..came]), Sep::Semicolon);
-        assert!(rt; found.has_failed(fault), "at {came}");
+        for (sep, wanted) in [(Sep::Comma, "Read"), (Sep::Semicolon, other)] {
+            let mut reader = text_by_reads(front, 4096, true);
+            assert!(rt;
+                comes_to(rt.alloc(), &mut reader, sep, wanted)?,
+                "at {came}"
+            );
+        }
     }
+    Ok(())
 }
 
 #[test]
-fn a_read_that_was_interrupted_has_failed(rt: HostRuntime) {
+fn a_read_that_was_interrupted_has_failed(rt: HostRuntime) -> Result<(), Fail> {
     let mut reader = Pieces {
         text: RETURNS.as_bytes(),
         piece: 7,
         failure: Some(ErrorKind::Interrupted),
     };
-    let found = check_from(rt.alloc(), &mut reader, Sep::Comma);
-    assert!(rt; found.has_failed(CheckFault::Read));
+    assert!(rt; comes_to(rt.alloc(), &mut reader, Sep::Comma, "Read")?);
+    Ok(())
 }
 
-// The check of the example into a writer of so much room, which then fails or takes nothing.
-fn check_into(alloc: Global, left: usize, fails: bool) -> Outcome {
+// Whether the check of the example into a writer of so much room, which then fails or takes nothing, leaves there
+// what there is room for, and answers whether that was all.
+fn fills_room(alloc: Global, left: usize, fails: bool) -> bool {
     let mut reader = RETURNS.as_bytes();
     let mut writer = Room {
         taken: Vec::new(alloc),
@@ -387,25 +450,21 @@ fn check_into(alloc: Global, left: usize, fails: bool) -> Outcome {
         fails,
     };
     let answer = check_csv(alloc, &mut reader, &mut writer, Sep::Comma);
-    Outcome {
-        answer,
-        output: writer.taken,
-    }
+    // a writer that fails once it is full fails to flush too
+    let wanted = if left == CHECKED.len() && !fails {
+        Ok(())
+    } else {
+        Err(CheckFault::Write)
+    };
+    let taken = writer.taken.as_slice();
+    taken.len() == left && CHECKED.as_bytes().starts_with(taken) && answer == wanted
 }
 
 #[test]
 fn a_write_that_fails_or_takes_nothing_at_any_byte(rt: HostRuntime) {
-    let expected = CHECKED.as_bytes();
-    for left in 0..=expected.len() {
+    for left in 0..=CHECKED.len() {
         for fails in [true, false] {
-            let found = check_into(rt.alloc(), left, fails);
-            assert!(rt; found.output.as_slice() == &expected[..left], "at {left}");
-            // a writer that fails once it is full fails to flush too
-            if left == expected.len() && !fails {
-                assert!(rt; found.answer.is_ok());
-            } else {
-                assert!(rt; found.answer == Err(CheckFault::Write), "at {left}");
-            }
+            assert!(rt; fills_room(rt.alloc(), left, fails), "at {left}");
         }
     }
 }

@@ -1,13 +1,13 @@
-//! Texts of returns that come to a keeper in memory.
+//! Texts of returns that come to a keeper in memory. What an import comes to is shown as text.
 
-use crate::return_rows::{SETUP, TEXT, next_rows, separated_rows, text_by_reads};
-use std::alloc::Global;
+use crate::readers::text_by_reads;
+use crate::return_rows::{FRONT, SETUP, TEXT, constituency, push_rows};
+use std::alloc::{AllocError, Global};
+use std::io::Read;
 use std::test::*;
-use tally_core::{Ask, Book, ImportCount, Keeper, Refusal, Reply, Return, RowSource};
-use tally_import::Sep;
+use tally_core::{Ask, Book, ImportCount, ImportFault, Keeper, Refusal, Reply, Return};
+use tally_import::{ReturnRows, Sep};
 use tally_rules::{Code, read_setup};
-
-const HEADER: &str = "station,slip,blank,spoiled,A,B\n";
 
 const OTHER_VOTES: &str =
     "station,slip,blank,spoiled,A,B\ns1,p1,0,0,10,20\ns2,p2,1,0,31,40\ns3,p3,0,2,50,60\n";
@@ -21,12 +21,47 @@ const QUOTED: &str = "\u{feff}\"station\";\"slip\";\"blank\";\"spoiled\";\"A\";\
 \"s3\";\"p3\";\"0\";\"2\";\"50\";\"60\"\r
 ";
 
-// What stands after the text: of s1, s2 and s3 the revision, slip, status, votes, blank and spoiled votes.
+// What the import of the text comes to: the count, the row behind the last one, and of s1, s2 and s3 the
+// revision, slip, status, votes, blank and spoiled votes.
 const LODGED: &str = "\
+3 0 0 0 0 end;
 1 p1 Received [10, 20] 0 0
 1 p2 Received [30, 40] 1 0
 1 p3 Received [50, 60] 0 2
 ";
+
+const AGAIN: &str = "\
+0 3 0 0 0 end;
+1 p1 Received [10, 20] 0 0
+1 p2 Received [30, 40] 1 0
+1 p3 Received [50, 60] 0 2
+";
+
+const DIFFERING: &str = "\
+0 2 1 0 0, first 2 7 end;
+1 p1 Received [10, 20] 0 0
+1 p2 Received [30, 40] 1 0
+1 p3 Received [50, 60] 0 2
+";
+
+const PASSED_OVER: &str = "\
+2 0 0 0 1, first 2 0 end;
+1 p1 Received [10, 20] 0 0
+none
+1 p3 Received [50, 60] 0 2
+";
+
+// What was lodged before a failed read is taken out, and the read stays failed.
+const TAKEN_OUT: &str = "Read Read;\nnone\nnone\nnone\n";
+
+const FIRST_ALONE: &str = "\
+1 0 0 0 19999, first 2 0 end;
+1 p1 Received [10, 20] 0 0
+none
+none
+";
+
+const TOO_MANY: &str = "TooLong TooLong;\nnone\nnone\nnone\n";
 
 // A keeper of the setup in which no return stands.
 fn fresh(alloc: Global) -> Result<Book, Fail> {
@@ -36,137 +71,112 @@ fn fresh(alloc: Global) -> Result<Book, Fail> {
     Ok(Book::new(alloc, setup)?)
 }
 
-/// What an import of rows comes to, as text: how many were lodged, the same, differing, refused and bad,
-/// and the first that was none of the former two; or the fault.
-fn import_rows<S: RowSource>(alloc: Global, book: &mut Book, rows: &mut S) -> Result<String, Fail> {
-    match book.lodge_from(rows) {
-        Ok(count) => told_count(alloc, count),
-        Err(fault) => Ok(format!(in alloc; "{fault:?}")?),
-    }
-}
-
-fn told_count(alloc: Global, count: ImportCount) -> Result<String, Fail> {
-    let mut text = format!(in alloc; "{} {} {}", count.lodged, count.same, count.differs)?;
+// How many were lodged, the same, differing, refused and bad, and the first that was none of the former two; or the
+// fault.
+fn push_count(text: &mut String, came: Result<ImportCount, ImportFault>) -> Result<(), AllocError> {
+    let count = match came {
+        Ok(count) => count,
+        Err(fault) => return write!(text, "{fault:?}"),
+    };
+    write!(text, "{} {} {}", count.lodged, count.same, count.differs)?;
     write!(text, " {} {}", count.refused, count.bad)?;
-    if let Some(first) = count.first {
-        write!(text, ", first {} {}", first.row, first.number)?;
+    match count.first {
+        Some(first) => write!(text, ", first {} {}", first.row, first.number),
+        None => Ok(()),
     }
-    Ok(text)
 }
 
-fn import(alloc: Global, book: &mut Book, text: &str, sep: Sep) -> Result<String, Fail> {
-    let mut rows = separated_rows(alloc, text.as_bytes(), sep)?;
-    import_rows(alloc, book, &mut rows)
-}
-
-/// The returns of the three stations, a line each.
-fn returns(alloc: Global, book: &mut Book) -> Result<String, Fail> {
-    let mut text = String::new(alloc);
-    for station in ["s1", "s2", "s3"] {
-        let station = Code::new(station.as_bytes()).ok_or("no code")?;
-        push_answer(&mut text, &book.answer(&Ask::ShowReturn { station }))?;
-    }
-    Ok(text)
-}
-
-fn push_answer(text: &mut String, answer: &Result<Reply, Refusal>) -> Result<(), Fail> {
-    if let Ok(Reply::Return(standing)) = answer {
-        return push_return(text, standing);
-    }
-    text.push_str("none\n")?;
+// The return of a station, as a line.
+fn push_station(text: &mut String, book: &mut Book, station: &str) -> Result<(), Fail> {
+    let station = Code::new(station.as_bytes()).ok_or("no code")?;
+    push_answer(text, book.answer(&Ask::ShowReturn { station }))?;
     Ok(())
 }
 
-fn push_return(text: &mut String, standing: &Return) -> Result<(), Fail> {
+fn push_answer(text: &mut String, answer: Result<Reply, Refusal>) -> Result<(), AllocError> {
+    match answer {
+        Ok(Reply::Return(standing)) => push_return(text, &standing),
+        _ => text.push_str("none\n"),
+    }
+}
+
+fn push_return(text: &mut String, standing: &Return) -> Result<(), AllocError> {
     write!(text, "{} {}", standing.rev, standing.slip)?;
     write!(text, " {:?} {:?}", standing.status, standing.counts.votes)?;
     let (blank, spoiled) = (standing.counts.blank, standing.counts.spoiled);
-    writeln!(text, " {blank} {spoiled}")?;
-    Ok(())
+    writeln!(text, " {blank} {spoiled}")
+}
+
+// What the import of a reader's text comes to, as in `LODGED`.
+fn imported<R: Read + Drop>(
+    alloc: Global,
+    book: &mut Book,
+    reader: R,
+    sep: Sep,
+) -> Result<String, Fail> {
+    let mut text = String::new(alloc);
+    let con = constituency(alloc)?;
+    let mut rows = ReturnRows::new(alloc, reader, sep, con);
+    push_count(&mut text, book.lodge_from(&mut rows))?;
+    text.push_str(" ")?;
+    push_rows(&mut text, &mut rows, 1)?;
+    text.push_str("\n")?;
+    for station in ["s1", "s2", "s3"] {
+        push_station(&mut text, book, station)?;
+    }
+    Ok(text)
+}
+
+// The same for a keeper in which no return stands.
+fn imported_first<R: Read + Drop>(alloc: Global, reader: R, sep: Sep) -> Result<String, Fail> {
+    let mut book = fresh(alloc)?;
+    imported(alloc, &mut book, reader, sep)
 }
 
 #[test]
 fn an_import_again_and_with_other_votes(rt: HostRuntime) -> Result<(), Fail> {
     let mut book = fresh(rt.alloc())?;
-    for (text, wanted) in [
-        (TEXT, "3 0 0 0 0"),
-        (TEXT, "0 3 0 0 0"),
-        (OTHER_VOTES, "0 2 1 0 0, first 2 7"),
-    ] {
-        let found = import(rt.alloc(), &mut book, text, Sep::Comma)?;
+    for (text, wanted) in [(TEXT, LODGED), (TEXT, AGAIN), (OTHER_VOTES, DIFFERING)] {
+        let found = imported(rt.alloc(), &mut book, text.as_bytes(), Sep::Comma)?;
         assert!(rt; found.as_str() == wanted, "{found}");
-        assert!(rt;
-            returns(rt.alloc(), &mut book)?.as_str() == LODGED,
-            "{wanted}"
-        );
     }
     Ok(())
 }
 
 #[test]
-fn a_bad_row_is_passed_over(rt: HostRuntime) -> Result<(), Fail> {
-    let mut book = fresh(rt.alloc())?;
-    let found = import(rt.alloc(), &mut book, NO_NUMBER, Sep::Comma)?;
-    assert!(rt; found.as_str() == "2 0 0 0 1, first 2 0", "{found}");
-    let wanted = "1 p1 Received [10, 20] 0 0\nnone\n1 p3 Received [50, 60] 0 2\n";
-    assert!(rt; returns(rt.alloc(), &mut book)?.as_str() == wanted);
-    Ok(())
-}
-
-#[test]
-fn a_text_with_a_mark_semicolons_and_quotes(rt: HostRuntime) -> Result<(), Fail> {
-    let mut book = fresh(rt.alloc())?;
-    let found = import(rt.alloc(), &mut book, QUOTED, Sep::Semicolon)?;
-    assert!(rt; found.as_str() == "3 0 0 0 0", "{found}");
-    assert!(rt; returns(rt.alloc(), &mut book)?.as_str() == LODGED);
-    Ok(())
-}
-
-#[test]
-fn small_reads_lodge_the_same(rt: HostRuntime) -> Result<(), Fail> {
-    for piece in [1, 2, 7] {
-        let mut book = fresh(rt.alloc())?;
-        let reader = text_by_reads(TEXT.as_bytes(), piece, false);
-        let mut rows = separated_rows(rt.alloc(), reader, Sep::Comma)?;
-        let found = import_rows(rt.alloc(), &mut book, &mut rows)?;
-        assert!(rt; found.as_str() == "3 0 0 0 0", "at {piece}");
-        assert!(rt;
-            returns(rt.alloc(), &mut book)?.as_str() == LODGED,
-            "at {piece}"
-        );
+fn first_imports(rt: HostRuntime) -> Result<(), Fail> {
+    for (text, piece, fails, sep, wanted) in [
+        (TEXT, 1, false, Sep::Comma, LODGED),
+        (TEXT, 2, false, Sep::Comma, LODGED),
+        (TEXT, 7, false, Sep::Comma, LODGED),
+        // a mark, semicolons and quotes
+        (QUOTED, 4096, false, Sep::Semicolon, LODGED),
+        (NO_NUMBER, 4096, false, Sep::Comma, PASSED_OVER),
+        (FRONT, 7, true, Sep::Comma, TAKEN_OUT),
+    ] {
+        let reader = text_by_reads(text.as_bytes(), piece, fails);
+        let found = imported_first(rt.alloc(), reader, sep)?;
+        assert!(rt; found.as_str() == wanted, "at {piece}: {found}");
     }
     Ok(())
 }
 
-#[test]
-fn what_was_lodged_before_a_failed_read_is_taken_out(rt: HostRuntime) -> Result<(), Fail> {
-    let mut book = fresh(rt.alloc())?;
-    // the return of s1 came whole, and a part of that of s2
-    let reader = text_by_reads(&TEXT.as_bytes()[..60], 7, true);
-    let mut rows = separated_rows(rt.alloc(), reader, Sep::Comma)?;
-    let found = import_rows(rt.alloc(), &mut book, &mut rows)?;
-    assert!(rt; found.as_str() == "Read", "{found}");
-    assert!(rt; returns(rt.alloc(), &mut book)?.as_str() == "none\nnone\nnone\n");
-    assert!(rt; next_rows(rt.alloc(), &mut rows, 1)?.as_str() == "Read;");
-    Ok(())
+// A row of s1, and so many of a station that there is none of.
+fn many_rows(alloc: Global, others: u32) -> Result<Vec<u8>, AllocError> {
+    let mut text = Vec::new(alloc);
+    text.extend_from_slice(b"station,slip,blank,spoiled,A,B\ns1,p1,0,0,10,20\n")?;
+    for _row in 0..others {
+        text.extend_from_slice(b"s9,p9,0,0,10,20\n")?;
+    }
+    Ok(text)
 }
 
 #[test]
 fn twenty_thousand_rows_and_one_more(rt: HostRuntime) -> Result<(), Fail> {
-    let mut text = String::from_str(rt.alloc(), HEADER)?;
-    text.push_str("s1,p1,0,0,10,20\n")?;
-    for _row in 1..20_000 {
-        text.push_str("s9,p9,0,0,10,20\n")?;
+    for (others, wanted) in [(19_999, FIRST_ALONE), (20_000, TOO_MANY)] {
+        let text = many_rows(rt.alloc(), others)?;
+        let found = imported_first(rt.alloc(), text.as_slice(), Sep::Comma)?;
+        assert!(rt; found.as_str() == wanted, "{found}");
     }
-    let mut book = fresh(rt.alloc())?;
-    let found = import(rt.alloc(), &mut book, text.as_str(), Sep::Comma)?;
-    assert!(rt; found.as_str() == "1 0 0 0 19999, first 2 0", "{found}");
-    let first_alone = "1 p1 Received [10, 20] 0 0\nnone\nnone\n";
-    assert!(rt; returns(rt.alloc(), &mut book)?.as_str() == first_alone);
-    text.push_str("s9,p9,0,0,10,20\n")?;
-    let mut book = fresh(rt.alloc())?;
-    let found = import(rt.alloc(), &mut book, text.as_str(), Sep::Comma)?;
-    assert!(rt; found.as_str() == "TooLong", "{found}");
-    assert!(rt; returns(rt.alloc(), &mut book)?.as_str() == "none\nnone\nnone\n");
     Ok(())
 }

@@ -22,6 +22,20 @@ impl Read for Pieces<'_> {
     }
 }
 
+/// A reader of a text by so many bytes at a time, that then ends or fails.
+pub(crate) fn text_by_reads(text: &[u8], piece: usize, fails: bool) -> Pieces<'_> {
+    let failure = if fails {
+        Some(ErrorKind::BrokenPipe)
+    } else {
+        None
+    };
+    Pieces {
+        text,
+        piece,
+        failure,
+    }
+}
+
 /// Takes so many bytes, and then nothing or fails, as its flush does.
 #[derive(Drop)]
 pub(crate) struct Room {

@@ -8,7 +8,7 @@ use Rattle.tally_rules.specs.Code.{code_cmp}
 use Rattle.tally_rules.specs.Constituency.{Constituency}
 use Rattle.tally_rules.specs.Limits.{IsSetup}
 use Rattle.tally_rules.specs.Setup.{constituency_with}
-use Rattle.tally_machine.specs.ConStep.{ConChange, certified_with, changed, gone_for_good, lot_set, open_again}
+use Rattle.tally_machine.specs.Step.{ConChange, certified_with, changed, gone_for_good, lot_set, open_again}
 use Rattle.tally_returns.specs.GoneCandidate.{GoneCandidate}
 use Rattle.tally_returns.specs.PastSeats.{PastSeats}
 use Rattle.tally_returns.specs.Progress.{progress_row}
@@ -16,7 +16,7 @@ use Rattle.tally_returns.specs.Return.{Returns}
 use Rattle.tally_returns.specs.State.{ConState, con_state, opening_con}
 use Rattle.tally_returns.specs.View.{View, gone_candidates, past_records, view_with}
 use Rattle.tally_ledger.specs.Kept.{AreEarlier, Kept, seats_after, state_in, view_in, with_change, with_no_lot}
-use Rattle.tally_ledger.specs.Rows.{IsTallied, Views, con_of, cons_of, gone_of, past_of, row_of, seats_of, with_gone, with_reopening, with_view}
+use Rattle.tally_ledger.specs.Rows.{IsTallied, Views, con_of, cons_of, gone_by_places, past_of, row_of, seats_of, with_gone, with_reopening, with_view}
 use Rattle.tally_ledger.proofs.GoneLemmas.{gone-stays, gone_of-insert, key_of}
 use Rattle.tally_ledger.proofs.PastLemmas.{AreBefore, past-stays, past_of-insert}
 use Rattle.tally_ledger.proofs.SetupLemmas.{Has, con-found, con-only}
@@ -131,12 +131,12 @@ one_gone g view = record view { gone = with_gone g view.gone }
 
 -- the candidate was not gone
 pub was-here : (returns : Returns) (views : Views) (code : List ℕ) (g : GoneCandidate) → get (con_state (record { returns = returns; cons = cons_of views }) code).gone (key_of g) ≡ None
-    → (view : View) → get views code ≡ Some view → get (gone_of view.gone) (key_of g) ≡ None
+    → (view : View) → get views code ≡ Some view → get (gone_by_places view.gone) (key_of g) ≡ None
 was-here returns views code g none view there = subst (λ (c : ConState). get c.gone (key_of g) ≡ None) (con_state-is returns views code view there) none
 
-pub gone-seen : (returns : Returns) (g : GoneCandidate) (view : View) → get (gone_of view.gone) (key_of g) ≡ None → KeepsSeen returns (one_gone g) view
+pub gone-seen : (returns : Returns) (g : GoneCandidate) (view : View) → get (gone_by_places view.gone) (key_of g) ≡ None → KeepsSeen returns (one_gone g) view
 gone-seen returns g view none con seen =
-    let gone : view.gone ≡ gone_candidates (gone_of view.gone) = ap (λ (v : View). v.gone) seen in
+    let gone : view.gone ≡ gone_candidates (gone_by_places view.gone) = ap (λ (v : View). v.gone) seen in
     λ i. record (seen i) { gone = gone-stays g view.gone gone none i }
 
 pub gone-kept : (setup : List Constituency) (returns : Returns) (views : Views) (code : List ℕ) (g : GoneCandidate) → IsTallied setup returns views → IsSome (constituency_with code setup)
@@ -146,7 +146,7 @@ gone-kept setup returns views code g tallied known none =
     kept-changed setup returns views code (gone_for_good g None) (one_gone g) tallied known
     (λ view there.
     let seen = (tallied.seen code view there).2 in
-    let gone : view.gone ≡ gone_candidates (gone_of view.gone) = ap (λ (v : View). v.gone) seen in
+    let gone : view.gone ≡ gone_candidates (gone_by_places view.gone) = ap (λ (v : View). v.gone) seen in
     λ i. record (con_of view) { gone = gone_of-insert g view.gone gone (was-here returns views code g none view there) i })
     (λ view there. seats_of-kept views code (one_gone g) (λ v. refl))
 

@@ -2,7 +2,7 @@
 use Rattle.std.proofs.Common.{◌≡◌, ◌<◌, ◌+◌, ◌∷◌, ◌++◌, ◌∙◌, ℕ, suc, List, [], Bool, true, false, cond, length, map, take, drop, Some, None, refl, sym, ap, subst, arith}
 use Rattle.std.specs.Prelude.{slice_index}
 use Rattle.std.specs.Cmp.Lexicographic.{nat_list_cmp_total}
-use Rattle.std.specs.FinMap.{empty, entries, entries-insert, find, from_entries, get, get-entries, get-from_entries, insert, len-empty, len-entries}
+use Rattle.std.specs.FinMap.{empty, entries, entries-insert, find, get, get-entries, insert, len-empty, len-entries, nat_cmp-IsAntisymmetric, slice_cmp-IsAntisymmetric}
 use Rattle.std.specs.FinMap.Entries.{by_order, put}
 use Rattle.std.specs.Ordering.{MatchOrdering, is_eq, nat_cmp, ordering_then}
 use Rattle.std.specs.declared.cmp.Ordering.{Ordering}
@@ -10,10 +10,9 @@ use Rattle.std.specs.declared.cmp.Ordering.TheVariants.{Less, Equal, Greater}
 use Rattle.std.proofs.lemmas.Cmp.{ranked}
 use Rattle.tally_rules.specs.Code.{code_cmp}
 use Rattle.tally_returns.specs.GoneCandidate.{GoneCandidate}
-use Rattle.tally_returns.specs.State.{GoneCandidates}
 use Rattle.tally_returns.specs.View.{gone_candidate, gone_candidates}
-use Rattle.tally_ledger.specs.Rows.{gone_of, gone_place, is_before, with_gone}
-use Rattle.tally_ledger.proofs.TreeLemmas.{same_maps}
+use Rattle.tally_ledger.specs.Rows.{gone_by_places, gone_place, is_before, with_gone}
+use Rattle.tally_ledger.proofs.MapLemmas.{rows-insert}
 
 -- the place of a candidate's list, and its own place there
 abbrev pub key_of : GoneCandidate → List ℕ
@@ -46,20 +45,14 @@ put-pairs key note (e ∷ es) is pairs = go (code_cmp key e.0) (put-pairs key no
     go Equal rest = pairs
     go Greater rest = (pairs.0, rest)
 
-gone_of-pairs : (gone : List GoneCandidate) → ArePairs (entries (gone_of gone))
+gone_of-pairs : (gone : List GoneCandidate) → ArePairs (entries (gone_by_places gone))
 gone_of-pairs [] = subst ArePairs (sym (entries-empty code_cmp)) tt
-gone_of-pairs (g ∷ gone) = subst ArePairs (sym (entries-insert nat_list_cmp_total (gone_of gone) (key_of g) g.note)) (put-pairs (key_of g) g.note (entries (gone_of gone)) refl (gone_of-pairs gone))
+gone_of-pairs (g ∷ gone) = subst ArePairs (sym (entries-insert nat_list_cmp_total (gone_by_places gone) (key_of g) g.note)) (put-pairs (key_of g) g.note (entries (gone_by_places gone)) refl (gone_of-pairs gone))
 
 -- a map of the keys of candidates is got back from its candidates
 back : (es : List (List ℕ × List ℕ)) → ArePairs es → map entry_of (map gone_candidate es) ≡ es
 back [] pairs = refl
 back (e ∷ es) pairs = λ i. (sym pairs.0 i, e.1) ∷ back es pairs.1 i
-
-from-entries : (m : GoneCandidates) → from_entries (entries m) ≡ m
-from-entries m = same_maps (from_entries (entries m)) m (λ q. get-from_entries nat_list_cmp_total (entries m) q ∙ sym (get-entries m q))
-
-pub gone-back : (m : GoneCandidates) → ArePairs (entries m) → gone_of (gone_candidates m) ≡ m
-gone-back m pairs = ap from_entries (back (entries m) pairs) ∙ from-entries m
 
 -- how a candidate's key stands to another
 abbrev IsOrder : GoneCandidate → GoneCandidate → Ordering → Type 0
@@ -101,19 +94,19 @@ placed g (e ∷ es) pairs none =
         ap (λ xs. gone_candidate e ∷ xs) (later none) ∙ ap (λ b. cond b (gone_candidate e ∷ with_gone g (map gone_candidate es)) (g ∷ gone_candidate e ∷ map gone_candidate es)) (sym order)
 
 -- one more is gone, who was not
-pub gone-insert : (g : GoneCandidate) (gone : List GoneCandidate) → gone ≡ gone_candidates (gone_of gone) → get (gone_of gone) (key_of g) ≡ None
-    → with_gone g gone ≡ gone_candidates (insert (gone_of gone) (key_of g) g.note)
+pub gone-insert : (g : GoneCandidate) (gone : List GoneCandidate) → gone ≡ gone_candidates (gone_by_places gone) → get (gone_by_places gone) (key_of g) ≡ None
+    → with_gone g gone ≡ gone_candidates (insert (gone_by_places gone) (key_of g) g.note)
 gone-insert g gone is none =
-    ap (with_gone g) is ∙ sym (placed g (entries (gone_of gone)) (gone_of-pairs gone) (sym (get-entries (gone_of gone) (key_of g)) ∙ none))
-    ∙ ap (map gone_candidate) (sym (entries-insert nat_list_cmp_total (gone_of gone) (key_of g) g.note))
+    ap (with_gone g) is ∙ sym (placed g (entries (gone_by_places gone)) (gone_of-pairs gone) (sym (get-entries (gone_by_places gone) (key_of g)) ∙ none))
+    ∙ ap (map gone_candidate) (sym (entries-insert nat_list_cmp_total (gone_by_places gone) (key_of g) g.note))
 
-pub gone_of-insert : (g : GoneCandidate) (gone : List GoneCandidate) → gone ≡ gone_candidates (gone_of gone) → get (gone_of gone) (key_of g) ≡ None
-    → gone_of (with_gone g gone) ≡ insert (gone_of gone) (key_of g) g.note
+pub gone_of-insert : (g : GoneCandidate) (gone : List GoneCandidate) → gone ≡ gone_candidates (gone_by_places gone) → get (gone_by_places gone) (key_of g) ≡ None
+    → gone_by_places (with_gone g gone) ≡ insert (gone_by_places gone) (key_of g) g.note
 gone_of-insert g gone is none =
-    ap gone_of (gone-insert g gone is none)
-    ∙ gone-back (insert (gone_of gone) (key_of g) g.note) (subst ArePairs (sym (entries-insert nat_list_cmp_total (gone_of gone) (key_of g) g.note))
-    (put-pairs (key_of g) g.note (entries (gone_of gone)) refl (gone_of-pairs gone)))
+    rows-insert nat_list_cmp_total (slice_cmp-IsAntisymmetric nat_cmp-IsAntisymmetric) key_of (λ (h : GoneCandidate). h.note) gone_candidate gone (with_gone g gone) (key_of g) g.note (gone-insert g gone is none)
+    (back (entries (insert (gone_by_places gone) (key_of g) g.note)) (subst ArePairs (sym (entries-insert nat_list_cmp_total (gone_by_places gone) (key_of g) g.note))
+    (put-pairs (key_of g) g.note (entries (gone_by_places gone)) refl (gone_of-pairs gone))))
 
-pub gone-stays : (g : GoneCandidate) (gone : List GoneCandidate) → gone ≡ gone_candidates (gone_of gone) → get (gone_of gone) (key_of g) ≡ None
-    → with_gone g gone ≡ gone_candidates (gone_of (with_gone g gone))
+pub gone-stays : (g : GoneCandidate) (gone : List GoneCandidate) → gone ≡ gone_candidates (gone_by_places gone) → get (gone_by_places gone) (key_of g) ≡ None
+    → with_gone g gone ≡ gone_candidates (gone_by_places (with_gone g gone))
 gone-stays g gone is none = gone-insert g gone is none ∙ sym (ap gone_candidates (gone_of-insert g gone is none))

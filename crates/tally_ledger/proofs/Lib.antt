@@ -1,6 +1,7 @@
 pub mod ChangeLemmas
 pub mod GoneLemmas
 pub mod OpeningLemmas
+pub mod MapLemmas
 pub mod PastLemmas
 pub mod SetupLemmas
 pub mod SumLemmas

@@ -1,7 +1,7 @@
 -- Certificates that were reopened, as a list in order of edition and as a map.
 use Rattle.std.proofs.Common.{◌≡◌, ◌<◌, ◌∷◌, ◌++◌, ◌∙◌, ℕ, suc, List, [], map, refl, sym, ap, subst, arith}
 use Rattle.std.specs.Prelude.{All}
-use Rattle.std.specs.FinMap.{entries, entries-insert, from_entries, get-entries, get-from_entries, insert, nat_cmp-IsAntisymmetric, same_map}
+use Rattle.std.specs.FinMap.{entries, entries-insert, insert, nat_cmp-IsAntisymmetric}
 use Rattle.std.specs.FinMap.Entries.{by_order, put}
 use Rattle.std.specs.Ordering.{MatchOrdering, nat_cmp}
 use Rattle.std.specs.declared.cmp.Ordering.{Ordering}
@@ -9,9 +9,9 @@ use Rattle.std.specs.declared.cmp.Ordering.TheVariants.{Less, Equal, Greater}
 use Rattle.std.proofs.lemmas.Cmp.{nat_cmp_total, ranked}
 use Rattle.std.proofs.lemmas.List.{map-append}
 use Rattle.tally_returns.specs.PastSeats.{PastSeats}
-use Rattle.tally_returns.specs.State.{Records}
 use Rattle.tally_returns.specs.View.{past_record, past_records}
 use Rattle.tally_ledger.specs.Rows.{past_of}
+use Rattle.tally_ledger.proofs.MapLemmas.{rows-insert}
 
 abbrev entry_of : PastSeats → ℕ × List ℕ
 entry_of p = (p.edition, p.seats)
@@ -37,11 +37,6 @@ back : (es : List (ℕ × List ℕ)) → map entry_of (map past_record es) ≡ e
 back [] = refl
 back (e ∷ es) = ap (λ rest. e ∷ rest) (back es)
 
-past-back : (m : Records) → past_of (past_records m) ≡ m
-past-back m =
-    ap from_entries (back (entries m))
-    ∙ same_map nat_cmp_total nat_cmp-IsAntisymmetric (from_entries (entries m)) m (λ q. get-from_entries nat_cmp_total (entries m) q ∙ sym (get-entries m q))
-
 -- one more, of a later edition
 pub past-insert : (p : PastSeats) (past : List PastSeats) → past ≡ past_records (past_of past) → AreBefore p.edition past
     → past ++ p ∷ [] ≡ past_records (insert (past_of past) p.edition p.seats)
@@ -52,7 +47,9 @@ past-insert p past is before =
 
 pub past_of-insert : (p : PastSeats) (past : List PastSeats) → past ≡ past_records (past_of past) → AreBefore p.edition past
     → past_of (past ++ p ∷ []) ≡ insert (past_of past) p.edition p.seats
-past_of-insert p past is before = ap past_of (past-insert p past is before) ∙ past-back (insert (past_of past) p.edition p.seats)
+past_of-insert p past is before =
+    rows-insert nat_cmp_total nat_cmp-IsAntisymmetric (λ (r : PastSeats). r.edition) (λ r. r.seats) past_record past (past ++ p ∷ []) p.edition p.seats
+    (past-insert p past is before) (back (entries (insert (past_of past) p.edition p.seats)))
 
 pub past-stays : (p : PastSeats) (past : List PastSeats) → past ≡ past_records (past_of past) → AreBefore p.edition past
     → past ++ p ∷ [] ≡ past_records (past_of (past ++ p ∷ []))

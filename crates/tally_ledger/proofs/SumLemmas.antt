@@ -16,7 +16,7 @@ use Rattle.tally_returns.specs.Return.{StationReturn, Returns}
 use Rattle.tally_returns.specs.State.{ConState}
 use Rattle.tally_returns.specs.View.{View, view_with, counts_if_closed, closed_counts, votes_at, votes_of_lists}
 use Rattle.tally_returns.specs.declared.returns.Status.{Status}
-use Rattle.tally_ledger.specs.Sums.{moved, CanMove, CanMoveOne, CanMoveCounts, CanCount, moved_where, with_status, with_counts, with_return_counted}
+use Rattle.tally_ledger.specs.Sums.{moved_sum, CanMove, CanMoveOne, CanMoveCounts, CanCount, moved_where, with_status, with_counts, with_return_counted}
 use Rattle.tally_ledger.proofs.SetupLemmas.{Has, Apart, Differ, apart-has, bytes_flipped, code_of_station}
 
 -- a list that has at each place what a function gives
@@ -103,7 +103,7 @@ total-le g returns (x ∷ stations) each =
 
 -- each sum over the stations is moved by the term of one return, and can be
 pub record IsMoved (stations : List Station) (old new : Returns) (standing : StationReturn) (add : Bool) : Type 0 where
-  pub moves : (g : Option StationReturn → ℕ) → g None ≡ 0 → moved (total g old stations) (g (Some standing)) add ≡ total g new stations
+  pub moves : (g : Option StationReturn → ℕ) → g None ≡ 0 → moved_sum (total g old stations) (g (Some standing)) add ≡ total g new stations
   pub can : (g : Option StationReturn → ℕ) → g None ≡ 0 → total g new stations ≤ 5000000000 → CanMove (total g old stations) (g (Some standing)) add
 
 pub is_moved-put : (without with_it : Returns) (code : List ℕ) (standing : StationReturn) (stations : List Station) (station : Station)
@@ -130,7 +130,7 @@ closed-term f standing closed = ap (λ b. sum_by f (cond b (standing.counts ∷ 
 open-term : (f : VoteCounts → ℕ) (standing : StationReturn) → is_closed standing.status ≡ false → if_closed f (Some standing) ≡ 0
 open-term f standing still = ap (λ b. sum_by f (cond b (standing.counts ∷ []) [])) still
 
-moved-zero : (n m by : ℕ) (add : Bool) → by ≡ 0 → moved n by add ≡ m → n ≡ m
+moved-zero : (n m by : ℕ) (add : Bool) → by ≡ 0 → moved_sum n by add ≡ m → n ≡ m
 moved-zero n m by true zero is = omega (arith, zero, is)
 moved-zero n m by false zero is = omega (arith, zero, is)
 
@@ -142,16 +142,16 @@ count-moved is_status stations old new standing add moves =
     ∙ by_status (is_status standing.status) refl ∙ sym (stations_in-total is_status new stations)
   where
     by_status : (b : Bool) → is_status standing.status ≡ b → moved_where b (total (one_if is_status) old stations) add ≡ total (one_if is_status) new stations
-    by_status true is = ap (λ c. moved (total (one_if is_status) old stations) (cond c 1 0) add) (sym is) ∙ moves.moves (one_if is_status) refl
+    by_status true is = ap (λ c. moved_sum (total (one_if is_status) old stations) (cond c 1 0) add) (sym is) ∙ moves.moves (one_if is_status) refl
     by_status false is =
         moved-zero (total (one_if is_status) old stations) (total (one_if is_status) new stations) (one_if is_status (Some standing)) add (ap (λ c. cond c 1 0) is) (moves.moves (one_if is_status) refl)
 
 -- a sum of closed votes
 closed-moved : (f : VoteCounts → ℕ) (stations : List Station) (old new : Returns) (standing : StationReturn) (add : Bool) → IsMoved stations old new standing add
-    → is_closed standing.status ≡ true → moved (sum_by f (closed_counts old stations)) (f standing.counts) add ≡ sum_by f (closed_counts new stations)
+    → is_closed standing.status ≡ true → moved_sum (sum_by f (closed_counts old stations)) (f standing.counts) add ≡ sum_by f (closed_counts new stations)
 closed-moved f stations old new standing add moves closed =
-    ap (λ n. moved n (f standing.counts) add) (closed-total f old stations)
-    ∙ ap (λ by. moved (total (if_closed f) old stations) by add) (sym (closed-term f standing closed))
+    ap (λ n. moved_sum n (f standing.counts) add) (closed-total f old stations)
+    ∙ ap (λ by. moved_sum (total (if_closed f) old stations) by add) (sym (closed-term f standing closed))
     ∙ moves.moves (if_closed f) refl ∙ sym (closed-total f new stations)
 
 open-moved : (f : VoteCounts → ℕ) (stations : List Station) (old new : Returns) (standing : StationReturn) (add : Bool) → IsMoved stations old new standing add
@@ -186,13 +186,13 @@ view-moved con c old new seats standing add moves = by_closed (is_closed standin
     long : length (votes_of_lists (length con.lists) (closed_counts old con.stations)) ≡ length con.lists
     long = length-map-range_with_len (votes_at (closed_counts old con.stations)) 0 (length con.lists)
 
-    votes : is_closed standing.status ≡ true → map (λ place. moved (slice_index (votes_of_lists (length con.lists) (closed_counts old con.stations)) place) (slice_index standing.counts.votes place) add)
+    votes : is_closed standing.status ≡ true → map (λ place. moved_sum (slice_index (votes_of_lists (length con.lists) (closed_counts old con.stations)) place) (slice_index standing.counts.votes place) add)
         (range_with_len 0 (length (votes_of_lists (length con.lists) (closed_counts old con.stations)))) ≡ votes_of_lists (length con.lists) (closed_counts new con.stations)
     votes closed =
-        ap (λ n. map (λ place. moved (slice_index (votes_of_lists (length con.lists) (closed_counts old con.stations)) place) (slice_index standing.counts.votes place) add) (range_with_len 0 n)) long
-        ∙ mapped-same (λ place. moved (slice_index (votes_of_lists (length con.lists) (closed_counts old con.stations)) place) (slice_index standing.counts.votes place) add)
+        ap (λ n. map (λ place. moved_sum (slice_index (votes_of_lists (length con.lists) (closed_counts old con.stations)) place) (slice_index standing.counts.votes place) add) (range_with_len 0 n)) long
+        ∙ mapped-same (λ place. moved_sum (slice_index (votes_of_lists (length con.lists) (closed_counts old con.stations)) place) (slice_index standing.counts.votes place) add)
         (votes_at (closed_counts new con.stations)) (length con.lists) (λ place within.
-        ap (λ n. moved n (slice_index standing.counts.votes place) add) (get_or-map-range_with_len (votes_at (closed_counts old con.stations)) 0 (length con.lists) place place 0 within (omega arith))
+        ap (λ n. moved_sum n (slice_index standing.counts.votes place) add) (get_or-map-range_with_len (votes_at (closed_counts old con.stations)) 0 (length con.lists) place place 0 within (omega arith))
         ∙ closed-moved (at_place place) con.stations old new standing add moves closed)
 
     by_closed : (b : Bool) → is_closed standing.status ≡ b

@@ -1,13 +1,14 @@
 -- What is kept in memory of an election.
-use Rattle.std.specs.Prelude.{◌<◌, ℕ, All, List, [], map, unwrap_or}
-use Rattle.std.specs.FinMap.{FinMap, get, empty, insert, from_entries}
+use Rattle.std.specs.Prelude.{◌<◌, ℕ, All, List, [], unwrap_or}
+use Rattle.std.specs.FinMap.{FinMap, get, empty, insert}
 use Rattle.tally_rules.specs.Code.{code_cmp}
 use Rattle.tally_rules.specs.Constituency.{Constituency}
-use Rattle.tally_machine.specs.ConStep.{ConChange, certified_with, open_again, changed}
+use Rattle.tally_machine.specs.Step.{ConChange, certified_with, open_again, changed}
 use Rattle.tally_returns.specs.PastSeats.{PastSeats}
 use Rattle.tally_returns.specs.Return.{Returns}
 use Rattle.tally_returns.specs.State.{State, ConState, Records, con_state, opening_cons}
 use Rattle.tally_returns.specs.View.{View, past_records, view_of}
+use Rattle.tally_ledger.specs.MapOf.{map_of}
 
 -- the seats of each constituency, by its code: none where it is not certified
 abbrev pub Seats : Type 0
@@ -33,7 +34,7 @@ view_in k con = view_of con (state_in k) (seats_in k con.code)
 
 -- no return, each constituency as it opens, and no seats
 abbrev pub opening_kept : List Constituency → Kept
-opening_kept setup = record { setup = setup; returns = empty; cons = opening_cons setup; seats = from_entries (map (λ (con : Constituency). (con.code, [])) setup) }
+opening_kept setup = record { setup = setup; returns = empty; cons = opening_cons setup; seats = map_of (λ (con : Constituency). con.code) (λ con. []) setup }
 
 -- each certificate on record is of an earlier edition
 abbrev pub AreEarlier : Records → ℕ → Type 0

@@ -1,3 +1,4 @@
+pub mod MapOf
 pub mod Kept
 pub mod KeptCode
 pub mod Rows

@@ -1,5 +1,5 @@
 -- How what is kept stands in trees: the returns by station, and by constituency what is seen of it. No public contract speaks of it.
-use Rattle.std.specs.Prelude.{◌≡◌, ◌+◌, ◌++◌, ◌&&◌, ◌||◌, ◌==◌, nat_lt, ℕ, Bool, false, List, [], ◌∷◌, map, take, drop, Option, Some, None, is_some}
+use Rattle.std.specs.Prelude.{◌≡◌, ◌+◌, ◌++◌, ◌&&◌, ◌||◌, ◌==◌, nat_lt, ℕ, Bool, false, List, [], ◌∷◌, take, drop, Option, Some, None, is_some}
 use Rattle.std.specs.BTreeMap.{BTreeMap}
 use Rattle.std.specs.FinMap.{FinMap, get, empty, entries, from_entries, insert}
 use Rattle.std.specs.List.{prefix_len}
@@ -16,6 +16,7 @@ use Rattle.tally_returns.specs.State.{ConState, GoneCandidates, Records, opening
 use Rattle.tally_returns.specs.View.{View, view_with}
 use Rattle.tally_returns.specs.declared.progress.ProgressRow.{ProgressRow}
 use Rattle.tally_ledger.specs.Kept.{Seats}
+use Rattle.tally_ledger.specs.MapOf.{map_of}
 use Rattle.tally_ledger.specs.Sums.{with_return_counted}
 
 -- the returns that a tree holds
@@ -29,21 +30,21 @@ Views = FinMap code_cmp View
 abbrev pub views_of : BTreeMap (List ℕ) View → Views
 views_of tree = from_entries tree.entries
 
-abbrev pub gone_of : List GoneCandidate → GoneCandidates
-gone_of gone = from_entries (map (λ (g : GoneCandidate). (g.list ∷ g.place ∷ [], g.note)) gone)
+abbrev pub gone_by_places : List GoneCandidate → GoneCandidates
+gone_by_places gone = map_of (λ (g : GoneCandidate). g.list ∷ g.place ∷ []) (λ g. g.note) gone
 
 abbrev pub past_of : List PastSeats → Records
-past_of past = from_entries (map (λ (p : PastSeats). (p.edition, p.seats)) past)
+past_of past = map_of (λ (p : PastSeats). p.edition) (λ p. p.seats) past
 
 -- what a constituency has come to, of what is seen of it
 abbrev pub con_of : View → ConState
-con_of view = record { edition = view.edition; certified = view.certified; note = view.note; lot = view.lot; gone = gone_of view.gone; past = past_of view.past }
+con_of view = record { edition = view.edition; certified = view.certified; note = view.note; lot = view.lot; gone = gone_by_places view.gone; past = past_of view.past }
 
 abbrev pub cons_of : Views → FinMap code_cmp ConState
-cons_of views = from_entries (map (λ (e : List ℕ × View). (e.0, con_of e.1)) (entries views))
+cons_of views = map_of (λ (e : List ℕ × View). e.0) (λ e. con_of e.1) (entries views)
 
 abbrev pub seats_of : Views → Seats
-seats_of views = from_entries (map (λ (e : List ℕ × View). (e.0, e.1.seats)) (entries views))
+seats_of views = map_of (λ (e : List ℕ × View). e.0) (λ e. e.1.seats) (entries views)
 
 abbrev pub AreLawfulReturns : List Constituency → Returns → Type 0
 AreLawfulReturns setup returns =
@@ -76,7 +77,7 @@ abbrev pub opening_view : Constituency → View
 opening_view con = view_with con opening_con empty []
 
 abbrev pub opening_views : List Constituency → Views
-opening_views setup = from_entries (map (λ (con : Constituency). (con.code, opening_view con)) setup)
+opening_views setup = map_of (λ (con : Constituency). con.code) opening_view setup
 
 -- in order of list and then of candidate
 abbrev pub is_before : GoneCandidate → GoneCandidate → Bool

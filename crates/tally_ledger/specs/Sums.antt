@@ -8,9 +8,9 @@ use Rattle.tally_returns.specs.View.{View}
 use Rattle.tally_returns.specs.declared.returns.Status.{Status}
 
 -- a sum with a number added to it or taken away
-abbrev pub moved : ℕ → ℕ → Bool → ℕ
-moved n by true = n + by
-moved n by false = n - by
+abbrev pub moved_sum : ℕ → ℕ → Bool → ℕ
+moved_sum n by true = n + by
+moved_sum n by false = n - by
 
 -- the sum stays from 0 to 5,000,000,000
 abbrev pub CanMove : ℕ → ℕ → Bool → Type 0
@@ -19,7 +19,7 @@ CanMove n by false = by ≤ n
 
 -- what a return counts for in the number of returns with such a status
 abbrev pub moved_where : Bool → ℕ → Bool → ℕ
-moved_where has_status n add = if has_status then moved n 1 add else n
+moved_where has_status n add = if has_status then moved_sum n 1 add else n
 
 -- the view with the numbers of a return's status moved by one
 abbrev pub with_status : View → Status → Bool → View
@@ -33,9 +33,9 @@ with_status view status add = record view {
 -- the view with the counts of a closed return moved
 abbrev pub with_counts : View → VoteCounts → Bool → View
 with_counts view counts add = record view {
-  votes = map (λ place. moved (slice_index view.votes place) (slice_index counts.votes place) add) (range_with_len 0 (length view.votes));
-  blank = moved view.blank counts.blank add;
-  spoiled = moved view.spoiled counts.spoiled add;
+  votes = map (λ place. moved_sum (slice_index view.votes place) (slice_index counts.votes place) add) (range_with_len 0 (length view.votes));
+  blank = moved_sum view.blank counts.blank add;
+  spoiled = moved_sum view.spoiled counts.spoiled add;
 }
 
 -- the view with a return counted, or counted no longer

@@ -4,7 +4,7 @@ ghost use Rattle.std.specs.Prelude.{◌≡◌, ◌<◌, ◌+◌, ◌^◌, ◌∷
 ghost use Rattle.std.specs.FinMap.{get, insert, remove};
 ghost use Rattle.std.specs.Option.{option_copied};
 ghost use Rattle.tally_ledger.specs.Kept.{AreEarlier, opening_kept, state_in, view_in, with_change, with_no_lot};
-ghost use Rattle.tally_machine.specs.ConStep.{certified_with, gone_for_good, lot_set, open_again};
+ghost use Rattle.tally_machine.specs.Step.{certified_with, gone_for_good, lot_set, open_again};
 ghost use Rattle.tally_returns.specs.Lawful.{IsLawful};
 ghost use Rattle.tally_returns.specs.Lodge.{StationLimits};
 ghost use Rattle.tally_returns.specs.Progress.{progress};

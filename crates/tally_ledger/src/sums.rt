@@ -2,14 +2,14 @@
 
 ghost use Rattle.std.specs.Prelude.{◌≡◌, ◌<◌, ◌≤◌, ℕ, length, map, slice_index};
 ghost use Rattle.std.specs.List.{range_with_len};
-ghost use Rattle.tally_ledger.specs.Sums.{CanCount, CanCountOne, CanMove, CanMoveCounts, moved, with_counts, with_return_counted, with_status};
+ghost use Rattle.tally_ledger.specs.Sums.{CanCount, CanCountOne, CanMove, CanMoveCounts, moved_sum, with_counts, with_return_counted, with_status};
 
 use tally_machine::{ConView, Counts, Return, Status};
 
 /// A sum of votes, from 0 to 5,000,000,000, with this number added to it or taken away.
 pub fn moved(n: u64, by: u32, add: bool) -> u64
     requires { CanMove n by add }
-    ensures { result ≡ moved n by add }
+    ensures { result ≡ moved_sum n by add }
 {
     if add {
         n + u64::from(by)
@@ -45,7 +45,7 @@ fn count_status(view: &mut ConView, status: Status, add: bool)
 fn one_moved(n: u32, add: bool) -> u32
     requires can { CanMove n 1 add }
     requires few { n ≤ 5000 }
-    ensures { result ≡ moved n 1 add }
+    ensures { result ≡ moved_sum n 1 add }
 {
     if add { n + 1 } else { n - 1 }
 }
@@ -63,7 +63,7 @@ fn count_votes(view: &mut ConView, counts: &Counts, add: bool)
 fn move_votes(votes: &mut [u64], by: &[u32], add: bool)
     requires lists { length by.now ≡ length votes.old }
     requires each { (place : ℕ) → place < length votes.old → CanMove (slice_index votes.old place) (slice_index by.now place) add }
-    ensures { votes.new ≡ map (λ place. moved (slice_index votes.old place) (slice_index by.now place) add) (range_with_len 0 (length votes.old)) }
+    ensures { votes.new ≡ map (λ place. moved_sum (slice_index votes.old place) (slice_index by.now place) add) (range_with_len 0 (length votes.old)) }
 {
     for place in 0..votes.len() {
         votes[place] = moved(votes[place], by[place], add);

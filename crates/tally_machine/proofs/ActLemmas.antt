@@ -6,14 +6,13 @@ use Rattle.tally_rules.specs.Setup.{constituency_with}
 use Rattle.tally_returns.specs.Checks.{first_refusal, refused_or}
 use Rattle.tally_returns.specs.Counts.{VoteCounts}
 use Rattle.tally_returns.specs.Return.{StationReturn}
-use Rattle.tally_returns.specs.Lodge.{decided}
+use Rattle.tally_returns.specs.Lodge.{decided_at_code}
 use Rattle.tally_returns.specs.Decide.{show_checks, lodge_change}
 use Rattle.tally_returns.specs.Named.{con_named}
 use Rattle.tally_returns.specs.State.{State, con_state, stations_of}
-use Rattle.tally_returns.specs.Step.{decided_in, after}
+use Rattle.tally_machine.specs.Step.{decided_in, after, ConChange, no_change, gone_for_good, Decides, after_change, changed, with_con, Answer, lodged, moved, edition_now, vacated, seen, lodge_reply, move_reply, return_reply, answer, con_answer, IsConStep, IsReturnStepSeen, IsNotAccepted, IsAnswered, IsStepSeenAt}
 use Rattle.tally_returns.specs.View.{View, view_of}
-use Rattle.tally_machine.specs.ConStep.{ConChange, no_change, gone_for_good, Decides, after_change, changed, with_con}
-use Rattle.tally_machine.specs.Replies.{Answer, lodged, moved, edition_now, vacated, seen, lodge_reply, move_reply, return_reply, answer, con_answer, IsConStep, IsReturnStepSeen, IsStepAt, IsNotAccepted, IsAnswered, is_act}
+use Rattle.tally_machine.specs.Runs.{is_act}
 use Rattle.tally_returns.specs.declared.ask.Ask.{Ask}
 use Rattle.tally_returns.specs.declared.ask.Ask.TheVariants.{Lodge, ShowReturn, ShowProgress}
 use Rattle.tally_returns.specs.declared.change.Change.{Change}
@@ -24,7 +23,7 @@ use Rattle.tally_returns.specs.declared.reply.LodgeReply.TheVariants as lodge
 use Rattle.tally_returns.specs.declared.reply.Reply.{Reply}
 use Rattle.tally_returns.specs.declared.reply.Reply.TheVariants.{Lodged, Same, Moved, Return, Edition, Vacated, Con, Progress}
 use Rattle.tally_machine.proofs.ConStateLemmas.{con-code}
-use Rattle.tally_returns.proofs.LifeLemmas.{puts, acts}
+use Rattle.tally_machine.proofs.LifeLemmas.{puts, acts}
 
 -- whether an answer, as contracts see it, is one of a command that acted
 abbrev acted : Result Answer Refusal → Bool
@@ -63,7 +62,7 @@ acted-show None (Some standing) = refl
 acted-show None None = refl
 
 acted-answer : (setup : List Constituency) (s : State) (ask : Ask) → acted (answer setup s ask) ≡ acts setup s ask
-acted-answer setup s (Lodge station slip counts) = acted-lodge slip counts (decided (stations_of setup station) (get s.returns station) slip counts)
+acted-answer setup s (Lodge station slip counts) = acted-lodge slip counts (decided_at_code (stations_of setup station) (get s.returns station) slip counts)
 acted-answer setup s (ShowReturn station) = acted-show (first_refusal (show_checks (stations_of setup station) (get s.returns station))) (get s.returns station)
 acted-answer setup s ShowProgress = refl
 acted-answer setup s ask = acted-move (decided_in setup s ask)
@@ -146,7 +145,7 @@ pub not_accepted-idle : (r : Result Reply Refusal) → IsNotAccepted r → is_ac
 not_accepted-idle r (inl is) = ap is_act is
 not_accepted-idle r (inr is) = ap is_act is
 
-step-idle : (named : Option (List ℕ)) (setup : List Constituency) (s : State) (ask : Ask) (r : Result Reply Refusal) (t : State) → IsStepAt named setup s ask r t → is_act r ≡ false → t ≡ s
+step-idle : (named : Option (List ℕ)) (setup : List Constituency) (s : State) (ask : Ask) (r : Result Reply Refusal) (t : State) → IsStepSeenAt named setup s ask (seen r) t → is_act r ≡ false → t ≡ s
 step-idle None setup s ask r t is idle = is.1 ∙ after-idle setup s ask (decided_in setup s ask) (sym (is_act-return setup s ask r t is) ∙ idle)
 step-idle (Some code) setup s ask r t is idle = con-idle (constituency_with code setup) s ask r t is idle
 

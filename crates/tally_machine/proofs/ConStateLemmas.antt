@@ -11,8 +11,7 @@ use Rattle.tally_rules.specs.Code.{code_cmp}
 use Rattle.tally_rules.specs.Constituency.{Constituency}
 use Rattle.tally_rules.specs.Setup.{constituency_with}
 use Rattle.tally_returns.specs.State.{State, ConState, con_state, opening_con}
-use Rattle.tally_machine.specs.ConStep.{ConChange, no_change, after_change, with_con}
-use Rattle.tally_machine.specs.Replies.{IsConStep}
+use Rattle.tally_machine.specs.Step.{ConChange, no_change, after_change, with_con, IsConStep}
 use Rattle.tally_returns.specs.declared.ask.Ask.{Ask}
 use Rattle.tally_returns.specs.declared.refusal.Refusal.{Refusal}
 use Rattle.tally_returns.specs.declared.reply.Reply.{Reply}

@@ -17,9 +17,9 @@ use Rattle.tally_rules.specs.Constituency.{Constituency, ListEntry}
 use Rattle.tally_rules.specs.Limits.{IsSetup}
 use Rattle.tally_rules.specs.Setup.{constituency_with}
 use Rattle.tally_rules.specs.Text.{is_note}
-use Rattle.tally_machine.specs.Certification.{Certifies, certificate_of, Draws, ListFound, found_from, gone_of, has_candidate, holders_of, list_found, reopen_checks, reopened, vacate_checks, vacated, vacates}
+use Rattle.tally_machine.specs.Certification.{Certifies, certificate_of, Draws, ListFound, found_from, gone_of, has_candidate, holders_of, list_found, reopen_checks, reopened, vacate_checks, vacancy, vacates}
 use Rattle.tally_returns.specs.Checks.{check, first_refusal, refused_or}
-use Rattle.tally_machine.specs.ConStep.{ConChange, Decides, IsView, after_change, certified_with, changed, changed_by, gone_for_good, lot_set, open_again, with_con}
+use Rattle.tally_machine.specs.Step.{ConChange, Decides, IsView, after_change, certified_with, changed, changed_by, gone_for_good, lot_set, open_again, with_con, IsConStep}
 use Rattle.tally_returns.specs.GoneCandidate.{GoneCandidate}
 use Rattle.tally_returns.specs.PastSeats.{PastSeats}
 use Rattle.tally_machine.specs.Holders.{is_among, newcomer}
@@ -27,7 +27,6 @@ use Rattle.tally_returns.specs.Lawful.{is_kept_note}
 use Rattle.tally_machine.specs.LawfulState.{IsLawfulIn, IsLawfulState, IsUnderPlaces}
 use Rattle.tally_returns.specs.Named.{con_named}
 use Rattle.tally_machine.specs.Outcome.{HasSeats, IsLawfulCon, IsLawfulGone, IsLawfulPast, IsLawfulView, IsOutcome, allotted, is_candidate, poll_in, rule_in}
-use Rattle.tally_machine.specs.Replies.{IsConStep}
 use Rattle.tally_returns.specs.Return.{Returns}
 use Rattle.tally_returns.specs.State.{ConState, GoneCandidates, State, con_state, opening_con, last_edition}
 use Rattle.tally_returns.specs.View.{View, gone_candidate, past_records, view_of, view_with}
@@ -295,7 +294,7 @@ module _ (setup : List Constituency) (s : State) (code : List ℕ) (con : Consti
       gone v = gone_for_good v.0 v.1
 
       by_cases : (f : ListFound) → list_found con list ≡ Some f → (refusal : Option Refusal) → first_refusal (vacate_checks (view_of con s seats) (Some f) place note) ≡ refusal
-          → IsLawfulState setup (after_change s con.code (changed_by gone (refused_or refusal (vacated (view_of con s seats) (Some f) place note))))
+          → IsLawfulState setup (after_change s con.code (changed_by gone (refused_or refusal (vacancy (view_of con s seats) (Some f) place note))))
       by_cases f found None none =
           let stays = not (is_among place (gone_of (view_of con s seats) f.place)) in
           let holds = is_among place (holders_of (view_of con s seats) f (gone_of (view_of con s seats) f.place)) in
@@ -309,7 +308,7 @@ module _ (setup : List Constituency) (s : State) (code : List ℕ) (con : Consti
       by_cases f found (Some refusal) some = lawful
 
       at : (found : Option ListFound) → list_found con list ≡ found
-          → IsLawfulState setup (after_change s con.code (changed_by gone (refused_or (first_refusal (vacate_checks (view_of con s seats) found place note)) (vacated (view_of con s seats) found place note))))
+          → IsLawfulState setup (after_change s con.code (changed_by gone (refused_or (first_refusal (vacate_checks (view_of con s seats) found place note)) (vacancy (view_of con s seats) found place note))))
       at None found = lawful
       at (Some f) found = by_cases f found (first_refusal (vacate_checks (view_of con s seats) (Some f) place note)) refl
 

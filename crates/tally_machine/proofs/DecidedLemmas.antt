@@ -9,13 +9,11 @@ use Rattle.tally_contest.specs.LotNeed.{IsDecidedByVotes, IsLotTaken, IsNeed}
 use Rattle.tally_contest.specs.Poll.{HasEligible, Poll}
 use Rattle.tally_machine.specs.Certification.{Certifies, Draws, RefusedOr, certified_by, count_checks, drawn_where, list_places}
 use Rattle.tally_returns.specs.Checks.{first_refusal}
-use Rattle.tally_machine.specs.ConStep.{ConChange, Decides, IsView, after_change, certified_with, changed_by, lot_set}
+use Rattle.tally_machine.specs.Step.{ConChange, Decides, IsView, after_change, certified_with, changed_by, lot_set, Answer, IsConStepSeen, IsStepSeen, IsStepSeenAt, answer, con_answer, after_return}
 use Rattle.tally_machine.specs.LawfulState.{IsLawfulState}
 use Rattle.tally_returns.specs.Named.{con_named}
 use Rattle.tally_machine.specs.Outcome.{IsOutcome, MayStand, Outcome, allotted, lot_missing, nobody, poll_in, rule_in}
-use Rattle.tally_machine.specs.Replies.{Answer, IsConStepSeen, IsStepSeen, IsStepSeenAt, answer, con_answer}
 use Rattle.tally_returns.specs.State.{State}
-use Rattle.tally_returns.specs.Step.{after_return}
 use Rattle.tally_returns.specs.View.{View}
 use Rattle.tally_returns.specs.declared.ask.Ask.{Ask}
 use Rattle.tally_returns.specs.declared.ask.Ask.TheVariants.{Certify, Close, Correct, Draw, Lodge, Query, Reopen, ShowCon, ShowProgress, ShowReturn, Vacate}

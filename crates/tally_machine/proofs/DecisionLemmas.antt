@@ -7,23 +7,21 @@ use Rattle.std.specs.Option.{option_map_or}
 use Rattle.tally_rules.specs.Constituency.{Constituency}
 use Rattle.tally_rules.specs.Setup.{constituency_with, station_with}
 use Rattle.tally_rules.specs.declared.constituency.Station.{Station}
-use Rattle.tally_machine.specs.ConStep.{ConChange, after_change, certified_with, changed, changed_by, gone_for_good, lot_set, no_change, open_again}
-use Rattle.tally_machine.specs.Certification.{ListFound, gone_of, holders_of, list_found, reopened, vacate_checks, vacated, vacates}
+use Rattle.tally_machine.specs.Step.{ConChange, after_change, certified_with, changed, changed_by, gone_for_good, lot_set, no_change, open_again, Answer, IsAnswered, IsConStep, IsConStepSeen, IsStepSeen, IsStepSeenAt, con_answer, lodge_reply, lodged, move_reply, return_reply, return_shown, same, after, con_of_station, decided_at_station, decided_in, is_certified}
+use Rattle.tally_machine.specs.Certification.{ListFound, gone_of, holders_of, list_found, reopened, vacate_checks, vacancy, vacates}
 use Rattle.tally_machine.specs.Decisions.{IsAt, LimitsAreThoseOfTheSetup, RefusalsOnReturnsAreSteps, ChangesOfReturnsAreSteps, UnknownStationsAreRefused, DecisionsOnConstituenciesAreSteps, UnknownConstituenciesAreRefused, EditionsStayWithinTheirLimit, NobodyGoesTwice, decided_of, told}
 use Rattle.tally_machine.specs.Holders.{newcomer}
-use Rattle.tally_machine.specs.Replies.{Answer, IsAnswered, IsConStep, IsConStepSeen, IsStepSeen, IsStepSeenAt, con_answer, lodge_reply, lodged, move_reply, return_reply, return_shown, same}
-use Rattle.tally_machine.specs.Replies as replies
+use Rattle.tally_machine.specs.Step as replies
 use Rattle.tally_returns.specs.Checks.{check, first_refusal, refused_or}
 use Rattle.tally_returns.specs.Counts.{VoteCounts, same_counts}
-use Rattle.tally_returns.specs.Decide.{decided_return, limits_named, limits_of, lodge_change, moved, put_next, show_checks}
+use Rattle.tally_returns.specs.Decide.{decided_return, limits_named, limits_of, lodge_change, decided_move, put_next, show_checks}
 use Rattle.tally_returns.specs.GoneCandidate.{GoneCandidate}
 use Rattle.tally_returns.specs.PastSeats.{PastSeats}
-use Rattle.tally_returns.specs.Lodge.{StationLimits, admitted, counts_checks, decided, unless_refused}
+use Rattle.tally_returns.specs.Lodge.{StationLimits, admitted, counts_checks, decided_at_code}
 use Rattle.tally_returns.specs.Moves.{close_checks, closed, correct_checks, corrected, counts_checks_at, may_close, may_correct, may_query, move_checks, queried, query_checks}
 use Rattle.tally_returns.specs.Named.{con_named, station_named}
 use Rattle.tally_returns.specs.Return.{StationReturn, first_return}
 use Rattle.tally_returns.specs.State.{ConState, State, con_state, last_edition, stations_of}
-use Rattle.tally_returns.specs.Step.{after, con_of, decided_at_station, decided_in, is_certified}
 use Rattle.tally_returns.specs.View.{View}
 use Rattle.tally_returns.specs.declared.ask.Ask.{Ask}
 use Rattle.tally_returns.specs.declared.ask.Ask.TheVariants.{Lodge, Query, Correct, Close, ShowReturn, Draw, Certify, Reopen, Vacate, ShowCon, ShowProgress}
@@ -51,7 +49,7 @@ limits-same setup con code ask at =
     ∙ sym (ap (option_map (λ (place : Constituency × Station). limits_of place.0 place.1)) at.1.1)
 
 -- the code of the constituency of a station that was found
-pub con_of-found : (setup : List Constituency) (station : List ℕ) (con : Constituency) (place : Station) → station_with station setup ≡ Some (con, place) → con_of setup station ≡ Some con.code
+pub con_of-found : (setup : List Constituency) (station : List ℕ) (con : Constituency) (place : Station) → station_with station setup ≡ Some (con, place) → con_of_station setup station ≡ Some con.code
 con_of-found setup station con place is = ap (option_map (λ (p : Constituency × Station). p.0.code)) is
 
 pub certified-found : (setup : List Constituency) (s : State) (station : List ℕ) (con : Constituency) (place : Station) → station_with station setup ≡ Some (con, place)
@@ -97,7 +95,7 @@ show-refused None x e is = cc
 show-refused (Some f) x e is = let same : f ≡ e = cc in ap Err (sym same)
 
 refused-step : (setup : List Constituency) (s : State) (ask : Ask) (station : List ℕ) (e : Refusal) → station_named ask ≡ Some station → decided_in setup s ask ≡ Err e → IsStepSeen setup s ask (Err e) s
-refused-step setup s (Lodge code slip counts) station e named is = (lodge-refused slip counts (decided (stations_of setup code) (get s.returns code) slip counts) e is, ap (after setup s (Lodge code slip counts)) (sym is))
+refused-step setup s (Lodge code slip counts) station e named is = (lodge-refused slip counts (decided_at_code (stations_of setup code) (get s.returns code) slip counts) e is, ap (after setup s (Lodge code slip counts)) (sym is))
 refused-step setup s (Query code rev note) station e named is = (ap move_reply (sym is), ap (after setup s (Query code rev note)) (sym is))
 refused-step setup s (Correct code rev slip counts) station e named is = (ap move_reply (sym is), ap (after setup s (Correct code rev slip counts)) (sym is))
 refused-step setup s (Close code rev) station e named is = (ap move_reply (sym is), ap (after setup s (Close code rev)) (sym is))
@@ -125,8 +123,8 @@ unknown-station setup s code ask named none =
 -- ---- a change
 
 -- what a Lodge that was accepted is told
-lodge-changed : (known : Option StationLimits) (found : Option StationReturn) (code slip : List ℕ) (counts : VoteCounts) (change : Change) → lodge_change slip counts (decided known found slip counts) ≡ Ok change
-    → (a : Answer) × (told (Lodge code slip counts) found change ≡ Some a) × (Ok a ≡ lodge_reply (decided known found slip counts))
+lodge-changed : (known : Option StationLimits) (found : Option StationReturn) (code slip : List ℕ) (counts : VoteCounts) (change : Change) → lodge_change slip counts (decided_at_code known found slip counts) ≡ Ok change
+    → (a : Answer) × (told (Lodge code slip counts) found change ≡ Some a) × (Ok a ≡ lodge_reply (decided_at_code known found slip counts))
 lodge-changed None found code slip counts change is = cc
 lodge-changed (Some limits) found code slip counts change is = go (first_refusal (counts_checks limits counts)) found is
   where
@@ -137,8 +135,8 @@ lodge-changed (Some limits) found code slip counts change is = go (first_refusal
         (same standing.rev, ap (told (Lodge code slip counts) (Some standing)) (sym put), refl)
     again standing false ok = cc
 
-    go : (refused : Option Refusal) (f : Option StationReturn) → lodge_change slip counts (unless_refused refused (admitted f slip counts)) ≡ Ok change
-        → (a : Answer) × (told (Lodge code slip counts) f change ≡ Some a) × (Ok a ≡ lodge_reply (unless_refused refused (admitted f slip counts)))
+    go : (refused : Option Refusal) (f : Option StationReturn) → lodge_change slip counts (refused_or refused (admitted f slip counts)) ≡ Ok change
+        → (a : Answer) × (told (Lodge code slip counts) f change ≡ Some a) × (Ok a ≡ lodge_reply (refused_or refused (admitted f slip counts)))
     go (Some e) f ok = cc
     go None None ok =
         let put : PutReturn (first_return slip counts) ≡ change = cc in
@@ -147,7 +145,7 @@ lodge-changed (Some limits) found code slip counts change is = go (first_refusal
 
 -- a command that moves a return puts one
 moved-put : (certified : Bool) (found : Option StationReturn) (rev : ℕ) (may_start : Status → Bool) (checks : List (Option Refusal)) (next : StationReturn → StationReturn) (change : Change)
-    → (first_refusal checks ≡ None → first_refusal (move_checks certified found rev may_start) ≡ None) → moved checks found next ≡ Ok change → (r : StationReturn) × (change ≡ PutReturn r)
+    → (first_refusal checks ≡ None → first_refusal (move_checks certified found rev may_start) ≡ None) → decided_move checks found next ≡ Ok change → (r : StationReturn) × (change ≡ PutReturn r)
 moved-put certified found rev may_start checks next change rest is = go (first_refusal checks) found refl refl is
   where
     go : (refused : Option Refusal) (f : Option StationReturn) → first_refusal checks ≡ refused → found ≡ f → refused_or refused (Ok (put_next f next)) ≡ Ok change → (r : StationReturn) × (change ≡ PutReturn r)
@@ -261,13 +259,13 @@ given-first gone next v result ok is =
 vacated-named : (con : Constituency) (view : View) (list : List ℕ) (place : ℕ) (note : List ℕ) (v : GoneCandidate × Option ℕ) → vacates con view list place note ≡ Ok v → IsNamed con list place v.0
 vacated-named con view list place note v is = go (list_found con list) refl is
   where
-    given : (f : ListFound) (refused : Option Refusal) → list_found con list ≡ Some f → refused_or refused (vacated view (Some f) place note) ≡ Ok v → IsNamed con list place v.0
+    given : (f : ListFound) (refused : Option Refusal) → list_found con list ≡ Some f → refused_or refused (vacancy view (Some f) place note) ≡ Ok v → IsNamed con list place v.0
     given f (Some e) there ok = cc
     given f None there ok =
-        let who = given-first (record { list = f.place; place = place; note = note }) (newcomer (holders_of view f (gone_of view f.place)) (holders_of view f (place ∷ gone_of view f.place))) v (vacated view (Some f) place note) ok refl in
+        let who = given-first (record { list = f.place; place = place; note = note }) (newcomer (holders_of view f (gone_of view f.place)) (holders_of view f (place ∷ gone_of view f.place))) v (vacancy view (Some f) place note) ok refl in
         record { of = f; list_is = there; at = ap (λ (g : GoneCandidate). g.list) who; place_is = ap (λ (g : GoneCandidate). g.place) who }
 
-    go : (found : Option ListFound) → list_found con list ≡ found → refused_or (first_refusal (vacate_checks view found place note)) (vacated view found place note) ≡ Ok v → IsNamed con list place v.0
+    go : (found : Option ListFound) → list_found con list ≡ found → refused_or (first_refusal (vacate_checks view found place note)) (vacancy view found place note) ≡ Ok v → IsNamed con list place v.0
     go None there ok = cc
     go (Some f) there ok = given f (first_refusal (vacate_checks view (Some f) place note)) there ok
 

@@ -13,7 +13,7 @@ use Rattle.tally_returns.specs.Lodge.{lodge_answer}
 use Rattle.tally_returns.specs.Named.{con_named}
 use Rattle.tally_returns.specs.Return.{StationReturn}
 use Rattle.tally_returns.specs.State.{State, stations_of}
-use Rattle.tally_returns.specs.Step.{decided_in}
+use Rattle.tally_machine.specs.Step.{decided_in, ConChange, Decides, certified_with, changed_by, gone_for_good, lot_set, open_again, Answer, IsConStepSeen, IsStepSeenAt, answer, con_answer, lodge_reply, move_reply, return_reply}
 use Rattle.tally_returns.specs.View.{FitsView, View}
 use Rattle.tally_returns.specs.declared.ask.Ask.{Ask}
 use Rattle.tally_returns.specs.declared.ask.Ask.TheVariants.{Lodge, Query, Correct, Close, ShowReturn, Draw, Certify, Reopen, Vacate, ShowCon, ShowProgress}
@@ -24,10 +24,8 @@ use Rattle.tally_returns.specs.declared.refusal.Refusal.TheVariants.{NoConstitue
 use Rattle.tally_returns.specs.declared.reply.LodgeReply.{LodgeReply}
 use Rattle.tally_returns.specs.declared.reply.LodgeReply.TheVariants as reply
 use Rattle.tally_machine.specs.Certification.{reopened, vacates}
-use Rattle.tally_machine.specs.ConStep.{ConChange, Decides, certified_with, changed_by, gone_for_good, lot_set, open_again}
 use Rattle.tally_machine.specs.Decisions.{AnswersAreOfTheirKind}
 use Rattle.tally_machine.specs.Kinds.{IsAnswerTo}
-use Rattle.tally_machine.specs.Replies.{Answer, IsConStepSeen, IsStepSeenAt, answer, con_answer, lodge_reply, move_reply, return_reply}
 use Rattle.tally_machine.proofs.ViewLemmas.{view-lawful}
 
 -- what is so of an answer that was given

@@ -11,11 +11,11 @@ use Rattle.tally_contest.specs.Poll.{HasEligible}
 use Rattle.tally_allot.specs.LawStatements.{AllotmentsAreUnique, AllotmentsExist, EachOrderGivesAChoice, GroupsAreOfOneNumberOfVotes, NoLotIsNeededWhereVotesDecide, VotesDecideOrALotIsNeeded}
 use Rattle.tally_machine.specs.Certification.{Certifies, RefusedOr, certified_by, count_checks}
 use Rattle.tally_returns.specs.Checks.{check, first_refusal}
-use Rattle.tally_machine.specs.ConStep.{IsView, certified_with, changed_by}
+use Rattle.tally_machine.specs.Step.{IsView, certified_with, changed_by, IsAnswered, IsConStep, IsStep, con_answer, seen, IsStepSeenAt}
 use Rattle.tally_machine.specs.LawfulState.{IsLawfulState}
 use Rattle.tally_returns.specs.Named.{BringsCode, con_named}
 use Rattle.tally_machine.specs.Outcome.{HasSeats, IsCertificate, IsOutcome, MayStand, Outcome, allotted, lot_missing, nobody, poll_in, rule_in}
-use Rattle.tally_machine.specs.Replies.{IsAnswered, IsConStep, IsRun, IsStep, IsStepAt, con_answer, seen}
+use Rattle.tally_machine.specs.Runs.{IsRun}
 use Rattle.tally_returns.specs.State.{State, con_state, opening, last_edition}
 use Rattle.tally_returns.specs.View.{View, view_of}
 use Rattle.tally_returns.specs.declared.ask.Ask.{Ask}
@@ -37,7 +37,7 @@ step-lawful setup s t ask r brings ok lawful step = at (con_named ask) refl step
     at_con code named None is step = subst (IsLawfulState setup) (sym step.1) lawful
     at_con code named (Some con) is step = con-step-lawful setup s t ask r code con ok lawful is named step
 
-    at : (named : Option (List ℕ)) → con_named ask ≡ named → IsStepAt named setup s ask r t → IsLawfulState setup t
+    at : (named : Option (List ℕ)) → con_named ask ≡ named → IsStepSeenAt named setup s ask (seen r) t → IsLawfulState setup t
     at None is step = subst (IsLawfulState setup) (sym step.1) (return-step-lawful setup s ask brings ok lawful)
     at (Some code) is step = at_con code is (constituency_with code setup) refl step
 

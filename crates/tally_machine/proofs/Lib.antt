@@ -1,3 +1,4 @@
+pub mod LifeLemmas
 pub mod ConStateLemmas
 pub mod ActLemmas
 pub mod OnwardLemmas

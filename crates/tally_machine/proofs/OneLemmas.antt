@@ -5,9 +5,8 @@ use Rattle.tally_rules.specs.Limits.{IsSetup}
 use Rattle.tally_rules.specs.Setup.{constituency_with}
 use Rattle.tally_machine.specs.Certification.{Certifies, Draws, RefusedOr, certified_by, count_checks, drawn_where, list_places}
 use Rattle.tally_returns.specs.Checks.{first_refusal}
-use Rattle.tally_machine.specs.ConStep.{ConChange, Decides, IsView, after_change, certified_with, changed_by, lot_set}
+use Rattle.tally_machine.specs.Step.{ConChange, Decides, after_change, certified_with, changed_by, lot_set, Answer, IsConStepSeen, IsStepSeen, IsStepSeenAt, con_answer}
 use Rattle.tally_machine.specs.Outcome.{IsOutcome, Outcome, allotted, lot_missing, nobody, poll_in, rule_in}
-use Rattle.tally_machine.specs.Replies.{Answer, IsConStepSeen, IsStepSeen, IsStepSeenAt, con_answer}
 use Rattle.tally_returns.specs.Named.{con_named}
 use Rattle.tally_returns.specs.State.{State}
 use Rattle.tally_returns.specs.View.{View}

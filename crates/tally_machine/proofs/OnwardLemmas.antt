@@ -10,9 +10,7 @@ use Rattle.tally_rules.specs.Setup.{constituency_with}
 use Rattle.tally_returns.specs.Return.{StationReturn}
 use Rattle.tally_returns.specs.Named.{con_named, station_named}
 use Rattle.tally_returns.specs.State.{State, ConState, GoneCandidates, con_state}
-use Rattle.tally_returns.specs.Step.{con_of, decided_in, without_lot, after_put, with_return, after}
-use Rattle.tally_machine.specs.ConStep.{ConChange, no_change, lot_set, certified_with, open_again, gone_for_good, changed, with_con, after_change}
-use Rattle.tally_machine.specs.Replies.{IsConStep, IsStepAt, IsAnswered}
+use Rattle.tally_machine.specs.Step.{con_of_station, decided_in, without_lot, after_put, with_return, after, ConChange, no_change, lot_set, certified_with, open_again, gone_for_good, changed, with_con, after_change, IsConStep, IsAnswered, IsStepSeenAt, seen}
 use Rattle.tally_returns.specs.declared.ask.Ask.{Ask}
 use Rattle.tally_returns.specs.declared.ask.Ask.TheVariants.{Query}
 use Rattle.tally_returns.specs.declared.change.Change.{Change}
@@ -20,7 +18,7 @@ use Rattle.tally_returns.specs.declared.change.Change.TheVariants.{PutReturn}
 use Rattle.tally_returns.specs.declared.refusal.Refusal.{Refusal}
 use Rattle.tally_returns.specs.declared.reply.Reply.{Reply}
 use Rattle.tally_machine.proofs.ConStateLemmas.{same_code, con_state-with_con, con_step-returns}
-use Rattle.tally_returns.proofs.LifeLemmas.{rev_at, after_return-rises}
+use Rattle.tally_machine.proofs.LifeLemmas.{rev_at, after_return-rises}
 
 -- a constituency has gone on: no edition back, and nobody who was gone is there again
 pub record IsConOnward (c d : ConState) : Type 0 where
@@ -75,7 +73,7 @@ without_lot-onward s (Some code) q =
     with_con-onward s code (record (con_state s code) { lot = [] }) (record { edition = omega arith; gone = λ candidate there. there }) q
 
 after_put-onward : (setup : List Constituency) (s : State) (ask : Ask) → AreOnward s (after_put setup s ask)
-after_put-onward setup s (Query station rev note) q = without_lot-onward s (con_of setup station) q
+after_put-onward setup s (Query station rev note) q = without_lot-onward s (con_of_station setup station) q
 after_put-onward setup s other q = con_onward-same (con_state s q)
 
 -- a return that is put leaves what constituencies have come to
@@ -106,7 +104,7 @@ same_returns-rise : (s t : State) → t.returns ≡ s.returns → (station : Lis
 same_returns-rise s t same station =
     let e : rev_at t station ≡ rev_at s station = ap (λ m. rev_at (record s { returns = m }) station) same in omega (arith, e)
 
-step-onward : (named : Option (List ℕ)) (setup : List Constituency) (s : State) (ask : Ask) (r : Result Reply Refusal) (t : State) → IsStepAt named setup s ask r t → IsOnward s t
+step-onward : (named : Option (List ℕ)) (setup : List Constituency) (s : State) (ask : Ask) (r : Result Reply Refusal) (t : State) → IsStepSeenAt named setup s ask (seen r) t → IsOnward s t
 step-onward None setup s ask r t is =
     subst (IsOnward s) (sym is.1) (record { returns = after_return-rises setup s ask; cons = after-onward setup s ask (decided_in setup s ask) })
 step-onward (Some code) setup s ask r t is = record {

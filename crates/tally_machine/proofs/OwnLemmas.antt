@@ -6,23 +6,21 @@ use Rattle.std.specs.FinMap.{get}
 use Rattle.tally_rules.specs.Constituency.{Constituency}
 use Rattle.tally_rules.specs.Setup.{constituency_with}
 use Rattle.tally_rules.specs.Text.{is_note}
-use Rattle.tally_machine.specs.Certification.{ListFound, RefusedOr, certificate_of, certified_by, count_checks, drawn_where, gone_of, has_candidate, holders_of, list_found, list_places, names_group, reopen_checks, reopened, vacate_checks, vacated, vacates}
+use Rattle.tally_machine.specs.Certification.{ListFound, RefusedOr, certificate_of, certified_by, count_checks, drawn_where, gone_of, has_candidate, holders_of, list_found, list_places, names_group, reopen_checks, reopened, vacate_checks, vacancy, vacates}
 use Rattle.tally_returns.specs.Checks.{check, check_found, first_refusal, refused_or}
-use Rattle.tally_machine.specs.ConStep.{ConChange, no_change, gone_for_good, lot_set, certified_with, open_again, Decides, changed_by}
+use Rattle.tally_machine.specs.Step.{ConChange, no_change, gone_for_good, lot_set, certified_with, open_again, Decides, changed_by, Answer, IsConStepSeen, IsStepSeenAt, answer, con_answer, lodge_reply, move_reply, return_reply, decided_in, is_certified}
 use Rattle.tally_returns.specs.Counts.{VoteCounts, all_votes, are_counts, same_counts}
 use Rattle.tally_returns.specs.Decide.{put_next, show_checks}
 use Rattle.tally_returns.specs.GoneCandidate.{GoneCandidate}
 use Rattle.tally_returns.specs.PastSeats.{PastSeats}
 use Rattle.tally_machine.specs.Holders.{is_among}
-use Rattle.tally_returns.specs.Lodge.{StationLimits, admitted, counts_checks, decided, lodge_answer, unless_refused}
+use Rattle.tally_returns.specs.Lodge.{StationLimits, admitted, counts_checks, decided_at_code, lodge_answer}
 use Rattle.tally_returns.specs.Moves.{close_checks, closed, correct_checks, corrected, counts_checks_at, last_revision, may_close, may_correct, may_query, move_checks, queried, query_checks}
 use Rattle.tally_returns.specs.Named.{con_named}
 use Rattle.tally_machine.specs.Outcome.{Outcome, nobody, lot_missing, allotted}
 use Rattle.tally_machine.specs.Decisions.{StepsAreOfTheMachine}
-use Rattle.tally_machine.specs.Replies.{Answer, IsConStepSeen, IsStepSeenAt, answer, con_answer, lodge_reply, move_reply, return_reply}
 use Rattle.tally_returns.specs.Return.{StationReturn}
 use Rattle.tally_returns.specs.State.{State, stations_of, last_edition}
-use Rattle.tally_returns.specs.Step.{decided_in, is_certified}
 use Rattle.tally_returns.specs.View.{View}
 use Rattle.tally_returns.specs.declared.ask.Ask.{Ask}
 use Rattle.tally_returns.specs.declared.ask.Ask.TheVariants.{Lodge, Query, Correct, Close, ShowReturn, Draw, Certify, Reopen, Vacate, ShowCon, ShowProgress}
@@ -79,7 +77,7 @@ refused-own checks x own other = go (first_refusal checks) (first-own checks own
 
 -- ---- commands on returns
 
-lodge-own : (known : Option StationLimits) (found : Option StationReturn) (slip : List ℕ) (counts : VoteCounts) → IsOwn (decided known found slip counts)
+lodge-own : (known : Option StationLimits) (found : Option StationReturn) (slip : List ℕ) (counts : VoteCounts) → IsOwn (decided_at_code known found slip counts)
 lodge-own None found slip counts = tt
 lodge-own (Some limits) found slip counts = go (first_refusal (counts_checks limits counts)) found (first-own (counts_checks limits counts) checks)
   where
@@ -90,7 +88,7 @@ lodge-own (Some limits) found slip counts = go (first_refusal (counts_checks lim
     again standing true = tt
     again standing false = tt
 
-    go : (refused : Option Refusal) (f : Option StationReturn) → IsOwnCheck refused → IsOwn (unless_refused refused (admitted f slip counts))
+    go : (refused : Option Refusal) (f : Option StationReturn) → IsOwnCheck refused → IsOwn (refused_or refused (admitted f slip counts))
     go (Some e) f is = is
     go None None is = tt
     go None (Some standing) is = again standing (pointwise nat_eq standing.slip slip && same_counts standing.counts counts)
@@ -240,7 +238,7 @@ vacate-own view found place note = (
   ),
 )
 
-vacated-own : (view : View) (found : Option ListFound) (place : ℕ) (note : List ℕ) → IsOwn (vacated view found place note)
+vacated-own : (view : View) (found : Option ListFound) (place : ℕ) (note : List ℕ) → IsOwn (vacancy view found place note)
 vacated-own view None place note = tt
 vacated-own view (Some list) place note = tt
 
@@ -258,7 +256,7 @@ decides-own con view (Vacate code list place note) decision is =
     let text = string_bytes note in
     let found = list_found con list in
     subst IsOwn (sym is) (changed-own (λ (v : GoneCandidate × Option ℕ). gone_for_good v.0 v.1) (vacates con view list place text)
-    (refused-own (vacate_checks view found place text) (vacated view found place text) (vacate-own view found place text) (vacated-own view found place text)))
+    (refused-own (vacate_checks view found place text) (vacancy view found place text) (vacate-own view found place text) (vacated-own view found place text)))
 decides-own con view (ShowCon code) decision is = subst IsOwn (sym is) tt
 decides-own con view other decision is = absurd is
 

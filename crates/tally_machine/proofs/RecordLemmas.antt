@@ -16,7 +16,7 @@ use Rattle.tally_returns.specs.GoneCandidate.{GoneCandidate}
 use Rattle.tally_returns.specs.Named.{BringsCode, con_named, station_named}
 use Rattle.tally_returns.specs.PastSeats.{PastSeats}
 use Rattle.tally_returns.specs.State.{ConState, Records, State, con_state, last_edition, opening, opening_con}
-use Rattle.tally_returns.specs.Step.{after, after_put, after_return, con_of, decided_in, without_lot}
+use Rattle.tally_machine.specs.Step.{after, after_put, after_return, con_of_station, decided_in, without_lot, ConChange, Decides, IsView, after_change, certified_with, changed, gone_for_good, lot_set, no_change, open_again, with_con, IsAnswered, IsConStep, con_answer, edition_now, seen, IsStepSeenAt}
 use Rattle.tally_returns.specs.View.{View, past_records}
 use Rattle.tally_returns.specs.declared.ask.Ask.{Ask}
 use Rattle.tally_returns.specs.declared.ask.Ask.TheVariants.{Lodge, Query, Correct, Close, ShowReturn, Draw, Certify, Reopen, Vacate, ShowCon, ShowProgress}
@@ -28,12 +28,11 @@ use Rattle.tally_returns.specs.declared.reply.Reply.{Reply}
 use Rattle.tally_returns.specs.declared.reply.Reply.TheVariants.{Lodged, Same, Moved, Return, Edition, Vacated, Con, Progress}
 use Rattle.tally_returns.proofs.DecideLemmas.{passed-first, passed-rest}
 use Rattle.tally_machine.specs.Certification.{certificate_of, reopen_checks, reopened, vacates}
-use Rattle.tally_machine.specs.ConStep.{ConChange, Decides, IsView, after_change, certified_with, changed, gone_for_good, lot_set, no_change, open_again, with_con}
 use Rattle.tally_machine.specs.Decisions.{RecordsComeLast}
 use Rattle.tally_machine.specs.LawfulState.{IsLawfulState}
 use Rattle.tally_machine.specs.Outcome.{IsLawfulPast}
 use Rattle.tally_machine.specs.Records.{IsOnRecord, IsReopened, IsReopenedIn, RecordsAreOfAllotments, RecordsOfRunsAreOfAllotments, RecordsStay, RecordsStayInRuns}
-use Rattle.tally_machine.specs.Replies.{IsAnswered, IsConStep, IsRun, IsStepAt, con_answer, edition_now, seen}
+use Rattle.tally_machine.specs.Runs.{IsRun}
 use Rattle.tally_machine.proofs.ConStateLemmas.{con-code, con_state-changed, con_state-with_con, same_code}
 use Rattle.tally_machine.proofs.ConStepLemmas.{same-constituency}
 use Rattle.tally_machine.proofs.DecisionLemmas.{given-by}
@@ -187,7 +186,7 @@ without_lot-as_before s None q = (refl, refl)
 without_lot-as_before s (Some code) q = with_con-each IsAsBefore (λ c. (refl, refl)) s code (record (con_state s code) { lot = [] }) (refl, refl) q
 
 after_put-as_before : (setup : List Constituency) (s : State) (ask : Ask) (q : List ℕ) → IsAsBefore (con_state s q) (con_state (after_put setup s ask) q)
-after_put-as_before setup s (Query station rev note) q = without_lot-as_before s (con_of setup station) q
+after_put-as_before setup s (Query station rev note) q = without_lot-as_before s (con_of_station setup station) q
 after_put-as_before setup s other q = (refl, refl)
 
 after-as_before : (setup : List Constituency) (s : State) (ask : Ask) (d : Result Change Refusal) (q : List ℕ) → IsAsBefore (con_state s q) (con_state (after setup s ask d) q)
@@ -196,7 +195,7 @@ after-as_before setup s ask (Ok (PutReturn standing)) q =
     subst (IsAsBefore (con_state s q)) (ap (λ cons. con_state (record put { cons = cons }) q) (sym (with_return-cons put (station_named ask) standing))) (after_put-as_before setup s ask q)
 after-as_before setup s ask other q = (refl, refl)
 
-step-stays : (named : Option (List ℕ)) (setup : List Constituency) (s : State) (ask : Ask) (r : Result Reply Refusal) (t : State) → IsStepAt named setup s ask r t → AreStaying s t
+step-stays : (named : Option (List ℕ)) (setup : List Constituency) (s : State) (ask : Ask) (r : Result Reply Refusal) (t : State) → IsStepSeenAt named setup s ask (seen r) t → AreStaying s t
 step-stays None setup s ask r t is =
     subst (AreStaying s) (sym is.1) (λ q. stays-as_before (con_state s q) (con_state (after_return setup s ask) q) (after-as_before setup s ask (decided_in setup s ask) q))
 step-stays (Some code) setup s ask r t is = con-stays (constituency_with code setup) s ask r t is
@@ -334,7 +333,7 @@ con-adds laws setup s ask r t key other ok lawful named known step code con edit
 
 -- what stands on record after a step stood there before, or the request put it there
 step-adds : AllotmentLaws → (setup : List Constituency) (s : State) (ask : Ask) (r : Result Reply Refusal) (t : State) → IsSetup setup → IsLawfulState setup s
-    → (named : Option (List ℕ)) → con_named ask ≡ named → IsStepAt named setup s ask r t
+    → (named : Option (List ℕ)) → con_named ask ≡ named → IsStepSeenAt named setup s ask (seen r) t
     → (code : List ℕ) (con : Constituency) (edition : ℕ) (seats : List ℕ) → constituency_with code setup ≡ Some con → IsOnRecord t con.code edition seats
     → IsOnRecord s con.code edition seats ⊎ IsReopened con edition seats s ask r
 step-adds laws setup s ask r t ok lawful None named step code con edition seats found on =

@@ -17,17 +17,17 @@ use Rattle.tally_rules.specs.Text.{is_note}
 use Rattle.tally_rules.specs.declared.constituency.Station.{Station}
 use Rattle.tally_returns.specs.Checks.{check, first_refusal, refused_or}
 use Rattle.tally_returns.specs.Counts.{VoteCounts, same_counts}
-use Rattle.tally_returns.specs.Decide.{decided_return, limits_of, lodge_change, moved, put_next}
+use Rattle.tally_returns.specs.Decide.{decided_return, limits_of, lodge_change, decided_move, put_next}
 use Rattle.tally_returns.specs.Lawful.{IsLawful, may_stand}
 use Rattle.tally_machine.specs.LawfulState.{IsLawfulIn, IsLawfulState, IsUnderPlaces}
-use Rattle.tally_returns.specs.Lodge.{StationLimits, admitted, counts_checks, unless_refused}
+use Rattle.tally_returns.specs.Lodge.{StationLimits, admitted, counts_checks}
 use Rattle.tally_returns.specs.Moves.{close_checks, closed, correct_checks, corrected, counts_checks_at, last_revision, may_close, may_correct, may_query, move_checks, queried, query_checks}
 use Rattle.tally_returns.specs.Named.{BringsCode}
 use Rattle.tally_machine.specs.Outcome.{IsLawfulCon, IsLawfulGone, IsLawfulPast, MayStand}
 use Rattle.tally_returns.specs.Progress.{is_closed}
 use Rattle.tally_returns.specs.Return.{StationReturn, Returns}
 use Rattle.tally_returns.specs.State.{State, ConState, con_state, opening, opening_con, opening_cons, stations_of, last_edition}
-use Rattle.tally_returns.specs.Step.{after, after_return, con_of, decided_in, is_certified, with_return, without_lot}
+use Rattle.tally_machine.specs.Step.{after, after_return, con_of_station, decided_in, is_certified, with_return, without_lot}
 use Rattle.tally_returns.specs.View.{gone_candidate, gone_candidates, past_records, view_of, view_with}
 use Rattle.tally_returns.specs.declared.ask.Ask.{Ask}
 use Rattle.tally_returns.specs.declared.ask.Ask.TheVariants.{Certify, Close, Correct, Draw, Lodge, Query, Reopen, ShowCon, ShowProgress, ShowReturn, Vacate}
@@ -187,7 +187,7 @@ move-started certified standing rev may_start none =
 
 moved-from : (certified : Bool) (found : Option StationReturn) (rev : ℕ) (may_start : Status → Bool) (checks : List (Option Refusal)) (next : StationReturn → StationReturn) (r : StationReturn)
     → (first_refusal checks ≡ None → first_refusal (move_checks certified found rev may_start) ≡ None)
-    → moved checks found next ≡ Ok (PutReturn r) → IsMoved certified found may_start
+    → decided_move checks found next ≡ Ok (PutReturn r) → IsMoved certified found may_start
 moved-from certified found rev may_start checks next r rest is = go (first_refusal checks) found refl refl is
   where
     go : (refused : Option Refusal) (f : Option StationReturn) → first_refusal checks ≡ refused → found ≡ f
@@ -205,7 +205,7 @@ append-rest (Some e ∷ xs) ys none = cc
 
 -- a query moves a return only where the constituency is not certified
 query-open : (station : Option StationLimits) (certified : Bool) (found : Option StationReturn) (rev : ℕ) (note : List ℕ) (r : StationReturn)
-    → moved (query_checks station certified found rev note) found (queried note) ≡ Ok (PutReturn r) → certified ≡ false
+    → decided_move (query_checks station certified found rev note) found (queried note) ≡ Ok (PutReturn r) → certified ≡ false
 query-open station certified found rev note r is =
     let moves = move_checks certified found rev may_query in
     (moved-from certified found rev may_query (query_checks station certified found rev note) (queried note) r
@@ -224,14 +224,14 @@ close-not_closed Corrected is = refl
 close-not_closed Closed is = cc
 
 correct-open : (station : Option StationLimits) (certified : Bool) (found : Option StationReturn) (rev : ℕ) (slip : List ℕ) (counts : VoteCounts) (r : StationReturn)
-    → moved (correct_checks station certified found rev counts) found (corrected slip counts) ≡ Ok (PutReturn r) → closed_now found ≡ false
+    → decided_move (correct_checks station certified found rev counts) found (corrected slip counts) ≡ Ok (PutReturn r) → closed_now found ≡ false
 correct-open station certified found rev slip counts r is =
     let m = moved-from certified found rev may_correct (correct_checks station certified found rev counts) (corrected slip counts) r
     (append-rest (counts_checks_at station counts) (move_checks certified found rev may_correct)) is in
     ap closed_now m.found_is ∙ correct-not_closed m.standing.status m.started
 
 close-open : (station : Option StationLimits) (certified : Bool) (found : Option StationReturn) (rev : ℕ) (r : StationReturn)
-    → moved (close_checks station certified found rev) found closed ≡ Ok (PutReturn r) → closed_now found ≡ false
+    → decided_move (close_checks station certified found rev) found closed ≡ Ok (PutReturn r) → closed_now found ≡ false
 close-open station certified found rev r is =
     let m = moved-from certified found rev may_close (close_checks station certified found rev) closed r
     (passed-rest (is_some station) NoStation (move_checks certified found rev may_close)) is in
@@ -239,14 +239,14 @@ close-open station certified found rev r is =
 
 -- a return is lodged only where none stands
 lodge-open : (limits : StationLimits) (found : Option StationReturn) (slip : List ℕ) (counts : VoteCounts) (r : StationReturn)
-    → lodge_change slip counts (unless_refused (first_refusal (counts_checks limits counts)) (admitted found slip counts)) ≡ Ok (PutReturn r) → closed_now found ≡ false
+    → lodge_change slip counts (refused_or (first_refusal (counts_checks limits counts)) (admitted found slip counts)) ≡ Ok (PutReturn r) → closed_now found ≡ false
 lodge-open limits found slip counts r is = go (first_refusal (counts_checks limits counts)) found is
   where
     again : (same : Bool) (rev : ℕ) (e : Refusal) → lodge_change slip counts (if same then Ok (reply.Same rev) else Err e) ≢ Ok (PutReturn r)
     again true rev e ok = cc
     again false rev e ok = cc
 
-    go : (refused : Option Refusal) (f : Option StationReturn) → lodge_change slip counts (unless_refused refused (admitted f slip counts)) ≡ Ok (PutReturn r) → closed_now f ≡ false
+    go : (refused : Option Refusal) (f : Option StationReturn) → lodge_change slip counts (refused_or refused (admitted f slip counts)) ≡ Ok (PutReturn r) → closed_now f ≡ false
     go (Some e) f ok = cc
     go None None ok = refl
     go None (Some standing) ok = absurd (again (pointwise nat_eq standing.slip slip && same_counts standing.counts counts) standing.rev (Differs standing.rev) ok)
@@ -311,11 +311,11 @@ open-put setup s station certified ask r is_setup lawful placed is_open =
 -- a return that is queried, with which the lot goes
 query-put : (setup : List Constituency) (s : State) (station : List ℕ) (ask : Ask) (r : StationReturn) → IsSetup setup → IsLawfulState setup s
     → IsPlaced setup station (is_certified setup s station) (fin.get s.returns station) ask r → is_certified setup s station ≡ false
-    → IsLawfulState setup (with_return (without_lot s (con_of setup station)) (Some station) r)
+    → IsLawfulState setup (with_return (without_lot s (con_of_station setup station)) (Some station) r)
 query-put setup s station ask r is_setup lawful placed is_open =
     let con = placed.con in
     let own = station_with-con setup station con placed.place is_setup placed.is in
-    let of : con_of setup station ≡ Some con.code = ap (option_map (λ (place : Constituency × Station). place.0.code)) placed.is in
+    let of : con_of_station setup station ≡ Some con.code = ap (option_map (λ (place : Constituency × Station). place.0.code)) placed.is in
     let not_certified : (con_state s con.code).certified ≡ false = sym (ap (λ code. option_map_or (λ (q : List ℕ). (con_state s q).certified) code false) of) ∙ is_open in
     subst (λ code. IsLawfulState setup (with_return (without_lot s code) (Some station) r)) (sym of)
     (put-lawful setup s (with_return (without_lot s (Some con.code)) (Some station) r) con placed.place station r is_setup lawful placed.is placed.lawful not_certified

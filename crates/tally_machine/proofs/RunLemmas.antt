@@ -2,8 +2,7 @@
 use Rattle.std.proofs.Common.{◌≡◌, ◌+◌, ◌<◌, ◌∷◌, ◌∙◌, ℕ, zero, suc, List, [], Bool, true, false, cond, Some, Result, refl, sym, ap, subst, arith, add-one, filter, slice_get}
 use Rattle.tally_rules.specs.Constituency.{Constituency}
 use Rattle.tally_returns.specs.State.{State}
-use Rattle.tally_machine.specs.Replies.{IsRun, is_act}
-use Rattle.tally_machine.specs.Runs.{IsSameCommand, acting_asks, kept}
+use Rattle.tally_machine.specs.Runs.{IsRun, is_act, IsSameCommand, acting_asks, kept}
 use Rattle.tally_returns.specs.declared.ask.Ask.{Ask}
 use Rattle.tally_returns.specs.declared.refusal.Refusal.{Refusal}
 use Rattle.tally_returns.specs.declared.reply.Reply.{Reply}

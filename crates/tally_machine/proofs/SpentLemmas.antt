@@ -10,17 +10,16 @@ use Rattle.std.proofs.lemmas.Bool.{eqb-true, eq-eqb, or_right}
 use Rattle.tally_rules.specs.Constituency.{Constituency}
 use Rattle.tally_rules.specs.Setup.{constituency_with}
 use Rattle.tally_rules.specs.Text.{is_note}
-use Rattle.tally_machine.specs.Certification.{ListFound, RefusedOr, certificate_of, count_checks, gone_of, has_candidate, holders_of, list_found, reopened, reopen_checks, vacate_checks, vacated, vacates}
+use Rattle.tally_machine.specs.Certification.{ListFound, RefusedOr, certificate_of, count_checks, gone_of, has_candidate, holders_of, list_found, reopened, reopen_checks, vacate_checks, vacancy, vacates}
 use Rattle.tally_returns.specs.Checks.{check, first_refusal, refused_or}
 use Rattle.tally_returns.specs.GoneCandidate.{GoneCandidate}
 use Rattle.tally_returns.specs.PastSeats.{PastSeats}
 use Rattle.tally_machine.specs.Holders.{is_among, newcomer}
 use Rattle.tally_returns.specs.View.{View, gone_candidate}
 use Rattle.tally_returns.specs.State.{State, ConState, GoneCandidates, con_state, last_edition}
-use Rattle.tally_machine.specs.ConStep.{ConChange, lot_set, certified_with, open_again, gone_for_good, changed, changed_by}
+use Rattle.tally_machine.specs.Step.{ConChange, lot_set, certified_with, open_again, gone_for_good, changed, changed_by, IsReturnStepSeen, IsAnswered, IsStep, seen}
 use Rattle.tally_returns.specs.Named.{station_named}
-use Rattle.tally_machine.specs.Replies.{IsReturnStepSeen, IsAnswered, IsStep, is_act, seen}
-use Rattle.tally_machine.specs.Runs.{IsSameCommand}
+use Rattle.tally_machine.specs.Runs.{is_act, IsSameCommand}
 use Rattle.tally_returns.specs.AskSeen.{AskSeen, ask_seen}
 use Rattle.tally_returns.specs.AskSeen as seen_ask
 use Rattle.tally_returns.specs.declared.ask.Ask.{Ask}
@@ -31,7 +30,7 @@ use Rattle.tally_returns.specs.declared.reply.Reply.{Reply}
 use Rattle.tally_machine.proofs.ActLemmas.{IsConAct, changes, con-acted, is_act-return, not_accepted-idle}
 use Rattle.tally_machine.proofs.ConStateLemmas.{same_code, con_state-changed, con-code}
 use Rattle.tally_returns.proofs.DecideLemmas.{passed-first, passed-rest}
-use Rattle.tally_returns.proofs.LifeLemmas.{rev_at, named_rev, acts, acts-stood, acts-rises}
+use Rattle.tally_machine.proofs.LifeLemmas.{rev_at, named_rev, acts, acts-stood, acts-rises}
 use Rattle.tally_machine.proofs.OnwardLemmas.{IsOnward, answered-onward}
 
 -- what a command acts on: a revision of a station's return, an edition of a constituency, the candidate at a place of a list in a
@@ -243,7 +242,7 @@ vacate-gone : (con : Constituency) (view : View) (list : List ℕ) (place : ℕ)
 vacate-gone con view list place note change is = go (list_found con list) refl is
   where
     checked : (f : ListFound) (refused : Option Refusal) → first_refusal (vacate_checks view (Some f) place note) ≡ refused → list_found con list ≡ Some f
-        → Ok change ≡ changed_by (λ (v : GoneCandidate × Option ℕ). gone_for_good v.0 v.1) (refused_or refused (vacated view (Some f) place note)) → IsVacated con view list place change
+        → Ok change ≡ changed_by (λ (v : GoneCandidate × Option ℕ). gone_for_good v.0 v.1) (refused_or refused (vacancy view (Some f) place note)) → IsVacated con view list place change
     checked f (Some e) none at gives = cc
     checked f None none at gives =
         let gone = is_among place (gone_of view f.place) in
@@ -260,7 +259,7 @@ vacate-gone con view list place note change is = go (list_found con list) refl i
         }
 
     go : (found : Option ListFound) → list_found con list ≡ found
-        → Ok change ≡ changed_by (λ (v : GoneCandidate × Option ℕ). gone_for_good v.0 v.1) (refused_or (first_refusal (vacate_checks view found place note)) (vacated view found place note))
+        → Ok change ≡ changed_by (λ (v : GoneCandidate × Option ℕ). gone_for_good v.0 v.1) (refused_or (first_refusal (vacate_checks view found place note)) (vacancy view found place note))
         → IsVacated con view list place change
     go None at gives = cc
     go (Some f) at gives = checked f (first_refusal (vacate_checks view (Some f) place note)) refl at gives

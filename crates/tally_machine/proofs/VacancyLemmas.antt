@@ -7,7 +7,7 @@ use Rattle.tally_rules.specs.Constituency.{Constituency, ListEntry}
 use Rattle.tally_rules.specs.Text.{is_note}
 use Rattle.tally_contest.specs.Allotment.{Rule, divisors, hare, IsAllotment}
 use Rattle.tally_contest.specs.Poll.{Poll}
-use Rattle.tally_machine.specs.Certification.{ListFound, found_from, gone_of, has_candidate, holders_of, list_found, vacate_checks, vacated, vacates}
+use Rattle.tally_machine.specs.Certification.{ListFound, found_from, gone_of, has_candidate, holders_of, list_found, vacate_checks, vacancy, vacates}
 use Rattle.tally_returns.specs.Checks.{check, first_refusal, refused_or}
 use Rattle.tally_machine.specs.Holders.{holders, is_among, newcomer}
 use Rattle.tally_returns.specs.View.{FitsView, View}
@@ -80,12 +80,12 @@ last-two candidate note certified stays holds a b c =
 rest-is : (con : Constituency) (view : View) (code : List ℕ) (place : ℕ) (note : List ℕ) (f : ListFound) → list_found con code ≡ Some f → has_candidate place f ≡ true → is_note note ≡ true → view.certified ≡ true
     → (refusal : Option Refusal)
     → first_refusal (check (not (is_among place (gone_of view f.place))) AlreadyGone ∷ check (is_among place (holders_of view f (gone_of view f.place))) NotHolder ∷ []) ≡ refusal
-    → vacates con view code place note ≡ refused_or refusal (vacated view (Some f) place note)
+    → vacates con view code place note ≡ refused_or refusal (vacancy view (Some f) place note)
 rest-is con view code place note f is candidate good certified refusal gives =
     let stays = not (is_among place (gone_of view f.place)) in
     let holds = is_among place (holders_of view f (gone_of view f.place)) in
-    ap (λ (o : Option ListFound). refused_or (first_refusal (vacate_checks view o place note)) (vacated view o place note)) is
-    ∙ ap (λ (r : Option Refusal). refused_or r (vacated view (Some f) place note)) (last-two (has_candidate place f) (is_note note) view.certified stays holds candidate good certified ∙ gives)
+    ap (λ (o : Option ListFound). refused_or (first_refusal (vacate_checks view o place note)) (vacancy view o place note)) is
+    ∙ ap (λ (r : Option Refusal). refused_or r (vacancy view (Some f) place note)) (last-two (has_candidate place f) (is_note note) view.certified stays holds candidate good certified ∙ gives)
 
 pub vacates-gone : (con : Constituency) (view : View) (code : List ℕ) (place : ℕ) (note : List ℕ) (f : ListFound) → list_found con code ≡ Some f → has_candidate place f ≡ true → is_note note ≡ true → view.certified ≡ true
     → is_among place (gone_of view f.place) ≡ true → vacates con view code place note ≡ Err AlreadyGone

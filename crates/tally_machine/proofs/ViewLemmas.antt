@@ -15,7 +15,7 @@ use Rattle.tally_rules.specs.Setup.{all_stations, constituency_with, station_wit
 use Rattle.tally_rules.specs.Threshold.{IsWithinVotes}
 use Rattle.tally_rules.specs.declared.constituency.Station.{Station}
 use Rattle.tally_contest.specs.internal.Sums.{sum_before}
-use Rattle.tally_machine.specs.ConStep.{IsView}
+use Rattle.tally_machine.specs.Step.{IsView}
 use Rattle.tally_returns.specs.Counts.{VoteCounts, all_votes}
 use Rattle.tally_machine.specs.LawfulState.{IsLawfulState}
 use Rattle.tally_returns.specs.Lodge.{StationLimits}

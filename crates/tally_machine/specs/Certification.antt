@@ -15,13 +15,6 @@ use Rattle.tally_machine.specs.Outcome.{Outcome, nobody, lot_missing, allotted, 
 use Rattle.tally_returns.specs.declared.refusal.Refusal.{Refusal}
 use Rattle.tally_returns.specs.declared.refusal.Refusal.TheVariants.{NoCandidate, BadNote, Certified, NotCertified, Stale, Exhausted, NotAllClosed, NoEligible, LotStands, LotNotNeeded, LotWrongGroup, LotMissing, AlreadyGone, NotHolder}
 
--- the checks on the edition that a command names
-abbrev pub edition_checks : View → ℕ → List (Option Refusal)
-edition_checks view edition =
-    check (view.edition == edition) (Stale view.edition)
-    ∷ check (not (view.edition == last_edition)) Exhausted
-    ∷ []
-
 -- the checks of Draw and of Certify before the votes are looked at
 abbrev pub count_checks : View → ℕ → List (Option Refusal)
 count_checks view edition =
@@ -158,9 +151,9 @@ vacate_checks view found place note =
     ∷ []
 
 -- the candidate is gone, and this is the one who now moves in
-abbrev pub vacated : View → Option ListFound → ℕ → List ℕ → Result (GoneCandidate × Option ℕ) Refusal
-vacated view None place note = Err NoCandidate
-vacated view (Some list) place note = Ok (
+abbrev pub vacancy : View → Option ListFound → ℕ → List ℕ → Result (GoneCandidate × Option ℕ) Refusal
+vacancy view None place note = Err NoCandidate
+vacancy view (Some list) place note = Ok (
   record { list = list.place; place = place; note = note },
   newcomer (holders_of view list (gone_of view list.place)) (holders_of view list (place ∷ gone_of view list.place)),
 )
@@ -169,4 +162,4 @@ vacated view (Some list) place note = Ok (
 abbrev pub vacates : Constituency → View → List ℕ → ℕ → List ℕ → Result (GoneCandidate × Option ℕ) Refusal
 vacates con view code place note =
     let found = list_found con code in
-    refused_or (first_refusal (vacate_checks view found place note)) (vacated view found place note)
+    refused_or (first_refusal (vacate_checks view found place note)) (vacancy view found place note)

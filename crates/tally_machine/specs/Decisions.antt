@@ -12,7 +12,7 @@ use Rattle.tally_returns.specs.PastSeats.{PastSeats}
 use Rattle.tally_returns.specs.Named.{con_named, station_named}
 use Rattle.tally_returns.specs.Return.{StationReturn}
 use Rattle.tally_returns.specs.State.{State, con_state, last_edition, stations_of}
-use Rattle.tally_returns.specs.Step.{after}
+use Rattle.tally_machine.specs.Step.{after, ConChange, Decides, IsView, after_change, changed, gone_for_good, open_again, Answer, IsStepSeen, con_answer, lodged, moved, return_shown, same}
 use Rattle.tally_returns.specs.View.{View, past_records}
 use Rattle.tally_returns.specs.declared.ask.Ask.{Ask}
 use Rattle.tally_returns.specs.declared.ask.Ask.TheVariants.{Lodge, Query, Correct, Close, ShowReturn}
@@ -20,10 +20,8 @@ use Rattle.tally_returns.specs.declared.change.Change.{Change}
 use Rattle.tally_returns.specs.declared.change.Change.TheVariants.{Same, PutReturn}
 use Rattle.tally_returns.specs.declared.refusal.Refusal.{Refusal}
 use Rattle.tally_returns.specs.declared.refusal.Refusal.TheVariants.{Memory, NoConstituency, NoStation, Store}
-use Rattle.tally_machine.specs.ConStep.{ConChange, Decides, IsView, after_change, changed, gone_for_good, open_again}
 use Rattle.tally_machine.specs.Kinds.{IsAnswerTo}
 use Rattle.tally_machine.specs.LawfulState.{IsLawfulState}
-use Rattle.tally_machine.specs.Replies.{Answer, IsStepSeen, con_answer, lodged, moved, return_shown, same}
 
 -- ---- commands on returns
 

@@ -2,9 +2,9 @@ pub mod Holders
 pub mod Outcome
 pub mod Certification
 pub mod LawfulState
-pub mod ConStep
-pub mod Replies
+pub mod Step
 pub mod Runs
 pub mod Decisions
 pub mod Records
 pub mod Kinds
+pub mod LawStatements

@@ -12,10 +12,10 @@ use Rattle.tally_returns.specs.declared.ask.Ask.{Ask}
 use Rattle.tally_returns.specs.declared.refusal.Refusal.{Refusal}
 use Rattle.tally_returns.specs.declared.reply.Reply.{Reply}
 use Rattle.tally_returns.specs.declared.reply.Reply.TheVariants.{Edition}
-use Rattle.tally_machine.specs.ConStep.{IsView}
+use Rattle.tally_machine.specs.Step.{IsView, IsAnswered}
 use Rattle.tally_machine.specs.LawfulState.{IsLawfulState}
 use Rattle.tally_machine.specs.Outcome.{IsCertificate}
-use Rattle.tally_machine.specs.Replies.{IsAnswered, IsRun}
+use Rattle.tally_machine.specs.Runs.{IsRun}
 
 -- of the constituency of this code, the certificate of this edition is on record with these seats
 abbrev pub IsOnRecord : State → List ℕ → ℕ → List ℕ → Type 0

@@ -12,11 +12,8 @@ ghost use Rattle.tally_returns.specs.declared.refusal.Refusal.TheVariants.{Memor
 use crate::list_order::{list_places, names_group};
 use std::alloc::Global;
 use tally_allot::{AllotFault, ListSet, allot};
-use tally_returns::{ConView, Past, Refusal};
+use tally_returns::{ConView, LAST_EDITION, Past, Refusal};
 use tally_rules::{Code, Constituency, good_note};
-
-/// The last edition that a constituency can have.
-const LAST_EDITION: u32 = 9_999;
 
 /// A certificate that is no longer in force.
 #[derive(Debug, Drop)]

@@ -1,7 +1,7 @@
 //! What is decided of a command on a constituency.
 
 ghost use Rattle.std.specs.Prelude.{◌≡◌, Some, Ok, Err, IfOk, IfErr};
-ghost use Rattle.tally_machine.specs.ConStep.{ConChange, Decides, con_change};
+ghost use Rattle.tally_machine.specs.Step.{ConChange, Decides, con_change};
 ghost use Rattle.tally_returns.specs.Named.{con_named};
 ghost use Rattle.tally_machine.specs.Outcome.{WhereLawful};
 ghost use Rattle.tally_returns.specs.View.{FitsView};

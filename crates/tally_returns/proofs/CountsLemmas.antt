@@ -6,8 +6,8 @@ use Rattle.std.specs.Cmp.{first_so, second_so}
 use Rattle.std.proofs.lemmas.Bool.{leb-true, eqb-true}
 use Rattle.std.proofs.lemmas.List.Sums.{sum_by-cons}
 use Rattle.std.proofs.Common.{refl, Ok, Option}
-use Rattle.tally_returns.specs.Checks.{check, first_refusal}
-use Rattle.tally_returns.specs.Lodge.{StationLimits, decided_at, unless_refused, admitted}
+use Rattle.tally_returns.specs.Checks.{check, first_refusal, refused_or}
+use Rattle.tally_returns.specs.Lodge.{StationLimits, decided_at, admitted}
 use Rattle.tally_returns.specs.Return.{StationReturn}
 use Rattle.tally_returns.specs.declared.refusal.Refusal.TheVariants.{BadCounts, TooManyVotes}
 use Rattle.tally_returns.specs.declared.reply.LodgeReply.TheVariants.{Lodged}
@@ -35,7 +35,7 @@ pub are_counts-lodged : (station : StationLimits) (found : Option StationReturn)
 are_counts-lodged station found slip c rev e = go (are_counts station.lists c) e
   where
     go : (b : Bool)
-        → unless_refused (first_refusal (check b BadCounts ∷ check (nat_le (all_votes c) station.electors) TooManyVotes ∷ [])) (admitted found slip c) ≡ Ok (Lodged rev)
+        → refused_or (first_refusal (check b BadCounts ∷ check (nat_le (all_votes c) station.electors) TooManyVotes ∷ [])) (admitted found slip c) ≡ Ok (Lodged rev)
         → b ≡ true
     go true e = refl
     go false e = cc

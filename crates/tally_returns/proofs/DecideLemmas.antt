@@ -13,10 +13,10 @@ use Rattle.tally_rules.specs.Text.{is_note}
 use Rattle.tally_returns.specs.Checks.{check, first_refusal, refused_or}
 use Rattle.tally_returns.specs.Counts.{VoteCounts, are_counts, all_votes, same_counts}
 use Rattle.tally_returns.specs.Return.{StationReturn, first_return}
-use Rattle.tally_returns.specs.Lodge.{StationLimits, counts_checks, unless_refused, admitted}
+use Rattle.tally_returns.specs.Lodge.{StationLimits, counts_checks, admitted}
 use Rattle.tally_returns.specs.Moves.{last_revision, may_query, may_correct, may_close, move_checks, counts_checks_at, query_checks, correct_checks, close_checks, queried, corrected, closed}
 use Rattle.tally_returns.specs.Lawful.{IsLawful, PutsLawful, is_kept_note, may_stand}
-use Rattle.tally_returns.specs.Decide.{IsUnlessMemory, decided_return, limits_named, limits_of, lodge_change, moved, put_next, station_in}
+use Rattle.tally_returns.specs.Decide.{IsUnlessMemory, decided_return, limits_named, limits_of, lodge_change, decided_move, put_next, station_in}
 use Rattle.tally_returns.specs.Named.{BringsCode, station_named}
 use Rattle.tally_returns.specs.declared.returns.Status.{Status}
 use Rattle.tally_returns.specs.declared.ask.Ask.{Ask}
@@ -98,7 +98,7 @@ may_stand-kept (byte ∷ note) is = is
 
 -- a decision to move a return, by what its checks say
 moved-lawful : (station : StationLimits) (checks : List (Option Refusal)) (found : Option StationReturn) (next : StationReturn → StationReturn) (change : Change)
-    → moved checks found next ≡ Ok change
+    → decided_move checks found next ≡ Ok change
     → ((standing : StationReturn) → found ≡ Some standing → first_refusal checks ≡ None → IsLawful station (next standing))
     → PutsLawful station change
 moved-lawful station checks found next change is lawful = go (first_refusal checks) found refl refl is
@@ -111,7 +111,7 @@ moved-lawful station checks found next change is lawful = go (first_refusal chec
         let put : PutReturn (next standing) ≡ change = cc in subst (PutsLawful station) put (lawful standing some none)
 
 lodged-lawful : (station : StationLimits) (found : Option StationReturn) (slip : List ℕ) (counts : VoteCounts) (change : Change) → is_code slip ≡ true
-    → lodge_change slip counts (unless_refused (first_refusal (counts_checks station counts)) (admitted found slip counts)) ≡ Ok change
+    → lodge_change slip counts (refused_or (first_refusal (counts_checks station counts)) (admitted found slip counts)) ≡ Ok change
     → PutsLawful station change
 lodged-lawful station found slip counts change code is = go (first_refusal (counts_checks station counts)) found refl is
   where
@@ -120,7 +120,7 @@ lodged-lawful station found slip counts change code is = go (first_refusal (coun
     again false rev e ok = cc
 
     go : (refused : Option Refusal) (f : Option StationReturn) → first_refusal (counts_checks station counts) ≡ refused
-        → lodge_change slip counts (unless_refused refused (admitted f slip counts)) ≡ Ok change → PutsLawful station change
+        → lodge_change slip counts (refused_or refused (admitted f slip counts)) ≡ Ok change → PutsLawful station change
     go (Some e) f none ok = cc
     go None None none ok =
         let put : PutReturn (first_return slip counts) ≡ change = cc in
@@ -204,14 +204,14 @@ lawful-last station found lawful = λ standing is. (lawful standing is).last
 -- a correction whose counts were refused
 pub correct-refused : (station : StationLimits) (certified : Bool) (found : Option StationReturn) (rev : ℕ) (slip : List ℕ) (counts : VoteCounts) (e : Refusal)
     → first_refusal (counts_checks_at (Some station) counts) ≡ Some e
-    → moved (correct_checks (Some station) certified found rev counts) found (corrected slip counts) ≡ Err e
+    → decided_move (correct_checks (Some station) certified found rev counts) found (corrected slip counts) ≡ Err e
 correct-refused station certified found rev slip counts e some =
     ap (λ r. refused_or r (Ok (put_next found (corrected slip counts)))) (first_refusal-append_some (counts_checks_at (Some station) counts) (move_checks certified found rev may_correct) e some)
 
 -- a correction whose counts passed
 pub correct-passed : (station : StationLimits) (certified : Bool) (found : Option StationReturn) (rev : ℕ) (slip : List ℕ) (counts : VoteCounts)
     → first_refusal (counts_checks_at (Some station) counts) ≡ None
-    → moved (correct_checks (Some station) certified found rev counts) found (corrected slip counts) ≡ moved (move_checks certified found rev may_correct) found (corrected slip counts)
+    → decided_move (correct_checks (Some station) certified found rev counts) found (corrected slip counts) ≡ decided_move (move_checks certified found rev may_correct) found (corrected slip counts)
 correct-passed station certified found rev slip counts none =
     ap (λ r. refused_or r (Ok (put_next found (corrected slip counts)))) (first_refusal-append_none (counts_checks_at (Some station) counts) (move_checks certified found rev may_correct) none)
 

@@ -6,7 +6,7 @@ use Rattle.tally_rules.specs.Constituency.{Constituency}
 use Rattle.tally_rules.specs.declared.constituency.Station.{Station}
 use Rattle.tally_returns.specs.Return.{StationReturn, first_return}
 use Rattle.tally_returns.specs.Counts.{VoteCounts}
-use Rattle.tally_returns.specs.Lodge.{StationLimits, decided}
+use Rattle.tally_returns.specs.Lodge.{StationLimits, decided_at_code}
 use Rattle.tally_returns.specs.Moves.{query_checks, correct_checks, close_checks, queried, corrected, closed}
 use Rattle.tally_returns.specs.Named.{station_named}
 use Rattle.tally_returns.specs.Checks.{check, first_refusal, refused_or}
@@ -45,16 +45,17 @@ abbrev pub put_next : Option StationReturn → (StationReturn → StationReturn)
 put_next None next = Same
 put_next (Some standing) next = PutReturn (next standing)
 
-abbrev pub moved : List (Option Refusal) → Option StationReturn → (StationReturn → StationReturn) → Result Change Refusal
-moved checks found next = refused_or (first_refusal checks) (Ok (put_next found next))
+-- the refusal of the first check that fails, or else the next return
+abbrev pub decided_move : List (Option Refusal) → Option StationReturn → (StationReturn → StationReturn) → Result Change Refusal
+decided_move checks found next = refused_or (first_refusal checks) (Ok (put_next found next))
 
 -- what is decided at a station, by whether its constituency is certified and by the return that it has. Other commands change no
 -- return.
 abbrev pub decided_return : Option StationLimits → Bool → Option StationReturn → Ask → Result Change Refusal
-decided_return station certified found (Lodge code slip counts) = lodge_change slip counts (decided station found slip counts)
-decided_return station certified found (Query code rev note) = moved (query_checks station certified found rev (string_bytes note)) found (queried (string_bytes note))
-decided_return station certified found (Correct code rev slip counts) = moved (correct_checks station certified found rev counts) found (corrected slip counts)
-decided_return station certified found (Close code rev) = moved (close_checks station certified found rev) found closed
+decided_return station certified found (Lodge code slip counts) = lodge_change slip counts (decided_at_code station found slip counts)
+decided_return station certified found (Query code rev note) = decided_move (query_checks station certified found rev (string_bytes note)) found (queried (string_bytes note))
+decided_return station certified found (Correct code rev slip counts) = decided_move (correct_checks station certified found rev counts) found (corrected slip counts)
+decided_return station certified found (Close code rev) = decided_move (close_checks station certified found rev) found closed
 decided_return station certified found (ShowReturn code) = refused_or (first_refusal (show_checks station found)) (Ok Same)
 decided_return station certified found other = Ok Same
 

@@ -10,7 +10,6 @@ pub mod Moves
 pub mod Lawful
 pub mod Decide
 pub mod State
-pub mod Step
 pub mod Progress
 pub mod GoneCandidate
 pub mod PastSeats

@@ -4,7 +4,7 @@ use Rattle.std.specs.Cmp.Lexicographic.{pointwise}
 use Rattle.std.specs.FinMap.{get, insert}
 use Rattle.tally_returns.specs.Counts.{VoteCounts, are_counts, all_votes, same_counts}
 use Rattle.tally_returns.specs.Return.{StationReturn, Returns, first_return}
-use Rattle.tally_returns.specs.Checks.{check, first_refusal}
+use Rattle.tally_returns.specs.Checks.{check, first_refusal, refused_or}
 use Rattle.tally_returns.specs.declared.refusal.Refusal.{Refusal}
 use Rattle.tally_returns.specs.declared.refusal.Refusal.TheVariants.{NoStation, BadCounts, TooManyVotes, Differs}
 use Rattle.tally_returns.specs.declared.reply.LodgeReply.{LodgeReply}
@@ -36,18 +36,14 @@ abbrev pub admitted : Option StationReturn → List ℕ → VoteCounts → Resul
 admitted None slip counts = Ok (Lodged 1)
 admitted (Some standing) slip counts = again standing slip counts
 
-abbrev pub unless_refused : Option Refusal → Result LodgeReply Refusal → Result LodgeReply Refusal
-unless_refused None answer = answer
-unless_refused (Some refusal) answer = Err refusal
-
 -- what is answered at a station
 abbrev pub decided_at : StationLimits → Option StationReturn → List ℕ → VoteCounts → Result LodgeReply Refusal
-decided_at station found slip counts = unless_refused (first_refusal (counts_checks station counts)) (admitted found slip counts)
+decided_at station found slip counts = refused_or (first_refusal (counts_checks station counts)) (admitted found slip counts)
 
 -- what is answered at a code, which may be no station
-abbrev pub decided : Option StationLimits → Option StationReturn → List ℕ → VoteCounts → Result LodgeReply Refusal
-decided None found slip counts = Err NoStation
-decided (Some station) found slip counts = decided_at station found slip counts
+abbrev pub decided_at_code : Option StationLimits → Option StationReturn → List ℕ → VoteCounts → Result LodgeReply Refusal
+decided_at_code None found slip counts = Err NoStation
+decided_at_code (Some station) found slip counts = decided_at station found slip counts
 
 -- the returns after an answer: one more where it was lodged
 abbrev pub after_lodge : Returns → List ℕ → List ℕ → VoteCounts → Result LodgeReply Refusal → Returns
@@ -57,7 +53,7 @@ after_lodge returns station slip counts (Err refusal) = returns
 
 -- what Lodge answers
 abbrev pub lodge_answer : Stations → Returns → List ℕ → List ℕ → VoteCounts → Result LodgeReply Refusal
-lodge_answer stations returns station slip counts = decided (stations station) (get returns station) slip counts
+lodge_answer stations returns station slip counts = decided_at_code (stations station) (get returns station) slip counts
 
 -- the returns that Lodge leaves
 abbrev pub lodge : Stations → Returns → List ℕ → List ℕ → VoteCounts → Returns

@@ -4,7 +4,7 @@ ghost use Rattle.std.specs.Prelude.{◌≡◌, ◌≤◌, ◌∷◌, [], Some, N
 ghost use Rattle.std.specs.Option.{ForSome, option_copied};
 ghost use Rattle.tally_rules.specs.Text.{is_note};
 ghost use Rattle.tally_returns.specs.Checks.{check, first_refusal, refused_or};
-ghost use Rattle.tally_returns.specs.Decide.{IsUnlessMemory, decided_return, limits_named, limits_of, lodge_change, moved, station_in};
+ghost use Rattle.tally_returns.specs.Decide.{IsUnlessMemory, decided_return, limits_named, limits_of, lodge_change, decided_move, station_in};
 ghost use Rattle.tally_returns.specs.Lawful.{IsLawful, PutsLawful};
 ghost use Rattle.tally_returns.specs.Lodge.{decided_at};
 ghost use Rattle.tally_returns.specs.declared.change.Change.TheVariants.{Same};
@@ -104,7 +104,7 @@ fn decide_query(
     note: &str,
 ) -> Result<Change, Refusal>
     requires { ForSome (option_copied found) (λ standing. standing.rev ≤ last_revision) }
-    ensures { IsUnlessMemory result (moved (check (is_note note.now) BadNote ∷ move_checks certified (option_copied found.entry) rev may_query) (option_copied found.entry) (queried note.now)) }
+    ensures { IsUnlessMemory result (decided_move (check (is_note note.now) BadNote ∷ move_checks certified (option_copied found.entry) rev may_query) (option_copied found.entry) (queried note.now)) }
 {
     if !good_note(note) {
         return Err(Refusal::BadNote);
@@ -125,7 +125,7 @@ fn decide_correct(
     counts: &Counts,
 ) -> Result<Change, Refusal>
     requires { ForSome (option_copied found) (λ standing. standing.rev ≤ last_revision) }
-    ensures { IsUnlessMemory result (moved (move_checks certified (option_copied found.entry) rev may_correct) (option_copied found.entry) (corrected slip counts.now)) }
+    ensures { IsUnlessMemory result (decided_move (move_checks certified (option_copied found.entry) rev may_correct) (option_copied found.entry) (corrected slip counts.now)) }
 {
     let Some(standing) = found else {
         return Err(Refusal::NoReturn);
@@ -141,7 +141,7 @@ fn decide_close(
     rev: u32,
 ) -> Result<Change, Refusal>
     requires { ForSome (option_copied found) (λ standing. standing.rev ≤ last_revision) }
-    ensures { IsUnlessMemory result (moved (move_checks certified (option_copied found.entry) rev may_close) (option_copied found.entry) closed) }
+    ensures { IsUnlessMemory result (decided_move (move_checks certified (option_copied found.entry) rev may_close) (option_copied found.entry) closed) }
 {
     let Some(standing) = found else {
         return Err(Refusal::NoReturn);

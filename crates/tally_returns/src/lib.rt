@@ -24,4 +24,4 @@ pub use refusal::Refusal;
 pub use reply::{LodgeReply, Reply};
 pub use returns::{Return, Status};
 pub use tally_contest::ListSet;
-pub use view::{ConView, Gone, Past};
+pub use view::{ConView, Gone, LAST_EDITION, Past};

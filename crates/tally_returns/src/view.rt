@@ -9,7 +9,7 @@ use std::marker::Model;
 use tally_rules::Constituency;
 
 /// The last edition that a constituency can have.
-const LAST_EDITION: u32 = 9_999;
+pub const LAST_EDITION: u32 = 9_999;
 
 /// The most votes that a constituency has, those of its lists and the blank ones together.
 const MOST_VOTES: u64 = 5_000_000_000;

@@ -5,7 +5,7 @@ ghost use Rattle.tally_core.specs.Held.{IsAnsweredInMemory, IsHeld, IsLodged, Is
 ghost use Rattle.tally_ledger.specs.Kept.{state_in, with_no_lot};
 ghost use Rattle.tally_returns.specs.Lodge.{lodge_answer};
 ghost use Rattle.tally_returns.specs.Named.{con_named, station_named};
-ghost use Rattle.tally_machine.specs.Replies.{answer, seen};
+ghost use Rattle.tally_machine.specs.Step.{answer, seen};
 ghost use Rattle.tally_rules.specs.Setup.{constituency_with};
 ghost use Rattle.tally_returns.specs.State.{stations_of};
 ghost use Rattle.tally_returns.specs.declared.ask.Ask.TheVariants.{ShowReturn};

@@ -3,8 +3,7 @@
 ghost use Rattle.std.specs.Prelude.{◌≡◌, ◌+◌, ◌<◌, ◌^◌, Some, IsSome, IfErr, IfOk, IfSome, OnErr, OnOk};
 ghost use Rattle.tally_core.specs.Held.{CanCarryOut, IsAnsweredOn, IsHeld, carried_reply};
 ghost use Rattle.tally_ledger.specs.Kept.{with_change};
-ghost use Rattle.tally_machine.specs.ConStep.{con_change};
-ghost use Rattle.tally_machine.specs.Replies.{answer_seen};
+ghost use Rattle.tally_machine.specs.Step.{con_change, answer_seen};
 ghost use Rattle.tally_returns.specs.Named.{con_named};
 ghost use Rattle.tally_returns.specs.declared.refusal.Refusal.TheVariants.{Memory};
 

@@ -1,5 +1,5 @@
 use Rattle.std.proofs.Common.{◌<◌, ◌≤◌, slice_index, length, sym, subst, arith}
-use Rattle.tally_ledger.specs.Sums.{CanMove, moved}
+use Rattle.tally_ledger.specs.Sums.{CanMove, moved_sum}
 use Rattle.tally_ledger.proofs.SumLemmas.{mapped-is}
 use Rattle.tally_ledger.proofs.sums.move_votes.Goals as goal
 
@@ -13,5 +13,5 @@ pub returns : goal.returns
 returns c =
     let old = c.args.votes.now in
     let all : length old ≤ c.loop-place.place = omega (arith, c.loop-place-test.false, c.loop-place.invariant.lists) in
-    mapped-is c.loop-place.votes (λ place. moved (slice_index old place) (slice_index c.args.by.now place) c.args.add) (length old) c.loop-place.invariant.lists
+    mapped-is c.loop-place.votes (λ place. moved_sum (slice_index old place) (slice_index c.args.by.now place) c.args.add) (length old) c.loop-place.invariant.lists
     (λ k within. c.loop-place.invariant.before k (omega (arith, within, all)))

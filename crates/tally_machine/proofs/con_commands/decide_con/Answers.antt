@@ -1,6 +1,6 @@
 use Rattle.std.proofs.Common.{◌≡◌, Ok, List, ℕ, refl, sym, ap, subst, string_bytes}
 use Rattle.tally_machine.specs.Certification.{Draws, reopened, vacates}
-use Rattle.tally_machine.specs.ConStep.{Decides, certified_with, changed_by, gone_for_good, lot_set, open_again}
+use Rattle.tally_machine.specs.Step.{Decides, certified_with, changed_by, gone_for_good, lot_set, open_again}
 use Rattle.tally_returns.specs.declared.ask.Ask.{Ask}
 use Rattle.tally_machine.proofs.con_commands.decide_con.Goals as goal
 

@@ -1,6 +1,6 @@
 use Rattle.std.proofs.Common.{IfOk, subst}
 use Rattle.tally_machine.specs.Kinds.{IsReplyTo}
-use Rattle.tally_machine.specs.Replies.{IsAnswered}
+use Rattle.tally_machine.specs.Step.{IsAnswered}
 use Rattle.tally_ledger.specs.Kept.{state_in}
 use Rattle.tally_core.specs.Held.{Held}
 use Rattle.tally_core.proofs.StoreLemmas.{memory-answered, memory-kind, memory-own}

@@ -12,12 +12,12 @@ use Rattle.tally_rules.specs.Text.{is_note}
 use Rattle.tally_returns.specs.Checks.{check, first_refusal, refused_or}
 use Rattle.tally_returns.specs.Counts.{VoteCounts, same_counts}
 use Rattle.tally_returns.specs.Return.{StationReturn, Returns, first_return}
-use Rattle.tally_returns.specs.Lodge.{StationLimits, counts_checks, unless_refused, admitted}
+use Rattle.tally_returns.specs.Lodge.{StationLimits, counts_checks, admitted}
 use Rattle.tally_returns.specs.Moves.{last_revision, may_query, may_correct, may_close, move_checks, counts_checks_at, query_checks, correct_checks, close_checks, queried, corrected, closed}
-use Rattle.tally_returns.specs.Decide.{decided_return, lodge_change, moved, put_next}
+use Rattle.tally_returns.specs.Decide.{decided_return, lodge_change, decided_move, put_next}
 use Rattle.tally_returns.specs.Named.{station_named}
 use Rattle.tally_returns.specs.State.{State, stations_of}
-use Rattle.tally_returns.specs.Step.{con_of, is_certified, decided_at_station, decided_in, without_lot, after_put, with_return, after, after_return}
+use Rattle.tally_machine.specs.Step.{con_of_station, is_certified, decided_at_station, decided_in, without_lot, after_put, with_return, after, after_return}
 use Rattle.tally_returns.specs.declared.returns.Status.{Status}
 use Rattle.tally_returns.specs.declared.ask.Ask.{Ask}
 use Rattle.tally_returns.specs.declared.ask.Ask.TheVariants.{Lodge, Query, Correct, Close, ShowReturn}
@@ -52,7 +52,7 @@ pub record IsMove (checks : List (Option Refusal)) (found : Option StationReturn
   pub put_is : r ≡ next standing
 
 moved-put : (checks : List (Option Refusal)) (found : Option StationReturn) (next : StationReturn → StationReturn) (r : StationReturn)
-    → moved checks found next ≡ Ok (PutReturn r) → IsMove checks found next r
+    → decided_move checks found next ≡ Ok (PutReturn r) → IsMove checks found next r
 moved-put checks found next r is = go (first_refusal checks) found refl refl is
   where
     go : (refused : Option Refusal) (f : Option StationReturn) → first_refusal checks ≡ refused → found ≡ f
@@ -86,7 +86,7 @@ pub record IsRise (found : Option StationReturn) (rev : ℕ) (r : StationReturn)
 move-rise : (certified : Bool) (checks : List (Option Refusal)) (found : Option StationReturn) (rev : ℕ) (may_start : Status → Bool) (next : StationReturn → StationReturn) (r : StationReturn)
     → ((standing : StationReturn) → (next standing).rev ≡ standing.rev + 1)
     → (first_refusal checks ≡ None → first_refusal (move_checks certified found rev may_start) ≡ None)
-    → moved checks found next ≡ Ok (PutReturn r) → IsRise found rev r
+    → decided_move checks found next ≡ Ok (PutReturn r) → IsRise found rev r
 move-rise certified checks found rev may_start next r up rest is =
     let put = moved-put checks found next r is in
     let moves = subst (λ f. first_refusal (move_checks certified f rev may_start) ≡ None) put.found_is (rest put.passed) in
@@ -96,7 +96,7 @@ move-rise certified checks found rev may_start next r up rest is =
     }
 
 lodge-rise : (slip : List ℕ) (counts : VoteCounts) (refused : Option Refusal) (found : Option StationReturn) (r : StationReturn)
-    → lodge_change slip counts (unless_refused refused (admitted found slip counts)) ≡ Ok (PutReturn r) → IsRise found 0 r
+    → lodge_change slip counts (refused_or refused (admitted found slip counts)) ≡ Ok (PutReturn r) → IsRise found 0 r
 lodge-rise slip counts (Some e) found r is = cc
 lodge-rise slip counts None None r is =
     let put : first_return slip counts ≡ r = cc in record { stood = refl; rises = sym (ap (λ (x : StationReturn). x.rev) put) }
@@ -145,7 +145,7 @@ without_lot-returns s None = refl
 without_lot-returns s (Some code) = refl
 
 pub after_put-returns : (setup : List Constituency) (s : State) (ask : Ask) → (after_put setup s ask).returns ≡ s.returns
-after_put-returns setup s (Query station rev note) = without_lot-returns s (con_of setup station)
+after_put-returns setup s (Query station rev note) = without_lot-returns s (con_of_station setup station)
 after_put-returns setup s other = refl
 
 -- whether a return is put

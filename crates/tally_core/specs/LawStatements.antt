@@ -1,0 +1,114 @@
+-- The laws of what happens to a keeper. Each is proved as a clause of a function of `src/laws.rt`.
+use Rattle.std.specs.Prelude.{◌≡◌, ◌↔◌, ◌<◌, ℕ, All, Bool, List, Option, Some, None, Result, true, false, slice_get}
+use Rattle.std.specs.List.{filter}
+use Rattle.tally_core.specs.Events.{BringsCodes, acts, answers_of, asks_of, lodges, lodge_answers}
+use Rattle.tally_core.specs.Import.{RowAnswer, count_of}
+use Rattle.tally_core.specs.Keeper.{Event, Happen, Happens, IsImport, Runs, whole_import}
+use Rattle.tally_core.specs.declared.import.ImportCount.{ImportCount}
+use Rattle.tally_core.specs.declared.import.Row.{Row}
+use Rattle.tally_machine.specs.Step.{IsView}
+use Rattle.tally_machine.specs.LawfulState.{IsLawfulState}
+use Rattle.tally_machine.specs.Outcome.{IsCertificate}
+use Rattle.tally_machine.specs.Records.{IsOnRecord, IsReopenedIn}
+use Rattle.tally_machine.specs.Runs.{IsRun, is_act, IsSameCommand, kept}
+use Rattle.tally_returns.specs.State.{State, con_state, opening}
+use Rattle.tally_returns.specs.View.{View}
+use Rattle.tally_rules.specs.Constituency.{Constituency}
+use Rattle.tally_rules.specs.Limits.{IsSetup}
+use Rattle.tally_rules.specs.Setup.{constituency_with}
+use Rattle.tally_returns.specs.declared.ask.Ask.{Ask}
+use Rattle.tally_returns.specs.declared.refusal.Refusal.{Refusal}
+use Rattle.tally_returns.specs.declared.reply.Reply.{Reply}
+
+-- what a keeper answers up to where a failed disk has shut it are the answers of a run
+abbrev pub AnswersOfAShutKeeperAreARun : Type 0
+AnswersOfAShutKeeperAreARun =
+    (setup : List Constituency) (s : State) (asks : List Ask) (rs : List (Result Reply Refusal))
+    → Runs setup (Some s) asks rs None → (t : State) × IsRun setup s asks rs t
+
+-- requests to a keeper are a run of the machine, and each run is one
+abbrev pub RequestsOfAKeeperAreARun : Type 0
+RequestsOfAKeeperAreARun =
+    (setup : List Constituency) (s t : State) (asks : List Ask) (rs : List (Result Reply Refusal))
+    → Runs setup (Some s) asks rs (Some t) ↔ IsRun setup s asks rs t
+
+-- an import is the run of its Lodge commands, and its count is that of the answers
+abbrev pub ImportsAreRuns : Type 0
+ImportsAreRuns =
+    (setup : List Constituency) (rows : List Row) (answered : List RowAnswer) (count : ImportCount) (s t : State)
+    → IsImport setup s rows answered count t
+    → (count ≡ count_of answered) × IsRun setup s (lodges rows) (lodge_answers answered) t
+
+-- whatever happens to a keeper until a failed disk shuts it is a run
+abbrev pub WhatHappensToAShutKeeperIsARun : Type 0
+WhatHappensToAShutKeeperIsARun =
+    (setup : List Constituency) (s : State) (events : List Event)
+    → Happen setup (Some s) events None → (t : State) × IsRun setup s (asks_of events) (answers_of events) t
+
+-- whatever happens to a keeper that stands is a run
+abbrev pub WhatHappensToAKeeperIsARun : Type 0
+WhatHappensToAKeeperIsARun =
+    (setup : List Constituency) (s t : State) (events : List Event)
+    → Happen setup (Some s) events (Some t) → IsRun setup s (asks_of events) (answers_of events) t
+
+-- whatever happens to a keeper, its state stays lawful
+abbrev pub KeepersKeepStatesLawful : Type 0
+KeepersKeepStatesLawful =
+    (setup : List Constituency) (s t : State) (events : List Event) → All BringsCodes events
+    → IsSetup setup → IsLawfulState setup s → Happen setup (Some s) events (Some t) → IsLawfulState setup t
+
+-- whatever happened since the opening state, a certified constituency has a view with a certificate that stands
+abbrev pub CertificatesOfKeepersStand : Type 0
+CertificatesOfKeepersStand =
+    (setup : List Constituency) (t : State) (events : List Event) → All BringsCodes events
+    → IsSetup setup → Happen setup (Some (opening setup)) events (Some t)
+    → (code : List ℕ) (con : Constituency) → constituency_with code setup ≡ Some con
+    → (con_state t con.code).certified ≡ true → (view : View) × IsView con t view × IsCertificate con view
+
+-- what is on record stays there, whatever happens to a keeper
+abbrev pub RecordsOfKeepersStay : Type 0
+RecordsOfKeepersStay =
+    (setup : List Constituency) (s t : State) (events : List Event)
+    → IsLawfulState setup s → Happen setup (Some s) events (Some t)
+    → (code : List ℕ) (edition : ℕ) (seats : List ℕ) → IsOnRecord s code edition seats → IsOnRecord t code edition seats
+
+-- each certificate on record was reopened by a request that came since the opening state
+abbrev pub RecordsOfKeepersAreOfAllotments : Type 0
+RecordsOfKeepersAreOfAllotments =
+    (setup : List Constituency) (t : State) (events : List Event) → All BringsCodes events
+    → IsSetup setup → Happen setup (Some (opening setup)) events (Some t)
+    → (code : List ℕ) (con : Constituency) → constituency_with code setup ≡ Some con
+    → (edition : ℕ) (seats : List ℕ) → IsOnRecord t con.code edition seats
+    → IsReopenedIn con edition seats setup (opening setup) (asks_of events) (answers_of events) t
+
+-- where a request acted, the same one at a later place did not; the rows of imports count as requests
+abbrev pub NoTwoEqualRequestsAct : Type 0
+NoTwoEqualRequestsAct =
+    (setup : List Constituency) (s : State) (new : Option State) (events : List Event)
+    → Happen setup (Some s) events new
+    → (i j : ℕ) (ask other : Ask) (first second : Result Reply Refusal) → i < j
+    → slice_get (asks_of events) i ≡ Some ask → slice_get (asks_of events) j ≡ Some other → IsSameCommand ask other
+    → slice_get (answers_of events) i ≡ Some first → slice_get (answers_of events) j ≡ Some second
+    → is_act first ≡ true → is_act second ≡ false
+
+-- without what does not act the same happens, and the last state is the same
+abbrev pub ActsAloneHappen : Type 0
+ActsAloneHappen =
+    (setup : List Constituency) (s t : State) (events : List Event)
+    → Happen setup (Some s) events (Some t) → Happen setup (Some s) (filter acts events) (Some t)
+
+-- and so it is without some of it
+abbrev pub WhatDoesNotActCanBeLeftOut : Type 0
+WhatDoesNotActCanBeLeftOut =
+    (setup : List Constituency) (s t : State) (events : List Event)
+    → Happen setup (Some s) events (Some t) → (keep : ℕ → Bool)
+    → ((i : ℕ) (event : Event) → slice_get events i ≡ Some event → keep i ≡ false → acts event ≡ false)
+    → Happen setup (Some s) (kept keep events) (Some t)
+
+-- the rows of an import lodge nothing when they come again, whatever happened between
+abbrev pub TheSameImportLodgesNothing : Type 0
+TheSameImportLodgesNothing =
+    (setup : List Constituency) (rows : List Row) (answered others : List RowAnswer) (count again : ImportCount)
+    → (old mid later new : Option State) (events : List Event)
+    → Happens setup old (whole_import rows answered count) mid → Happen setup mid events later
+    → Happens setup later (whole_import rows others again) new → again.lodged ≡ 0

@@ -1,0 +1,111 @@
+-- What rows read as. Each reading gives what a lawful state may have, or nothing.
+use Rattle.std.specs.Prelude.{◌==◌, ◌+◌, ◌-◌, if◌then◌else◌, ℕ, nat_le, Bool, true, false, Option, Some, None, option_map, option_and_then, List, [], ◌∷◌, length, bytes_eq, slice_index_or, slice_range, take, drop}
+use Rattle.std.specs.Option.{option_map_or}
+use Rattle.std.specs.Str.{is_utf8}
+use Rattle.sqlite_value.specs.Order.{Row, column}
+use Rattle.tally_rows.specs.Cells.{text_of, number_of, wide_number_of}
+use Rattle.tally_rules.specs.Code.{code_of}
+use Rattle.tally_rules.specs.Constituency.{Constituency}
+use Rattle.tally_rules.specs.Setup.{station_with}
+use Rattle.tally_rules.specs.declared.constituency.Station.{Station}
+use Rattle.tally_returns.specs.Counts.{VoteCounts}
+use Rattle.tally_returns.specs.GoneCandidate.{GoneCandidate}
+use Rattle.tally_returns.specs.Return.{StationReturn}
+use Rattle.tally_returns.specs.declared.returns.Status.{Status}
+use Rattle.tally_returns.specs.declared.returns.Status.TheVariants.{Received, Queried, Corrected, Closed}
+use Rattle.tally_tables.specs.Cells.{spoiled_item}
+
+-- ---- columns
+
+-- the column holds this text
+abbrev pub has_text : Row → ℕ → List ℕ → Bool
+has_text row place text = option_map_or (λ found. bytes_eq found text) (text_of (column row place)) false
+
+-- what is read where the column holds the text that has to be there
+abbrev pub with_text : {X : Type 0} → Row → ℕ → List ℕ → Option X → Option X
+with_text row place text read = if has_text row place text then read else None
+
+-- a text in UTF-8
+abbrev pub utf8_of : List ℕ → Option (List ℕ)
+utf8_of text = if is_utf8 text then Some text else None
+
+-- the status of a number
+abbrev pub status_of : ℕ → Option Status
+status_of n = if n == 1 then Some Received else (if n == 2 then Some Queried else (if n == 3 then Some Corrected else (if n == 4 then Some Closed else None)))
+
+-- what each row reads as, by its place from this one on, where each reads as something
+abbrev pub read_all : {X : Type 0} → (ℕ → Row → Option X) → ℕ → List Row → Option (List X)
+read_all read first [] = Some []
+read_all read first (row ∷ rows) = option_and_then (λ x. option_map (λ xs. x ∷ xs) (read_all read (first + 1) rows)) (read first row)
+
+-- ---- rows of a key, an item and a number
+
+-- the number that a row has for this item of a key, where it is such a row
+abbrev pub number_for : Row → List ℕ → ℕ → Option ℕ
+number_for row key item = if length row == 3 then with_text row 0 key (option_and_then (λ i. if i == item then number_of (column row 2) else None) (wide_number_of (column row 1))) else None
+
+-- the numbers of the items from this one on, one row for each and in order
+abbrev pub numbers_from : List ℕ → ℕ → List Row → Option (List ℕ)
+numbers_from key = read_all (λ item row. number_for row key item)
+
+-- the counts whose rows these are
+abbrev pub counts_of : List ℕ → List Row → Option VoteCounts
+counts_of key rows =
+    if nat_le 2 (length rows) then option_and_then (λ blank. option_and_then (λ spoiled. option_map (λ votes. record { votes = votes; blank = blank; spoiled = spoiled }) (numbers_from key 1 (slice_range rows 1 (length rows - 1)))) (number_for (slice_index_or rows (length rows - 1) []) key spoiled_item)) (number_for (slice_index_or rows 0 []) key 0) else None
+
+-- ---- rows of returns
+
+-- the return of this station of this constituency whose row this is, with these counts
+abbrev pub return_of : List ℕ → List ℕ → VoteCounts → Row → Option StationReturn
+return_of station con counts row =
+    if length row == 6 then with_text row 0 station (with_text row 1 con (option_and_then (λ rev. option_and_then (λ slip. option_and_then (λ status. option_map (λ note. record { rev = rev; slip = slip; status = status; note = note; counts = counts }) (option_and_then utf8_of (text_of (column row 5)))) (option_and_then status_of (number_of (column row 4)))) (option_and_then code_of (text_of (column row 3)))) (number_of (column row 2)))) else None
+
+-- the station that a row of `returns` names, with its constituency
+abbrev pub place_of : List Constituency → Row → Option (Constituency × Station)
+place_of setup row = option_and_then (λ code. station_with code setup) (option_and_then code_of (text_of (column row 0)))
+
+-- the return of a station of a constituency whose rows these are
+abbrev pub entry_of : List ℕ → List ℕ → Row → List Row → Option (List ℕ × StationReturn)
+entry_of con station row counts = option_and_then (λ counts. option_map (λ standing. (station, standing)) (return_of station con counts row)) (counts_of station counts)
+
+-- the first return, by so many rows of `counts`, and those that the other rows read as
+abbrev pub next_entry : (List Row → Option (List (List ℕ × StationReturn))) → ℕ → Constituency × Station → Row → List Row → Option (List (List ℕ × StationReturn))
+next_entry others items place row counts =
+    if nat_le items (length counts) then option_and_then (λ e. option_map (λ es. e ∷ es) (others (drop items counts))) (entry_of place.0.code place.1.code row (take items counts)) else None
+
+-- the returns whose rows the two tables hold, in the order of their keys: for each row of `returns` a row of `counts` for each list and two more
+abbrev pub entries_in : List Constituency → List Row → List Row → Option (List (List ℕ × StationReturn))
+entries_in setup [] [] = Some []
+entries_in setup [] (count ∷ counts) = None
+entries_in setup (row ∷ rows) counts = option_and_then (λ place. next_entry (entries_in setup rows) (length place.0.lists + 2) place row counts) (place_of setup row)
+
+-- ---- rows of constituencies
+
+-- whether a constituency is certified, by its number in the table
+abbrev pub flag_of : ℕ → Option Bool
+flag_of n = if n == 0 then Some false else (if n == 1 then Some true else None)
+
+-- a text in UTF-8 in a column
+abbrev pub note_in : Row → ℕ → Option (List ℕ)
+note_in row place = option_and_then utf8_of (text_of (column row place))
+
+-- the edition of a constituency, whether it is certified, and the note of its last reopening
+abbrev pub standing_of : List ℕ → Row → Option (ℕ × Bool × List ℕ)
+standing_of con row =
+    if length row == 4 then with_text row 0 con (option_and_then (λ edition. option_and_then (λ certified. option_map (λ note. (edition, certified, note)) (note_in row 3)) (option_and_then flag_of (number_of (column row 2)))) (number_of (column row 1))) else None
+
+-- a candidate of a constituency who is gone
+abbrev pub gone_of : List ℕ → Row → Option GoneCandidate
+gone_of con row =
+    if length row == 4 then with_text row 0 con (option_and_then (λ list. option_and_then (λ place. option_map (λ note. record { list = list; place = place; note = note }) (note_in row 3)) (number_of (column row 2))) (number_of (column row 1))) else None
+
+abbrev pub all_gone_of : List ℕ → List Row → Option (List GoneCandidate)
+all_gone_of con = read_all (λ place row. gone_of con row) 1
+
+-- the seats of a list, by its place, that a certificate of this edition gave
+abbrev pub past_for : List ℕ → ℕ → ℕ → Row → Option ℕ
+past_for con edition place row =
+    if length row == 4 then with_text row 0 con (option_and_then (λ e. if e == edition then option_and_then (λ l. if l == place then number_of (column row 3) else None) (wide_number_of (column row 2)) else None) (number_of (column row 1))) else None
+
+abbrev pub past_from : List ℕ → ℕ → ℕ → List Row → Option (List ℕ)
+past_from con edition = read_all (λ place row. past_for con edition place row)
