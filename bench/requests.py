@@ -11,9 +11,15 @@ A command on a constituency is to cost what its lists cost, and not what its sta
 kinds are shown with fewer stations too. Close, of each return once, also searches trees of all
 stations.
 
+Where `valgrind` is installed, the instructions of a request are counted too, with those that let its
+answer go: they are the same however much other work the machine has. They are what a round of the
+kinds up to this one takes beyond a round of those in front of it.
+
     bench/requests.py [--runs N] [--rounds N]
 """
 
+import re
+import shutil
 import statistics
 import subprocess
 import sys
@@ -109,7 +115,7 @@ def end_of(returns):
 
 def run(program, setup, returns, rounds):
     """Runs the program: for each kind the counts and the nanoseconds of each round, and the end."""
-    command = [program, setup, returns, str(rounds)]
+    command = [program, setup, returns, str(rounds), str(len(KINDS))]
     ran = subprocess.run(command, capture_output=True, text=True)
     if ran.returncode != 0:
         sys.exit(f"{program}: {ran.stderr}")
@@ -160,6 +166,24 @@ def measure(program, folder, runs, rounds):
     return {stations: medians_of(times, stations) for stations, times in taken.items()}
 
 
+def instructions_of(program, folder):
+    """The instructions of a request of each kind."""
+    _, setup, returns = write(folder, STATIONS)
+    valgrind = ["valgrind", "--tool=callgrind", "--callgrind-out-file=/dev/null"]
+    counted, before = {}, 0
+    for most, name in enumerate([None, *KINDS]):
+        command = [*valgrind, program, setup, returns, "1", str(most)]
+        ran = subprocess.run(command, capture_output=True, text=True)
+        found = re.search(r"Collected : (\d+)", ran.stderr)
+        if ran.returncode != 0 or found is None:
+            sys.exit(f"{program} under valgrind: {ran.stderr}")
+        taken = int(found[1])
+        if name is not None:
+            counted[name] = (taken - before) / KINDS[name][1](STATIONS)
+        before = taken
+    return counted
+
+
 def medians_of(times, stations):
     """The median nanoseconds of a request of each kind, from those of all requests of a kind."""
     return {
@@ -168,11 +192,12 @@ def medians_of(times, stations):
     }
 
 
-def show(medians):
+def show(medians, counted):
     """Prints what each kind takes."""
-    print("request                         requests a second   us a request")
+    print("request                         requests a second   us a request   instructions")
     for name, (title, _) in KINDS.items():
-        print(f"{title:30} {1e9 / medians[name]:18,.0f} {medians[name] / 1000:14.3f}")
+        instructions = f" {counted[name]:14,.0f}" if counted else ""
+        print(f"{title:30} {1e9 / medians[name]:18,.0f} {medians[name] / 1000:14.3f}{instructions}")
 
 
 def grow(medians):
@@ -190,7 +215,8 @@ def main():
     sizes = f"{LISTS} lists, {STATIONS} stations, {SEATS} seats"
     with keeper_program("requests_office", description, 10, sizes) as (program, folder, runs, rounds):
         medians = measure(program, folder, runs, rounds)
-        show(medians[STATIONS])
+        counted = instructions_of(program, folder) if shutil.which("valgrind") else {}
+        show(medians[STATIONS], counted)
         grow(medians)
 
 

@@ -38,7 +38,7 @@ abbrev pub OfAllotment : Profile → List ℕ → ℕ → List ℕ → ℕ → (
 OfAllotment profile votes blank lot seats P =
     (a : List ℕ) × IsAllotment (rule_of profile) (poll_of profile votes blank) lot seats a × P a
 
--- No number stands exactly where a list has no more to gain.
+-- There is no number exactly where a list has no more to gain.
 abbrev pub IsNoneWhereNoMore : Profile → List ℕ → ℕ → List ℕ → ℕ → List (Option ℕ) → Type 0
 IsNoneWhereNoMore profile votes blank lot seats numbers = OfAllotment profile votes blank lot seats (λ a.
     (m : ℕ) → m < length votes →

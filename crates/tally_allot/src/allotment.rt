@@ -20,7 +20,7 @@ use crate::verdict::{LotVerdict, verdict_on_lot};
 use std::alloc::Global;
 use tally_contest::{
     Contest, DivisorContest, HareContest, Need, Poll, contested_seats, has_eligible, is_fair,
-    need_of, places_under, quotas_of, turning_under,
+    need_of,
 };
 use tally_frac::{DHondt, Divisors, ModifiedSainteLague, SainteLague};
 use tally_rules::{LotRule, Method, Profile};
@@ -95,13 +95,7 @@ fn seats_by_quotas(
     ensures eligible { OnOk result (HasEligible (kept_poll poll.now)) }
     ensures fault { IfErr result (IsFaultOf hare (kept_poll poll.now) seats lot.now) }
 {
-    let contest = HareContest {
-        poll: *poll,
-        lot,
-        seats,
-        quotas: quotas_of(poll, seats),
-        places: places_under(lot),
-    };
+    let contest = HareContest::new(poll, lot, seats);
     seats_by_remainders(alloc, &contest)
 }
 
@@ -144,15 +138,7 @@ fn need_by_divisors<D: Divisors + Drop>(
     ensures eligible { OnOk result (HasEligible (kept_poll poll.now)) }
     ensures fault { IfErr result (IsNeedFaultOf (kept_poll poll.now)) }
 {
-    let contest = DivisorContest {
-        divisors,
-        lot_rule,
-        poll: *poll,
-        lot: &[],
-        seats,
-        places: places_under(&[]),
-        turning: turning_under(lot_rule, &[]),
-    };
+    let contest = DivisorContest::new(divisors, lot_rule, poll, &[], seats);
     need_in(alloc, &contest)
 }
 
@@ -163,13 +149,7 @@ fn need_by_quotas(alloc: Global, poll: &Poll, seats: u32) -> Result<Option<Need>
     ensures eligible { OnOk result (HasEligible (kept_poll poll.now)) }
     ensures fault { IfErr result (IsNeedFaultOf (kept_poll poll.now)) }
 {
-    let contest = HareContest {
-        poll: *poll,
-        lot: &[],
-        seats,
-        quotas: quotas_of(poll, seats),
-        places: places_under(&[]),
-    };
+    let contest = HareContest::new(poll, &[], seats);
     need_in(alloc, &contest)
 }
 
@@ -229,15 +209,7 @@ fn is_allotment_by_divisors<D: Divisors + Drop>(
         IsAllotmentUnderLot (by_divisors (D.divisor divisors) (D.unit_of divisors) lot_rule) (kept_poll poll.now)
         lot.now seats given.now }
 {
-    let contest = DivisorContest {
-        divisors,
-        lot_rule,
-        poll: *poll,
-        lot,
-        seats,
-        places: places_under(lot),
-        turning: turning_under(lot_rule, lot),
-    };
+    let contest = DivisorContest::new(divisors, lot_rule, poll, lot, seats);
     is_allotment_in(&contest, given)
 }
 
@@ -246,13 +218,7 @@ fn is_allotment_by_quotas(poll: &Poll, seats: u32, lot: &[u32], given: &[u32]) -
     requires few_seats { seats ≤ most_seats }
     ensures { IsTrue result ↔ IsAllotmentUnderLot hare (kept_poll poll.now) lot.now seats given.now }
 {
-    let contest = HareContest {
-        poll: *poll,
-        lot,
-        seats,
-        quotas: quotas_of(poll, seats),
-        places: places_under(lot),
-    };
+    let contest = HareContest::new(poll, lot, seats);
     is_allotment_in(&contest, given)
 }
 

@@ -1,9 +1,10 @@
 //! Quotas and remainders.
 
-ghost use Rattle.std.specs.Prelude.{◌≡◌, ◌≤◌, ◌<◌, IfOk, IfErr, OnOk, length};
-ghost use Rattle.tally_frac.specs.Limits.{most_seats};
+ghost use Rattle.std.specs.Prelude.{◌≡◌, ◌<◌, IfOk, IfErr, OnOk, length};
 ghost use Rattle.tally_rules.specs.declared.profile.Method.TheVariants.{Hare as by_hare};
 ghost use Rattle.tally_contest.specs.internal.KeptPoll.{kept_poll};
+ghost use Rattle.tally_contest.specs.internal.ContestTerms.{hare_terms};
+ghost use Rattle.tally_contest.specs.internal.Terms.{AreSound};
 ghost use Rattle.tally_contest.specs.Allotment.{hare};
 ghost use Rattle.tally_allot.specs.AllotFault.{IsFaultOf};
 ghost use Rattle.tally_allot.specs.Conditions.{AreLimitsKept};
@@ -16,7 +17,7 @@ use crate::fault::AllotFault;
 use crate::quota_row::QuotaRow;
 use crate::under_lot::seats_by_remainders;
 use std::alloc::{AllocError, Global};
-use tally_contest::{Contest, HareContest, Poll, places_under, quotas_of};
+use tally_contest::{Contest, HareContest, Poll};
 use tally_rules::Profile;
 
 /// The whole quotas and remainders of the eligible lists, in order of place, for a profile by
@@ -37,31 +38,21 @@ pub fn quotas(
     ensures fault { IfErr result (IsFaultOf hare (poll_of profile.now votes.now blank) seats lot.now) }
 {
     let poll = Poll::new(profile, votes, blank);
-    quotas_in(alloc, &poll, seats, lot)
+    let contest = HareContest::new(&poll, lot, seats);
+    quotas_in(alloc, &contest)
 }
 
-fn quotas_in(
-    alloc: Global,
-    poll: &Poll,
-    seats: u32,
-    lot: &[u32],
-) -> Result<Vec<QuotaRow>, AllotFault>
-    requires some_seat { 1 ≤ seats }
-    requires few_seats { seats ≤ most_seats }
-    ensures rows { IfOk result (λ rows. AreQuotaRows (kept_poll poll.now) lot.now seats rows.items) }
-    ensures lot_taken { OnOk result (IsLotTaken hare (kept_poll poll.now) seats lot.now) }
-    ensures eligible { OnOk result (HasEligible (kept_poll poll.now)) }
-    ensures fault { IfErr result (IsFaultOf hare (kept_poll poll.now) seats lot.now) }
+fn quotas_in(alloc: Global, contest: &HareContest) -> Result<Vec<QuotaRow>, AllotFault>
+    requires sound { AreSound (hare_terms contest.now) }
+    ensures rows { IfOk result (λ rows.
+        AreQuotaRows (kept_poll contest.now.poll) contest.now.lot.now contest.now.seats rows.items) }
+    ensures lot_taken { OnOk result
+        (IsLotTaken hare (kept_poll contest.now.poll) contest.now.seats contest.now.lot.now) }
+    ensures eligible { OnOk result (HasEligible (kept_poll contest.now.poll)) }
+    ensures fault { IfErr result (IsFaultOf hare (kept_poll contest.now.poll) contest.now.seats contest.now.lot.now) }
 {
-    let contest = HareContest {
-        poll: *poll,
-        lot,
-        seats,
-        quotas: quotas_of(poll, seats),
-        places: places_under(lot),
-    };
-    let given = seats_by_remainders(alloc, &contest)?;
-    let rows = rows_of(alloc, &contest, &given)?;
+    let given = seats_by_remainders(alloc, contest)?;
+    let rows = rows_of(alloc, contest, &given)?;
     Ok(rows)
 }
 

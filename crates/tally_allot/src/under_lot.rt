@@ -17,7 +17,7 @@ use crate::verdict::{LotVerdict, verdict_on_lot};
 use std::alloc::Global;
 use tally_contest::{
     DivisorContest, Given, HareContest, Poll, award_from_heap, award_remainders, has_eligible,
-    may_be_taken, places_under, turning_under,
+    may_be_taken,
 };
 use tally_frac::Divisors;
 use tally_rules::LotRule;
@@ -49,15 +49,7 @@ pub(crate) fn award_under_lot<D: Divisors + Copy>(
         (IsFaultOf (by_divisors (D.divisor divisors) (D.unit_of divisors) lot_rule)
         (kept_poll poll.now) seats lot.now) }
 {
-    let contest = DivisorContest {
-        divisors,
-        lot_rule,
-        poll: *poll,
-        lot,
-        seats,
-        places: places_under(lot),
-        turning: turning_under(lot_rule, lot),
-    };
+    let contest = DivisorContest::new(divisors, lot_rule, poll, lot, seats);
     award_in(alloc, &contest)
 }
 

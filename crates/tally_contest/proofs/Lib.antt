@@ -17,3 +17,4 @@ pub mod WonLemmas
 pub mod HeapLemmas
 pub mod ClaimLemmas
 pub mod PlaceLemmas
+pub mod Struck

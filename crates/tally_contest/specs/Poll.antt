@@ -6,7 +6,7 @@ pub record Poll : Type 0 where
   pub votes : List ℕ
   pub eligible : List Bool
 
--- Lists are numbered from 0 here: list l stands at place l + 1 of the setup.
+-- Lists are numbered from 0 here: list l is at place l + 1 of the setup.
 abbrev pub votes_of : Poll → ℕ → ℕ
 votes_of poll l = slice_index poll.votes l
 

@@ -8,9 +8,10 @@ ghost use Rattle.tally_contest.specs.Lot.{place_of};
 ghost use Rattle.tally_contest.specs.internal.Pairs.{place_at, turns};
 
 use crate::contest::Contest;
-use crate::list_set::{LIMIT, ListSet};
+use crate::list_set::ListSet;
+use crate::lot::{places_under, turning_under};
 use crate::poll::Poll;
-use tally_frac::Divisors;
+use tally_frac::{Divisors, MOST_LISTS};
 use tally_rules::LotRule;
 
 /// The lists of a poll that contest its seats under a divisor rule (LOREG article 163.1 b) to d)).
@@ -27,15 +28,43 @@ pub struct DivisorContest<'a, D> {
     /// The seats to be allotted, up to 500.
     pub seats: u32,
     /// The places of the lists under the lot, by their numbers from 0.
-    pub places: [usize; LIMIT],
+    places: [usize; MOST_LISTS],
     /// The lists whose places are counted from the last for even seats.
-    pub turning: ListSet,
+    turning: ListSet,
     ghost few_seats: { seats ≤ most_seats },
     ghost places_are: { (l : ℕ) → l < most_lists → slice_index places l ≡ place_of lot.now l },
     ghost turning_is: { (l : ℕ) → l < most_lists → slice_index_or turning l false ≡ turns lot_rule lot.now l },
 }
 
-impl<D: Divisors> DivisorContest<'_, D> {
+impl<'a, D: Divisors> DivisorContest<'a, D> {
+    ghost use Rattle.tally_contest.specs.internal.ContestTerms.{divisor_terms, terms_under};
+    ghost use Rattle.tally_contest.specs.internal.Terms.{AreSound};
+
+    /// The contest of the lists of a poll for 1 to 500 seats, under a rule and a lot.
+    pub fn new(
+        divisors: D,
+        lot_rule: LotRule,
+        poll: &Poll<'a>,
+        lot: &'a [u32],
+        seats: u32,
+    ) -> DivisorContest<'a, D>
+        requires some_seat { 1 ≤ seats }
+        requires few_seats { seats ≤ most_seats }
+        ensures terms { divisor_terms D.divisor D.unit_of result ≡
+            terms_under (by_divisors (D.divisor divisors) (D.unit_of divisors) lot_rule) poll.now lot.now seats }
+        ensures sound { AreSound (divisor_terms D.divisor D.unit_of result) }
+    {
+        DivisorContest {
+            divisors,
+            lot_rule,
+            poll: *poll,
+            lot,
+            seats,
+            places: places_under(lot),
+            turning: turning_under(lot_rule, lot),
+        }
+    }
+
     /// The place of a list for one of its seats: where its place turns and the seat is even, it is
     /// counted from the last.
     pub(crate) fn place_at(&self, list: usize, seat: u32) -> usize
@@ -44,7 +73,7 @@ impl<D: Divisors> DivisorContest<'_, D> {
     {
         let place = self.places[list];
         if self.turning.has_list(list) && seat % 2 == 0 {
-            (LIMIT.max(self.lot.len()) + 1).saturating_sub(place)
+            (MOST_LISTS.max(self.lot.len()) + 1).saturating_sub(place)
         } else {
             place
         }

@@ -11,9 +11,10 @@ ghost use Rattle.tally_contest.specs.internal.Quotas.{quota_of};
 ghost use Rattle.tally_contest.specs.declared.quota.Quota.{Quota as row_type};
 
 use crate::contest::Contest;
-use crate::list_set::LIMIT;
+use crate::lot::places_under;
 use crate::poll::Poll;
-use crate::quota::Quota;
+use crate::quota::{Quota, quotas_of};
+use tally_frac::MOST_LISTS;
 
 /// The lists of a poll that contest the seats that whole quotas leave over.
 #[derive(Drop)]
@@ -25,16 +26,43 @@ pub struct HareContest<'a> {
     /// The seats to be allotted, up to 500.
     pub seats: u32,
     /// The quotas of the lists, by their numbers from 0.
-    pub quotas: [Quota; LIMIT],
+    quotas: [Quota; MOST_LISTS],
     /// The places of the lists under the lot, by their numbers from 0.
-    pub places: [usize; LIMIT],
+    places: [usize; MOST_LISTS],
     ghost few_seats: { seats ≤ most_seats },
     ghost quotas_are: { (l : ℕ) (d : row_type) → l < length poll.votes.now →
         slice_index_or quotas l d ≡ quota_of (kept_poll poll) seats l },
     ghost places_are: { (l : ℕ) → l < most_lists → slice_index places l ≡ place_of lot.now l },
 }
 
-impl HareContest<'_> {
+impl<'a> HareContest<'a> {
+    ghost use Rattle.tally_contest.specs.internal.ContestTerms.{hare_terms, terms_under};
+    ghost use Rattle.tally_contest.specs.internal.Terms.{AreSound};
+
+    /// The contest of the lists of a poll for 1 to 500 seats, under a lot.
+    pub fn new(poll: &Poll<'a>, lot: &'a [u32], seats: u32) -> HareContest<'a>
+        requires some_seat { 1 ≤ seats }
+        requires few_seats { seats ≤ most_seats }
+        ensures terms { hare_terms result ≡ terms_under hare poll.now lot.now seats }
+        ensures sound { AreSound (hare_terms result) }
+    {
+        HareContest {
+            poll: *poll,
+            lot,
+            seats,
+            quotas: quotas_of(poll, seats),
+            places: places_under(lot),
+        }
+    }
+
+    /// The place of a list under the lot.
+    pub(crate) fn place_of(&self, list: usize) -> usize
+        requires { list < most_lists }
+        ensures { result ≡ place_of self.now.lot.now list }
+    {
+        self.places[list]
+    }
+
     /// The whole quotas of an eligible list.
     pub fn whole_quotas(&self, list: usize) -> u32
         requires list { list < length self.now.poll.votes.now }
@@ -96,7 +124,7 @@ impl Contest for HareContest<'_> {
         if votes != other_votes {
             return votes > other_votes;
         }
-        self.places[list] < self.places[other]
+        self.place_of(list) < self.place_of(other)
     }
 
     fn is_above_by_votes(&self, list: usize, _seat: u32, other: usize, _other_seat: u32) -> bool {

@@ -1,20 +1,18 @@
 //! Sets of lists.
 
-ghost use Rattle.std.specs.Prelude.{◌≡◌, ℕ, ◌<◌, ◌≤◌, List, Bool, false, true, length, replicate, slice_index_or};
-ghost use Rattle.std.specs.Prelude.{slice_set};
+ghost use Rattle.std.specs.Prelude.{◌≡◌, ℕ, ◌-◌, ◌<◌, ◌≤◌, ◌↔◌, IsTrue, List, Bool, false, true, length, replicate};
+ghost use Rattle.std.specs.Prelude.{slice_index_or, slice_set};
 ghost use Rattle.tally_frac.specs.Limits.{most_lists};
 ghost use Rattle.tally_contest.specs.ListSet.{has_place};
 
 use std::marker::Model;
-
-/// The most lists that a poll has.
-pub const LIMIT: usize = 60;
+use tally_frac::MOST_LISTS;
 
 /// A set of lists, by their places from 1 to 60. Contracts see it as one mark for each of the 60
 /// places.
 #[derive(Clone, Copy, Debug, PartialEq, Eq)]
 pub struct ListSet {
-    marks: [bool; LIMIT],
+    marks: [bool; MOST_LISTS],
 }
 
 impl Model for ListSet {
@@ -36,7 +34,7 @@ impl ListSet {
         ensures { result ≡ has_place self.now place }
     {
         let marks = &self.marks;
-        if place < 1 || place as usize > LIMIT {
+        if place < 1 || place as usize > MOST_LISTS {
             return false;
         }
         marks[place as usize - 1]
@@ -46,7 +44,7 @@ impl ListSet {
         ensures { result ≡ replicate most_lists false }
     {
         ListSet {
-            marks: [false; LIMIT],
+            marks: [false; MOST_LISTS],
         }
     }
 
@@ -67,6 +65,30 @@ impl ListSet {
         self.marks[list]
     }
 
+    /// Takes the list at a place, counted from 1, out of the set: whether it was there.
+    pub(crate) fn strike(&mut self, place: u32) -> bool
+        ensures had { result ≡ has_place self.old place }
+        ensures struck { IsTrue result → self.new ≡ slice_set self.old (place - 1) false }
+    {
+        let marks = &self.marks;
+        if place < 1 || place as usize > MOST_LISTS {
+            return false;
+        }
+        let list = place as usize - 1;
+        if !marks[list] {
+            return false;
+        }
+        self.marks[list] = false;
+        true
+    }
+
+    /// Whether no list is in the set.
+    pub(crate) fn is_empty(&self) -> bool
+        ensures { IsTrue result ↔ ((l : ℕ) → slice_index_or self.now l false ≡ false) }
+    {
+        are_clear(&self.marks)
+    }
+
     /// Puts a list, by its number from 0, into the set.
     pub(crate) fn insert(&mut self, list: usize)
         requires { list < most_lists }
@@ -74,4 +96,15 @@ impl ListSet {
     {
         self.marks[list] = true;
     }
+}
+
+fn are_clear(marks: &[bool]) -> bool
+    ensures { IsTrue result ↔ ((l : ℕ) → slice_index_or marks.now l false ≡ false) }
+{
+    for list in 0..marks.len() {
+        if marks[list] {
+            return false;
+        }
+    }
+    true
 }

@@ -7,22 +7,22 @@ ghost use Rattle.tally_contest.specs.Poll.{eligible_votes};
 ghost use Rattle.tally_contest.specs.internal.Quotas as spec;
 ghost use Rattle.tally_contest.specs.declared.quota.Quota.{Quota as row_type};
 
-use crate::list_set::LIMIT;
 use crate::poll::Poll;
+use tally_frac::MOST_LISTS;
 
 /// What a list holds by its quotas. All are 0 for a list that is not eligible.
 #[derive(Clone, Copy)]
-pub struct Quota {
+pub(crate) struct Quota {
     /// The seats that it holds in any case: its whole quotas.
-    pub floor: u32,
+    pub(crate) floor: u32,
     /// The most seats that it may hold.
-    pub cap: u32,
+    pub(crate) cap: u32,
     /// What the whole quotas leave of its votes, times the seats.
-    pub remainder: u64,
+    pub(crate) remainder: u64,
 }
 
 /// The quotas of the lists of a poll, each worked out once.
-pub fn quotas_of(poll: &Poll, seats: u32) -> [Quota; LIMIT]
+pub(crate) fn quotas_of(poll: &Poll, seats: u32) -> [Quota; MOST_LISTS]
     requires { seats ≤ most_seats }
     ensures { (l : ℕ) (d : row_type) → l < length poll.now.votes.now →
         slice_index_or result l d ≡ spec.quota_of (kept_poll poll.now) seats l }
@@ -32,7 +32,7 @@ pub fn quotas_of(poll: &Poll, seats: u32) -> [Quota; LIMIT]
         floor: 0,
         cap: 0,
         remainder: 0,
-    }; LIMIT];
+    }; MOST_LISTS];
     for list in 0..poll.votes.len() {
         quotas[list] = quota_of(poll, seats, total, list);
     }

@@ -99,7 +99,7 @@ fn claim_of(contest: &HareContest, list: usize) -> SeatClaim
     SeatClaim {
         remainder: contest.remainder(list),
         votes: contest.votes(list),
-        place: Reverse(contest.places[list]),
+        place: Reverse(contest.place_of(list)),
         list,
     }
 }

@@ -37,7 +37,7 @@ pub record IsHeld (k : Kept) : Type 0 where
   pub lawful : IsLawfulState k.setup (state_in k)
   pub seats : (code : List ℕ) → ForSome (constituency_with code k.setup) (λ con. IsView con (state_in k) (view_in k con))
 
--- A keeper in memory answers a request by a step, or refuses it for want of memory and has changed nothing.
+-- A keeper in memory answers a request by a step, or is out of memory and has changed nothing.
 abbrev pub IsAnsweredInMemory : List Constituency → State → Ask → Result Reply Refusal → State → Type 0
 IsAnsweredInMemory setup s ask r t = IsStep setup s ask r t ⊎ ((r ≡ Err Memory) × (t ≡ s))
 
@@ -75,7 +75,7 @@ is_edition_change (SetCertified seats) = true
 is_edition_change (SetReopened note past) = true
 is_edition_change other = false
 
--- The edition of a constituency of the setup can rise: it stands at this one, which is not the last.
+-- The edition of a constituency of the setup can rise: it is at this one, which is not the last.
 abbrev pub CanRise : Kept → List ℕ → ℕ → Type 0
 CanRise k code edition = IsSome (constituency_with code k.setup) × ((con_state (state_in k) code).edition ≡ edition) × (edition + 1 < 2 ^ 32)
 

@@ -57,7 +57,7 @@ is_lodged = by_answer true false (λ e. false) false
 abbrev pub is_same : RowAnswer → Bool
 is_same = by_answer false true (λ e. false) false
 
--- another return of the station stands
+-- another return of the station is recorded
 abbrev pub is_differing : RowAnswer → Bool
 is_differing = by_answer false false (λ e. number e == 7) false
 

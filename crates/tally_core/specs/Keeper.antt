@@ -28,7 +28,7 @@ IsImport setup s rows answered count t = (length rows ≤ row_limit)
     × (t ≡ record s { returns = imported (stations_of setup) s.returns rows })
     × All IsCodedRow rows
 
--- a keeper that stands: a request is answered, an import is done, or it has a fault and changes nothing
+-- a keeper that is not shut: a request is answered, an import is done, or it has a fault and changes nothing
 abbrev pub IsTaken : List Constituency → State → Event → State → Type 0
 IsTaken setup s (request ask r) t = IsAnswered setup s ask r t
 IsTaken setup s (whole_import rows answered count) t = IsImport setup s rows answered count t
@@ -41,7 +41,7 @@ IsNotTaken (whole_import rows answered count) = ⊥
 IsNotTaken (failed_import fault) = Unit {0}
 
 -- What happens to a keeper, and the state that it then has. It has none where a disk that failed has shut it: what met that failure
--- was not taken, also where its commit may stand, and a keeper that was shut stays so and takes nothing.
+-- was not taken, also where its commit may have been made, and a keeper that was shut stays so and takes nothing.
 abbrev pub Happens : List Constituency → Option State → Event → Option State → Type 0
 Happens setup (Some s) event (Some t) = IsTaken setup s event t
 Happens setup (Some s) event None = IsNotTaken event
@@ -67,7 +67,7 @@ Runs setup old asks rs new = (length rs ≡ length asks) × Happen setup old (re
 
 -- ---- imports
 
--- a fault of a keeper's own: want of memory, or a database that refuses
+-- a fault of a keeper's own: out of memory, or a database that refuses
 abbrev pub IsOwnFault : ImportFault → Type 0
 IsOwnFault fault = (fault ≡ Memory) ⊎ (fault ≡ Store)
 

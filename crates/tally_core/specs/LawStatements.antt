@@ -1,5 +1,5 @@
 -- The laws of what happens to a keeper. Each is proved as a clause of a function of `src/laws.rt`.
-use Rattle.std.specs.Prelude.{◌≡◌, ◌↔◌, ◌<◌, ℕ, All, Bool, List, Option, Some, None, Result, true, false, slice_get}
+use Rattle.std.specs.Prelude.{◌≡◌, ◌↔◌, ◌⊎◌, ◌<◌, ℕ, All, Bool, List, Option, Some, None, Result, true, false, slice_get}
 use Rattle.std.specs.List.{filter}
 use Rattle.tally_core.specs.Events.{BringsCodes, acts, answers_of, asks_of, lodges, lodge_answers}
 use Rattle.tally_core.specs.Import.{RowAnswer, count_of}
@@ -11,7 +11,7 @@ use Rattle.tally_machine.specs.LawfulState.{IsLawfulState}
 use Rattle.tally_machine.specs.Outcome.{IsCertificate}
 use Rattle.tally_machine.specs.Records.{IsOnRecord, IsReopenedIn}
 use Rattle.tally_machine.specs.Runs.{IsRun, is_act, IsSameCommand, kept}
-use Rattle.tally_returns.specs.State.{State, con_state, opening}
+use Rattle.tally_returns.specs.State.{State, con_state}
 use Rattle.tally_returns.specs.View.{View}
 use Rattle.tally_rules.specs.Constituency.{Constituency}
 use Rattle.tally_rules.specs.Limits.{IsSetup}
@@ -45,7 +45,7 @@ WhatHappensToAShutKeeperIsARun =
     (setup : List Constituency) (s : State) (events : List Event)
     → Happen setup (Some s) events None → (t : State) × IsRun setup s (asks_of events) (answers_of events) t
 
--- whatever happens to a keeper that stands is a run
+-- whatever happens to a keeper that is not shut is a run
 abbrev pub WhatHappensToAKeeperIsARun : Type 0
 WhatHappensToAKeeperIsARun =
     (setup : List Constituency) (s t : State) (events : List Event)
@@ -57,11 +57,11 @@ KeepersKeepStatesLawful =
     (setup : List Constituency) (s t : State) (events : List Event) → All BringsCodes events
     → IsSetup setup → IsLawfulState setup s → Happen setup (Some s) events (Some t) → IsLawfulState setup t
 
--- whatever happened since the opening state, a certified constituency has a view with a certificate that stands
+-- whatever happened since a lawful state, a certified constituency has a view with a certificate
 abbrev pub CertificatesOfKeepersStand : Type 0
 CertificatesOfKeepersStand =
-    (setup : List Constituency) (t : State) (events : List Event) → All BringsCodes events
-    → IsSetup setup → Happen setup (Some (opening setup)) events (Some t)
+    (setup : List Constituency) (s t : State) (events : List Event) → All BringsCodes events
+    → IsSetup setup → IsLawfulState setup s → Happen setup (Some s) events (Some t)
     → (code : List ℕ) (con : Constituency) → constituency_with code setup ≡ Some con
     → (con_state t con.code).certified ≡ true → (view : View) × IsView con t view × IsCertificate con view
 
@@ -72,14 +72,15 @@ RecordsOfKeepersStay =
     → IsLawfulState setup s → Happen setup (Some s) events (Some t)
     → (code : List ℕ) (edition : ℕ) (seats : List ℕ) → IsOnRecord s code edition seats → IsOnRecord t code edition seats
 
--- each certificate on record was reopened by a request that came since the opening state
+-- Each certificate on record was on record before all that happened, word for word, or a request reopened it. Since the opening state
+-- each was reopened, for there nothing is on record.
 abbrev pub RecordsOfKeepersAreOfAllotments : Type 0
 RecordsOfKeepersAreOfAllotments =
-    (setup : List Constituency) (t : State) (events : List Event) → All BringsCodes events
-    → IsSetup setup → Happen setup (Some (opening setup)) events (Some t)
-    → (code : List ℕ) (con : Constituency) → constituency_with code setup ≡ Some con
-    → (edition : ℕ) (seats : List ℕ) → IsOnRecord t con.code edition seats
-    → IsReopenedIn con edition seats setup (opening setup) (asks_of events) (answers_of events) t
+    (setup : List Constituency) (s t : State) (events : List Event) → All BringsCodes events
+    → IsSetup setup → IsLawfulState setup s → Happen setup (Some s) events (Some t)
+    → (code : List ℕ) (con : Constituency) (edition : ℕ) (seats : List ℕ) → constituency_with code setup ≡ Some con
+    → IsOnRecord t con.code edition seats
+    → IsOnRecord s con.code edition seats ⊎ IsReopenedIn con edition seats setup s (asks_of events) (answers_of events) t
 
 -- where a request acted, the same one at a later place did not; the rows of imports count as requests
 abbrev pub NoTwoEqualRequestsAct : Type 0

@@ -30,9 +30,9 @@ pub fn a_keeper_keeps_a_lawful_state()
     ensures { law.KeepersKeepStatesLawful }
 {}
 
-/// Whatever happened to a keeper since its state was the opening one, a certified constituency has
-/// all its stations closed, exactly its seats are allotted, by the one allotment of its closed votes,
-/// and a lot stands wherever one is needed.
+/// Whatever happened to a keeper since its state was a lawful one, as the opening one is, a certified
+/// constituency has all its stations closed, exactly its seats are allotted, by the one allotment of
+/// its closed votes, and a lot stands wherever one is needed.
 pub fn a_certificate_of_a_keeper_stands_on_closed_votes()
     ensures { law.CertificatesOfKeepersStand }
 {
@@ -46,9 +46,9 @@ pub fn records_stay()
     machine::records_stay();
 }
 
-/// What is on record after all that happened to a keeper since its state was the opening one are the
-/// seats of a certificate that one of its requests reopened: the one allotment of the closed votes in
-/// the state that it then had, in which the constituency was certified at that edition.
+/// What is on record after all that happened to a keeper was on record before, with the same seats, or
+/// one of its requests reopened it: then the seats are the one allotment of the closed votes in the
+/// state that the keeper had, in which the constituency was certified at that edition.
 pub fn records_are_of_allotments()
     ensures { law.RecordsOfKeepersAreOfAllotments }
 {

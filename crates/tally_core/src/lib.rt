@@ -11,7 +11,7 @@ mod source;
 pub use book::Book;
 pub use import::{FirstRow, ImportCount, Row};
 pub use keeper::{Keeper, run};
-pub use source::{ImportFault, RowSource};
+pub use source::{ImportFault, ROW_LIMIT, RowSource};
 pub use tally_ledger::moved;
 pub use tally_machine::{
     Ask, Change, ConView, Counts, Gone, ListSet, LodgeReply, Past, ProgressRow, Refusal, Reply,

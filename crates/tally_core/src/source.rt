@@ -7,6 +7,9 @@ ghost use Rattle.tally_core.specs.declared.source.ImportFault.{ImportFault};
 use crate::import::Row;
 use std::alloc::AllocError;
 
+/// The most rows that an import has.
+pub const ROW_LIMIT: u32 = 20_000;
+
 /// Why an import was not done. It has changed nothing.
 #[derive(Clone, Copy, Debug, PartialEq, Eq)]
 pub enum ImportFault {

@@ -20,10 +20,8 @@ const LINGER_MILLISECONDS: u64 = 2_000;
 /// How much of that is read.
 const LINGER_BYTES: usize = 2_097_152;
 
-/// How much of it is read at a time, and how many times at most without a clock.
+/// How much of it is read at a time.
 const PIECE: usize = 65_536;
-
-const LINGER_PIECES: u64 = 32;
 
 /// In place of a clock where there is none.
 #[derive(Clone, Copy)]
@@ -111,11 +109,11 @@ impl<C: Clock + Drop> Drop for TcpDoor<C> {
     fn drop(self) {
         let TcpDoor {
             listener: _,
-            clock,
+            clock: _,
             current,
         } = self;
         if let Some(timed) = current {
-            end(timed.stream, &clock);
+            end(timed.stream);
         }
     }
 }
@@ -140,34 +138,45 @@ fn time_left<C: Clock>(clock: &C, end: Option<Instant>, most: Duration) -> Durat
 }
 
 /// Ends a connection so that its client can still read what was written.
-fn end<C: Clock>(mut stream: TcpStream, clock: &C) {
+fn end(mut stream: TcpStream) {
     if stream.shutdown(Shutdown::Write).is_ok() {
-        let _ended = discard(&mut stream, clock);
+        let _ended = discard(&mut stream);
     }
 }
 
-/// Reads what a client still sends and throws it away. Without a clock each read counts as a whole piece and waits for
-/// the same part of the time, so that the number of reads bounds the time.
-fn discard<C: Clock>(stream: &mut TcpStream, clock: &C) -> io::Result<()> {
-    let end = end_of(clock, Duration::from_millis(LINGER_MILLISECONDS));
-    let wait = if end.is_some() {
-        LINGER_MILLISECONDS
-    } else {
-        LINGER_MILLISECONDS / LINGER_PIECES
-    };
+/// Reads what a client still sends and throws it away. This needs no clock: each read counts with the whole time that
+/// it may wait. That is a millisecond, and after each read in which nothing came twice as long.
+fn discard(stream: &mut TcpStream) -> io::Result<()> {
     let mut piece = [0u8; PIECE];
-    let mut left = LINGER_BYTES;
-    for _ in 0..LINGER_BYTES {
-        let wait = time_left(clock, end, Duration::from_millis(wait));
-        stream.set_read_timeout(Some(wait))?;
-        let count = stream.read(&mut piece)?;
-        let taken = if end.is_some() { count } else { PIECE };
-        if count == 0 || taken >= left {
+    let mut bytes = LINGER_BYTES;
+    let mut time = LINGER_MILLISECONDS;
+    let mut wait = 1u64;
+    for _ in 0..LINGER_MILLISECONDS {
+        if bytes == 0 || time == 0 {
             return Ok(());
         }
-        left -= taken;
+        wait = wait.min(time);
+        time -= wait;
+        match read_within(stream, wait, &mut piece)? {
+            Some(0) => return Ok(()),
+            Some(count) => {
+                bytes = bytes.saturating_sub(count);
+                wait = 1;
+            }
+            None => wait = wait.saturating_mul(2),
+        }
     }
     Ok(())
+}
+
+/// Reads what comes within so many milliseconds: none where nothing does, 0 bytes at the end.
+fn read_within(stream: &mut TcpStream, wait: u64, buf: &mut [u8]) -> io::Result<Option<usize>> {
+    stream.set_read_timeout(Some(Duration::from_millis(wait)))?;
+    match stream.read(buf) {
+        Ok(count) => Ok(Some(count)),
+        Err(error) if error.kind() == ErrorKind::WouldBlock => Ok(None),
+        Err(error) => Err(error),
+    }
 }
 
 impl<C: Clock + Drop> Door for TcpDoor<C> {
@@ -179,7 +188,7 @@ impl<C: Clock + Drop> Door for TcpDoor<C> {
 
     fn next(&mut self) -> Result<(), DoorFault> {
         if let Some(timed) = self.current.take() {
-            end(timed.stream, &self.clock);
+            end(timed.stream);
         }
         let Ok((stream, _)) = self.listener.accept() else {
             return Err(DoorFault::Failed);

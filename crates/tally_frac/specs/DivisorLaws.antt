@@ -3,6 +3,7 @@ use Rattle.std.specs.Prelude.{ℕ, ◌≡◌, ◌<◌, ◌≤◌, ◌*◌, ◌-�
 use Rattle.std.proofs.Common.{arith, ap, inl, inr}
 use Rattle.std.proofs.lemmas.Bool.{cases_eq, eq-eqb, ne_eqb}
 use Rattle.tally_frac.specs.Divisors.{modified_sainte_lague_divisor}
+use Rattle.tally_frac.specs.Limits.{greatest_divisor, last_divisor}
 
 pub first_is : (k : ℕ) → k ≡ 1 → modified_sainte_lague_divisor k ≡ 7
 first_is k e = ap (λ b. if b then 7 else 10 * k - 5) (eq-eqb k 1 e)
@@ -27,9 +28,9 @@ modified-rises j k first later = by_cases (cases_eq j 1)
     by_cases (inl e) = omega (arith, first_is j e, at_k, later)
     by_cases (inr ne) = omega (arith, later_is j ne, at_k, first, later)
 
-pub modified-at_most : (k : ℕ) → 1 ≤ k → k ≤ 501 → modified_sainte_lague_divisor k ≤ 5005
+pub modified-at_most : (k : ℕ) → 1 ≤ k → k ≤ last_divisor → modified_sainte_lague_divisor k ≤ greatest_divisor
 modified-at_most k first last = by_cases (cases_eq k 1)
   where
-    by_cases : (k ≡ 1) ⊎ (k ≡ 1 → ⊥) → modified_sainte_lague_divisor k ≤ 5005
+    by_cases : (k ≡ 1) ⊎ (k ≡ 1 → ⊥) → modified_sainte_lague_divisor k ≤ greatest_divisor
     by_cases (inl e) = omega (arith, first_is k e)
     by_cases (inr ne) = omega (arith, later_is k ne, last)

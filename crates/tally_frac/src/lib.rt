@@ -5,11 +5,13 @@
 
 mod divisors;
 pub mod laws;
+mod limits;
 mod rank;
 mod share;
 mod threshold;
 
 pub use divisors::{DHondt, Divisors, ModifiedSainteLague, SainteLague};
+pub use limits::{GREATEST_DIVISOR, MOST_LISTS, MOST_SEATS, MOST_VOTES};
 pub use rank::RankKey;
 pub use share::Share;
 pub use threshold::is_at_least;

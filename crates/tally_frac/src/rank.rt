@@ -5,17 +5,9 @@ ghost use Rattle.std.specs.Cmp.{partial_equiv_from_equiv, po};
 ghost use Rattle.tally_frac.specs.Rank.{IsWithinLimits};
 ghost use Rattle.tally_frac.specs.RankOrder.{rank_cmp, same_pair, rank_cmp-total, same_pair-equiv, same_pair-ties};
 
+use crate::limits::{GREATEST_DIVISOR, MOST_LISTS, MOST_VOTES};
 use std::cmp::Ordering;
 use std::marker::Model;
-
-/// The most votes that a list may have.
-const MOST_VOTES: u64 = 5_000_000_000;
-
-/// The greatest divisor of a divisor rule, in units of the rule.
-const GREATEST_DIVISOR: u64 = 5_005;
-
-/// The last place that a list may have.
-const LAST_PLACE: u32 = 60;
 
 /// The rank of a pair of a list and one of its seats: the greater of two keys is the pair that the
 /// next seat goes to (LOREG article 163.1 c) and d)). Pairs rank by greater quotient of votes and
@@ -48,7 +40,7 @@ impl RankKey {
     {
         let is_key = (1..=MOST_VOTES).contains(&votes)
             && (1..=GREATEST_DIVISOR).contains(&divisor)
-            && (1..=LAST_PLACE).contains(&place);
+            && (1..=MOST_LISTS).contains(&(place as usize));
         if !is_key {
             return None;
         }

@@ -4,8 +4,9 @@ use Rattle.std.specs.Prelude.{◌⊎◌, IfSome, IfOk, IfErr, String, string_byt
 use Rattle.std.specs.declared.alloc.Global.{Global}
 use Rattle.std.proofs.lemmas.Bool.{lt-ltb}
 use Rattle.std.proofs.lemmas.Bool.Decides.{nat_tests}
+use Rattle.tally_core.specs.Source.{row_limit}
 use Rattle.tally_import.specs.Header.{header_lists}
-use Rattle.tally_import.specs.Check.{Found, check_fault, check_text, examined, ended, under_header, row_limit, rows_of_records}
+use Rattle.tally_import.specs.Check.{Found, check_fault, check_text, examined, ended, under_header, rows_of_records}
 use Rattle.tally_records.specs.Input.{AreAll}
 use Rattle.tally_import.specs.Progress.{HasTaken}
 use Rattle.tally_import.specs.Rounds.{Finds, Imports, ended_import}
@@ -44,7 +45,7 @@ pub under-fault : (header : List (List ℕ)) (lists : List (List ℕ)) (records 
     → ◌≡◌ {A = Result (List ℕ) CheckFault} (examined (header ∷ records) stop) (Err fault)
 under-fault header lists records stop fault named (inl many) =
     ap (λ o. under_header o records stop) (sym named)
-    ∙ ap (λ b. if b then Err TooLong else ended lists records stop) (lt-ltb 20000 (length records) many.1) ∙ ap Err (sym many.0)
+    ∙ ap (λ b. if b then Err TooLong else ended lists records stop) (lt-ltb row_limit (length records) many.1) ∙ ap Err (sym many.0)
 under-fault header lists records stop fault named (inr stopped) =
     ap (λ o. under_header o records stop) (sym named)
     ∙ ap (λ b. if b then Err TooLong else ended lists records stop) (not_more (length records) stopped.1) ∙ end stop stopped.0
@@ -53,7 +54,7 @@ under-fault header lists records stop fault named (inr stopped) =
     end None same = cc
     end (Some s) same = ap Err (let is : ◌≡◌ {A = CheckFault} (check_fault s) fault = cc in is)
 
-    not_more : (n : ℕ) → n ≤ 20000 → nat_lt 20000 n ≡ false
+    not_more : (n : ℕ) → n ≤ row_limit → nat_lt row_limit n ≡ false
     not_more n few = grind (arith, nat_tests)
 
 -- an import of all rows, or of those before what stopped the text

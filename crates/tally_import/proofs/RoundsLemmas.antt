@@ -6,9 +6,10 @@ use Rattle.std.proofs.lemmas.List.{map-append, length-map}
 use Rattle.tally_core.specs.declared.import.Row.{Row}
 use Rattle.std.proofs.Common.{Option, Some, None, Ok, Err}
 use Rattle.std.specs.Prelude.{is_some, option_map, nat_lt}
+use Rattle.tally_core.specs.Source.{row_limit}
 use Rattle.tally_import.specs.Header.{header_lists}
 use Rattle.tally_import.specs.declared.check.CheckFault.TheVariants.{TooLong}
-use Rattle.tally_import.specs.Check.{rows_of_records, every_code, row_limit, examined, under_header, check_text}
+use Rattle.tally_import.specs.Check.{rows_of_records, every_code, examined, under_header, check_text}
 use Rattle.tally_import.specs.Rows.{row_of}
 use Rattle.tally_import.specs.Progress.{HasTaken}
 use Rattle.tally_import.specs.declared.import.Import.{Import}
@@ -40,7 +41,7 @@ examined-whole records header rest lists text is named few shown =
     ∙ ap (λ b. if b then Err TooLong else Ok (check_text lists (rows_of_records (length lists) rest))) (not_more (length rest) few)
     ∙ ap Ok (sym shown)
   where
-    not_more : (n : ℕ) → n ≤ 20000 → nat_lt 20000 n ≡ false
+    not_more : (n : ℕ) → n ≤ row_limit → nat_lt row_limit n ≡ false
     not_more n few = grind (arith, nat_tests)
 
 pub is_some-map : {X Y : Type 0} (f : X → Y) (o : Option X) → is_some (option_map f o) ≡ is_some o

@@ -10,6 +10,7 @@ use Rattle.tally_returns.specs.Counts.{VoteCounts, are_counts, is_number}
 use Rattle.std.proofs.Common.{inl, inr, slice_index}
 use Rattle.std.proofs.lemmas.Bool.{cases_lt}
 use Rattle.std.proofs.lemmas.List.{get_or_past}
+use Rattle.tally_core.specs.Source.{row_limit}
 use Rattle.tally_import.specs.Totals.{AreTotals}
 use Rattle.tally_import.specs.declared.totals.Totals.{Totals}
 
@@ -41,7 +42,7 @@ each-push lists returns c each is =
     list_all-append (are_counts lists) returns (c ∷ []) ∙ ap (λ b. b && (are_counts lists c && true)) each ∙ ap (λ b. b && true) is
 
 -- every total is small
-pub total-small : (lists : ℕ) (returns : List VoteCounts) (totals : Totals) → AreTotals lists returns totals → length returns < 20000
+pub total-small : (lists : ℕ) (returns : List VoteCounts) (totals : Totals) → AreTotals lists returns totals → length returns < row_limit
     → (place : ℕ) → get_or totals.votes.items place 0 ≤ 20000000000
 total-small lists returns totals h few place = elim (cases_lt place lists) [
   | inl within ↦

@@ -6,6 +6,7 @@ use Rattle.std.specs.Io.KnownBytes.{Appends, Keeps}
 use Rattle.tally_returns.specs.Counts.{VoteCounts}
 use Rattle.tally_returns.specs.Lodge.{Stations}
 use Rattle.tally_core.specs.Import.{answers, count_of, lodged_counts}
+use Rattle.tally_core.specs.Source.{row_limit}
 use Rattle.tally_core.specs.declared.import.ImportCount.{ImportCount}
 use Rattle.tally_core.specs.declared.import.FirstRow.{FirstRow}
 use Rattle.tally_core.specs.declared.import.Row.{Row}
@@ -17,10 +18,6 @@ use Rattle.tally_records.specs.declared.end.Stop.TheVariants as stopped
 use Rattle.tally_import.specs.declared.check.CheckFault.{CheckFault}
 use Rattle.tally_import.specs.declared.check.CheckFault.TheVariants.{BadHeader, TooLong, Read, Memory, Write}
 use Rattle.tally_records.specs.declared.separator.Sep.{Sep}
-
--- the most rows that a text may have
-abbrev pub row_limit : ℕ
-row_limit = 20000
 
 -- every code is a station, of 1,000,000 electors
 abbrev pub every_code : ℕ → Stations
@@ -105,7 +102,7 @@ abbrev pub Found : Sep → List ℕ → Option (List ℕ) → (Result (List ℕ)
 Found sep text left P = (bytes : List ℕ) × (stop : Option Stop) × Gave text left bytes stop × P (checked sep bytes stop)
 
 -- What the check of a text answers, and what it leaves on its writer: the check text is written, or the first fault is
--- answered and nothing written. A write that failed leaves a front of the text. Want of memory may come at any place.
+-- answered and nothing written. A write that failed leaves a prefix of the text. Out of memory may come at any place.
 abbrev pub Checks : Sep → List ℕ → Option (List ℕ) → Option (List ℕ) → Option (List ℕ) → Result (Unit {0}) CheckFault → Type 0
 Checks sep text left old new (Ok u) = Found sep text left (λ found. (t : List ℕ) × (found ≡ Ok t) × Appends old new t)
 Checks sep text left old new (Err BadHeader) = Found sep text left (λ found. found ≡ Err BadHeader) × Keeps old new

@@ -7,7 +7,7 @@ use Rattle.tally_rules.specs.Code.{is_code}
 abbrev pub same_text : List ℕ → List ℕ → Bool
 same_text = pointwise nat_eq
 
--- no code stands twice
+-- no code occurs twice
 abbrev pub are_distinct : List (List ℕ) → Bool
 are_distinct [] = true
 are_distinct (text ∷ texts) = not (list_any (same_text text) texts) && are_distinct texts

@@ -6,11 +6,10 @@ use Rattle.tally_rules.specs.Code.{code_cmp}
 use Rattle.tally_rules.specs.Constituency.{Constituency, list_codes}
 use Rattle.tally_returns.specs.Lodge.{Stations}
 use Rattle.tally_returns.specs.Decide.{station_in, limits_of}
-use Rattle.tally_core.specs.Source.{Coming, Ending, GivesNext, IsSudden}
+use Rattle.tally_core.specs.Source.{Coming, Ending, GivesNext, IsSudden, row_limit}
 use Rattle.tally_core.specs.declared.import.Row.{Row}
 use Rattle.tally_core.specs.declared.source.ImportFault.{ImportFault}
 use Rattle.tally_core.specs.declared.source.ImportFault.TheVariants as cause
-use Rattle.tally_import.specs.Check.{row_limit}
 use Rattle.tally_import.specs.Header.{same_text}
 use Rattle.tally_records.specs.Input.{text_records, text_stop}
 use Rattle.tally_records.specs.Given.{HasGiven, IsReadingOn, TellsTrue, sep_of}
@@ -101,7 +100,7 @@ IsAt text left con sep Unread = left ≡ text
 IsAt text left con sep (Reading rows) = IsReadingRows text left con sep rows
 IsAt text left con sep (Ended fault) = fault ≢ Some cause.Store
 
--- the fault is want of memory or a failed read, or it is what comes of the text and no row before it
+-- the fault is out of memory or a failed read, or it is what comes of the text and no row before it
 abbrev pub IsNext : Option (List ℕ) → (List ℕ → Coming) → ImportFault → Type 0
 IsNext text coming fault = (fault ≢ cause.Store) × (IsSudden fault ⊎ IfSome text (λ t. ((coming t).rows ≡ []) × ((coming t).fault ≡ Some fault)))
 

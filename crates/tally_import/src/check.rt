@@ -16,10 +16,8 @@ use crate::summary::import_text;
 use csv::ByteRecord;
 use std::alloc::{AllocError, Global};
 use std::io::{Read, Write};
+use tally_core::ROW_LIMIT;
 use tally_records::{End, Records, Sep, Stop, Watch};
-
-/// The most rows that a text may have.
-const ROW_LIMIT: u32 = 20_000;
 
 /// Why a text could not be checked.
 #[derive(Clone, Copy, Debug, PartialEq, Eq)]

@@ -4,6 +4,7 @@ ghost use Rattle.std.specs.Prelude.{◌≡◌, ◌+◌, ◌<◌, ◌≤◌, ◌+
 ghost use Rattle.tally_core.specs.Import.{row_answer, after_row, lodged_counts};
 ghost use Rattle.tally_returns.specs.Counts.{VoteCounts};
 ghost use Rattle.tally_core.specs.Import.{RowAnswer, count_of, or_else};
+ghost use Rattle.tally_core.specs.Source.{row_limit};
 ghost use Rattle.tally_returns.specs.Lodge.{lodge, lodge_answer};
 ghost use Rattle.tally_returns.specs.Return.{Returns};
 ghost use Rattle.tally_core.specs.declared.import.Row.{Row};
@@ -54,7 +55,7 @@ impl Import {
     /// Takes the next row, by its number. After want of memory the import is of no further use.
     pub(crate) fn take(&mut self, alloc: Global, number: u32, row: Row) -> Result<(), AllocError>
         requires so_far { (taken : Taken) × HasTaken taken self.old × (number ≡ length taken.rows + 1) }
-        requires few { number ≤ 20000 }
+        requires few { number ≤ row_limit }
         ensures { OnOk result ((taken : Taken) → HasTaken taken self.old → number ≡ length taken.rows + 1
             → HasTaken (record taken { rows = taken.rows ++ row ∷ [] }) self.new) }
     {
@@ -74,7 +75,7 @@ impl Import {
         ask: Ask,
     ) -> Result<Option<Result<LodgeReply, Refusal>>, AllocError>
         requires lists { self.old.lists ≤ 60 }
-        requires totals { (lodged : List VoteCounts) × AreTotals self.old.lists lodged self.old.totals × (length lodged < 20000) }
+        requires totals { (lodged : List VoteCounts) × AreTotals self.old.lists lodged self.old.totals × (length lodged < row_limit) }
         ensures answer { IfOk result (λ answer. (returns : Returns) → Holds self.old.returns returns
             → row_answer (every_code self.old.lists) returns (Row.Lodge ask) ≡ answer) }
         ensures table { OnOk result ((returns : Returns) → Holds self.old.returns returns
@@ -105,7 +106,7 @@ impl Import {
         counts: Counts,
     ) -> Result<Result<LodgeReply, Refusal>, AllocError>
         requires lists { self.old.lists ≤ 60 }
-        requires totals { (lodged : List VoteCounts) × AreTotals self.old.lists lodged self.old.totals × (length lodged < 20000) }
+        requires totals { (lodged : List VoteCounts) × AreTotals self.old.lists lodged self.old.totals × (length lodged < row_limit) }
         ensures answer { IfOk result (λ answer. (returns : Returns) → Holds self.old.returns returns
             → answer ≡ lodge_answer (every_code self.old.lists) returns station slip counts) }
         ensures table { OnOk result ((returns : Returns) → Holds self.old.returns returns
@@ -131,7 +132,7 @@ impl Import {
 // it adds.
 fn count_row(count: &mut ImportCount, number: u32, answer: Option<Result<LodgeReply, Refusal>>)
     requires before { (answered : List RowAnswer) × (count.old ≡ count_of answered) × (number ≡ length answered + 1) }
-    requires few { number ≤ 20000 }
+    requires few { number ≤ row_limit }
     ensures { (answered : List RowAnswer) → count.old ≡ count_of answered → number ≡ length answered + 1 → count.new ≡ count_of (answered ++ answer ∷ []) }
 {
     let mut one = ImportCount::new();

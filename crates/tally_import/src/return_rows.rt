@@ -8,7 +8,7 @@ ghost use Rattle.csv.specs.Records.{fields_of};
 ghost use Rattle.tally_rules.specs.Code.{code_cmp};
 ghost use Rattle.tally_rules.specs.Constituency.{Constituency, list_codes, station_codes};
 ghost use Rattle.tally_returns.specs.Lodge.{Stations};
-ghost use Rattle.tally_core.specs.Source.{GivesNext, IsLodgeOrBad, at_end, ends_by};
+ghost use Rattle.tally_core.specs.Source.{GivesNext, IsLodgeOrBad, at_end, ends_by, row_limit};
 ghost use Rattle.tally_core.specs.declared.source.ImportFault.{ImportFault};
 ghost use Rattle.tally_records.specs.Given.{IsReadingOn, TellsTrue};
 ghost use Rattle.tally_records.specs.Watch.{IsStop, has_failed};
@@ -28,12 +28,9 @@ use std::collections::BTreeSet;
 use std::io::Read;
 use std::marker::Model;
 use std::snapshot::Snapshot;
-use tally_core::{ImportFault, Row, RowSource};
+use tally_core::{ImportFault, ROW_LIMIT, Row, RowSource};
 use tally_records::{End, Records, Sep, Stop, Watch, field};
 use tally_rules::{Code, Constituency, ListEntry, Station};
-
-/// The most rows that a text may have.
-const ROW_LIMIT: u32 = 20_000;
 
 /// How many names stand before those of the lists.
 const FIXED_NAMES: usize = 4;
@@ -270,7 +267,7 @@ impl Rows {
     ) -> Result<Option<Row>, ImportFault>
         requires reading { IsReadingOn self.old.records }
         requires few { self.old.lists ≤ 60 }
-        requires within { self.old.came ≤ 20000 }
+        requires within { self.old.came ≤ row_limit }
         ensures gives { (text : Option (List ℕ)) (con : Constituency) (sep : Sep) → IsReadingRows text (R.remaining reader.old) con sep self.old
             → GivesRow text (R.remaining reader.new) con sep self.old result self.new }
         ensures row { IfOk result (λ row. IfSome row IsLodgeOrBad) }

@@ -1,6 +1,7 @@
 //! The totals of returns.
 
 ghost use Rattle.std.specs.Prelude.{◌≡◌, ◌+◌, ◌<◌, ◌≤◌, ◌^◌, ◌++◌, ℕ, true, List, [], ◌∷◌, length, slice_index, IfOk};
+ghost use Rattle.tally_core.specs.Source.{row_limit};
 ghost use Rattle.tally_returns.specs.Counts.{VoteCounts, are_counts};
 ghost use Rattle.tally_import.specs.Totals.{AreTotals};
 
@@ -28,7 +29,7 @@ pub(crate) fn no_totals(alloc: Global, lists: usize) -> Result<Totals, AllocErro
 
 /// Adds a return to the totals of others.
 pub(crate) fn add_return(totals: &mut Totals, counts: &Counts)
-    requires totals { (returns : List VoteCounts) × AreTotals (length counts.now.votes) returns totals.old × (length returns < 20000) }
+    requires totals { (returns : List VoteCounts) × AreTotals (length counts.now.votes) returns totals.old × (length returns < row_limit) }
     requires counts { are_counts (length counts.now.votes) counts.now ≡ true }
     ensures { (returns : List VoteCounts) → AreTotals (length counts.now.votes) returns totals.old
         → AreTotals (length counts.now.votes) (returns ++ counts.now ∷ []) totals.new }

@@ -1,22 +1,21 @@
 -- What votes and a lot come to, and what is decided by it.
-use Rattle.std.proofs.Common.{◌≡◌, ◌≢◌, ◌≤◌, ◌⊎◌, ◌∙◌, ℕ, List, [], ◌∷◌, Bool, true, false, Option, Some, None, Result, Ok, Err, IfOk, IfErr, OnOk, length, get_or, refl, sym, subst, inl, inr, arith}
+use Rattle.std.proofs.Common.{◌≡◌, ◌≢◌, ◌≤◌, ◌⊎◌, ◌∙◌, ℕ, List, [], ◌∷◌, Bool, true, false, Option, Some, None, Result, Ok, Err, IfOk, IfErr, OnOk, length, get_or, refl, sym, ap, subst, inl, inr, arith}
 use Rattle.std.proofs.lemmas.Bool.{false_from_ne_true}
 use Rattle.std.proofs.lemmas.List.{get_or_past}
 use Rattle.tally_rules.specs.Constituency.{Constituency}
 use Rattle.tally_rules.specs.Limits.{IsConstituency}
 use Rattle.tally_allot.specs.Conditions.{AreLimitsKept}
 use Rattle.tally_contest.specs.Allotment.{Rule, divisors, hare, IsAllotmentByVotes}
-use Rattle.tally_allot.specs.AllotFault.{IsFaultOf}
 use Rattle.tally_contest.specs.LotNeed.{IsDecidedByVotes, IsLotNeeded, IsLotTaken, IsLotWrong, IsNeed}
 use Rattle.tally_contest.specs.Poll.{Poll}
-use Rattle.tally_allot.specs.declared.fault.AllotFault.{AllotFault}
-use Rattle.tally_allot.specs.declared.fault.AllotFault.TheVariants.{WrongLot}
 use Rattle.tally_machine.specs.Certification.{Certifies, Draws, RefusedOr, certified_by, count_checks, drawn_places, drawn_where, list_places}
 use Rattle.tally_returns.specs.Checks.{first_refusal}
-use Rattle.tally_machine.specs.Outcome.{Outcome, IsOutcome, MayStand, allotted, lot_missing, poll_in, rule_in}
+use Rattle.tally_machine.specs.Outcome.{Outcome, HasWrongLot, IsLawfulView, IsOutcome, MayStand, allotted, lot_missing, poll_in, rule_in}
+use Rattle.tally_machine.specs.Step.{Decides, IsConRefusal, lot_refusal}
 use Rattle.tally_returns.specs.View.{FitsView, View}
+use Rattle.tally_returns.specs.declared.ask.Ask.{Ask}
 use Rattle.tally_returns.specs.declared.refusal.Refusal.{Refusal}
-use Rattle.tally_returns.specs.declared.refusal.Refusal.TheVariants.{LotMissing, LotNotNeeded, LotStands}
+use Rattle.tally_returns.specs.declared.refusal.Refusal.TheVariants.{LotMissing, LotNotNeeded, LotStands, Memory}
 use Rattle.tally_machine.proofs.LotLemmas.{order-same}
 
 -- ---- limits
@@ -61,14 +60,27 @@ some_lot-wrong rule poll seats lot none (inl wrong) = wrong.1 none
 some_lot-wrong rule poll seats lot none (inr wrong) = wrong.3 none
 
 -- the lot that stands in a lawful view is not wrong
-pub lot-right : (con : Constituency) (view : View) → (view.lot ≡ []) ⊎ MayStand con view → (f : AllotFault)
-    → IsFaultOf (rule_in con) (poll_in con view) con.seats view.lot f → f ≢ WrongLot
-lot-right con view (inl none) f says is =
-    let wrong = subst (λ (f : AllotFault). IsFaultOf (rule_in con) (poll_in con view) con.seats view.lot f) is says in
-    some_lot-wrong (rule_in con) (poll_in con view) con.seats view.lot none wrong.1
-lot-right con view (inr may) f says is =
-    let wrong = subst (λ (f : AllotFault). IsFaultOf (rule_in con) (poll_in con view) con.seats view.lot f) is says in
-    taken-right (rule_in con) (poll_in con view) con.seats view.lot may.2 wrong.1
+pub lot-right : (con : Constituency) (view : View) → (view.lot ≡ []) ⊎ MayStand con view → HasWrongLot con view → ⊥
+lot-right con view (inl none) wrong = some_lot-wrong (rule_in con) (poll_in con view) con.seats view.lot none wrong
+lot-right con view (inr may) wrong = taken-right (rule_in con) (poll_in con view) con.seats view.lot may.2 wrong
+
+-- so a refusal of a command on it is the one that is decided
+pub refused-lawful : (con : Constituency) (view : View) (ask : Ask) (refusal : Refusal) → IsLawfulView con view → IsConRefusal con view ask refusal
+    → refusal ≢ Memory → Decides con view ask (Err refusal)
+refused-lawful con view ask refusal lawful refused other = go (refused other)
+  where
+    go : Decides con view ask (Err refusal) ⊎ (HasWrongLot con view × (lot_refusal ask ≡ Some refusal)) → Decides con view ask (Err refusal)
+    go (inl decides) = decides
+    go (inr wrong) = absurd (lot-right con view lawful.lawful.lot wrong.0)
+
+-- a refusal of a call that this command makes is one of the command
+pub con-refusal : (con : Constituency) (view : View) (ask : Ask) (refusal told : Refusal) (P : Type 0) → lot_refusal ask ≡ Some told
+    → (P → Decides con view ask (Err refusal)) → (refusal ≢ Memory → P ⊎ (HasWrongLot con view × (refusal ≡ told))) → IsConRefusal con view ask refusal
+con-refusal con view ask refusal told P is decides refused other = go (refused other)
+  where
+    go : P ⊎ (HasWrongLot con view × (refusal ≡ told)) → Decides con view ask (Err refusal) ⊎ (HasWrongLot con view × (lot_refusal ask ≡ Some refusal))
+    go (inl p) = inl (decides p)
+    go (inr wrong) = inr (wrong.0, is ∙ ap Some (sym wrong.1))
 
 allotted-length : (rule : Rule) (poll : Poll) (seats : ℕ) (a : List ℕ) → IsAllotmentByVotes rule poll seats a → length a ≡ length poll.votes
 allotted-length (divisors nth unit lot_rule) poll seats a is = is.shares.one_each

@@ -12,11 +12,12 @@ use Rattle.tally_allot.specs.LawStatements.{AllotmentsAreUnique, AllotmentsExist
 use Rattle.tally_machine.specs.Certification.{Certifies, RefusedOr, certified_by, count_checks}
 use Rattle.tally_returns.specs.Checks.{check, first_refusal}
 use Rattle.tally_machine.specs.Step.{IsView, certified_with, changed_by, IsAnswered, IsConStep, IsStep, con_answer, seen, IsStepSeenAt}
+use Rattle.tally_machine.specs.LawStatements.{CertificatesOfRunsStand}
 use Rattle.tally_machine.specs.LawfulState.{IsLawfulState}
 use Rattle.tally_returns.specs.Named.{BringsCode, con_named}
 use Rattle.tally_machine.specs.Outcome.{HasSeats, IsCertificate, IsOutcome, MayStand, Outcome, allotted, lot_missing, nobody, poll_in, rule_in}
 use Rattle.tally_machine.specs.Runs.{IsRun}
-use Rattle.tally_returns.specs.State.{State, con_state, opening, last_edition}
+use Rattle.tally_returns.specs.State.{State, con_state, last_edition}
 use Rattle.tally_returns.specs.View.{View, view_of}
 use Rattle.tally_returns.specs.declared.ask.Ask.{Ask}
 use Rattle.tally_returns.specs.declared.ask.Ask.TheVariants.{Certify}
@@ -24,7 +25,7 @@ use Rattle.tally_returns.specs.declared.refusal.Refusal.{Refusal}
 use Rattle.tally_returns.specs.declared.refusal.Refusal.TheVariants.{Certified, Exhausted, LotMissing, NotAllClosed, Stale}
 use Rattle.tally_returns.specs.declared.reply.Reply.{Reply}
 use Rattle.tally_machine.proofs.ConStepLemmas.{con-step-lawful}
-use Rattle.tally_machine.proofs.ReturnStepLemmas.{opening-lawful, return-step-lawful}
+use Rattle.tally_machine.proofs.ReturnStepLemmas.{return-step-lawful}
 use Rattle.tally_machine.proofs.VacancyLemmas.{allotted-sum}
 use Rattle.tally_machine.proofs.ViewLemmas.{constituency-limits}
 
@@ -133,9 +134,8 @@ view-stands laws setup s code con ok lawful is = go (con_state s con.code).certi
     go true certified = let stands = certificate-stands laws setup s ok lawful code con is certified in (stands.0, stands.1)
     go false opened = (view_of con s [], (refl, subst (λ (x : Bool). HasSeats con (view_of con s []) x) (sym opened) refl))
 
-pub certificate-of_run : AllotmentLaws → (setup : List Constituency) (t : State) (asks : List Ask) (rs : List (Result Reply Refusal)) → All BringsCode asks → IsSetup setup → IsRun setup (opening setup) asks rs t
-    → (code : List ℕ) (con : Constituency) → constituency_with code setup ≡ Some con → (con_state t con.code).certified ≡ true → (view : View) × IsView con t view × IsCertificate con view
-certificate-of_run laws setup t asks rs brings ok run = certificate-stands laws setup t ok (run-lawful setup (opening setup) t asks rs brings ok run (opening-lawful setup ok))
+pub certificate-of_run : AllotmentLaws → CertificatesOfRunsStand
+certificate-of_run laws setup s t asks rs brings ok lawful run = certificate-stands laws setup t ok (run-lawful setup s t asks rs brings ok run lawful)
 
 -- ---- a missing lot
 

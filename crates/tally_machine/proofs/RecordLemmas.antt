@@ -15,7 +15,7 @@ use Rattle.tally_returns.specs.Checks.{check, first_refusal, refused_or}
 use Rattle.tally_returns.specs.GoneCandidate.{GoneCandidate}
 use Rattle.tally_returns.specs.Named.{BringsCode, con_named, station_named}
 use Rattle.tally_returns.specs.PastSeats.{PastSeats}
-use Rattle.tally_returns.specs.State.{ConState, Records, State, con_state, last_edition, opening, opening_con}
+use Rattle.tally_returns.specs.State.{ConState, Records, State, con_state, last_edition, opening_con}
 use Rattle.tally_machine.specs.Step.{after, after_put, after_return, con_of_station, decided_in, without_lot, ConChange, Decides, IsView, after_change, certified_with, changed, gone_for_good, lot_set, no_change, open_again, with_con, IsAnswered, IsConStep, con_answer, edition_now, seen, IsStepSeenAt}
 use Rattle.tally_returns.specs.View.{View, past_records}
 use Rattle.tally_returns.specs.declared.ask.Ask.{Ask}
@@ -39,7 +39,6 @@ use Rattle.tally_machine.proofs.DecisionLemmas.{given-by}
 use Rattle.tally_machine.proofs.LawLemmas.{AllotmentLaws, answered-lawful, certificate-of_view}
 use Rattle.tally_machine.proofs.OnwardLemmas.{with_return-cons}
 use Rattle.tally_machine.proofs.PastLemmas.{past-lawful}
-use Rattle.tally_machine.proofs.ReturnStepLemmas.{opening-lawful, opening-state}
 use Rattle.tally_machine.proofs.SpentLemmas.{reopen-edition}
 
 -- ---- what one change does to the records of a constituency
@@ -349,14 +348,12 @@ records-of-allotments laws setup s t ask r ok lawful (inl step) code con edition
 records-of-allotments laws setup s t ask r ok lawful (inr not_accepted) code con edition seats found on = inl (subst (λ (x : State). IsOnRecord x con.code edition seats) not_accepted.1 on)
 
 -- what stands on record after a run stood there before, or a request of the run put it there
-run-adds : AllotmentLaws → (setup : List Constituency) (s t : State) (asks : List Ask) (rs : List (Result Reply Refusal)) → All BringsCode asks → IsSetup setup → IsLawfulState setup s → IsRun setup s asks rs t
-    → (code : List ℕ) (con : Constituency) (edition : ℕ) (seats : List ℕ) → constituency_with code setup ≡ Some con → IsOnRecord t con.code edition seats
-    → IsOnRecord s con.code edition seats ⊎ IsReopenedIn con edition seats setup s asks rs t
-run-adds laws setup s t [] [] brings ok lawful run code con edition seats found on = inl (subst (λ (x : State). IsOnRecord x con.code edition seats) run on)
-run-adds laws setup s t [] (r ∷ rs) brings ok lawful run code con edition seats found on = absurd run
-run-adds laws setup s t (ask ∷ asks) [] brings ok lawful run code con edition seats found on = absurd run
-run-adds laws setup s t (ask ∷ asks) (r ∷ rs) brings ok lawful run code con edition seats found on =
-    go (run-adds laws setup run.0 t asks rs (All-tail BringsCode ask asks brings) ok (answered-lawful setup s run.0 ask r (All-head BringsCode ask asks brings) ok lawful run.1) run.2 code con edition seats found on)
+pub records-of-run : AllotmentLaws → RecordsOfRunsAreOfAllotments
+records-of-run laws setup s t [] [] brings ok lawful run code con edition seats found on = inl (subst (λ (x : State). IsOnRecord x con.code edition seats) run on)
+records-of-run laws setup s t [] (r ∷ rs) brings ok lawful run code con edition seats found on = absurd run
+records-of-run laws setup s t (ask ∷ asks) [] brings ok lawful run code con edition seats found on = absurd run
+records-of-run laws setup s t (ask ∷ asks) (r ∷ rs) brings ok lawful run code con edition seats found on =
+    go (records-of-run laws setup run.0 t asks rs (All-tail BringsCode ask asks brings) ok (answered-lawful setup s run.0 ask r (All-head BringsCode ask asks brings) ok lawful run.1) run.2 code con edition seats found on)
   where
     first : IsOnRecord s con.code edition seats ⊎ IsReopened con edition seats s ask r → IsOnRecord s con.code edition seats ⊎ IsReopenedIn con edition seats setup s (ask ∷ asks) (r ∷ rs) t
     first (inl before) = inl before
@@ -375,13 +372,3 @@ run-adds laws setup s t (ask ∷ asks) (r ∷ rs) brings ok lawful run code con 
       answered = later.answered;
       reopened = later.reopened;
     })
-
-pub records-of-run : AllotmentLaws → RecordsOfRunsAreOfAllotments
-records-of-run laws setup t asks rs brings ok run code con edition seats found on =
-    go (run-adds laws setup (opening setup) t asks rs brings ok (opening-lawful setup ok) run code con edition seats found on)
-  where
-    go : IsOnRecord (opening setup) con.code edition seats ⊎ IsReopenedIn con edition seats setup (opening setup) asks rs t → IsReopenedIn con edition seats setup (opening setup) asks rs t
-    go (inl before) =
-        let empty : fin.get opening_con.past edition ≡ None = fin.get-empty nat_cmp edition in
-        let is : fin.get opening_con.past edition ≡ Some seats = sym (ap (λ (c : ConState). fin.get c.past edition) (opening-state setup con.code)) ∙ before in cc
-    go (inr made) = made

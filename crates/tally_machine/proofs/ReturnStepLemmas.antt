@@ -386,7 +386,7 @@ opening-found : (setup : List Constituency) (code : List ℕ) → fin.get (openi
 opening-found setup code = fin.get-from_entries nat_list_cmp_total (map (λ (x : Constituency). (x.code, opening_con)) setup) code ∙ opens setup code
 
 -- what the constituency of a code has come to as an office opens
-pub opening-state : (setup : List Constituency) (code : List ℕ) → con_state (opening setup) code ≡ opening_con
+opening-state : (setup : List Constituency) (code : List ℕ) → con_state (opening setup) code ≡ opening_con
 opening-state setup code = ap (λ found. unwrap_or found opening_con) (opening-found setup code) ∙ opened (constituency_with code setup)
   where
     opened : (found : Option Constituency) → unwrap_or (option_map (λ (c : Constituency). opening_con) found) opening_con ≡ opening_con

@@ -1,5 +1,5 @@
 -- Draw, Certify, Reopen and Vacate: the checks of each in their order, and what it then sets.
-use Rattle.std.specs.Prelude.{◌≡◌, if◌then◌else◌, ◌+◌, ◌-◌, ◌==◌, ◌&&◌, not, ℕ, nat_le, Bool, true, false, List, [], ◌∷◌, length, map, slice_index, Option, Some, None, Result, Ok, Err, is_some}
+use Rattle.std.specs.Prelude.{◌≡◌, ◌≢◌, ◌⊎◌, if◌then◌else◌, ◌+◌, ◌-◌, ◌==◌, ◌&&◌, not, ℕ, nat_le, Bool, true, false, List, [], ◌∷◌, length, map, slice_index, Option, Some, None, Result, Ok, Err, is_some}
 use Rattle.std.specs.List.{list_all, filter}
 use Rattle.std.specs.Str.{bytes_eq}
 use Rattle.tally_rules.specs.Constituency.{Constituency, ListEntry}
@@ -11,9 +11,9 @@ use Rattle.tally_returns.specs.GoneCandidate.{GoneCandidate}
 use Rattle.tally_returns.specs.PastSeats.{PastSeats}
 use Rattle.tally_returns.specs.State.{last_edition}
 use Rattle.tally_returns.specs.View.{View}
-use Rattle.tally_machine.specs.Outcome.{Outcome, nobody, lot_missing, allotted, IsOutcome}
+use Rattle.tally_machine.specs.Outcome.{Outcome, nobody, lot_missing, allotted, HasWrongLot, IsOutcome}
 use Rattle.tally_returns.specs.declared.refusal.Refusal.{Refusal}
-use Rattle.tally_returns.specs.declared.refusal.Refusal.TheVariants.{NoCandidate, BadNote, Certified, NotCertified, Stale, Exhausted, NotAllClosed, NoEligible, LotStands, LotNotNeeded, LotWrongGroup, LotMissing, AlreadyGone, NotHolder}
+use Rattle.tally_returns.specs.declared.refusal.Refusal.TheVariants.{NoCandidate, BadNote, Certified, NotCertified, Stale, Exhausted, NotAllClosed, NoEligible, LotStands, LotNotNeeded, LotWrongGroup, LotMissing, AlreadyGone, NotHolder, Memory, Store}
 
 -- the checks of Draw and of Certify before the votes are looked at
 abbrev pub count_checks : View → ℕ → List (Option Refusal)
@@ -39,6 +39,11 @@ certified_by (allotted seats) = Ok seats
 
 abbrev pub Certifies : Constituency → View → ℕ → Result (List ℕ) Refusal → Type 0
 Certifies con view edition = RefusedOr (first_refusal (count_checks view edition)) (λ result. (outcome : Outcome) × IsOutcome con view outcome × (result ≡ certified_by outcome))
+
+-- A refusal of Certify, want of memory aside; where the lot that stands is wrong, the database that gave the view is refused.
+abbrev pub IsCertifyRefusal : Constituency → View → ℕ → Refusal → Type 0
+IsCertifyRefusal con view edition refusal =
+    refusal ≢ Memory → Certifies con view edition (Err refusal) ⊎ (HasWrongLot con view × (refusal ≡ Store))
 
 -- ---- Draw
 
@@ -79,22 +84,26 @@ abbrev pub drawn_places : List Bool → Option (List ℕ) → Result (List ℕ) 
 drawn_places group None = Err (LotWrongGroup group)
 drawn_places group (Some places) = if names_group group places then Ok places else Err (LotWrongGroup group)
 
--- what Draw gives where the votes come to this and no lot stands: the places of the lists in the order drawn
+-- what Draw gives where the votes come to this and no lot is recorded: the places of the lists in the order drawn
 abbrev pub drawn_by : Outcome → Option (List ℕ) → Result (List ℕ) Refusal
 drawn_by nobody places = Err NoEligible
 drawn_by (lot_missing group in_question) places = drawn_places group places
 drawn_by (allotted seats) places = Err LotNotNeeded
 
--- and where a lot stands, which is looked at after the votes
+-- and where a lot is recorded, which is looked at after the votes
 abbrev pub drawn_where : List ℕ → Outcome → Option (List ℕ) → Result (List ℕ) Refusal
 drawn_where [] outcome places = drawn_by outcome places
 drawn_where (place ∷ lot) nobody places = Err NoEligible
-drawn_where (place ∷ lot) (lot_missing group in_question) places = Err LotStands
-drawn_where (place ∷ lot) (allotted seats) places = Err LotStands
+drawn_where (place ∷ lot) other places = Err LotStands
 
 abbrev pub Draws : Constituency → View → ℕ → List (List ℕ) → Result (List ℕ) Refusal → Type 0
 Draws con view edition order =
     RefusedOr (first_refusal (count_checks view edition)) (λ result. (outcome : Outcome) × IsOutcome con view outcome × (result ≡ drawn_where view.lot outcome (list_places con order)))
+
+-- A refusal of Draw, want of memory aside; a lot that stands is one that stands, be it wrong.
+abbrev pub IsDrawRefusal : Constituency → View → ℕ → List (List ℕ) → Refusal → Type 0
+IsDrawRefusal con view edition order refusal =
+    refusal ≢ Memory → Draws con view edition order (Err refusal) ⊎ (HasWrongLot con view × (refusal ≡ LotStands))
 
 -- ---- Reopen
 
@@ -106,7 +115,7 @@ reopen_checks view edition note =
     ∷ check (not (view.edition == last_edition)) Exhausted
     ∷ []
 
--- the certificate that stands, as it is put on record
+-- the present certificate, as it is put on record
 abbrev pub certificate_of : View → PastSeats
 certificate_of view = record { edition = view.edition; seats = view.seats }
 

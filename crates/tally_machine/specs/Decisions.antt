@@ -25,7 +25,7 @@ use Rattle.tally_machine.specs.LawfulState.{IsLawfulState}
 
 -- ---- commands on returns
 
--- the command names the station of a code, which stands in this constituency
+-- the command names the station of a code, which is in this constituency
 abbrev pub IsAt : List Constituency → Constituency → List ℕ → Ask → Type 0
 IsAt setup con code ask = (station_named ask ≡ Some code) × ((station : Station) × (station_with code setup ≡ Some (con, station)))
 
@@ -105,7 +105,7 @@ StepsAreOne =
     (setup : List Constituency) (s t u : State) (ask : Ask) (answer other : Result Answer Refusal) → IsSetup setup
     → IsStepSeen setup s ask answer t → IsStepSeen setup s ask other u → (answer ≡ other) × (t ≡ u)
 
--- no step is refused for want of memory or by a store
+-- no step is refused as out of memory or by a store
 abbrev pub StepsAreOfTheMachine : Type 0
 StepsAreOfTheMachine = (setup : List Constituency) (s t : State) (ask : Ask) (refusal : Refusal) → IsStepSeen setup s ask (Err refusal) t → (refusal ≢ Memory) × (refusal ≢ Store)
 

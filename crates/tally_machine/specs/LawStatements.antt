@@ -1,4 +1,4 @@
--- The laws of states, steps and runs. Each is proved as a clause of a function of `src/laws.rt`. What is said of decisions stands in
+-- The laws of states, steps and runs. Each is proved as a clause of a function of `src/laws.rt`. What is said of decisions is in
 -- `Decisions`, and of certificates that were reopened in `Records`.
 use Rattle.std.specs.Prelude.{◌≡◌, ◌↔◌, ◌<◌, ℕ, All, Bool, List, [], Some, None, Err, Result, true, false, slice_get}
 use Rattle.std.specs.List.{filter}
@@ -19,7 +19,7 @@ use Rattle.tally_returns.specs.declared.reply.Reply.{Reply}
 use Rattle.tally_machine.specs.Certification.{count_checks}
 use Rattle.tally_machine.specs.Step.{ConChange, Decides, IsView, Answer, IsStep, IsStepSeen}
 use Rattle.tally_machine.specs.LawfulState.{IsLawfulState}
-use Rattle.tally_machine.specs.Outcome.{IsCertificate, IsLawfulView, poll_in, rule_in}
+use Rattle.tally_machine.specs.Outcome.{HasWrongLot, IsCertificate, IsLawfulView, poll_in, rule_in}
 use Rattle.tally_machine.specs.Runs.{IsRun, is_act, IsSameCommand, acting_asks, kept}
 
 -- ---- lawful states
@@ -42,11 +42,12 @@ RunsKeepStatesLawful =
 
 -- ---- certificates
 
--- after a run from the opening state a certified constituency has a view with a certificate that stands
+-- after a run from a lawful state a certified constituency has a view with a certificate
 abbrev pub CertificatesOfRunsStand : Type 0
 CertificatesOfRunsStand =
-    (setup : List Constituency) (t : State) (asks : List Ask) (rs : List (Result Reply Refusal)) → All BringsCode asks → IsSetup setup
-    → IsRun setup (opening setup) asks rs t → (code : List ℕ) (con : Constituency) → constituency_with code setup ≡ Some con
+    (setup : List Constituency) (s t : State) (asks : List Ask) (rs : List (Result Reply Refusal))
+    → All BringsCode asks → IsSetup setup → IsLawfulState setup s → IsRun setup s asks rs t
+    → (code : List ℕ) (con : Constituency) → constituency_with code setup ≡ Some con
     → (con_state t con.code).certified ≡ true → (view : View) × IsView con t view × IsCertificate con view
 
 -- in a lawful state each view of a certified constituency has one
@@ -75,6 +76,10 @@ ViewsAreLawful =
     (setup : List Constituency) (s : State) (code : List ℕ) (con : Constituency) (view : View) → IsSetup setup → IsLawfulState setup s
     → constituency_with code setup ≡ Some con → IsView con s view → IsLawfulView con view
 
+-- and the lot that stands in a lawful view is not a wrong one
+abbrev pub LotsOfLawfulViewsAreRight : Type 0
+LotsOfLawfulViewsAreRight = (con : Constituency) (view : View) → IsLawfulView con view → ¬ HasWrongLot con view
+
 -- ---- steps
 
 -- by the view of a lawful state each command on a constituency is decided
@@ -90,7 +95,7 @@ CommandsHaveSteps =
     → (t : State) × (seen_as : Result Answer Refusal) × IsStepSeen setup s ask seen_as t
 
 -- where the checks before it pass and some list is eligible, Certify answers that a lot is missing exactly where one is needed and none
--- stands
+-- is recorded
 abbrev pub MissingLotsAreTold : Type 0
 MissingLotsAreTold =
     (setup : List Constituency) (s t : State) (code : List ℕ) (con : Constituency) (view : View) (edition : ℕ) (r : Result Reply Refusal) → IsSetup setup
@@ -98,7 +103,7 @@ MissingLotsAreTold =
     → IsStep setup s (Certify code edition) r t
     → ((group : List Bool) × (in_question : ℕ) × (r ≡ Err (LotMissing group in_question))) ↔ (IsLotNeeded (rule_in con) (poll_in con view) con.seats × (view.lot ≡ []))
 
--- and it tells the group and the seats in question
+-- and it names the group and the seats in question
 abbrev pub MissingLotsAreToldAsNeeded : Type 0
 MissingLotsAreToldAsNeeded =
     (setup : List Constituency) (s t : State) (code : List ℕ) (con : Constituency) (view : View) (edition : ℕ) (r : Result Reply Refusal)

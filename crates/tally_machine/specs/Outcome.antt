@@ -5,17 +5,15 @@ use Rattle.tally_rules.specs.Constituency.{Constituency, ListEntry}
 use Rattle.tally_contest.specs.Poll.{Poll, HasEligible}
 use Rattle.tally_contest.specs.Allotment.{Rule}
 use Rattle.tally_allot.specs.AllotFault.{IsAllotmentUnderLot}
-use Rattle.tally_contest.specs.LotNeed.{IsLotNeeded, IsNeed, IsLotTaken}
+use Rattle.tally_contest.specs.LotNeed.{IsLotNeeded, IsLotTaken, IsLotWrong, IsNeed}
 use Rattle.tally_contest.specs.Rules.{rule_of, poll_of}
 use Rattle.tally_returns.specs.GoneCandidate.{GoneCandidate}
 use Rattle.tally_returns.specs.Lawful.{is_kept_note, may_stand}
 use Rattle.tally_returns.specs.PastSeats.{PastSeats}
 use Rattle.tally_returns.specs.State.{last_edition}
 use Rattle.tally_returns.specs.View.{View, FitsView, HasEachList}
-use Rattle.tally_returns.specs.declared.refusal.Refusal.{Refusal}
-use Rattle.tally_returns.specs.declared.refusal.Refusal.TheVariants.{Memory}
 
--- No list is eligible; or a lot among a group, told by a mark for each of 60 places, is needed for so many seats, and none stands; or these
+-- No list is eligible; or a lot among a group, given by a mark for each of 60 places, is needed for so many seats, and none is recorded; or these
 -- are the seats of the lists.
 pub data Outcome : Type 0 where
   nobody : Outcome
@@ -39,12 +37,12 @@ abbrev pub HasSeats : Constituency → View → Bool → Type 0
 HasSeats con view true = IsOutcome con view (allotted view.seats)
 HasSeats con view false = view.seats ≡ []
 
--- a lot stands only where all stations are closed and it is the one to be taken
+-- a lot may be recorded only where all stations are closed and it is the one to be taken
 abbrev pub MayStand : Constituency → View → Type 0
 MayStand con view = (view.closed ≡ view.stations) × HasEligible (poll_in con view) × IsLotTaken (rule_in con) (poll_in con view) con.seats view.lot
 
--- What a certificate stands on: all stations are closed; the seats are those of the one allotment, and exactly as many as there are; and a
--- lot stands where one is needed.
+-- What a certificate rests on: all stations are closed; the seats are those of the one allotment, and exactly as many as there are; and a
+-- lot is recorded where one is needed.
 pub record IsCertificate (con : Constituency) (view : View) : Type 0 where
   pub closed : view.closed ≡ view.stations
   pub allotment : IsAllotmentUnderLot (rule_in con) (poll_in con view) view.lot con.seats view.seats
@@ -67,9 +65,9 @@ pub record IsLawfulPast (con : Constituency) (edition : ℕ) (past : PastSeats) 
   pub lists : HasEachList con past
   pub exactly : sum past.seats ≡ con.seats
 
--- What a constituency may have come to, by what is seen of it, be it in a state or of rows that were read, its seats aside: a lot stands
+-- What a constituency may have come to, by what is seen of it, be it in a state or of rows that were read, its seats aside: a lot is recorded
 -- only where all its stations are closed, some list is eligible and the lot is the one to be taken; it is certified only where, besides,
--- a lot stands if one is needed; those who are gone are candidates; and its certificates that were reopened are of earlier editions.
+-- a lot is recorded if one is needed; those who are gone are candidates; and its certificates that were reopened are of earlier editions.
 pub record IsLawfulCon (con : Constituency) (view : View) : Type 0 where
   pub first : 1 ≤ view.edition
   pub last : view.edition ≤ last_edition
@@ -86,6 +84,6 @@ pub record IsLawfulView (con : Constituency) (view : View) : Type 0 where
   pub lawful : IsLawfulCon con view
   pub seats : HasSeats con view view.certified
 
--- This is so of a refusal other than want of memory where the view is lawful. Of a view that a database gave that is not known.
-abbrev pub WhereLawful : Constituency → View → (Refusal → Type 0) → Refusal → Type 0
-WhereLawful con view IsSo refusal = refusal ≢ Memory → IsLawfulView con view → IsSo refusal
+-- The lot that stands is not the one to be taken. So it is in no lawful view, but it may be in one that a database gave.
+abbrev pub HasWrongLot : Constituency → View → Type 0
+HasWrongLot con view = IsLotWrong (rule_in con) (poll_in con view) con.seats view.lot

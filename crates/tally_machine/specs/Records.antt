@@ -6,7 +6,7 @@ use Rattle.tally_rules.specs.Limits.{IsSetup}
 use Rattle.tally_rules.specs.Setup.{constituency_with}
 use Rattle.tally_returns.specs.AskSeen.{ask_seen, reopen}
 use Rattle.tally_returns.specs.Named.{BringsCode}
-use Rattle.tally_returns.specs.State.{State, con_state, opening}
+use Rattle.tally_returns.specs.State.{State, con_state}
 use Rattle.tally_returns.specs.View.{View}
 use Rattle.tally_returns.specs.declared.ask.Ask.{Ask}
 use Rattle.tally_returns.specs.declared.refusal.Refusal.{Refusal}
@@ -57,7 +57,7 @@ RecordsAreOfAllotments =
     → (code : List ℕ) (con : Constituency) (edition : ℕ) (seats : List ℕ) → constituency_with code setup ≡ Some con
     → IsOnRecord t con.code edition seats → IsOnRecord s con.code edition seats ⊎ IsReopened con edition seats s ask r
 
--- At some place of the run, from 0, stands the request that reopened the certificate, in the state to which the requests before it led.
+-- At some place of the run, from 0, is the request that reopened the certificate, in the state to which the requests before it led.
 pub record IsReopenedIn (con : Constituency) (edition : ℕ) (seats : List ℕ) (setup : List Constituency) (s : State) (asks : List Ask) (rs : List (Result Reply Refusal)) (t : State) : Type 0 where
   pub place : ℕ
   pub state : State
@@ -69,9 +69,12 @@ pub record IsReopenedIn (con : Constituency) (edition : ℕ) (seats : List ℕ) 
   pub answered : slice_get rs place ≡ Some answer
   pub reopened : IsReopened con edition seats state ask answer
 
--- each certificate on record after a run from the opening state was reopened in that run
+-- Each certificate on record after a run was on record before it, word for word, or it was reopened in that run. From the opening state
+-- it was reopened, since there nothing is on record.
 abbrev pub RecordsOfRunsAreOfAllotments : Type 0
 RecordsOfRunsAreOfAllotments =
-    (setup : List Constituency) (t : State) (asks : List Ask) (rs : List (Result Reply Refusal)) → All BringsCode asks → IsSetup setup → IsRun setup (opening setup) asks rs t
+    (setup : List Constituency) (s t : State) (asks : List Ask) (rs : List (Result Reply Refusal))
+    → All BringsCode asks → IsSetup setup → IsLawfulState setup s → IsRun setup s asks rs t
     → (code : List ℕ) (con : Constituency) (edition : ℕ) (seats : List ℕ) → constituency_with code setup ≡ Some con
-    → IsOnRecord t con.code edition seats → IsReopenedIn con edition seats setup (opening setup) asks rs t
+    → IsOnRecord t con.code edition seats
+    → IsOnRecord s con.code edition seats ⊎ IsReopenedIn con edition seats setup s asks rs t

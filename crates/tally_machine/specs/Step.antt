@@ -1,6 +1,6 @@
--- Step: what a command is answered in a state, and the state that it leaves. What a command on a return is refused for stands in
+-- Step: what a command is answered in a state, and the state that it leaves. What a command on a return is refused for is in
 -- `Decide` of tally_returns, and what one on a constituency is refused for in `Certification`.
-use Rattle.std.specs.Prelude.{◌≡◌, ◌+◌, ◌∷◌, ◌⊎◌, ℕ, Bool, true, false, List, [], Option, Some, None, Result, Ok, Err, option_map, string_bytes}
+use Rattle.std.specs.Prelude.{◌≡◌, ◌≢◌, ◌+◌, ◌∷◌, ◌⊎◌, ℕ, Bool, true, false, List, [], Option, Some, None, Result, Ok, Err, option_map, string_bytes}
 use Rattle.std.specs.Option.{option_map_or}
 use Rattle.std.specs.FinMap.{get, insert}
 use Rattle.tally_rules.specs.Constituency.{Constituency}
@@ -22,13 +22,13 @@ use Rattle.tally_returns.specs.declared.change.Change.{Change}
 use Rattle.tally_returns.specs.declared.change.Change.TheVariants.{Same, PutReturn, SetLot, SetCertified, SetReopened, SetGone}
 use Rattle.tally_returns.specs.declared.progress.ProgressRow.{ProgressRow}
 use Rattle.tally_returns.specs.declared.refusal.Refusal.{Refusal}
-use Rattle.tally_returns.specs.declared.refusal.Refusal.TheVariants.{NoConstituency, NoReturn, Memory, Store}
+use Rattle.tally_returns.specs.declared.refusal.Refusal.TheVariants.{LotStands, NoConstituency, NoReturn, Memory, Store}
 use Rattle.tally_returns.specs.declared.reply.LodgeReply.{LodgeReply}
 use Rattle.tally_returns.specs.declared.reply.LodgeReply.TheVariants as lodge
 use Rattle.tally_returns.specs.declared.reply.Reply.{Reply}
 use Rattle.tally_returns.specs.declared.reply.Reply.TheVariants as reply
 use Rattle.tally_machine.specs.Certification.{Certifies, Draws, reopened, vacates}
-use Rattle.tally_machine.specs.Outcome.{HasSeats}
+use Rattle.tally_machine.specs.Outcome.{HasSeats, HasWrongLot}
 
 -- ---- answers
 
@@ -60,7 +60,7 @@ seen (Err refusal) = Err refusal
 
 -- ---- commands on returns, and the one that shows how far constituencies have come
 
--- the code of the constituency that a station stands in
+-- the code of the constituency that a station is in
 abbrev pub con_of_station : List Constituency → List ℕ → Option (List ℕ)
 con_of_station setup station = option_map (λ (place : Constituency × Station). place.0.code) (station_with station setup)
 
@@ -86,7 +86,7 @@ abbrev pub after_put : List Constituency → State → Ask → State
 after_put setup s (Query station rev note) = without_lot s (con_of_station setup station)
 after_put setup s other = s
 
--- the return now stands at the station
+-- the return is now recorded for the station
 abbrev pub with_return : State → Option (List ℕ) → StationReturn → State
 with_return s None standing = s
 with_return s (Some station) standing = record s { returns = insert s.returns station standing }
@@ -112,7 +112,7 @@ move_reply (Ok (PutReturn standing)) = Ok (moved standing.rev)
 move_reply (Ok other) = Err NoReturn
 move_reply (Err refusal) = Err refusal
 
--- the return that stands
+-- the recorded return
 abbrev pub return_reply : Option StationReturn → Result Answer Refusal
 return_reply (Some standing) = Ok (return_shown standing)
 return_reply None = Err NoReturn
@@ -160,6 +160,21 @@ Decides con view (Reopen code edition note) decided = decided ≡ changed_by (λ
 Decides con view (Vacate code list place note) decided = decided ≡ changed_by (λ (v : GoneCandidate × Option ℕ). gone_for_good v.0 v.1) (vacates con view list place (string_bytes note))
 Decides con view (ShowCon code) decided = decided ≡ Ok no_change
 Decides con view other decided = ⊥
+
+-- A change that is decided of a command on a constituency.
+abbrev pub IsConDecision : Constituency → View → Ask → Change → Type 0
+IsConDecision con view ask change = (decided : ConChange) × (con_change change ≡ Some decided) × Decides con view ask (Ok decided)
+
+-- what a command is refused with where the lot that stands is wrong, which it is in no lawful view
+abbrev pub lot_refusal : Ask → Option Refusal
+lot_refusal (Draw code edition order) = Some LotStands
+lot_refusal (Certify code edition) = Some Store
+lot_refusal other = None
+
+-- A refusal that is decided of a command on a constituency, want of memory aside; or the lot that stands is wrong.
+abbrev pub IsConRefusal : Constituency → View → Ask → Refusal → Type 0
+IsConRefusal con view ask refusal =
+    refusal ≢ Memory → Decides con view ask (Err refusal) ⊎ (HasWrongLot con view × (lot_refusal ask ≡ Some refusal))
 
 -- This is what is seen of a constituency in a state: where it is certified, its seats are those of the one allotment.
 abbrev pub IsView : Constituency → State → View → Type 0
@@ -214,7 +229,7 @@ IsConStep found s ask r t = IsConStepSeen found s ask (seen r) t
 abbrev pub IsStep : List Constituency → State → Ask → Result Reply Refusal → State → Type 0
 IsStep setup s ask r t = IsStepSeen setup s ask (seen r) t
 
--- The request was not accepted, for want of memory or since the store failed.
+-- The request was not accepted, being out of memory or since the store failed.
 abbrev pub IsNotAccepted : Result Reply Refusal → Type 0
 IsNotAccepted r = (r ≡ Err Memory) ⊎ (r ≡ Err Store)
 

@@ -2,10 +2,9 @@
 
 ghost use Rattle.std.specs.Prelude.{◌≡◌, ◌≢◌, ◌≤◌, ℕ, false, Ok, Err, IfOk, IfErr, OnOk, Some, None, length, slice_index_or, string_bytes};
 ghost use Rattle.tally_allot.specs.AllotFault.{IsFaultOf};
-ghost use Rattle.tally_allot.specs.declared.fault.AllotFault.TheVariants.{WrongLot};
-ghost use Rattle.tally_machine.specs.Certification.{Certifies, Draws, count_checks, drawn_places, list_places, reopened};
+ghost use Rattle.tally_machine.specs.Certification.{Certifies, Draws, IsCertifyRefusal, IsDrawRefusal, count_checks, drawn_places, list_places, reopened};
 ghost use Rattle.tally_returns.specs.Checks.{first_refusal};
-ghost use Rattle.tally_machine.specs.Outcome.{IsLawfulView, IsOutcome, WhereLawful, allotted, rule_in, poll_in};
+ghost use Rattle.tally_machine.specs.Outcome.{IsOutcome, allotted, rule_in, poll_in};
 ghost use Rattle.tally_returns.specs.View.{FitsView};
 ghost use Rattle.tally_returns.specs.declared.refusal.Refusal.TheVariants.{Memory};
 
@@ -25,8 +24,8 @@ pub struct Reopening {
 }
 
 /// The seats that certifying gives each list, in the setup's order (LOREG article 163.1), or why
-/// it is refused. A view that came from a database may hold a lot that is none of its group: then
-/// the database is refused.
+/// it is refused. A view that came from a database may hold a lot that is not the one to be taken:
+/// then the database is refused.
 pub fn certify(
     alloc: Global,
     con: &Constituency,
@@ -35,7 +34,7 @@ pub fn certify(
 ) -> Result<Vec<u32>, Refusal>
     requires { FitsView con.now view.now }
     ensures seats { IfOk result (λ seats. Certifies con.now view.now edition (Ok seats.items)) }
-    ensures refused { IfErr result (WhereLawful con.now view.now (λ refusal. Certifies con.now view.now edition (Err refusal))) }
+    ensures refused { IfErr result (IsCertifyRefusal con.now view.now edition) }
 {
     check_count(view, edition)?;
     let fault = match seats_by_votes(alloc, con, view) {
@@ -64,7 +63,7 @@ pub fn draw(
 ) -> Result<Vec<u32>, Refusal>
     requires { FitsView con.now view.now }
     ensures places { IfOk result (λ places. Draws con.now view.now edition order.now (Ok places.items)) }
-    ensures refused { IfErr result (WhereLawful con.now view.now (λ refusal. Draws con.now view.now edition order.now (Err refusal))) }
+    ensures refused { IfErr result (IsDrawRefusal con.now view.now edition order.now) }
 {
     check_count(view, edition)?;
     let fault = match seats_by_votes(alloc, con, view) {
@@ -134,7 +133,6 @@ fn seats_by_votes(alloc: Global, con: &Constituency, view: &ConView) -> Result<V
     requires { FitsView con.now view.now }
     ensures seats { IfOk result (λ seats. IsOutcome con.now view.now (allotted seats.items)) }
     ensures fault { IfErr result (IsFaultOf (rule_in con.now) (poll_in con.now view.now) con.now.seats view.now.lot) }
-    ensures right_lot { IsLawfulView con.now view.now → IfErr result (λ fault. fault ≢ WrongLot) }
 {
     allot(
         alloc,

@@ -1,9 +1,8 @@
 //! What is decided of a command on a constituency.
 
-ghost use Rattle.std.specs.Prelude.{◌≡◌, Some, Ok, Err, IfOk, IfErr};
-ghost use Rattle.tally_machine.specs.Step.{ConChange, Decides, con_change};
+ghost use Rattle.std.specs.Prelude.{◌≡◌, Some, IfOk, IfErr};
+ghost use Rattle.tally_machine.specs.Step.{IsConDecision, IsConRefusal};
 ghost use Rattle.tally_returns.specs.Named.{con_named};
-ghost use Rattle.tally_machine.specs.Outcome.{WhereLawful};
 ghost use Rattle.tally_returns.specs.View.{FitsView};
 
 use crate::certification::{certify, draw, reopen};
@@ -22,8 +21,8 @@ pub fn decide_con(
 ) -> Result<Change, Refusal>
     requires named { con_named ask.now ≡ Some con.now.code }
     requires fits { FitsView con.now view.now }
-    ensures decided { IfOk result (λ change. (decided : ConChange) × (con_change change ≡ Some decided) × Decides con.now view.now ask.now (Ok decided)) }
-    ensures refused { IfErr result (WhereLawful con.now view.now (λ refusal. Decides con.now view.now ask.now (Err refusal))) }
+    ensures decided { IfOk result (IsConDecision con.now view.now ask.now) }
+    ensures refused { IfErr result (IsConRefusal con.now view.now ask.now) }
 {
     match ask {
         Ask::Draw { edition, order, .. } => {

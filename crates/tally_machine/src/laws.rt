@@ -16,9 +16,10 @@ pub fn a_step_keeps_a_lawful_state()
     ensures run { law.RunsKeepStatesLawful }
 {}
 
-/// In every state that a run reaches from the opening one, a certified constituency has all its
-/// stations closed, exactly its seats are allotted, by the one allotment of its closed votes, and a
-/// lot stands wherever one is needed. So it is in any lawful state, and of each view: there is one.
+/// In every state that a run reaches from a lawful one, and so from the opening one, a certified
+/// constituency has all its stations closed, exactly its seats are allotted, by the one allotment of
+/// its closed votes, and a lot stands wherever one is needed. So it is in any lawful state, and of
+/// each view: there is one.
 pub fn a_certificate_stands_on_closed_votes()
     ensures of_run { law.CertificatesOfRunsStand }
     ensures each { law.CertificatesStand }
@@ -27,10 +28,13 @@ pub fn a_certificate_stands_on_closed_votes()
     laws_of_allotments();
 }
 
-/// A constituency has a view in each lawful state, and one on which a command is decided.
+/// A constituency has a view in each lawful state, and one on which a command is decided. The lot
+/// that stands in a lawful view is not a wrong one, so a refusal of a command on it is that of the
+/// machine, or want of memory.
 pub fn a_constituency_has_a_view()
     ensures exists { law.ConstituenciesHaveViews }
     ensures lawful { law.ViewsAreLawful }
+    ensures lot { law.LotsOfLawfulViewsAreRight }
 {
     laws_of_allotments();
 }
@@ -105,7 +109,8 @@ pub fn records_stay()
 
 /// What is on record of a constituency and an edition are the seats of a certificate that a request
 /// reopened: the one allotment of the closed votes in a state in which the constituency was
-/// certified at that edition. After a run from the opening state it is a state of that run.
+/// certified at that edition. After a run from any lawful state it was on record before, with the
+/// same seats, or a request of the run reopened it.
 pub fn records_are_of_allotments()
     ensures step { records.RecordsAreOfAllotments }
     ensures run { records.RecordsOfRunsAreOfAllotments }

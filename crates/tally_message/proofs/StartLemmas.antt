@@ -1,5 +1,6 @@
 -- The start of a message, in the bytes that were read and in the whole text.
-use Rattle.std.proofs.Common.{◌≡◌, ℕ, zero, suc, ◌+◌, ◌-◌, ◌<◌, ◌≤◌, Bool, true, false, cond, ◌⊎◌, List, [], ◌∷◌, ◌++◌, length, map, take, drop, min, get_or, refl, sym, ap, subst, append_assoc, inl, inr, ◌∙◌, arith, IsTrue, nat_le, codes, bytes_eq, Result, Ok, Err, IfErr}
+use Rattle.std.proofs.Common.{◌≡◌, ℕ, zero, suc, ◌+◌, ◌-◌, ◌<◌, ◌≤◌, Bool, true, false, cond, ◌⊎◌, List, [], ◌∷◌, ◌++◌, length, map, take, drop, min, get_or, refl, sym, ap, subst, append_assoc, inl, inr, ◌∙◌, arith, IsTrue, nat_le, codes, bytes_eq, Result, Ok, Err, IfOk, IfErr, IsErrAnd}
+use Rattle.std.specs.Prelude.{⊤}
 use Rattle.std.proofs.lemmas.List.{length-take, length-take-le, length-map, length-append}
 use Rattle.http.specs.Token as http
 use Rattle.httparse.specs.Grammar as grammar
@@ -11,8 +12,8 @@ use Rattle.httparse.proofs.GrammarLemmas.{ReadsRequest-append}
 use Rattle.std.specs.List.{list_any}
 use Rattle.std.specs.Str.Parse.{digits_value}
 use Rattle.tally_door.specs.Connection.{Connection}
-use Rattle.tally_message.specs.Reading.{OnlyReads, IsBodyOrFault}
-use Rattle.tally_message.specs.Message.{head_limit, field_limit, body_limit, NameAndValue, is_named, values_of, single_value, is_content_length, content_length, length_by, BeginsWithHead, Announces, IsFault, IsMessageOrFault, HasCutBody, announced_length, body_length}
+use Rattle.tally_message.specs.Reading.{IsBodyOrFault}
+use Rattle.tally_message.specs.Message.{OnlyReads, head_limit, field_limit, body_limit, NameAndValue, is_named, values_of, single_value, is_content_length, content_length, length_by, BeginsWithHead, Announces, IsFault, IsMessageOrFault, HasCutBody, announced_length, body_length}
 use Rattle.tally_message.specs.Start.{IsStart, IsFaultyStart}
 use Rattle.tally_message.specs.declared.start.Start.{Start}
 use Rattle.tally_message.specs.declared.message.Message.{Message}
@@ -152,4 +153,20 @@ whole_message bytes left fails s m (h, rest, is) method target reads =
     )
 
 pub reads_on : (a b c : Connection) → OnlyReads a b → OnlyReads b c → OnlyReads a c
-reads_on a b c first second = second ∙ ap (λ (t : Connection). let same : Connection = record t { input = c.input } in same) first
+reads_on a b c first second = (
+  first.0 ++ second.0,
+  first.1 ∙ ap (λ t. first.0 ++ t) second.1 ∙ sym (append_assoc first.0 second.0 c.input),
+  second.2 ∙ ap (λ (t : Connection). let same : Connection = record t { input = c.input } in same) first.2,
+)
+
+-- ---- want of memory
+
+pub refused_head : (text buf left : List ℕ) (fails : Bool) (r : Result RequestSpans MessageFault) → IsErrAnd r (λ fault. fault ≡ Memory)
+    → IfOk r (λ _. text ≡ buf ++ left) × IfErr r (IsFault text fails)
+refused_head text buf left fails (Ok head) is = absurd is
+refused_head text buf left fails (Err fault) is = (tt, subst (IsFault text fails) (sym is) tt)
+
+pub refused_body : (text : List ℕ) (fails : Bool) (count : ℕ) (body : List ℕ) (r : Result ⊤ MessageFault) → IsErrAnd r (λ fault. fault ≡ Memory)
+    → IsBodyOrFault text fails count r body
+refused_body text fails count body (Ok whole) is = absurd is
+refused_body text fails count body (Err fault) is = subst (λ e. IsBodyOrFault text fails count (Err e) body) (sym is) tt

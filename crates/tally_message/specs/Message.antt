@@ -7,6 +7,7 @@ use Rattle.std.specs.Str.Parse.{digits_value}
 use Rattle.http.specs.Token.{IsToken}
 use Rattle.httparse.specs.Grammar.{RequestHead, ReadsRequest, print_request}
 use Rattle.httparse.specs.Spans.{name_and_value}
+use Rattle.tally_door.specs.Connection.{Connection}
 use Rattle.tally_message.specs.declared.message.Message.{Message}
 use Rattle.tally_message.specs.declared.message.MessageFault.{MessageFault}
 use Rattle.tally_message.specs.declared.message.MessageFault.TheVariants.{BadHead, HeadTooLong, LengthRequired, BadLength, BodyTooLong, EndedEarly, Read, Memory}
@@ -124,5 +125,14 @@ IsFault text fails Read = (fails ≡ true) × ((HasNoHead text × (length text <
 IsFault text fails Memory = ⊤
 
 abbrev pub IsMessageOrFault : List ℕ → Bool → Result Message MessageFault → Type 0
-IsMessageOrFault text fails (Ok m) = (count : ℕ) × (head : RequestHead) × (rest : List ℕ) × IsMessage text m count head rest
+IsMessageOrFault text fails (Ok m) =
+    (count : ℕ) × (head : RequestHead) × (rest : List ℕ) × IsMessage text m count head rest
 IsMessageOrFault text fails (Err fault) = IsFault text fails fault
+
+-- Bytes were taken from the front of a connection's input, and nothing else of it changed.
+abbrev pub OnlyReads : Connection → Connection → Type 0
+OnlyReads c d = (taken : List ℕ) × (c.input ≡ taken ++ d.input) × (d ≡ record c { input = d.input })
+
+-- What was answered is the message or a fault of the connection's whole input, of which some was taken.
+abbrev pub HasReadMessage : Result Message MessageFault → Connection → Connection → Type 0
+HasReadMessage answer c d = OnlyReads c d × IsMessageOrFault c.input c.fails answer

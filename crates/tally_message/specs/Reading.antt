@@ -1,25 +1,31 @@
 -- What the steps of reading a message leave.
-use Rattle.std.specs.Prelude.{◌≡◌, ◌⊎◌, ℕ, ◌<◌, ◌≤◌, Bool, true, false, List, [], ◌++◌, length, take, Result, Ok, Err, ⊤}
+use Rattle.std.specs.Prelude.{◌≡◌, ◌⊎◌, ℕ, ◌<◌, ◌≤◌, Bool, true, false, List, [], ◌++◌, length, take, Result, Ok, Err, IfOk, IfErr, ⊤}
 use Rattle.std.specs.declared.alloc.AllocError.{AllocError}
 use Rattle.httparse.specs.Grammar.{HasNoRequest}
 use Rattle.httparse.specs.Spans.{RequestOverflows}
 use Rattle.tally_door.specs.Connection.{Connection}
-use Rattle.tally_message.specs.Message.{field_limit}
+use Rattle.httparse.specs.declared.spans.RequestSpans.{RequestSpans}
+use Rattle.tally_message.specs.Message.{field_limit, OnlyReads, IsFault}
 use Rattle.tally_message.specs.declared.message.MessageFault.{MessageFault}
 use Rattle.tally_message.specs.declared.message.MessageFault.TheVariants.{BadHead, HeadTooLong, LengthRequired, BadLength, BodyTooLong, EndedEarly, Read, Memory}
 use Rattle.tally_message.specs.declared.input.Input.{Input}
 use Rattle.tally_message.specs.declared.input.Input.TheVariants.{Bytes, End, Failure}
 
--- Some of a connection's input was taken, and nothing else of it changed.
-abbrev pub OnlyReads : Connection → Connection → Type 0
-OnlyReads c d = d ≡ record c { input = d.input }
-
--- What was taken from the input stands behind the bytes that were there.
+-- What was taken from the input is behind the bytes that were there.
 abbrev pub HasReadOnto : Connection → List ℕ → Result Input AllocError → List ℕ → Connection → Type 0
 HasReadOnto c old (Ok Bytes) new d = old ++ c.input ≡ new ++ d.input
 HasReadOnto c old (Ok End) new d = (c.input ≡ []) × (c.fails ≡ false) × (d.input ≡ []) × (new ≡ old)
 HasReadOnto c old (Ok Failure) new d = (c.input ≡ []) × (c.fails ≡ true) × (d.input ≡ []) × (new ≡ old)
 HasReadOnto c old (Err refused) new d = ⊤
+
+-- Input was taken and put behind the bytes that were there.
+abbrev pub ReadsOnto : List ℕ → Result Input AllocError → List ℕ → Connection → Connection → Type 0
+ReadsOnto old result new c d = OnlyReads c d × HasReadOnto c old result new d
+
+-- Input was taken that begins with a head, and perhaps some of what follows it, or the input has a fault.
+abbrev pub ReadsHead : Result RequestSpans MessageFault → List ℕ → Connection → Connection → Type 0
+ReadsHead result bytes c d =
+    OnlyReads c d × IfOk result (λ _. c.input ≡ bytes ++ d.input) × IfErr result (IsFault c.input c.fails)
 
 -- Why these bytes have no head: none is whole yet, which has the fault that is at hand, or none can come of them.
 abbrev pub HaveNoHead : List ℕ → MessageFault → MessageFault → Type 0
@@ -37,3 +43,7 @@ IsBodyOrFault text fails count (Err BodyTooLong) body = ⊥
 IsBodyOrFault text fails count (Err EndedEarly) body = (length text < count) × (fails ≡ false)
 IsBodyOrFault text fails count (Err Read) body = (length text < count) × (fails ≡ true)
 IsBodyOrFault text fails count (Err Memory) body = ⊤
+
+-- Input was taken that completes a body of so many bytes, of which the first were there, or it has a fault.
+abbrev pub ReadsBody : List ℕ → ℕ → Result ⊤ MessageFault → List ℕ → Connection → Connection → Type 0
+ReadsBody old count result body c d = OnlyReads c d × IsBodyOrFault (old ++ c.input) c.fails count result body

@@ -15,7 +15,7 @@ pub record IsStartOf (bytes : List ℕ) (s : Start) (head : RequestHead) (rest :
 abbrev pub IsStart : List ℕ → Start → Type 0
 IsStart bytes s = (head : RequestHead) × (rest : List ℕ) × IsStartOf bytes s head rest
 
--- a fault in the head's fields, or want of memory
+-- a fault in the head's fields, or out of memory
 abbrev pub IsFaultyStart : List ℕ → MessageFault → Type 0
 IsFaultyStart bytes BadHead = ⊥
 IsFaultyStart bytes HeadTooLong = ⊥

@@ -1,11 +1,11 @@
 //! Reading a head.
 
-ghost use Rattle.std.specs.Prelude.{◌≡◌, ◌≤◌, ◌++◌, [], true, length, IfOk, IfErr, IfSome, IfNone};
+ghost use Rattle.std.specs.Prelude.{◌≡◌, ◌<◌, ◌≤◌, [], true, length, IfOk, IfErr, IfSome, IfNone};
 ghost use Rattle.httparse.specs.Grammar.{HasNoRequest};
 ghost use Rattle.httparse.specs.Spans.{IsRequestWithin, IsRequestOf, RequestOverflows};
 ghost use Rattle.tally_door.specs.Connection.{ChangesCurrent};
-ghost use Rattle.tally_message.specs.Message.{head_limit, field_limit, IsFault};
-ghost use Rattle.tally_message.specs.Reading.{OnlyReads, HaveNoHead};
+ghost use Rattle.tally_message.specs.Message.{head_limit, field_limit};
+ghost use Rattle.tally_message.specs.Reading.{ReadsHead, HaveNoHead};
 ghost use Rattle.tally_message.specs.declared.message.MessageFault.TheVariants.{BadHead};
 
 use crate::input::{Input, read_more};
@@ -57,17 +57,19 @@ fn head_or(
 /// Reads up to the end of the head, and perhaps some of what follows it.
 pub(crate) fn read_head<D: Door>(
     door: &mut D,
+    piece: &mut [u8],
     bytes: &mut Vec<u8>,
     headers: &mut [HeaderSpan],
 ) -> Result<RequestSpans, MessageFault>
     requires connected { D.connected door.old ≡ true }
+    requires piece { 0 < length piece.old }
     requires empty { bytes.old.items ≡ [] }
     requires room { length headers.old ≡ field_limit }
     ensures connected { D.connected door.new ≡ true }
     ensures short { length bytes.new.items ≤ head_limit }
     ensures within { IfOk result (IsRequestWithin bytes.new.items headers.new) }
     ensures head { IfOk result (IsRequestOf bytes.new.items headers.new) }
-    ensures known { ChangesCurrent (D.known door.old) (D.known door.new) (λ c d. OnlyReads c d × IfOk result (λ _. c.input ≡ bytes.new.items ++ d.input) × IfErr result (IsFault c.input c.fails)) }
+    ensures known { ChangesCurrent (D.known door.old) (D.known door.new) (ReadsHead result bytes.new.items) }
 {
     let mut lines = Lines::new();
     loop {
@@ -75,7 +77,7 @@ pub(crate) fn read_head<D: Door>(
         if count >= HEAD_LIMIT {
             return head_or(bytes, headers, MessageFault::HeadTooLong);
         }
-        match read_more(door, bytes, HEAD_LIMIT - count)? {
+        match read_more(door, piece, bytes, HEAD_LIMIT - count)? {
             Input::Bytes => {}
             Input::End => return head_or(bytes, headers, MessageFault::BadHead),
             Input::Failure => return head_or(bytes, headers, MessageFault::Read),

@@ -1,15 +1,12 @@
 //! Reading what comes next of a connection.
 
-ghost use Rattle.std.specs.Prelude.{◌≡◌, ◌≤◌, ◌<◌, ◌+◌, true, IfOk, vec_len};
+ghost use Rattle.std.specs.Prelude.{◌≡◌, ◌≤◌, ◌<◌, ◌+◌, true, IfOk, length, vec_len};
 ghost use Rattle.tally_door.specs.Connection.{ChangesCurrent};
-ghost use Rattle.tally_message.specs.Reading.{OnlyReads, HasReadOnto};
+ghost use Rattle.tally_message.specs.Reading.{ReadsOnto};
 ghost use Rattle.tally_message.specs.declared.input.Input.TheVariants.{Bytes};
 
 use std::alloc::AllocError;
 use tally_door::Door;
-
-/// The most bytes that are read at a time.
-const PIECE: usize = 4_096;
 
 /// What a read of a connection came to.
 #[derive(Clone, Copy)]
@@ -20,20 +17,22 @@ pub(crate) enum Input {
 }
 
 /// Reads some of what the current connection still gives, at most so many bytes, and puts it behind those read so far.
+/// It comes by way of `piece`, which the reads of a message share.
 pub(crate) fn read_more<D: Door>(
     door: &mut D,
+    piece: &mut [u8],
     bytes: &mut Vec<u8>,
     most: usize,
 ) -> Result<Input, AllocError>
     requires connected { D.connected door.old ≡ true }
+    requires piece { 0 < length piece.old }
     requires some { 0 < most }
     ensures connected { D.connected door.new ≡ true }
     ensures more { IfOk result (λ input. input ≡ Bytes → vec_len bytes.old < vec_len bytes.new) }
     ensures within { vec_len bytes.new ≤ vec_len bytes.old + most }
-    ensures known { ChangesCurrent (D.known door.old) (D.known door.new) (λ c d. OnlyReads c d × HasReadOnto c bytes.old.items result bytes.new.items d) }
+    ensures known { ChangesCurrent (D.known door.old) (D.known door.new) (ReadsOnto bytes.old.items result bytes.new.items) }
 {
-    let mut piece = [0u8; PIECE];
-    let room = most.min(PIECE);
+    let room = most.min(piece.len());
     let Ok(count) = door.read(&mut piece[..room]) else {
         return Ok(Input::Failure);
     };

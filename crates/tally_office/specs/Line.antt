@@ -66,7 +66,7 @@ is_out_of_memory _ = false
 abbrev pub fault_from : Error → LineFault
 fault_from e = if is_out_of_memory (kind_of e) then Memory else Usage e
 
--- memory ran out, or clap refuses the words, or answers them with help, by this kind of error
+-- out of memory, or clap refuses the words, or answers them with help, by this kind of error
 abbrev pub IsRefusal : List Text → LineFault → Type 0
 IsRefusal words (Usage e) = (line_of words ≡ None) × IsAmong (kind_of e) (fault_of office_app words)
 IsRefusal words Memory = Unit {0}

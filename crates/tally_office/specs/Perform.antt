@@ -17,7 +17,7 @@ check_status (Err check.Read) = 3
 check_status (Err check.Memory) = 3
 check_status (Err check.Write) = 3
 
--- the exit status where there is no line: 2 for a wrong command line and one that asks for help, 3 where memory ran out
+-- the exit status where there is no line: 2 for a wrong command line and one that asks for help, 3 where it is out of memory
 abbrev pub fault_status : LineFault → ℕ
 fault_status (Usage error) = 2
 fault_status Memory = 3
@@ -30,17 +30,17 @@ fault_words check.Read = codes "failed: read\n"
 fault_words check.Memory = codes "failed: memory\n"
 fault_words check.Write = codes "failed: write\n"
 
--- Words were written, or, where a write failed, a front of them.
+-- Words were written, or, where a write failed, a prefix of them.
 abbrev pub Told : Option (List ℕ) → Option (List ℕ) → List ℕ → Type 0
 Told held holds words = (n : ℕ) × Appends held holds (take n words)
 
--- what is told of a check: nothing where it is done, and the line of its fault where it has one
+-- what is written about a check: nothing where it is done, and the line of its fault where it has one
 abbrev pub IsTold : Option (List ℕ) → Option (List ℕ) → Result (Unit {0}) CheckFault → Type 0
 IsTold held holds (Ok done) = Keeps held holds
 IsTold held holds (Err fault) = Told held holds (fault_words fault)
 
 -- One check takes the input from its bytes to the rest, the output from what it held to what it holds, and the errors
--- from what was told to what is told: these are those of its outcome, and so is the status. A text that is not known is
+-- from what they held to what they hold: these are those of its outcome, and so is the status. A text that is not known is
 -- one of which nothing is said.
 pub record ChecksInput (sep : Sep) (bytes rest held holds told tells : Option (List ℕ)) (status : ℕ) : Type 0 where
   pub outcome : Result (Unit {0}) CheckFault

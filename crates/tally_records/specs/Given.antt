@@ -27,7 +27,7 @@ abbrev pub HasGiven : Option (List ℕ) → Option (List ℕ) → List (List (Li
 HasGiven text left given r = (bytes : List ℕ) × Came text left bytes r.taken r.end
     × ((more : List ℕ) (stop : Option Stop) → MayCome r.end more stop → complete_records r.sep (bytes ++ more) stop ≡ given ++ to_come r more stop)
 
--- what stands between two fields
+-- the separator of two fields
 abbrev pub sep_of : Records → Sep
 sep_of r = r.sep
 

@@ -20,6 +20,9 @@ use std::snapshot::Snapshot;
 /// How many bytes of an input are held, where no record is longer.
 const PIECE: usize = 262_144;
 
+/// How many more are asked for where one record is longer: all that still come.
+const ALL: usize = 16_777_217;
+
 /// The records of an input that is read by pieces.
 #[derive(Drop)]
 pub(crate) struct Work {
@@ -169,7 +172,7 @@ impl Work {
             *self = Work::read(alloc, held, input, watch, self.sep, PIECE, 0)?;
             return Ok(());
         }
-        let size = held.bytes.len() + (8 * held.bytes.len()).max(PIECE);
+        let size = held.bytes.len() + ALL;
         // what was read of the record that goes on is read anew with it
         self.rest.ahead = ByteRecord::new(alloc);
         let held = mem::replace(held, Held::new(alloc));

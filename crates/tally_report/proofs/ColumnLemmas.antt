@@ -7,7 +7,8 @@ use Rattle.std.specs.Fmt.{char_count, decimal, format_spec, padded_integral, sty
 use Rattle.std.proofs.lemmas.Bool.{eqb-true}
 use Rattle.std.proofs.lemmas.Fmt.{decimal_digit}
 use Rattle.std.proofs.lemmas.List.{append-nil}
-use Rattle.tally_report.specs.Texts.{hundredths, number, right, spaces}
+use Rattle.tally_report.specs.Columns.{number, right, spaces}
+use Rattle.tally_report.specs.TallyText.{hundredths}
 
 repeat-space : (n : ℕ) → repeat n (32 ∷ []) ≡ spaces n
 repeat-space zero = refl

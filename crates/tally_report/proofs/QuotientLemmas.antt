@@ -10,7 +10,7 @@ use Rattle.tally_contest.specs.Poll.{Poll}
 use Rattle.tally_machine.specs.Outcome.{HasSeats, IsLawfulView, poll_in, rule_in}
 use Rattle.tally_returns.specs.View.{View}
 use Rattle.tally_rules.specs.Constituency.{Constituency}
-use Rattle.tally_report.specs.Texts.{most}
+use Rattle.tally_report.specs.QuotientsText.{most}
 
 -- one more number
 pub most-more : (ns : List ℕ) (n : ℕ) → most (ns ++ n ∷ []) ≡ max (most ns) n

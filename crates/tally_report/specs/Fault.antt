@@ -35,7 +35,7 @@ divisors_fault con view = unless_certified view.certified (unless_by_divisors co
 abbrev pub quotas_fault : Constituency → View → Option ReportFault
 quotas_fault con view = unless_certified view.certified (unless_by_quotas con.profile.method)
 
--- A report answers the fault that stands. Where none does, it answers no fault but want of memory.
+-- A report answers the fault that there is. Where there is none, it answers no fault but Memory.
 abbrev pub IsRefused : {T : Type 0} → Option ReportFault → Result T ReportFault → Type 0
 IsRefused (Some fault) result = result ≡ Err fault
 IsRefused None result = IfErr result (λ fault. fault ≡ Memory)

@@ -1,3 +1,12 @@
 pub mod Awards
+pub mod AwardsText
+pub mod Columns
 pub mod Fault
-pub mod Texts
+pub mod HoldersText
+pub mod PastText
+pub mod ProgressText
+pub mod QuotaText
+pub mod QuotientsText
+pub mod SeatsText
+pub mod ShortText
+pub mod TallyText

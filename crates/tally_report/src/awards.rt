@@ -7,7 +7,8 @@ ghost use Rattle.tally_allot.specs.declared.award.Award.{Award as award_type};
 ghost use Rattle.tally_machine.specs.Outcome.{IsLawfulView, poll_in, rule_in};
 ghost use Rattle.tally_returns.specs.View.{FitsView};
 ghost use Rattle.tally_report.specs.Fault.{IsRefused, divisors_fault};
-ghost use Rattle.tally_report.specs.Texts.{IsAwardsText, award_line, award_lines};
+ghost use Rattle.tally_report.specs.Columns.{lines_from};
+ghost use Rattle.tally_report.specs.AwardsText.{IsAwardsText, award_line};
 ghost use Rattle.tally_report.specs.Awards.{IsAwardIn};
 ghost use Rattle.tally_report.specs.declared.fault.ReportFault.TheVariants.{Memory};
 
@@ -64,7 +65,7 @@ fn awards_in(alloc: Global, con: &Constituency, view: &ConView) -> Result<Vec<Aw
 
 fn push_awards(text: &mut String, con: &Constituency, awards: &[Award]) -> Result<(), AllocError>
     requires { (i : ℕ) (d : award_type) → i < length awards.now → IsAwardIn con.now (slice_index_or awards.now i d) }
-    ensures { OnOk result (string_bytes text.new ≡ string_bytes text.old ++ award_lines con.now 1 awards.now) }
+    ensures { OnOk result (string_bytes text.new ≡ string_bytes text.old ++ lines_from (award_line con.now) 1 awards.now) }
 {
     for (index, award) in awards.iter().enumerate() {
         push_award(text, con, index as u64 + 1, award)?;

@@ -1,7 +1,7 @@
 //! Columns, and the first line of a report.
 
 ghost use Rattle.std.specs.Prelude.{◌≡◌, ◌++◌, OnOk, string_bytes};
-ghost use Rattle.tally_report.specs.Texts.{heading, left, number, spaces};
+ghost use Rattle.tally_report.specs.Columns.{heading, left, number, spaces};
 
 use std::alloc::AllocError;
 use tally_rules::Constituency;

@@ -5,7 +5,8 @@ ghost use Rattle.std.specs.List.{flat_map, repeat};
 ghost use Rattle.tally_machine.specs.Certification.{gone_of};
 ghost use Rattle.tally_returns.specs.View.{FitsView};
 ghost use Rattle.tally_report.specs.Fault.{IsRefused, seats_fault};
-ghost use Rattle.tally_report.specs.Texts.{empty_line, holder_line, holder_lines, holders_text, list_lines};
+ghost use Rattle.tally_report.specs.Columns.{list_lines};
+ghost use Rattle.tally_report.specs.HoldersText.{empty_line, holder_line, holder_lines, holders_text};
 
 use crate::column::{push_heading, push_left, push_number};
 use crate::fault::ReportFault;

@@ -3,7 +3,7 @@
 ghost use Rattle.std.specs.Prelude.{◌≡◌, All, ◌++◌, IfOk, IfErr, OnOk, string_bytes};
 ghost use Rattle.std.specs.List.{flat_map};
 ghost use Rattle.tally_returns.specs.View.{FitsView, HasEachList};
-ghost use Rattle.tally_report.specs.Texts.{past_lines, past_text};
+ghost use Rattle.tally_report.specs.PastText.{past_lines, past_text};
 ghost use Rattle.tally_report.specs.declared.fault.ReportFault.TheVariants.{Memory};
 
 use crate::column::push_heading;

@@ -1,7 +1,7 @@
 //! How far the constituencies have come.
 
 ghost use Rattle.std.specs.Prelude.{◌≡◌, ◌++◌, IfOk, IfErr, OnOk, string_bytes};
-ghost use Rattle.tally_report.specs.Texts.{progress_line, progress_text};
+ghost use Rattle.tally_report.specs.ProgressText.{progress_line, progress_text};
 ghost use Rattle.tally_report.specs.declared.fault.ReportFault.TheVariants.{Memory};
 
 use crate::column::{push_left, push_number};

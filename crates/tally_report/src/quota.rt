@@ -5,12 +5,13 @@ ghost use Rattle.tally_contest.specs.internal.KeptPoll.{kept_poll};
 ghost use Rattle.tally_contest.specs.Poll.{IsEligible, eligible_votes};
 ghost use Rattle.tally_returns.specs.View.{FitsView};
 ghost use Rattle.tally_report.specs.Fault.{IsRefused, quotas_fault};
-ghost use Rattle.tally_report.specs.Texts.{list_lines, quota_columns, quota_line, quota_text};
+ghost use Rattle.tally_report.specs.Columns.{list_lines};
+ghost use Rattle.tally_report.specs.QuotaText.{quota_columns, quota_line, quota_text};
 
 use crate::column::{push_heading, push_left, push_number};
 use crate::fault::ReportFault;
 use std::alloc::{AllocError, Global};
-use tally_contest::{HareContest, Poll, places_under, quotas_of};
+use tally_contest::{HareContest, Poll};
 use tally_returns::ConView;
 use tally_rules::{Constituency, ListEntry, Method};
 
@@ -28,13 +29,7 @@ pub fn quota_text(alloc: Global, con: &Constituency, view: &ConView) -> Result<S
         return Err(ReportFault::OtherMethod);
     };
     let poll = Poll::new(&con.profile, &view.votes, view.blank);
-    let contest = HareContest {
-        poll,
-        lot: &[],
-        seats: con.seats,
-        quotas: quotas_of(&poll, con.seats),
-        places: places_under(&[]),
-    };
+    let contest = HareContest::new(&poll, &[], con.seats);
     let mut text = String::new(alloc);
     push_heading(&mut text, "QUOTA", con)?;
     let votes = eligible_votes(&poll);

@@ -3,7 +3,8 @@
 ghost use Rattle.std.specs.Prelude.{◌≡◌, ◌<◌, ◌++◌, IfOk, OnOk, length, string_bytes};
 ghost use Rattle.tally_returns.specs.View.{FitsView};
 ghost use Rattle.tally_report.specs.Fault.{IsRefused, seats_fault};
-ghost use Rattle.tally_report.specs.Texts.{certificate_lines, list_lines, seats_line, seats_text};
+ghost use Rattle.tally_report.specs.Columns.{list_lines};
+ghost use Rattle.tally_report.specs.SeatsText.{certificate_lines, seats_line, seats_text};
 
 use crate::column::{push_heading, push_left, push_number};
 use crate::fault::ReportFault;

@@ -6,7 +6,8 @@ ghost use Rattle.tally_rules.specs.declared.profile.Method.TheVariants.{Hare as 
 ghost use Rattle.tally_machine.specs.Outcome.{IsLawfulView};
 ghost use Rattle.tally_returns.specs.View.{FitsView};
 ghost use Rattle.tally_report.specs.Fault.{IsRefused, divisors_fault};
-ghost use Rattle.tally_report.specs.Texts.{AreVotesShortIn, IsShortText, list_lines, short_columns, short_line, votes_column};
+ghost use Rattle.tally_report.specs.Columns.{list_lines};
+ghost use Rattle.tally_report.specs.ShortText.{AreVotesShortIn, IsShortText, short_columns, short_line, votes_column};
 ghost use Rattle.tally_report.specs.declared.fault.ReportFault.TheVariants.{Memory};
 
 use crate::column::{push_heading, push_left, push_number};

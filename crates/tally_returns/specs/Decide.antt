@@ -34,13 +34,13 @@ limits_named con ask = option_map (limits_of con) (option_and_then (station_in c
 abbrev pub show_checks : Option StationLimits → Option StationReturn → List (Option Refusal)
 show_checks station found = check (is_some station) NoStation ∷ check (is_some found) NoReturn ∷ []
 
--- a return that was lodged is put; one that stands already changes nothing
+-- a return that was lodged is put; one that is recorded already changes nothing
 abbrev pub lodge_change : List ℕ → VoteCounts → Result LodgeReply Refusal → Result Change Refusal
 lodge_change slip counts (Ok (reply.Lodged rev)) = Ok (PutReturn (first_return slip counts))
 lodge_change slip counts (Ok (reply.Same rev)) = Ok Same
 lodge_change slip counts (Err refusal) = Err refusal
 
--- the return that stands becomes the next one
+-- the recorded return becomes the next one
 abbrev pub put_next : Option StationReturn → (StationReturn → StationReturn) → Change
 put_next None next = Same
 put_next (Some standing) next = PutReturn (next standing)

@@ -1,4 +1,4 @@
--- The returns that may stand.
+-- The returns that may be recorded.
 use Rattle.std.specs.Prelude.{◌≡◌, ◌≤◌, ◌&&◌, Bool, true, ℕ, List, [], ◌∷◌}
 use Rattle.std.specs.Str.{is_utf8}
 use Rattle.tally_rules.specs.Code.{is_code}

@@ -1,4 +1,4 @@
--- Lodging a return: what is answered, and the returns that then stand.
+-- Lodging a return: what is answered, and the returns that are then recorded.
 use Rattle.std.specs.Prelude.{◌&&◌, if◌then◌else◌, ℕ, nat_eq, nat_le, List, [], ◌∷◌, Option, Some, None, Result, Ok, Err}
 use Rattle.std.specs.Cmp.Lexicographic.{pointwise}
 use Rattle.std.specs.FinMap.{get, insert}
@@ -10,7 +10,7 @@ use Rattle.tally_returns.specs.declared.refusal.Refusal.TheVariants.{NoStation, 
 use Rattle.tally_returns.specs.declared.reply.LodgeReply.{LodgeReply}
 use Rattle.tally_returns.specs.declared.reply.LodgeReply.TheVariants.{Lodged, Same}
 
--- what a setup says of a station: how many lists stand in its constituency, and how many electors it has
+-- what a setup says of a station: how many lists its constituency has, and how many electors it has
 pub record StationLimits : Type 0 where
   pub lists : ℕ
   pub electors : ℕ
@@ -26,12 +26,12 @@ counts_checks station counts =
     ∷ check (nat_le (all_votes counts) station.electors) TooManyVotes
     ∷ []
 
--- a return that comes where one stands: the same slip and counts again, or another return
+-- a return that comes where one is recorded: the same slip and counts again, or another return
 abbrev pub again : StationReturn → List ℕ → VoteCounts → Result LodgeReply Refusal
 again standing slip counts =
     if pointwise nat_eq standing.slip slip && same_counts standing.counts counts then Ok (Same standing.rev) else Err (Differs standing.rev)
 
--- what is answered where the counts pass their checks, by the return that stands
+-- what is answered where the counts pass their checks, by the recorded return
 abbrev pub admitted : Option StationReturn → List ℕ → VoteCounts → Result LodgeReply Refusal
 admitted None slip counts = Ok (Lodged 1)
 admitted (Some standing) slip counts = again standing slip counts

@@ -33,8 +33,8 @@ may_close Queried = false
 may_close Corrected = true
 may_close Closed = false
 
--- the checks on a return that is to move: it is there, its constituency is not certified, the revision named is the one that
--- stands and is not the last, and the command starts from its status
+-- the checks on a return that is to move: it is there, its constituency is not certified, the revision named is the present
+-- one and is not the last, and the command starts from its status
 abbrev pub move_checks : Bool → Option StationReturn → ℕ → (Status → Bool) → List (Option Refusal)
 move_checks certified found rev may_start =
     check (is_some found) NoReturn

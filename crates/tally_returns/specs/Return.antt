@@ -1,4 +1,4 @@
--- The return of a polling station, and the returns that stand.
+-- The return of a polling station, and the recorded returns.
 use Rattle.std.specs.Prelude.{ℕ, List, []}
 use Rattle.std.specs.FinMap.{FinMap}
 use Rattle.tally_rules.specs.Code.{code_cmp}

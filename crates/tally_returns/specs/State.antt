@@ -14,12 +14,12 @@ use Rattle.tally_returns.specs.Decide.{limits_of}
 abbrev pub GoneCandidates : Type 0
 GoneCandidates = FinMap (slice_cmp nat_cmp) (List ℕ)
 
--- the seats of each list of each certificate that was reopened, by the edition at which it stood
+-- the seats of each list of each certificate that was reopened, by the edition at which it was in force
 abbrev pub Records : Type 0
 Records = FinMap nat_cmp (List ℕ)
 
 -- what a constituency has come to: its edition, whether it is certified, the note of its last reopening, its lot (the places of
--- lists, none where no lot stands), the candidates who are gone and the certificates that were reopened
+-- lists, none where no lot is recorded), the candidates who are gone and the certificates that were reopened
 pub record ConState : Type 0 where
   pub edition : ℕ
   pub certified : Bool

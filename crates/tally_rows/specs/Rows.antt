@@ -15,7 +15,7 @@ use Rattle.sqlite_rules.specs.Edit.{is_taken}
 abbrev pub text_cmp : List ℕ → List ℕ → Ordering
 text_cmp = slice_cmp nat_cmp
 
--- the columns of each row, without the rowid that stands in front of them
+-- the columns of each row, without the rowid in front of them
 abbrev pub cells : List Row → List Row
 cells rows = map (drop 1) rows
 

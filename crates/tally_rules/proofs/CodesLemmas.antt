@@ -11,16 +11,16 @@ use Rattle.std.proofs.lemmas.Map.Text.{is_eq-slice_cmp}
 use Rattle.std.proofs.lemmas.List.Quantifiers.{all_pairs_push}
 use Rattle.tally_rules.specs.Code.{code_cmp}
 use Rattle.tally_rules.specs.Codes.{is_among, AreDistinct}
-use Rattle.tally_rules.specs.Index.{place_of, IsIndex}
+use Rattle.tally_rules.specs.Index.{index_of, IsIndex}
 
 -- a code added at the end is at the place behind the others, unless it was there
-pub place_of-push : (q code : List ℕ) (codes : List (List ℕ)) → place_of q (codes ++ code ∷ []) ≡ option_or (place_of q codes) (cond (bytes_eq q code) (Some (length codes)) None)
-place_of-push q code [] = by_case (bytes_eq q code)
+pub index_of-push : (q code : List ℕ) (codes : List (List ℕ)) → index_of q (codes ++ code ∷ []) ≡ option_or (index_of q codes) (cond (bytes_eq q code) (Some (length codes)) None)
+index_of-push q code [] = by_case (bytes_eq q code)
   where
     by_case : (b : Bool) → cond b (Some 0) (option_map suc None) ≡ cond b (Some 0) None
     by_case true = refl
     by_case false = refl
-place_of-push q code (first ∷ others) = ap (λ o. cond (bytes_eq q first) (Some 0) (option_map suc o)) (place_of-push q code others) ∙ by_case (bytes_eq q first) (place_of q others) (bytes_eq q code)
+index_of-push q code (first ∷ others) = ap (λ o. cond (bytes_eq q first) (Some 0) (option_map suc o)) (index_of-push q code others) ∙ by_case (bytes_eq q first) (index_of q others) (bytes_eq q code)
   where
     by_case : (b : Bool) (o : Option ℕ) (same : Bool) → cond b (Some 0) (option_map suc (option_or o (cond same (Some (length others)) None))) ≡ option_or (cond b (Some 0) (option_map suc o)) (cond same (Some (suc (length others))) None)
     by_case true o same = refl
@@ -29,9 +29,9 @@ place_of-push q code (first ∷ others) = ap (λ o. cond (bytes_eq q first) (Som
     by_case false (Some i) same = refl
 
 -- a code has a place where it is one of them
-pub is_some-place_of : (q : List ℕ) (codes : List (List ℕ)) → is_some (place_of q codes) ≡ is_among q codes
-is_some-place_of q [] = refl
-is_some-place_of q (first ∷ others) = by_case (bytes_eq q first) (place_of q others) (is_some-place_of q others)
+pub is_some-index_of : (q : List ℕ) (codes : List (List ℕ)) → is_some (index_of q codes) ≡ is_among q codes
+is_some-index_of q [] = refl
+is_some-index_of q (first ∷ others) = by_case (bytes_eq q first) (index_of q others) (is_some-index_of q others)
   where
     by_case : (b : Bool) (o : Option ℕ) → is_some o ≡ is_among q others → is_some (cond b (Some 0) (option_map suc o)) ≡ (b || is_among q others)
     by_case true o e = refl
@@ -39,9 +39,9 @@ is_some-place_of q (first ∷ others) = by_case (bytes_eq q first) (place_of q o
     by_case false (Some i) e = e
 
 -- the entry of a code is the one at its place
-pub find-place_of : {X : Type 0} (code : X → List ℕ) (q : List ℕ) (xs : List X) → find (λ x. bytes_eq q (code x)) xs ≡ option_and_then (slice_get xs) (place_of q (map code xs))
-find-place_of code q [] = refl
-find-place_of code q (x ∷ xs) = by_case (bytes_eq q (code x)) (place_of q (map code xs)) (find-place_of code q xs)
+pub find-index_of : {X : Type 0} (code : X → List ℕ) (q : List ℕ) (xs : List X) → find (λ x. bytes_eq q (code x)) xs ≡ option_and_then (slice_get xs) (index_of q (map code xs))
+find-index_of code q [] = refl
+find-index_of code q (x ∷ xs) = by_case (bytes_eq q (code x)) (index_of q (map code xs)) (find-index_of code q xs)
   where
     by_case : (b : Bool) (o : Option ℕ) → find (λ x. bytes_eq q (code x)) xs ≡ option_and_then (slice_get xs) o → cond b (Some x) (find (λ x. bytes_eq q (code x)) xs) ≡ option_and_then (slice_get (x ∷ xs)) (cond b (Some 0) (option_map suc o))
     by_case true o e = refl
@@ -64,7 +64,7 @@ AreDistinct-push code codes new distinct = all_pairs_push (λ a b. a ≢ b) code
 
 -- the map has the codes
 pub is_some-index : (code : List ℕ) (codes : List (List ℕ)) (places : BTreeMap (List ℕ) ℕ) → IsIndex codes places → is_some (get code_cmp places code) ≡ is_among code codes
-is_some-index code codes places index = ap is_some (index.found code) ∙ is_some-place_of code codes
+is_some-index code codes places index = ap is_some (index.found code) ∙ is_some-index_of code codes
 
 -- the map with the place of one more code
 pub IsIndex-push : (code : List ℕ) (codes : List (List ℕ)) (old new : BTreeMap (List ℕ) ℕ) → IsIndex codes old → is_among code codes ≡ false → Updates code_cmp old new code (Some (length codes)) → IsIndex (codes ++ code ∷ []) new
@@ -81,14 +81,14 @@ IsIndex-push code codes old new index absent updates = record {
     none_of None e = refl
     none_of (Some i) e = cc
 
-    none : (q : List ℕ) → is_among q codes ≡ false → place_of q codes ≡ None
-    none q e = none_of (place_of q codes) (is_some-place_of q codes ∙ e)
+    none : (q : List ℕ) → is_among q codes ≡ false → index_of q codes ≡ None
+    none q e = none_of (index_of q codes) (is_some-index_of q codes ∙ e)
 
-    by_case : (q : List ℕ) (s t : Bool) → (s ≡ true → code ≡ q) × (code ≡ q → s ≡ true) → (t ≡ true → q ≡ code) × (q ≡ code → t ≡ true) → cond s (Some (length codes)) (place_of q codes) ≡ option_or (place_of q codes) (cond t (Some (length codes)) None)
-    by_case q true true e f = let h : place_of q codes ≡ None = none q (ap (λ x. is_among x codes) (f.0 refl) ∙ absent) in rw h
+    by_case : (q : List ℕ) (s t : Bool) → (s ≡ true → code ≡ q) × (code ≡ q → s ≡ true) → (t ≡ true → q ≡ code) × (q ≡ code → t ≡ true) → cond s (Some (length codes)) (index_of q codes) ≡ option_or (index_of q codes) (cond t (Some (length codes)) None)
+    by_case q true true e f = let h : index_of q codes ≡ None = none q (ap (λ x. is_among x codes) (f.0 refl) ∙ absent) in rw h
     by_case q true false e f = let h : false ≡ true = f.1 (sym (e.0 refl)) in cc
     by_case q false true e f = let h : false ≡ true = e.1 (sym (f.0 refl)) in cc
-    by_case q false false e f = or_none (place_of q codes)
+    by_case q false false e f = or_none (index_of q codes)
 
-    at : (q : List ℕ) → (bytes_eq code q ≡ true → code ≡ q) × (code ≡ q → bytes_eq code q ≡ true) → (bytes_eq q code ≡ true → q ≡ code) × (q ≡ code → bytes_eq q code ≡ true) → cond (is_eq (code_cmp code q)) (Some (length codes)) (get code_cmp old q) ≡ place_of q (codes ++ code ∷ [])
-    at q e f = ap (λ b. cond b (Some (length codes)) (get code_cmp old q)) (is_eq-slice_cmp code q) ∙ ap (cond (bytes_eq code q) (Some (length codes))) (index.found q) ∙ by_case q (bytes_eq code q) (bytes_eq q code) e f ∙ sym (place_of-push q code codes)
+    at : (q : List ℕ) → (bytes_eq code q ≡ true → code ≡ q) × (code ≡ q → bytes_eq code q ≡ true) → (bytes_eq q code ≡ true → q ≡ code) × (q ≡ code → bytes_eq q code ≡ true) → cond (is_eq (code_cmp code q)) (Some (length codes)) (get code_cmp old q) ≡ index_of q (codes ++ code ∷ [])
+    at q e f = ap (λ b. cond b (Some (length codes)) (get code_cmp old q)) (is_eq-slice_cmp code q) ∙ ap (cond (bytes_eq code q) (Some (length codes))) (index.found q) ∙ by_case q (bytes_eq code q) (bytes_eq q code) e f ∙ sym (index_of-push q code codes)

@@ -12,8 +12,8 @@ use Rattle.toml.specs.declared.value.Value.{Value}
 use Rattle.tally_rules.specs.Fault.{Fault, missing, bad_value, over_limit}
 use Rattle.tally_rules.specs.Found.{IsFoundIn}
 use Rattle.tally_rules.specs.Reading.{◌>>=◌, list_of, value_at, array_at, in_turn}
-use Rattle.tally_rules.specs.declared.read.fault.Fault.{Fault as Found}
-use Rattle.tally_rules.specs.declared.read.fault.Fault.TheVariants as found
+use Rattle.tally_rules.specs.declared.read.fault.KeyFault.{KeyFault as Found}
+use Rattle.tally_rules.specs.declared.read.fault.KeyFault.TheVariants as found
 
 pub IsFoundIn-step : {A B : Type 0} (reading : Result A Fault) (step : A → Result B Fault) (fault : Found) → IsFoundIn reading fault → IsFoundIn (reading >>= step) fault
 IsFoundIn-step reading step found.NotToml e = ap (λ r. r >>= step) e

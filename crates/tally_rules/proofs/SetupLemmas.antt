@@ -12,8 +12,8 @@ use Rattle.tally_rules.specs.Constituency.{Constituency, station_codes}
 use Rattle.tally_rules.specs.declared.constituency.Station.{Station}
 use Rattle.tally_rules.specs.declared.setup.StationPlace.{StationPlace}
 use Rattle.tally_rules.specs.Setup.{all_stations, station_with, constituency_with, all_station_codes}
-use Rattle.tally_rules.specs.Index.{station_at, places_in, IsIndexed, place_of}
-use Rattle.tally_rules.proofs.CodesLemmas.{find-place_of}
+use Rattle.tally_rules.specs.Index.{station_at, places_in, IsIndexed, index_of}
+use Rattle.tally_rules.proofs.CodesLemmas.{find-index_of}
 
 -- one more element at the front of a list, and the element itself
 pub taken_one_more : {X : Type 0} (xs : List X) (n : ℕ) → n < length xs → (x : X) × (slice_get xs n ≡ Some x) × (take (suc n) xs ≡ take n xs ++ x ∷ [])
@@ -72,18 +72,18 @@ slice_get-lookup xs i None item = slice_get_past xs i item.3
 slice_get-lookup xs i (Some x) item = slice_get_read xs (length xs) i x.now refl item.3.0 item.1
 
 -- the constituency of a code is the one at the code's place
-pub constituency_with-place : (cons : List Constituency) (codes stations : List (List ℕ)) (places : List StationPlace) → IsIndexed cons codes stations places → (q : List ℕ) → constituency_with q cons ≡ option_and_then (slice_get cons) (place_of q codes)
-constituency_with-place cons codes stations places index q = find-place_of (λ (con : Constituency). con.code) q cons ∙ ap (λ c. option_and_then (slice_get cons) (place_of q c)) (sym index.codes_are)
+pub constituency_with-place : (cons : List Constituency) (codes stations : List (List ℕ)) (places : List StationPlace) → IsIndexed cons codes stations places → (q : List ℕ) → constituency_with q cons ≡ option_and_then (slice_get cons) (index_of q codes)
+constituency_with-place cons codes stations places index q = find-index_of (λ (con : Constituency). con.code) q cons ∙ ap (λ c. option_and_then (slice_get cons) (index_of q c)) (sym index.codes_are)
 
 abbrev pub place_at : List Constituency → List StationPlace → ℕ → Option (Constituency × Station)
 place_at cons places i = option_and_then (station_at cons) (slice_get places i)
 
 -- the station of a code is the one whose place stands at the code's place
-pub station_with-place : (cons : List Constituency) (codes stations : List (List ℕ)) (places : List StationPlace) → IsIndexed cons codes stations places → (q : List ℕ) → station_with q cons ≡ option_and_then (place_at cons places) (place_of q stations)
+pub station_with-place : (cons : List Constituency) (codes stations : List (List ℕ)) (places : List StationPlace) → IsIndexed cons codes stations places → (q : List ℕ) → station_with q cons ≡ option_and_then (place_at cons places) (index_of q stations)
 station_with-place cons codes stations places index q =
-    find-place_of (λ (p : Constituency × Station). p.1.code) q (all_stations cons)
-    ∙ ap (λ c. option_and_then (slice_get (all_stations cons)) (place_of q c)) (sym index.stations_are)
-    ∙ each (place_of q stations)
+    find-index_of (λ (p : Constituency × Station). p.1.code) q (all_stations cons)
+    ∙ ap (λ c. option_and_then (slice_get (all_stations cons)) (index_of q c)) (sym index.stations_are)
+    ∙ each (index_of q stations)
   where
     each : (o : Option ℕ) → option_and_then (slice_get (all_stations cons)) o ≡ option_and_then (place_at cons places) o
     each None = refl

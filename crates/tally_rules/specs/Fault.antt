@@ -12,15 +12,15 @@ pub data Fault : Type 0 where
   duplicate : List ℕ → Fault
   unknown_profile : Fault
 
--- What is answered is the fault that reading comes to. Want of memory is no fault of the text, and may be answered at any place.
-abbrev pub IsFaultOf : {A : Type 0} → Result A Fault → SetupFault → Type 0
-IsFaultOf reading answer.NotToml = reading ≡ Err not_toml
-IsFaultOf reading (answer.Missing key) = reading ≡ Err (missing key.now)
-IsFaultOf reading (answer.BadValue key) = reading ≡ Err (bad_value key.now)
-IsFaultOf reading (answer.OverLimit key) = reading ≡ Err (over_limit key.now)
-IsFaultOf reading (answer.Duplicate code) = reading ≡ Err (duplicate code)
-IsFaultOf reading answer.UnknownProfile = reading ≡ Err unknown_profile
-IsFaultOf reading answer.Memory = ⊤
+-- What is answered is the fault that reading comes to. Being out of memory is no fault of the text, and may be answered at any place.
+abbrev pub IsFaultIn : {A : Type 0} → Result A Fault → SetupFault → Type 0
+IsFaultIn reading answer.NotToml = reading ≡ Err not_toml
+IsFaultIn reading (answer.Missing key) = reading ≡ Err (missing key.now)
+IsFaultIn reading (answer.BadValue key) = reading ≡ Err (bad_value key.now)
+IsFaultIn reading (answer.OverLimit key) = reading ≡ Err (over_limit key.now)
+IsFaultIn reading (answer.Duplicate code) = reading ≡ Err (duplicate code)
+IsFaultIn reading answer.UnknownProfile = reading ≡ Err unknown_profile
+IsFaultIn reading answer.Memory = ⊤
 
 -- the number of a fault
 abbrev pub number_of : SetupFault → ℕ

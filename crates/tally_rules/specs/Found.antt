@@ -5,8 +5,8 @@ use Rattle.tally_rules.specs.Fault.{Fault, not_toml, missing, bad_value, over_li
 use Rattle.tally_rules.specs.Reading.{is_text, is_table}
 use Rattle.tally_rules.specs.declared.read.entry.Kind.{Kind}
 use Rattle.tally_rules.specs.declared.read.entry.Kind.TheVariants as kind
-use Rattle.tally_rules.specs.declared.read.fault.Fault.{Fault as Found}
-use Rattle.tally_rules.specs.declared.read.fault.Fault.TheVariants as found
+use Rattle.tally_rules.specs.declared.read.fault.KeyFault.{KeyFault as Found}
+use Rattle.tally_rules.specs.declared.read.fault.KeyFault.TheVariants as found
 use Rattle.tally_rules.specs.declared.read.fault.Key.{Key}
 use Rattle.tally_rules.specs.declared.read.fault.Key.TheVariants as key
 
@@ -27,7 +27,7 @@ key_name key.Candidates = codes "candidates"
 key_name key.Station = codes "station"
 key_name key.Electors = codes "electors"
 
--- as `IsFaultOf`, of what is found within the reading
+-- as `IsFaultIn`, of what is found within the reading
 abbrev pub IsFoundIn : {A : Type 0} → Result A Fault → Found → Type 0
 IsFoundIn reading found.NotToml = reading ≡ Err not_toml
 IsFoundIn reading (found.Missing key) = reading ≡ Err (missing (key_name key))

@@ -13,14 +13,14 @@ use Rattle.tally_rules.specs.declared.constituency.Station.{Station}
 use Rattle.tally_rules.specs.declared.setup.StationPlace.{StationPlace}
 
 -- the first place of the code among these, from 0
-abbrev pub place_of : List ℕ → List (List ℕ) → Option ℕ
-place_of code [] = None
-place_of code (first ∷ others) = if bytes_eq code first then Some 0 else option_map suc (place_of code others)
+abbrev pub index_of : List ℕ → List (List ℕ) → Option ℕ
+index_of code [] = None
+index_of code (first ∷ others) = if bytes_eq code first then Some 0 else option_map suc (index_of code others)
 
 -- No two of the codes are the same, and the map has the place of each.
 pub record IsIndex (codes : List (List ℕ)) (places : BTreeMap (List ℕ) ℕ) : Type 0 where
   pub distinct : AreDistinct codes
-  pub found : (code : List ℕ) → get code_cmp places code ≡ place_of code codes
+  pub found : (code : List ℕ) → get code_cmp places code ≡ index_of code codes
 
 -- the station at a place, by the number of its constituency and its own number in it
 abbrev pub station_at : List Constituency → StationPlace → Option (Constituency × Station)

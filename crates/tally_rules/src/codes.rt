@@ -2,7 +2,7 @@
 
 ghost use Rattle.std.specs.Prelude.{◌≡◌, [], ◌∷◌, ◌++◌, not, IfOk, if◌then◌else◌};
 ghost use Rattle.tally_rules.specs.Codes.{is_among, AreDistinct};
-ghost use Rattle.tally_rules.specs.Index.{place_of};
+ghost use Rattle.tally_rules.specs.Index.{index_of};
 
 use crate::code::Code;
 use std::alloc::{AllocError, Global};
@@ -55,8 +55,8 @@ impl Codes {
     }
 
     /// The place of a code, from 0.
-    pub fn place_of(&self, code: Code) -> Option<usize>
-        ensures { result ≡ place_of code self.now }
+    pub fn index_of(&self, code: Code) -> Option<usize>
+        ensures { result ≡ index_of code self.now }
     {
         self.places.get(&code).copied()
     }

@@ -2,7 +2,7 @@
 
 ghost use Rattle.std.specs.Prelude.{◌≡◌, Ok, IfOk, IfErr};
 ghost use Rattle.toml.specs.View.{view};
-ghost use Rattle.tally_rules.specs.Fault.{IsFaultOf};
+ghost use Rattle.tally_rules.specs.Fault.{IsFaultIn};
 ghost use Rattle.tally_rules.specs.Found.{IsFoundIn};
 ghost use Rattle.tally_rules.specs.Reading.{constituencies_of, document_of, setup_of, setup_of_text};
 
@@ -15,7 +15,7 @@ use crate::codes::Codes;
 use crate::fault::SetupFault;
 use crate::setup::Setup;
 use entry::{Kind, array_at, constituency_entry};
-use fault::{Fault, Key};
+use fault::{Key, KeyFault};
 use profile::{Profiles, profiles_of};
 use std::alloc::Global;
 use std::str;
@@ -29,7 +29,7 @@ const TEXT_LIMIT: usize = 8_388_608;
 /// and stations. Keys that the format has not are passed over.
 pub fn read_setup(alloc: Global, text: &[u8]) -> Result<Setup, SetupFault>
     ensures setup { IfOk result (λ setup. setup_of_text text.now ≡ Ok setup) }
-    ensures fault { IfErr result (IsFaultOf (setup_of_text text.now)) }
+    ensures fault { IfErr result (IsFaultIn (setup_of_text text.now)) }
 {
     match setup_of_text(alloc, text) {
         Ok(setup) => Ok(setup),
@@ -38,35 +38,35 @@ pub fn read_setup(alloc: Global, text: &[u8]) -> Result<Setup, SetupFault>
 }
 
 #[tactic(auto, unfolding(crate::specs::Reading::setup_of_text))]
-fn setup_of_text(alloc: Global, text: &[u8]) -> Result<Setup, Fault>
+fn setup_of_text(alloc: Global, text: &[u8]) -> Result<Setup, KeyFault>
     ensures setup { IfOk result (λ setup. setup_of_text text.now ≡ Ok setup) }
     ensures fault { IfErr result (IsFoundIn (setup_of_text text.now)) }
 {
     if text.len() > TEXT_LIMIT {
-        return Err(Fault::OverLimit(Key::Text));
+        return Err(KeyFault::OverLimit(Key::Text));
     }
     setup_of(alloc, &document_of(alloc, text)?)
 }
 
 /// The table that the text is in TOML.
 #[tactic(auto, unfolding(crate::specs::Reading::document_of))]
-fn document_of(alloc: Global, text: &[u8]) -> Result<Value, Fault>
+fn document_of(alloc: Global, text: &[u8]) -> Result<Value, KeyFault>
     ensures document { IfOk result (λ document. document_of text.now ≡ Ok (view document)) }
     ensures fault { IfErr result (IsFoundIn (document_of text.now)) }
 {
     let text = match str::from_utf8(text) {
         Ok(text) => text,
-        Err(_) => return Err(Fault::NotToml),
+        Err(_) => return Err(KeyFault::NotToml),
     };
     match toml::table_from_str(alloc, text) {
         Ok(table) => Ok(Value::Table(table)),
-        Err(fault) if fault.is_memory() => Err(Fault::Memory),
-        Err(_) => Err(Fault::NotToml),
+        Err(fault) if fault.is_memory() => Err(KeyFault::Memory),
+        Err(_) => Err(KeyFault::NotToml),
     }
 }
 
 #[tactic(auto, unfolding(crate::specs::Reading::setup_of))]
-fn setup_of(alloc: Global, document: &Value) -> Result<Setup, Fault>
+fn setup_of(alloc: Global, document: &Value) -> Result<Setup, KeyFault>
     ensures setup { IfOk result (λ setup. setup_of (view document.now) ≡ Ok setup) }
     ensures fault { IfErr result (IsFoundIn (setup_of (view document.now))) }
 {
@@ -76,7 +76,11 @@ fn setup_of(alloc: Global, document: &Value) -> Result<Setup, Fault>
 
 /// The constituencies of a setup's text.
 #[tactic(auto, unfolding(crate::specs::Reading::constituencies_of))]
-fn constituencies_of(alloc: Global, document: &Value, profiles: &Profiles) -> Result<Setup, Fault>
+fn constituencies_of(
+    alloc: Global,
+    document: &Value,
+    profiles: &Profiles,
+) -> Result<Setup, KeyFault>
     ensures setup { IfOk result (λ setup. constituencies_of profiles.now (view document.now) ≡ Ok setup) }
     ensures fault { IfErr result (IsFoundIn (constituencies_of profiles.now (view document.now))) }
 {

@@ -75,7 +75,7 @@ impl Setup {
         ensures found { option_copied result ≡ constituency_with code self.now }
         ensures limits { IsSetup self.now }
     {
-        self.cons.get(self.con_codes.place_of(code)?)
+        self.cons.get(self.con_codes.index_of(code)?)
     }
 
     /// The station of a code, with its constituency.
@@ -83,7 +83,7 @@ impl Setup {
         ensures found { option_map (λ place. (place.0.now, place.1.now)) result ≡ station_with code self.now }
         ensures limits { IsSetup self.now }
     {
-        let place = self.station_places.get(self.station_codes.place_of(code)?)?;
+        let place = self.station_places.get(self.station_codes.index_of(code)?)?;
         let con = self.cons.get(place.con)?;
         Some((con, con.stations.get(place.station)?))
     }

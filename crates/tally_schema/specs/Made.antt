@@ -1,9 +1,10 @@
 -- What making the tables leaves.
-use Rattle.std.specs.Prelude.{◌≡◌, ◌+◌, ◌||◌, ℕ, Bool, IsTrue, is_some, List, [], ◌∷◌, codes, Result, Ok, OnOk}
+use Rattle.std.specs.Prelude.{◌≡◌, ◌+◌, ◌||◌, ◌&&◌, ℕ, Bool, false, IsTrue, is_some, option_map, unwrap_or, List, [], ◌∷◌, codes, Result, Ok, OnOk}
 use Rattle.std.specs.List.{AllByRecursion, list_all, list_any}
 use Rattle.sqlite_schema.specs.declared.schema.Schema.{Schema}
 use Rattle.sqlite_schema.specs.declared.schema.Table.{Table}
-use Rattle.sqlite_schema.specs.Names.{table_named, index_named, view_named}
+use Rattle.sqlite_schema.specs.declared.schema.View.{View}
+use Rattle.sqlite_schema.specs.Names.{same_name, table_named, index_named, view_named}
 use Rattle.sqlite.specs.declared.error.Error.{Error}
 use Rattle.sqlite.specs.State.{State as Seen, HasCleanDisk, KeepsCommit, ExecutesInside}
 use Rattle.tally_schema.specs.Tables.{schema_with, past_tree}
@@ -55,9 +56,14 @@ former_names = codes "setup" ∷ codes "returns" ∷ codes "counts" ∷ codes "c
 abbrev pub office_names : List (List ℕ)
 office_names = codes "past" ∷ former_names
 
+-- A table of the name that SQL cannot reach, such as one with a trigger: `sqlite` keeps it among the views, as an entry
+-- that belongs to a table of its own name.
+abbrev pub is_table_aside : List ℕ → View → Bool
+is_table_aside name view = unwrap_or (option_map (same_name name) view.foreign) false && same_name view.name name
+
 -- a table of the name, in any letter case
 abbrev pub has_table : Schema → List ℕ → Bool
-has_table schema name = is_some (table_named schema name)
+has_table schema name = is_some (table_named schema name) || list_any (is_table_aside name) schema.views
 
 -- a table, an index or a view of the name, in any letter case
 abbrev pub has_name : Schema → List ℕ → Bool

@@ -6,5 +6,5 @@ mod making;
 mod names;
 
 pub use comparison::{is_former_schema, is_office_schema};
-pub use making::{create_past, create_tables};
+pub use making::{create_former_tables, create_past, create_tables};
 pub use names::{has_former_tables, has_past, takes_office_name};

@@ -1,14 +1,33 @@
 //! Which names of tables a database has.
 
 ghost use Rattle.std.specs.Prelude.{◌≡◌, codes};
-ghost use Rattle.tally_schema.specs.Made.{has_table, has_name, has_former_tables, takes_office_name};
+ghost use Rattle.std.specs.List.{list_any};
+ghost use Rattle.tally_schema.specs.Made.{is_table_aside, has_table, has_name, has_former_tables, takes_office_name};
 
-use sqlite_schema::schema::Schema;
+use sqlite_schema::names::same_name;
+use sqlite_schema::schema::{Schema, View};
+
+fn is_table_aside(view: &View, name: &[u8]) -> bool
+    ensures { result ≡ is_table_aside name.now view.now }
+{
+    match &view.foreign {
+        Some(owner) => {
+            same_name(name, owner.as_slice()) && same_name(view.name.as_slice(), name)
+        }
+        None => false,
+    }
+}
+
+fn has_table_aside(views: &[View], name: &[u8]) -> bool
+    ensures { result ≡ list_any (is_table_aside name.now) views.now }
+{
+    views.iter().any(|view| is_table_aside(view, name))
+}
 
 fn has_table(schema: &Schema, name: &[u8]) -> bool
     ensures { result ≡ has_table schema.now name.now }
 {
-    schema.table_named(name).is_some()
+    schema.table_named(name).is_some() || has_table_aside(schema.views.as_slice(), name)
 }
 
 fn has_name(schema: &Schema, name: &[u8]) -> bool

@@ -13,14 +13,11 @@ ghost use Rattle.tally_returns.specs.State.{stations_of};
 
 use super::answers::decide_first;
 use crate::import::{ImportCount, Row};
-use crate::source::{ImportFault, RowSource};
+use crate::source::{ImportFault, ROW_LIMIT, RowSource};
 use std::alloc::{AllocError, Global};
 use tally_ledger::Ledger;
 use tally_machine::{Ask, Counts, LodgeReply, Refusal, Return};
 use tally_rules::Code;
-
-/// The most rows that an import has.
-const MOST_ROWS: u32 = 20_000;
 
 /// Lodges the rows of a source, and adds the stations that were lodged to a list, so that a fault
 /// can be undone.
@@ -39,7 +36,7 @@ pub(super) fn take_rows<R: RowSource>(
     ensures undone { without lodged.new.items ledger.new.returns ≡ without lodged.old.items ledger.old.returns }
 {
     let mut count = ImportCount::new();
-    for before in 0..MOST_ROWS + 1 {
+    for before in 0..ROW_LIMIT + 1 {
         let Some(row) = source.next_row()? else {
             return Ok(count);
         };

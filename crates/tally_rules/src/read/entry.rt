@@ -13,10 +13,11 @@ ghost use Rattle.tally_rules.specs.Text.{is_name};
 
 use crate::codes::Codes;
 use crate::constituency::{Constituency, ListEntry, Station};
-use crate::read::fault::{Fault, Key};
+use crate::read::fault::{Key, KeyFault};
 use crate::read::key::{code_at, name_from, name_of, new_code, number_at, value_at};
 use crate::read::profile::Profiles;
 use std::alloc::Global;
+use tally_frac::{MOST_LISTS, MOST_SEATS};
 use toml::Value;
 
 /// What the items of an array have to be.
@@ -39,7 +40,12 @@ impl Kind {
 
 /// The array of a key, of one to `limit` items.
 #[tactic(auto, unfolding(crate::specs::Reading::array_at))]
-pub(super) fn array_at(entry: &Value, key: Key, kind: Kind, limit: usize) -> Result<&[Value], Fault>
+pub(super) fn array_at(
+    entry: &Value,
+    key: Key,
+    kind: Kind,
+    limit: usize,
+) -> Result<&[Value], KeyFault>
     ensures array { IfOk result (λ items. array_at (is_kind kind) (key_name key) limit (view entry.now) ≡ Ok (map view items.now)) }
     ensures some { IfOk result (λ items. 1 ≤ length items.now) }
     ensures limit { IfOk result (λ items. length items.now ≤ limit) }
@@ -47,14 +53,14 @@ pub(super) fn array_at(entry: &Value, key: Key, kind: Kind, limit: usize) -> Res
 {
     let items = match value_at(entry, key)?.as_array() {
         Some(items) => items.as_slice(),
-        None => return Err(Fault::BadValue(key)),
+        None => return Err(KeyFault::BadValue(key)),
     };
     if items.is_empty() {
-        Err(Fault::Missing(key))
+        Err(KeyFault::Missing(key))
     } else if !are(kind, items) {
-        Err(Fault::BadValue(key))
+        Err(KeyFault::BadValue(key))
     } else if items.len() > limit {
-        Err(Fault::OverLimit(key))
+        Err(KeyFault::OverLimit(key))
     } else {
         Ok(items)
     }
@@ -68,7 +74,7 @@ fn are(kind: Kind, items: &[Value]) -> bool
 
 /// An entry of `station`, whose code is added to those taken.
 #[tactic(auto, unfolding(crate::specs::Reading::station_entry))]
-fn station_entry(entry: &Value, taken: &mut Codes) -> Result<Station, Fault>
+fn station_entry(entry: &Value, taken: &mut Codes) -> Result<Station, KeyFault>
     ensures station { IfOk result (λ station. station_entry taken.old (view entry.now) ≡ Ok station) }
     ensures taken { IfOk result (λ station. taken.new ≡ taken.old ++ station.code ∷ []) }
     ensures distinct { OnOk result (AreDistinct taken.new) }
@@ -83,7 +89,7 @@ fn station_entry(entry: &Value, taken: &mut Codes) -> Result<Station, Fault>
 
 /// The stations of a constituency, whose codes are added to those taken.
 #[tactic(auto, unfolding(crate::specs::Reading::stations_of))]
-fn stations_of(alloc: Global, entry: &Value, taken: &mut Codes) -> Result<Vec<Station>, Fault>
+fn stations_of(alloc: Global, entry: &Value, taken: &mut Codes) -> Result<Vec<Station>, KeyFault>
     requires distinct { AreDistinct taken.old }
     ensures stations { IfOk result (λ stations. stations_of taken.old (view entry.now) ≡ Ok stations.items) }
     ensures taken { IfOk result (λ stations. taken.new ≡ taken.old ++ station_codes stations.items) }
@@ -103,7 +109,7 @@ fn stations_of(alloc: Global, entry: &Value, taken: &mut Codes) -> Result<Vec<St
 
 /// The names of a list's candidates.
 #[tactic(auto, unfolding(crate::specs::Reading::candidates_of))]
-fn candidates_of(alloc: Global, entry: &Value) -> Result<Vec<String>, Fault>
+fn candidates_of(alloc: Global, entry: &Value) -> Result<Vec<String>, KeyFault>
     ensures candidates { IfOk result (λ names. candidates_of (view entry.now) ≡ Ok (map string_bytes names.items)) }
     ensures some { IfOk result (λ names. 1 ≤ length names.items) }
     ensures limit { IfOk result (λ names. length names.items ≤ 1000) }
@@ -120,7 +126,7 @@ fn candidates_of(alloc: Global, entry: &Value) -> Result<Vec<String>, Fault>
 
 /// An entry of `list`, whose code is added to those taken.
 #[tactic(auto, unfolding(crate::specs::Reading::list_entry))]
-fn list_entry(alloc: Global, entry: &Value, taken: &mut Codes) -> Result<ListEntry, Fault>
+fn list_entry(alloc: Global, entry: &Value, taken: &mut Codes) -> Result<ListEntry, KeyFault>
     ensures list { IfOk result (λ list. list_entry taken.old (view entry.now) ≡ Ok list) }
     ensures taken { IfOk result (λ list. taken.new ≡ taken.old ++ list.code ∷ []) }
     ensures distinct { OnOk result (AreDistinct taken.new) }
@@ -136,7 +142,7 @@ fn list_entry(alloc: Global, entry: &Value, taken: &mut Codes) -> Result<ListEnt
 
 /// The lists of a constituency.
 #[tactic(auto, unfolding(crate::specs::Reading::lists_of))]
-fn lists_of(alloc: Global, entry: &Value) -> Result<Vec<ListEntry>, Fault>
+fn lists_of(alloc: Global, entry: &Value) -> Result<Vec<ListEntry>, KeyFault>
     ensures lists { IfOk result (λ lists. lists_of (view entry.now) ≡ Ok lists.items) }
     ensures distinct { IfOk result (λ lists. AreDistinct (list_codes lists.items)) }
     ensures some { IfOk result (λ lists. 1 ≤ length lists.items) }
@@ -144,7 +150,7 @@ fn lists_of(alloc: Global, entry: &Value) -> Result<Vec<ListEntry>, Fault>
     ensures each { IfOk result (λ lists. All IsListEntry lists.items) }
     ensures fault { IfErr result (IsFoundIn (lists_of (view entry.now))) }
 {
-    let entries = array_at(entry, Key::List, Kind::Table, 60)?;
+    let entries = array_at(entry, Key::List, Kind::Table, MOST_LISTS)?;
     let mut codes = Codes::new(alloc);
     let mut lists = Vec::with_capacity(alloc, entries.len())?;
     for list in entries {
@@ -161,7 +167,7 @@ pub(super) fn constituency_entry(
     profiles: &Profiles,
     taken: &mut Codes,
     stations: &mut Codes,
-) -> Result<Constituency, Fault>
+) -> Result<Constituency, KeyFault>
     requires distinct { AreDistinct stations.old }
     ensures constituency { IfOk result (λ con. constituency_entry profiles.now taken.old stations.old (view entry.now) ≡ Ok con) }
     ensures taken { IfOk result (λ con. taken.new ≡ taken.old ++ con.code ∷ []) }
@@ -173,11 +179,11 @@ pub(super) fn constituency_entry(
 {
     let code = new_code(entry, taken)?;
     let name = name_of(alloc, entry)?;
-    let seats = number_at(entry, Key::Seats, 1, 500)?;
+    let seats = number_at(entry, Key::Seats, 1, MOST_SEATS)?;
     let profile_code = code_at(entry, Key::Profile)?;
     let profile = match profiles.find(profile_code) {
         Some(profile) => profile,
-        None => return Err(Fault::UnknownProfile),
+        None => return Err(KeyFault::UnknownProfile),
     };
     Ok(Constituency {
         code,

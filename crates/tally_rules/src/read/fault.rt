@@ -2,9 +2,9 @@
 
 ghost use Rattle.std.specs.Prelude.{◌≡◌};
 ghost use Rattle.tally_rules.specs.Found.{key_name, IsFoundIn};
-ghost use Rattle.tally_rules.specs.Fault.{IsFaultOf};
+ghost use Rattle.tally_rules.specs.Fault.{IsFaultIn};
 ghost use Rattle.tally_rules.specs.Reading.{Reading};
-ghost use Rattle.tally_rules.specs.declared.read.fault.Fault.TheVariants.{Memory};
+ghost use Rattle.tally_rules.specs.declared.read.fault.KeyFault.TheVariants.{Memory};
 
 use crate::code::Code;
 use crate::fault::SetupFault;
@@ -56,7 +56,7 @@ impl Key {
 /// A fault, as `SetupFault` but with the key itself in place of its name: the `?` of a fault that
 /// holds a `&'static str` has no proof yet.
 #[derive(Clone, Copy)]
-pub(super) enum Fault {
+pub(super) enum KeyFault {
     NotToml,
     Missing(Key),
     BadValue(Key),
@@ -66,35 +66,35 @@ pub(super) enum Fault {
     Memory,
 }
 
-impl Fault {
+impl KeyFault {
     /// The fault with the names of keys.
     pub fn named(self) -> SetupFault
-        ensures { (reading : Reading) → IsFoundIn reading self → IsFaultOf reading result }
+        ensures { (reading : Reading) → IsFoundIn reading self → IsFaultIn reading result }
     {
         match self {
-            Fault::NotToml => SetupFault::NotToml,
-            Fault::Missing(key) => SetupFault::Missing(key.name()),
-            Fault::BadValue(key) => SetupFault::BadValue(key.name()),
-            Fault::OverLimit(key) => SetupFault::OverLimit(key.name()),
-            Fault::Duplicate(code) => SetupFault::Duplicate(code),
-            Fault::UnknownProfile => SetupFault::UnknownProfile,
-            Fault::Memory => SetupFault::Memory,
+            KeyFault::NotToml => SetupFault::NotToml,
+            KeyFault::Missing(key) => SetupFault::Missing(key.name()),
+            KeyFault::BadValue(key) => SetupFault::BadValue(key.name()),
+            KeyFault::OverLimit(key) => SetupFault::OverLimit(key.name()),
+            KeyFault::Duplicate(code) => SetupFault::Duplicate(code),
+            KeyFault::UnknownProfile => SetupFault::UnknownProfile,
+            KeyFault::Memory => SetupFault::Memory,
         }
     }
 }
 
-impl From<AllocError> for Fault {
+impl From<AllocError> for KeyFault {
     ghost from_gives = { λ _ fault. fault ≡ Memory };
 
-    fn from(_refused: AllocError) -> Fault {
-        Fault::Memory
+    fn from(_refused: AllocError) -> KeyFault {
+        KeyFault::Memory
     }
 }
 
-impl<T: Drop> From<AllocFailed<T>> for Fault {
+impl<T: Drop> From<AllocFailed<T>> for KeyFault {
     ghost from_gives = { λ _ fault. fault ≡ Memory };
 
-    fn from(_refused: AllocFailed<T>) -> Fault {
-        Fault::Memory
+    fn from(_refused: AllocFailed<T>) -> KeyFault {
+        KeyFault::Memory
     }
 }

@@ -10,32 +10,32 @@ ghost use Rattle.tally_rules.specs.Text.{is_name};
 use crate::code::Code;
 use crate::codes::Codes;
 use crate::profile::{Base, LotRule, Method};
-use crate::read::fault::{Fault, Key};
+use crate::read::fault::{Key, KeyFault};
 use crate::text::good_name;
 use std::alloc::Global;
 use toml::Value;
 
 /// The value of a key.
 #[tactic(auto, unfolding(crate::specs::Reading::value_at))]
-pub(super) fn value_at<'a>(entry: &'a Value, key: Key) -> Result<&'a Value, Fault>
+pub(super) fn value_at<'a>(entry: &'a Value, key: Key) -> Result<&'a Value, KeyFault>
     ensures value { IfOk result (λ value. value_at (key_name key) (view entry.now) ≡ Ok (view value.now)) }
     ensures fault { IfErr result (IsFoundIn (value_at (key_name key) (view entry.now))) }
 {
     match entry.get(key.name()) {
         Some(value) => Ok(value),
-        None => Err(Fault::Missing(key)),
+        None => Err(KeyFault::Missing(key)),
     }
 }
 
 /// The text of a key.
 #[tactic(auto, unfolding(crate::specs::Reading::text_at))]
-pub(super) fn text_at<'a>(entry: &'a Value, key: Key) -> Result<&'a str, Fault>
+pub(super) fn text_at<'a>(entry: &'a Value, key: Key) -> Result<&'a str, KeyFault>
     ensures text { IfOk result (λ text. text_at (key_name key) (view entry.now) ≡ Ok text.now) }
     ensures fault { IfErr result (IsFoundIn (text_at (key_name key) (view entry.now))) }
 {
     match value_at(entry, key)?.as_str() {
         Some(text) => Ok(text),
-        None => Err(Fault::BadValue(key)),
+        None => Err(KeyFault::BadValue(key)),
     }
 }
 
@@ -50,30 +50,30 @@ fn number_in(low: u32, high: u32, number: i64) -> Option<u32>
 
 /// The number of a key, which is whole and from `low` to `high`.
 #[tactic(auto, unfolding(crate::specs::Reading::number_at))]
-pub(super) fn number_at(entry: &Value, key: Key, low: u32, high: u32) -> Result<u32, Fault>
+pub(super) fn number_at(entry: &Value, key: Key, low: u32, high: u32) -> Result<u32, KeyFault>
     ensures number { IfOk result (λ number. number_at (key_name key) low high (view entry.now) ≡ Ok number) }
     ensures low { IfOk result (λ number. low ≤ number) }
     ensures high { IfOk result (λ number. number ≤ high) }
     ensures fault { IfErr result (IsFoundIn (number_at (key_name key) low high (view entry.now))) }
 {
     match value_at(entry, key)?.as_integer() {
-        Some(number) => number_in(low, high, number).ok_or(Fault::BadValue(key)),
-        None => Err(Fault::BadValue(key)),
+        Some(number) => number_in(low, high, number).ok_or(KeyFault::BadValue(key)),
+        None => Err(KeyFault::BadValue(key)),
     }
 }
 
 /// The code of a key.
 #[tactic(auto, unfolding(crate::specs::Reading::code_at))]
-pub(super) fn code_at(entry: &Value, key: Key) -> Result<Code, Fault>
+pub(super) fn code_at(entry: &Value, key: Key) -> Result<Code, KeyFault>
     ensures code { IfOk result (λ code. code_at (key_name key) (view entry.now) ≡ Ok code) }
     ensures fault { IfErr result (IsFoundIn (code_at (key_name key) (view entry.now))) }
 {
-    Code::new(text_at(entry, key)?.as_bytes()).ok_or(Fault::BadValue(key))
+    Code::new(text_at(entry, key)?.as_bytes()).ok_or(KeyFault::BadValue(key))
 }
 
 /// The entry's code, which is added to those taken.
 #[tactic(auto, unfolding(crate::specs::Reading::new_code))]
-pub(super) fn new_code(entry: &Value, taken: &mut Codes) -> Result<Code, Fault>
+pub(super) fn new_code(entry: &Value, taken: &mut Codes) -> Result<Code, KeyFault>
     ensures code { IfOk result (λ code. new_code taken.old (view entry.now) ≡ Ok code) }
     ensures taken { IfOk result (λ code. taken.new ≡ taken.old ++ code ∷ []) }
     ensures distinct { OnOk result (AreDistinct taken.new) }
@@ -83,26 +83,26 @@ pub(super) fn new_code(entry: &Value, taken: &mut Codes) -> Result<Code, Fault>
     if taken.insert(code)? {
         Ok(code)
     } else {
-        Err(Fault::Duplicate(code))
+        Err(KeyFault::Duplicate(code))
     }
 }
 
 /// A name, the value of a key or one of the items of its array.
 #[tactic(auto, unfolding(crate::specs::Reading::name_from))]
-pub(super) fn name_from(alloc: Global, value: &Value, key: Key) -> Result<String, Fault>
+pub(super) fn name_from(alloc: Global, value: &Value, key: Key) -> Result<String, KeyFault>
     ensures name { IfOk result (λ name. name_from (key_name key) (view value.now) ≡ Ok (string_bytes name)) }
     ensures limits { IfOk result (λ name. is_name (string_bytes name) ≡ true) }
     ensures fault { IfErr result (IsFoundIn (name_from (key_name key) (view value.now))) }
 {
     match value.as_str() {
         Some(name) if good_name(name) => Ok(String::from_str(alloc, name)?),
-        _ => Err(Fault::BadValue(key)),
+        _ => Err(KeyFault::BadValue(key)),
     }
 }
 
 /// The entry's name.
 #[tactic(auto, unfolding(crate::specs::Reading::name_of))]
-pub(super) fn name_of(alloc: Global, entry: &Value) -> Result<String, Fault>
+pub(super) fn name_of(alloc: Global, entry: &Value) -> Result<String, KeyFault>
     ensures name { IfOk result (λ name. name_of (view entry.now) ≡ Ok (string_bytes name)) }
     ensures limits { IfOk result (λ name. is_name (string_bytes name) ≡ true) }
     ensures fault { IfErr result (IsFoundIn (name_of (view entry.now))) }
@@ -112,7 +112,7 @@ pub(super) fn name_of(alloc: Global, entry: &Value) -> Result<String, Fault>
 
 /// The profile's method.
 #[tactic(auto, unfolding(crate::specs::Reading::method_of))]
-pub(super) fn method_of(entry: &Value) -> Result<Method, Fault>
+pub(super) fn method_of(entry: &Value) -> Result<Method, KeyFault>
     ensures method { IfOk result (λ method. method_of (view entry.now) ≡ Ok method) }
     ensures fault { IfErr result (IsFoundIn (method_of (view entry.now))) }
 {
@@ -121,26 +121,26 @@ pub(super) fn method_of(entry: &Value) -> Result<Method, Fault>
         "sainte-lague" => Ok(Method::SainteLague),
         "modified-sainte-lague" => Ok(Method::ModifiedSainteLague),
         "hare" => Ok(Method::Hare),
-        _ => Err(Fault::BadValue(Key::Method)),
+        _ => Err(KeyFault::BadValue(Key::Method)),
     }
 }
 
 /// The base of the profile's threshold.
 #[tactic(auto, unfolding(crate::specs::Reading::base_of))]
-pub(super) fn base_of(entry: &Value) -> Result<Base, Fault>
+pub(super) fn base_of(entry: &Value) -> Result<Base, KeyFault>
     ensures base { IfOk result (λ base. base_of (view entry.now) ≡ Ok base) }
     ensures fault { IfErr result (IsFoundIn (base_of (view entry.now))) }
 {
     match text_at(entry, Key::Base)? {
         "valid" => Ok(Base::Valid),
         "lists" => Ok(Base::Lists),
-        _ => Err(Fault::BadValue(Key::Base)),
+        _ => Err(KeyFault::BadValue(Key::Base)),
     }
 }
 
 /// How the profile's lots decide. A profile that does not say it has fixed lots.
 #[tactic(auto, unfolding(crate::specs::Reading::lot_rule_of))]
-pub(super) fn lot_rule_of(entry: &Value) -> Result<LotRule, Fault>
+pub(super) fn lot_rule_of(entry: &Value) -> Result<LotRule, KeyFault>
     ensures lot { IfOk result (λ lot. lot_rule_of (view entry.now) ≡ Ok lot) }
     ensures fault { IfErr result (IsFoundIn (lot_rule_of (view entry.now))) }
 {
@@ -150,6 +150,6 @@ pub(super) fn lot_rule_of(entry: &Value) -> Result<LotRule, Fault>
     match text_at(entry, Key::Lot)? {
         "fixed" => Ok(LotRule::Fixed),
         "alternating" => Ok(LotRule::Alternating),
-        _ => Err(Fault::BadValue(Key::Lot)),
+        _ => Err(KeyFault::BadValue(Key::Lot)),
     }
 }

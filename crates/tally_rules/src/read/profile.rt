@@ -9,7 +9,7 @@ use crate::code::Code;
 use crate::codes::Codes;
 use crate::profile::Profile;
 use crate::read::entry::{Kind, array_at};
-use crate::read::fault::{Fault, Key};
+use crate::read::fault::{Key, KeyFault};
 use crate::read::key::{base_of, lot_rule_of, method_of, new_code, number_at};
 use std::alloc::Global;
 use std::marker::Model;
@@ -41,7 +41,7 @@ impl Profiles {
         ensures profile { result ≡ profile_with code self.now }
         ensures threshold { IfSome result (λ profile. profile.threshold ≤ 10000) }
     {
-        match self.profiles.get(self.codes.place_of(code)?) {
+        match self.profiles.get(self.codes.index_of(code)?) {
             Some((_, profile)) => Some(*profile),
             None => None,
         }
@@ -50,7 +50,7 @@ impl Profiles {
 
 /// An entry of `profile`, whose code is added to those taken.
 #[tactic(auto, unfolding(crate::specs::Reading::profile_entry))]
-fn profile_entry(entry: &Value, taken: &mut Codes) -> Result<(Code, Profile), Fault>
+fn profile_entry(entry: &Value, taken: &mut Codes) -> Result<(Code, Profile), KeyFault>
     ensures profile { IfOk result (λ p. profile_entry taken.old (view entry.now) ≡ Ok p) }
     ensures taken { IfOk result (λ p. taken.new ≡ taken.old ++ p.0 ∷ []) }
     ensures threshold { IfOk result (λ p. p.1.threshold ≤ 10000) }
@@ -68,7 +68,7 @@ fn profile_entry(entry: &Value, taken: &mut Codes) -> Result<(Code, Profile), Fa
 
 /// The profiles of a setup's text.
 #[tactic(auto, unfolding(crate::specs::Reading::profiles_of))]
-pub(super) fn profiles_of(alloc: Global, text: &Value) -> Result<Profiles, Fault>
+pub(super) fn profiles_of(alloc: Global, text: &Value) -> Result<Profiles, KeyFault>
     ensures profiles { IfOk result (λ profiles. profiles_of (view text.now) ≡ Ok profiles) }
     ensures fault { IfErr result (IsFoundIn (profiles_of (view text.now))) }
 {

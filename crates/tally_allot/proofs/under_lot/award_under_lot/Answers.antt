@@ -1,9 +1,29 @@
-use Rattle.tally_contest.specs.internal.Terms.{AreDivisors}
-use Rattle.tally_contest.proofs.PollLemmas.{sound_by_divisors}
+use Rattle.std.proofs.Common.{IfOk, IfErr, OnOk, length, subst}
+use Rattle.tally_contest.specs.Allotment.{IsAllotment}
+use Rattle.tally_contest.specs.LotNeed.{IsLotTaken}
+use Rattle.tally_contest.specs.Poll.{HasEligible}
+use Rattle.tally_contest.specs.internal.Terms.{Terms, IsProperLot, placed_race}
+use Rattle.tally_contest.specs.internal.Won.{AreRows, AreWon}
+use Rattle.tally_allot.specs.AllotFault.{IsFaultOf}
 use Rattle.tally_allot.proofs.under_lot.award_under_lot.Goals as goal
 
-pub award_in-requires : goal.award_in-requires
-award_in-requires g c =
-    let p = c.args.poll.now in
-    let d : AreDivisors (g.D.Divisors.divisor c.args.divisors) = record { positive = g.met.D.Divisors.positive c.args.divisors; rises = g.met.D.Divisors.rises c.args.divisors } in
-    record { sound = sound_by_divisors (g.D.Divisors.divisor c.args.divisors) (g.D.Divisors.unit_of c.args.divisors) c.args.lot_rule d (g.met.D.Divisors.unit_from_one c.args.divisors) p.threshold p.base p.votes.now c.args.lot.now c.args.seats c.requires.some_seat c.requires.few_seats p.few_lists }
+pub returns-clause-allotment : goal.returns-clause-allotment
+returns-clause-allotment g c = subst (λ (t : Terms). IfOk c.award_in.result (λ given. IsAllotment t.rule t.poll t.lot t.seats given.seats.items)) c.new-contest.ensures.terms c.award_in.ensures.allotment
+
+pub returns-clause-won : goal.returns-clause-won
+returns-clause-won g c = subst (λ (t : Terms). IfOk c.award_in.result (λ given. AreWon (placed_race t) given.seats.items given.rows.items)) c.new-contest.ensures.terms c.award_in.ensures.won
+
+pub returns-clause-rows : goal.returns-clause-rows
+returns-clause-rows g c = subst (λ (t : Terms). IfOk c.award_in.result (λ given. AreRows (length t.poll.votes) given.rows.items)) c.new-contest.ensures.terms c.award_in.ensures.rows
+
+pub returns-clause-proper : goal.returns-clause-proper
+returns-clause-proper g c = subst (λ (t : Terms). OnOk c.award_in.result (IsProperLot t.poll t.lot)) c.new-contest.ensures.terms c.award_in.ensures.proper
+
+pub returns-clause-lot_taken : goal.returns-clause-lot_taken
+returns-clause-lot_taken g c = subst (λ (t : Terms). OnOk c.award_in.result (IsLotTaken t.rule t.poll t.seats t.lot)) c.new-contest.ensures.terms c.award_in.ensures.lot_taken
+
+pub returns-clause-eligible : goal.returns-clause-eligible
+returns-clause-eligible g c = subst (λ (t : Terms). OnOk c.award_in.result (HasEligible t.poll)) c.new-contest.ensures.terms c.award_in.ensures.eligible
+
+pub returns-clause-fault : goal.returns-clause-fault
+returns-clause-fault g c = subst (λ (t : Terms). IfErr c.award_in.result (IsFaultOf t.rule t.poll t.seats t.lot)) c.new-contest.ensures.terms c.award_in.ensures.fault

@@ -1,6 +1,6 @@
 use Rattle.tally_allot.specs.AllotFault.{IsFaultOf}
 use Rattle.tally_allot.specs.declared.fault.AllotFault.{AllotFault}
-use Rattle.std.proofs.Common.{◌∙◌, subst, sym}
+use Rattle.std.proofs.Common.{◌∙◌, inl, subst, sym}
 use Rattle.tally_machine.specs.Outcome.{poll_in, rule_in}
 use Rattle.tally_machine.proofs.CertificationLemmas.{certifies, certifies-missing}
 use Rattle.tally_machine.proofs.certification.certify.Goals as goal
@@ -10,7 +10,7 @@ returns-in-Ok-clause-seats c = certifies c.args.con.now c.args.view.now c.args.e
 
 pub returns-in-LotMissing-clause-refused :
     goal.returns-in-LotMissing-clause-refused
-returns-in-LotMissing-clause-refused c = λ _ _.
+returns-in-LotMissing-clause-refused c = λ _.
     let missing = subst (λ (f : AllotFault). IsFaultOf (rule_in c.args.con.now) (poll_in c.args.con.now c.args.view.now) c.args.con.now.seats c.args.view.now.lot f) c.in-LotMissing.is c.in-Err.ensures.fault in
-    certifies-missing c.args.con.now c.args.view.now c.args.edition c.in-LotMissing.group c.in-LotMissing.seats c.in_ok-check_count.ensures.passed
-    (missing.0, missing.1, missing.2, sym c.limit-marks.ensures.marks ∙ c.limit-marks.ensures.limit)
+    inl (certifies-missing c.args.con.now c.args.view.now c.args.edition c.in-LotMissing.group c.in-LotMissing.seats c.in_ok-check_count.ensures.passed
+    (missing.0, missing.1, missing.2, sym c.limit-marks.ensures.marks ∙ c.limit-marks.ensures.limit))

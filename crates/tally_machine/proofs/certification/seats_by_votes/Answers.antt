@@ -1,4 +1,4 @@
-use Rattle.std.proofs.Common.{◌≢◌, ◌∙◌, ℕ, List, IfOk, IfErr, OnOk, ap, sym, subst}
+use Rattle.std.proofs.Common.{◌∙◌, ℕ, List, IfOk, IfErr, OnOk, ap, sym, subst}
 use Rattle.tally_rules.specs.Constituency.{Constituency}
 use Rattle.tally_rules.specs.Limits.{IsConstituency}
 use Rattle.tally_allot.specs.Conditions.{AreLimitsKept}
@@ -8,10 +8,9 @@ use Rattle.tally_contest.specs.Poll.{HasEligible}
 use Rattle.tally_allot.specs.AllotFault.{IsFaultOf}
 use Rattle.tally_contest.specs.LotNeed.{IsLotTaken}
 use Rattle.tally_contest.specs.Rules.{rule_of, poll_of}
-use Rattle.tally_allot.specs.declared.fault.AllotFault.TheVariants.{WrongLot}
 use Rattle.tally_machine.specs.Outcome.{poll_in, rule_in}
 use Rattle.tally_returns.specs.View.{View}
-use Rattle.tally_machine.proofs.CertificationLemmas.{all_three, carried, fits-limits, lot-right, on_fault}
+use Rattle.tally_machine.proofs.CertificationLemmas.{all_three, carried, fits-limits}
 use Rattle.tally_machine.proofs.certification.seats_by_votes.Goals as goal
 
 pub allot-requires : goal.allot-requires
@@ -52,9 +51,3 @@ returns-clause-fault c =
     let lot = c.deref-2.ensures.value ∙ ap (λ (v : View). v.lot) c.view.view_is in
     let Fault : Profile → ℕ → List ℕ → ℕ → List ℕ → Type 0 = λ profile seats votes blank lot. IfErr c.allot.result (IsFaultOf (rule_of profile) (poll_of profile votes blank) seats lot) in
     carried Fault profile seats votes blank lot c.allot.ensures.fault
-
-pub returns-clause-right_lot : goal.returns-clause-right_lot
-returns-clause-right_lot c = λ lawful.
-    let con = c.args.con.now in
-    let view = c.args.view.now in
-    on_fault c.allot.result (IsFaultOf (rule_in con) (poll_in con view) con.seats view.lot) (λ f. f ≢ WrongLot) (λ f says. lot-right con view lawful.lawful.lot f says) (returns-clause-fault c)

@@ -1,7 +1,10 @@
-use Rattle.std.proofs.Common.{◌≡◌, Ok, List, ℕ, refl, sym, ap, subst, string_bytes}
-use Rattle.tally_machine.specs.Certification.{Draws, reopened, vacates}
-use Rattle.tally_machine.specs.Step.{Decides, certified_with, changed_by, gone_for_good, lot_set, open_again}
+use Rattle.std.proofs.Common.{◌≡◌, Ok, Err, IfErr, List, ℕ, refl, sym, ap, subst, string_bytes, rules}
+use Rattle.tally_machine.specs.Certification.{Certifies, Draws, IsDrawRefusal, reopened, vacates}
+use Rattle.tally_machine.specs.Step.{Decides, IsConRefusal, certified_with, changed_by, gone_for_good, lot_set, open_again}
 use Rattle.tally_returns.specs.declared.ask.Ask.{Ask}
+use Rattle.tally_returns.specs.declared.ask.Ask.TheVariants.{Certify, Draw}
+use Rattle.tally_returns.specs.declared.refusal.Refusal.TheVariants.{LotStands, Store}
+use Rattle.tally_machine.proofs.CertificationLemmas.{con-refusal}
 use Rattle.tally_machine.proofs.con_commands.decide_con.Goals as goal
 
 pub returns-in_ok-draw-in-Draw-clause-decided : goal.returns-in_ok-draw-in-Draw-clause-decided
@@ -42,3 +45,26 @@ returns-in_ok-vacancy-in-Vacate-clause-decided c =
     let left : vacates con view c.in-Vacate.list c.in-Vacate.place (string_bytes c.in-Vacate.note) ≡ Ok (gone, next) =
     subst (λ (n : List ℕ). vacates con view c.in-Vacate.list c.in-Vacate.place n ≡ Ok (gone, next)) c.deref-in-Vacate.ensures c.in_ok-vacancy-in-Vacate.ensures.vacated in
     (gone_for_good gone next, refl, subst (λ (ask : Ask). Decides con view ask (Ok (gone_for_good gone next))) (sym c.in-Vacate.is) (sym (ap (changed_by (λ v. gone_for_good v.0 v.1)) left)))
+
+pub returns-in_err-draw-in-Draw-clause-refused : goal.returns-in_err-draw-in-Draw-clause-refused
+returns-in_err-draw-in-Draw-clause-refused c =
+    let con = c.args.con.now in
+    let view = c.args.view.now in
+    let e = c.in_err-draw-in-Draw.field-0.0 in
+    let is : c.from_residual.result ≡ Err e = search rules in
+    let refused : IsDrawRefusal con view c.in-Draw.edition c.in-Draw.order.items e =
+    subst (λ (order : List (List ℕ)). IsDrawRefusal con view c.in-Draw.edition order e) c.deref.ensures.value c.in_err-draw-in-Draw.ensures.refused in
+    subst (λ r. IfErr r (IsConRefusal con view c.args.ask.now)) (sym is)
+    (subst (λ (ask : Ask). IsConRefusal con view ask e) (sym c.in-Draw.is)
+    (con-refusal con view (Draw c.in-Draw.con c.in-Draw.edition c.in-Draw.order) e LotStands (Draws con view c.in-Draw.edition c.in-Draw.order.items (Err e)) refl (λ draws. (Err e, draws, refl)) refused))
+
+pub returns-in_err-certify-in-Certify-clause-refused :
+    goal.returns-in_err-certify-in-Certify-clause-refused
+returns-in_err-certify-in-Certify-clause-refused c =
+    let con = c.args.con.now in
+    let view = c.args.view.now in
+    let e = c.in_err-certify-in-Certify.field-0.0 in
+    let is : c.from_residual-in_err-certify-in-Certify.result ≡ Err e = search rules in
+    subst (λ r. IfErr r (IsConRefusal con view c.args.ask.now)) (sym is)
+    (subst (λ (ask : Ask). IsConRefusal con view ask e) (sym c.in-Certify.is)
+    (con-refusal con view (Certify c.in-Certify.con c.in-Certify.edition) e Store (Certifies con view c.in-Certify.edition (Err e)) refl (λ certifies. (Err e, certifies, refl)) c.in_err-certify-in-Certify.ensures.refused))

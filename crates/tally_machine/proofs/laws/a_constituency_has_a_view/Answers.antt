@@ -1,3 +1,4 @@
+use Rattle.tally_machine.proofs.CertificationLemmas.{lot-right}
 use Rattle.tally_machine.proofs.LawLemmas.{view-stands}
 use Rattle.tally_machine.proofs.ViewLemmas.{view-lawful}
 use Rattle.tally_machine.proofs.laws.a_constituency_has_a_view.Goals as goal
@@ -7,3 +8,6 @@ returns-clause-exists c = view-stands (record { unique = c.laws_of_allotments.en
 
 pub returns-clause-lawful : goal.returns-clause-lawful
 returns-clause-lawful c = view-lawful
+
+pub returns-clause-lot : goal.returns-clause-lot
+returns-clause-lot c = λ con view lawful. lot-right con view lawful.lawful.lot

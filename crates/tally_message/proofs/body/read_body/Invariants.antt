@@ -1,6 +1,6 @@
 use Rattle.std.proofs.Common.{◌≡◌, ◌≤◌, ◌-◌, ◌++◌, true, length, vec_len}
 use Rattle.tally_door.specs.Connection.{ChangesCurrent}
-use Rattle.tally_message.specs.Reading.{OnlyReads}
+use Rattle.tally_message.specs.Message.{OnlyReads}
 use Rattle.tally_message.proofs.body.read_body.Given as goal
 
 abbrev pub invariant-loop-body : goal.invariant-loop-body

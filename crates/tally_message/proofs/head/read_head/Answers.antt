@@ -7,7 +7,7 @@ use Rattle.tally_message.specs.declared.input.Input.{Input}
 use Rattle.tally_message.specs.declared.input.Input.TheVariants.{Bytes, Failure}
 use Rattle.tally_message.specs.declared.message.MessageFault.TheVariants.{BadHead, HeadTooLong, Read}
 use Rattle.tally_message.proofs.HeadLemmas.{overflowing_head, head_or_fault, too_long_head, failed_head}
-use Rattle.tally_message.proofs.StartLemmas.{reads_on}
+use Rattle.tally_message.proofs.StartLemmas.{reads_on, refused_head}
 use Rattle.tally_message.proofs.head.read_head.Goals as goal
 
 pub returns-then-count-ge-HEAD_LIMIT-clause-known : goal.returns-then-count-ge-HEAD_LIMIT-clause-known
@@ -32,7 +32,7 @@ returns-in-Failure-clause-known g c ended coming connection is =
     let onto : HasReadOnto at.0 old (Ok Failure) buf next = subst (λ (i : Input). HasReadOnto at.0 old (Ok i) buf next) c.in-Failure.is after.2.1 in
     let whole : connection.input ≡ buf ++ next.input =
     at.2.1 ∙ ap (λ (l : List ℕ). old ++ l) (onto.0 ∙ sym onto.2) ∙ ap (λ (b : List ℕ). b ++ next.input) (sym onto.3) in
-    let failed : connection.fails ≡ true = sym (ap (λ (t : Connection). t.fails) at.2.0) ∙ onto.1 in
+    let failed : connection.fails ≡ true = sym (ap (λ (t : Connection). t.fails) at.2.0.2) ∙ onto.1 in
     let before : length old < head_limit = omega (arith, c.if-count-ge-HEAD_LIMIT.false, c.len-count.ensures, c.loop-lines.bytes.ok.0) in
     let short : length buf < head_limit = subst (λ (b : List ℕ). length b < head_limit) (sym onto.3) before in
     let within : length buf ≤ head_limit = omega (arith, short) in
@@ -57,3 +57,10 @@ returns-in-Err-clause-known g c ended coming connection is =
     subst (λ (b : List ℕ). RequestOverflows field_limit b) c.deref-then-end_in.ensures.value c.in-Err.ensures.err.1 in
     let fault = overflowing_head connection.input buf next.input connection.fails c.in-Err.fault (at.2.1 ∙ onto) short (c.in-Err.ensures.err.0, over) in
     (next, after.1, (reads_on connection at.0 next at.2.0 after.2.0, tt, fault))
+
+pub returns-in_err-read_more-clause-known : goal.returns-in_err-read_more-clause-known
+returns-in_err-read_more-clause-known g c ended coming connection is =
+    let at = c.loop-lines.invariant.known ended coming connection is in
+    let after = c.in_err-read_more.ensures.known ended coming at.0 at.1 in
+    let refused = refused_head connection.input c.read_more.new.bytes.items after.0.input connection.fails c.from_residual.result c.from_residual.ensures.1 in
+    (after.0, after.1, (reads_on connection at.0 after.0 at.2.0 after.2.0, refused.0, refused.1))

@@ -1,7 +1,6 @@
 use Rattle.std.proofs.Common.{◌≡◌, ◌≤◌, ◌-◌, ◌++◌, true, length, vec_len}
 use Rattle.tally_door.specs.Connection.{ChangesCurrent}
-use Rattle.tally_message.specs.Message.{head_limit}
-use Rattle.tally_message.specs.Reading.{OnlyReads}
+use Rattle.tally_message.specs.Message.{head_limit, OnlyReads}
 use Rattle.tally_message.proofs.head.read_head.Given as goal
 
 abbrev pub invariant-loop-lines : goal.invariant-loop-lines

@@ -23,7 +23,7 @@ returns-clause-message g c ended coming connection is =
     let start = c.in-Ok.start in
     let started : IsStart bytes start = subst (λ (b : List ℕ). IsStart b start) c.deref.ensures.value c.in-Ok.ensures.ok in
     let after = c.in-Err-read_body.ensures.known ended coming at.0 at.1 in
-    let same : at.0.fails ≡ connection.fails = ap (λ (t : Connection). t.fails) at.2.0 in
+    let same : at.0.fails ≡ connection.fails = ap (λ (t : Connection). t.fails) at.2.0.2 in
     let reads : IsBodyOrFault (start.body.items ++ at.0.input) connection.fails start.length (Err fault) c.read_body.new.body.items =
     subst (λ (f : Bool). IsBodyOrFault (start.body.items ++ at.0.input) f start.length (Err fault) c.read_body.new.body.items) same after.2.1 in (
       after.0,
@@ -41,7 +41,7 @@ returns-in-Ok-read_body-clause-message g c ended coming connection is =
     let start = c.in-Ok.start in
     let started : IsStart bytes start = subst (λ (b : List ℕ). IsStart b start) c.deref.ensures.value c.in-Ok.ensures.ok in
     let after = c.in-Ok-read_body.ensures.known ended coming at.0 at.1 in
-    let same : at.0.fails ≡ connection.fails = ap (λ (t : Connection). t.fails) at.2.0 in
+    let same : at.0.fails ≡ connection.fails = ap (λ (t : Connection). t.fails) at.2.0.2 in
     let m : Message = record { method = start.method; target = start.target; body = c.read_body.new.body } in
     let reads : IsBodyOrFault (start.body.items ++ at.0.input) connection.fails start.length (Ok tt) m.body.items =
     subst (λ (f : Bool). IsBodyOrFault (start.body.items ++ at.0.input) f start.length (Ok tt) m.body.items) same after.2.1 in (

@@ -1,5 +1,5 @@
 use Rattle.std.proofs.Common.{◌≡◌, ◌++◌, string_bytes}
-use Rattle.tally_report.specs.Texts.{spaces}
+use Rattle.tally_report.specs.Columns.{spaces}
 use Rattle.tally_report.proofs.column.push_spaces.Given as goal
 
 abbrev pub invariant-loop : goal.invariant-loop

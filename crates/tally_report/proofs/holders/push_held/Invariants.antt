@@ -1,6 +1,6 @@
 use Rattle.std.proofs.Common.{◌≡◌, ◌++◌, take, string_bytes}
 use Rattle.std.specs.List.{flat_map}
-use Rattle.tally_report.specs.Texts.{holder_line}
+use Rattle.tally_report.specs.HoldersText.{holder_line}
 use Rattle.tally_report.proofs.holders.push_held.Given as goal
 
 abbrev pub invariant-loop-place : goal.invariant-loop-place

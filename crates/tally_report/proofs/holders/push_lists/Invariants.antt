@@ -1,5 +1,6 @@
 use Rattle.std.proofs.Common.{◌≡◌, ◌++◌, drop, string_bytes}
-use Rattle.tally_report.specs.Texts.{lines_from, list_lines, holder_lines}
+use Rattle.tally_report.specs.Columns.{lines_from, list_lines}
+use Rattle.tally_report.specs.HoldersText.{holder_lines}
 use Rattle.tally_report.proofs.holders.push_lists.Given as goal
 
 abbrev pub invariant-loop-place : goal.invariant-loop-place

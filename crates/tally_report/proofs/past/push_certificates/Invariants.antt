@@ -1,6 +1,6 @@
 use Rattle.std.proofs.Common.{◌≡◌, ◌++◌, take, string_bytes}
 use Rattle.std.specs.List.{flat_map}
-use Rattle.tally_report.specs.Texts.{past_lines}
+use Rattle.tally_report.specs.PastText.{past_lines}
 use Rattle.tally_report.proofs.past.push_certificates.Given as goal
 
 abbrev pub invariant-loop-certificate : goal.invariant-loop-certificate

@@ -1,5 +1,5 @@
 use Rattle.std.proofs.Common.{◌≡◌, take, string_bytes}
-use Rattle.tally_report.specs.Texts.{progress_text}
+use Rattle.tally_report.specs.ProgressText.{progress_text}
 use Rattle.tally_report.proofs.progress.progress_text.Given as goal
 
 abbrev pub invariant-loop-row : goal.invariant-loop-row

@@ -1,6 +1,7 @@
 use Rattle.std.proofs.Common.{◌≡◌, ◌++◌, drop, string_bytes}
 use Rattle.tally_contest.specs.internal.KeptPoll.{kept_poll}
-use Rattle.tally_report.specs.Texts.{lines_from, list_lines, quota_line}
+use Rattle.tally_report.specs.Columns.{lines_from, list_lines}
+use Rattle.tally_report.specs.QuotaText.{quota_line}
 use Rattle.tally_report.proofs.quota.push_lists.Given as goal
 
 abbrev pub invariant-loop-place : goal.invariant-loop-place

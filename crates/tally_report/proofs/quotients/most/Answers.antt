@@ -1,7 +1,7 @@
 use Rattle.std.proofs.Common.{◌≡◌, ◌∙◌, ◌++◌, ◌∷◌, [], take, get_or, ap, sym}
 use Rattle.std.specs.Prelude.{max}
 use Rattle.std.proofs.lemmas.List.{take_more}
-use Rattle.tally_report.specs.Texts.{most}
+use Rattle.tally_report.specs.QuotientsText.{most}
 use Rattle.tally_report.proofs.QuotientLemmas.{most-more}
 use Rattle.tally_report.proofs.quotients.most.Goals as goal
 

@@ -1,6 +1,6 @@
 use Rattle.std.proofs.Common.{◌≡◌, ◌++◌, string_bytes}
 use Rattle.std.specs.List.{flat_map, range_with_len}
-use Rattle.tally_report.specs.Texts.{quotient_column}
+use Rattle.tally_report.specs.QuotientsText.{quotient_column}
 use Rattle.tally_report.proofs.quotients.push_quotients.Given as goal
 
 abbrev pub invariant-loop-won : goal.invariant-loop-won

@@ -3,7 +3,8 @@ use Rattle.tally_returns.specs.View.{View}
 use Rattle.tally_rules.specs.Constituency.{Constituency}
 use Rattle.tally_rules.specs.declared.profile.Method.{Method}
 use Rattle.tally_rules.specs.declared.profile.Method.TheVariants.{DHondt, SainteLague, ModifiedSainteLague}
-use Rattle.tally_report.specs.Texts.{divisor_by, quotients_by, unit_by}
+use Rattle.tally_contest.specs.Rules.{rule_by}
+use Rattle.tally_report.specs.QuotientsText.{quotients_of}
 use Rattle.tally_report.proofs.QuotientLemmas.{IfOk-then, most-lawful}
 use Rattle.tally_report.proofs.quotients.quotients_text.Goals as goal
 
@@ -15,7 +16,7 @@ returns-in-DHondt-clause-text c =
     let certified : view.certified ≡ true = sym (ap (λ (v : View). v.certified) c.view.view_is) ∙ c.if-not-view.false in
     let method : con.profile.method ≡ DHondt = sym (ap (λ (k : Constituency). k.profile.method) c.con.view_is) ∙ c.in-DHondt.is in
     IfOk-then c.text_by.result c.text_by.ensures.text
-    (λ text is lawful. is (most-lawful con view few certified lawful) ∙ ap (λ (m : Method). quotients_by (divisor_by m) (unit_by m) con view) (sym method))
+    (λ text is lawful. is (most-lawful con view few certified lawful) ∙ ap (λ (m : Method). quotients_of (rule_by m con.profile.lot) con view) (sym method))
 
 pub returns-in-SainteLague-clause-text : goal.returns-in-SainteLague-clause-text
 returns-in-SainteLague-clause-text c =
@@ -25,7 +26,7 @@ returns-in-SainteLague-clause-text c =
     let certified : view.certified ≡ true = sym (ap (λ (v : View). v.certified) c.view.view_is) ∙ c.if-not-view.false in
     let method : con.profile.method ≡ SainteLague = sym (ap (λ (k : Constituency). k.profile.method) c.con.view_is) ∙ c.in-SainteLague.is in
     IfOk-then c.text_by-in-SainteLague.result c.text_by-in-SainteLague.ensures.text
-    (λ text is lawful. is (most-lawful con view few certified lawful) ∙ ap (λ (m : Method). quotients_by (divisor_by m) (unit_by m) con view) (sym method))
+    (λ text is lawful. is (most-lawful con view few certified lawful) ∙ ap (λ (m : Method). quotients_of (rule_by m con.profile.lot) con view) (sym method))
 
 pub returns-in-ModifiedSainteLague-clause-text : goal.returns-in-ModifiedSainteLague-clause-text
 returns-in-ModifiedSainteLague-clause-text c =
@@ -35,4 +36,4 @@ returns-in-ModifiedSainteLague-clause-text c =
     let certified : view.certified ≡ true = sym (ap (λ (v : View). v.certified) c.view.view_is) ∙ c.if-not-view.false in
     let method : con.profile.method ≡ ModifiedSainteLague = sym (ap (λ (k : Constituency). k.profile.method) c.con.view_is) ∙ c.in-ModifiedSainteLague.is in
     IfOk-then c.text_by-in-ModifiedSainteLague.result c.text_by-in-ModifiedSainteLague.ensures.text
-    (λ text is lawful. is (most-lawful con view few certified lawful) ∙ ap (λ (m : Method). quotients_by (divisor_by m) (unit_by m) con view) (sym method))
+    (λ text is lawful. is (most-lawful con view few certified lawful) ∙ ap (λ (m : Method). quotients_of (rule_by m con.profile.lot) con view) (sym method))

@@ -1,6 +1,6 @@
 use Rattle.std.proofs.Common.{◌≡◌, ◌/◌, ◌%◌, ◌++◌, ◌∷◌, string_bytes, append_assoc}
 use Rattle.std.specs.Fmt.{decimal}
-use Rattle.tally_report.specs.Texts.{number}
+use Rattle.tally_report.specs.Columns.{number}
 use Rattle.tally_report.proofs.ColumnLemmas.{hundredths-is}
 use Rattle.tally_report.proofs.tally.push_hundredths.Goals as goal
 

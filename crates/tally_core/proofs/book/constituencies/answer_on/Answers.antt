@@ -3,6 +3,7 @@ use Rattle.std.specs.Option.{option_copied}
 use Rattle.tally_rules.specs.Setup.{constituency_with}
 use Rattle.tally_returns.specs.View.{View}
 use Rattle.tally_returns.proofs.ClosedLemmas.{constituency_with-code}
+use Rattle.tally_machine.proofs.CertificationLemmas.{refused-lawful}
 use Rattle.tally_ledger.specs.Kept.{view_in}
 use Rattle.tally_core.specs.Held.{IsAnsweredOn}
 use Rattle.tally_core.proofs.CarryLemmas.{can-carry-out, carried, carried-done, decided-seen, held-view, refused-done, shown-done}
@@ -72,7 +73,7 @@ returns-in_err-change c =
     let e = c.in_err-change.field-0.0 in
     let is : c.from_residual.result ≡ Err e = search rules in
     let lawful = held-view k c.args.code con view c.requires.held found seen in
-    let done = refused-done k c.args.code con c.args.ask.now view e c.requires.held found seen (λ other. c.in_err-change.ensures.refused other lawful) in
+    let done = refused-done k c.args.code con c.args.ask.now view e c.requires.held found seen (refused-lawful con view c.args.ask.now e lawful c.in_err-change.ensures.refused) in
     record { step = subst (λ r. IsAnsweredOn c.args.code k c.args.ask.now r k) (sym is) done.step; setup = done.setup; held = done.held }
 
 pub returns-in_ok-try_copy-in-Same : goal.returns-in_ok-try_copy-in-Same

@@ -1,4 +1,5 @@
 use Rattle.std.proofs.Common.{◌<◌, ◌+◌, arith, refl, subst, sym}
+use Rattle.tally_core.specs.Source.{row_limit}
 use Rattle.tally_import.specs.ReturnRows.{GivesRow}
 use Rattle.tally_import.specs.declared.return_rows.Rows.{Rows}
 use Rattle.tally_import.proofs.ReturnRowsLemmas.{rows-ended, rows-too_many, rows-row}
@@ -19,6 +20,6 @@ returns-then-self-eq-ROW_LIMIT-clause-gives g c = λ text con sep at.
 pub returns-clause-gives : goal.returns-clause-gives
 returns-clause-gives g c = λ text con sep at.
     let new : Rows = record { records = c.next.new.self; lists = c.args.self.now.lists; stations = c.args.self.now.stations; came = c.args.self.now.came + 1; fields = c.next.new.into } in
-    let room : c.args.self.now.came < 20000 = omega (arith, c.requires.within, c.if-self-eq-ROW_LIMIT.false) in
+    let room : c.args.self.now.came < row_limit = omega (arith, c.requires.within, c.if-self-eq-ROW_LIMIT.false) in
     rows-row text (g.R.Read.remaining c.args.reader.now) (g.R.Read.remaining c.next.new.input) con sep c.args.self.now new _ c.in_ok-row.row at
     (c.in_ok-end.ensures.record c.in_default.is) c.next.ensures.sep (c.in_ok-end.ensures.reading c.in_default.is) refl refl refl room c.in_ok-row.ensures.is

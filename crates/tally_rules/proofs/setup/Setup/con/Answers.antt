@@ -5,13 +5,13 @@ use Rattle.tally_rules.specs.Setup.{constituency_with}
 use Rattle.tally_rules.proofs.SetupLemmas.{constituency_with-place, slice_get-lookup}
 use Rattle.tally_rules.proofs.setup.Setup.con.Goals as goal
 
-pub returns-in_err-place_of-clause-found : goal.returns-in_err-place_of-clause-found
-returns-in_err-place_of-clause-found c =
+pub returns-in_err-index_of-clause-found : goal.returns-in_err-index_of-clause-found
+returns-in_err-index_of-clause-found c =
     ap option_copied c.from_residual.ensures
     ∙ sym (
     ap (constituency_with c.args.code) (sym c.self.view_is)
     ∙ constituency_with-place _ _ _ _ c.self.invariant c.args.code
-    ∙ ap (option_and_then (slice_get c.self.inside.cons.items)) (sym c.in_err-place_of.ensures)
+    ∙ ap (option_and_then (slice_get c.self.inside.cons.items)) (sym c.in_err-index_of.ensures)
     )
 
 pub returns-clause-found : goal.returns-clause-found
@@ -19,7 +19,7 @@ returns-clause-found c =
     sym (
     ap (constituency_with c.args.code) (sym c.self.view_is)
     ∙ constituency_with-place _ _ _ _ c.self.invariant c.args.code
-    ∙ ap (option_and_then (slice_get c.self.inside.cons.items)) (sym c.in_ok-place_of.ensures)
-    ∙ ap (λ cons. slice_get cons c.in_ok-place_of.field-0) (sym c.deref.ensures.value)
+    ∙ ap (option_and_then (slice_get c.self.inside.cons.items)) (sym c.in_ok-index_of.ensures)
+    ∙ ap (λ cons. slice_get cons c.in_ok-index_of.field-0) (sym c.deref.ensures.value)
     ∙ slice_get-lookup _ _ _ c.get.ensures.lookup
     )

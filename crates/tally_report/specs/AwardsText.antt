@@ -1,0 +1,39 @@
+-- The seats in the order of their award: the number, the list, which seat of the list it is, its quotient as a fraction, and that
+-- rounded down.
+--
+--     AWARDS c1 Twin Town
+--        1 B                  1           100     1         100
+--        2 A                  1           100     1         100
+--        3 B                  2           100     2          50
+use Rattle.std.specs.Prelude.{◌≡◌, ℕ, ◌-◌, ◌/◌, ◌++◌, List, [], slice_index_or, codes}
+use Rattle.tally_rules.specs.Constituency.{Constituency, list_codes}
+use Rattle.tally_allot.specs.Awards.{AreAwardsBy}
+use Rattle.tally_allot.specs.declared.award.Award.{Award}
+use Rattle.tally_returns.specs.View.{View}
+use Rattle.tally_machine.specs.Outcome.{poll_in, rule_in}
+use Rattle.tally_report.specs.Columns.{heading, left, line_end, lines_from, number}
+
+-- the code of the list at a place, from 0
+abbrev pub code_at : Constituency → ℕ → List ℕ
+code_at con place = slice_index_or (list_codes con.lists) place []
+
+-- the line of the n-th award
+abbrev pub award_line : Constituency → ℕ → Award → List ℕ
+award_line con n award =
+    number 4 n
+    ++ codes " "
+    ++ left 16 (code_at con (award.list - 1))
+    ++ number 4 award.k
+    ++ number 14 award.num
+    ++ number 6 award.den
+    ++ number 12 (award.num / award.den)
+    ++ line_end
+
+-- awards in their order
+abbrev pub awards_text : Constituency → List Award → List ℕ
+awards_text con awards = heading (codes "AWARDS") con ++ lines_from (award_line con) 1 awards
+
+-- The text is that of the awards by the closed votes and the lot.
+abbrev pub IsAwardsText : Constituency → View → List ℕ → Type 0
+IsAwardsText con view text =
+    (awards : List Award) × AreAwardsBy (rule_in con) (poll_in con view) view.lot con.seats awards × (text ≡ awards_text con awards)

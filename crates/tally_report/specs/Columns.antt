@@ -1,0 +1,42 @@
+-- What the texts of the reports are made of. A text is lines, a line is columns with a line end behind them, and a column is
+-- a value at the left or at the right of so many places. Names come last on a line, in no column, and are never cut.
+use Rattle.std.specs.Prelude.{ℕ, ◌+◌, ◌-◌, ◌++◌, Bool, false, List, [], ◌∷◌, length, replicate, slice_index_or, codes}
+use Rattle.std.specs.Fmt.{decimal}
+use Rattle.tally_rules.specs.Constituency.{Constituency, ListEntry}
+use Rattle.tally_rules.specs.Threshold.{eligible_lists}
+use Rattle.tally_returns.specs.View.{View}
+
+-- so many spaces
+abbrev pub spaces : ℕ → List ℕ
+spaces n = replicate n 32
+
+-- A value at the left of a column, and one at the right. A value wider than its column is printed whole, and the line grows.
+abbrev pub left : ℕ → List ℕ → List ℕ
+left width value = value ++ spaces (width - length value)
+
+abbrev pub right : ℕ → List ℕ → List ℕ
+right width value = spaces (width - length value) ++ value
+
+-- a number at the right of a column
+abbrev pub number : ℕ → ℕ → List ℕ
+number width n = right width (decimal n)
+
+abbrev pub line_end : List ℕ
+line_end = codes "\n"
+
+-- the first line of a report of a constituency: the report's word, the code and the name
+abbrev pub heading : List ℕ → Constituency → List ℕ
+heading report con = report ++ codes " " ++ con.code ++ codes " " ++ con.name ++ line_end
+
+-- a line for each entry, in order, made of its number and the entry; the first has this number
+abbrev pub lines_from : {T : Type 0} → (ℕ → T → List ℕ) → ℕ → List T → List ℕ
+lines_from line n [] = []
+lines_from line n (entry ∷ entries) = line n entry ++ lines_from line (n + 1) entries
+
+-- a line for each list of a constituency, in the order of the setup, made of its place, from 0, and the list
+abbrev pub list_lines : (ℕ → ListEntry → List ℕ) → Constituency → List ℕ
+list_lines line con = lines_from line 0 con.lists
+
+-- whether the list at a place is eligible
+abbrev pub is_eligible_at : Constituency → View → ℕ → Bool
+is_eligible_at con view place = slice_index_or (eligible_lists con.profile view.votes view.blank) place false

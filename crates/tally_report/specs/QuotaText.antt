@@ -1,0 +1,36 @@
+-- The votes of the eligible lists together and the seats; and of each eligible list its votes, its whole quotas, the remainder that
+-- they leave of its votes times the seats, and its seats.
+--
+--     QUOTA c1 Twin Town
+--     votes 480000 seats 8
+--     A                     168000    2          384000    3
+--     E                      40000    0          320000    1
+use Rattle.std.specs.Prelude.{ℕ, ◌++◌, false, List, [], slice_index, slice_index_or, if◌then◌else◌, codes}
+use Rattle.std.specs.Fmt.{decimal}
+use Rattle.tally_rules.specs.Constituency.{Constituency, ListEntry}
+use Rattle.tally_contest.specs.HareAllotment.{whole_quotas, remainder}
+use Rattle.tally_contest.specs.Poll.{Poll, eligible_votes, votes_of}
+use Rattle.tally_returns.specs.View.{View}
+use Rattle.tally_machine.specs.Outcome.{poll_in}
+use Rattle.tally_report.specs.Columns.{heading, left, line_end, list_lines, number}
+
+-- the line of the list at a place, which holds so many seats
+abbrev pub quota_columns : Poll → ℕ → ℕ → ListEntry → ℕ → List ℕ
+quota_columns poll seats place list held =
+    left 16 list.code
+    ++ number 12 (votes_of poll place)
+    ++ number 5 (whole_quotas poll seats place)
+    ++ number 16 (remainder poll seats place)
+    ++ number 5 held
+    ++ line_end
+
+-- the line of an eligible list; another list has none
+abbrev pub quota_line : Poll → ℕ → View → ℕ → ListEntry → List ℕ
+quota_line poll seats view place list =
+    if slice_index_or poll.eligible place false then quota_columns poll seats place list (slice_index view.seats place) else []
+
+abbrev pub quota_text : Constituency → View → List ℕ
+quota_text con view =
+    heading (codes "QUOTA") con
+    ++ codes "votes " ++ decimal (eligible_votes (poll_in con view)) ++ codes " seats " ++ decimal con.seats ++ line_end
+    ++ list_lines (quota_line (poll_in con view) con.seats view) con

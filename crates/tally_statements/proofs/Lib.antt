@@ -1,0 +1,5 @@
+pub mod TableLemmas
+pub mod WriteLemmas
+pub mod TextLemmas
+pub mod SelectLemmas
+pub mod WholeLemmas

@@ -1,0 +1,57 @@
+-- What is true of each table of the office.
+use Rattle.std.proofs.Common.{◌≡◌, ◌≢◌, ◌⊎◌, inl, inr, ℕ, eqb, true, false, List, [], ◌∷◌, IsTrue, refl, sym, ap, subst, arith, append-nil}
+use Rattle.std.proofs.lemmas.Bool.Decides.{eqb_tells}
+use Rattle.sqlite_rules.specs.Edit.{IsNoIndex}
+use Rattle.sqlite_trees.specs.Tree.{Trees}
+use Rattle.sqlite.specs.State.{State}
+use Rattle.tally_rows.specs.Rows.{HaveDistinctRowids}
+use Rattle.tally_rows.proofs.InsertLemmas.{IsOrdinary}
+use Rattle.tally_schema.specs.Tables.{office_schema, setup_tree}
+use Rattle.tally_statements.specs.declared.table.KeyedTable.{KeyedTable}
+use Rattle.tally_statements.specs.declared.table.KeyedTable.TheVariants.{Returns, Counts, Cons, Lots, Seats, Gone, Totals, Past}
+use Rattle.tally_statements.specs.Office.{table_of, place_of, tree_of, IsInside}
+
+pub ordinary : (t : KeyedTable) → IsOrdinary office_schema (place_of t) (table_of t)
+ordinary Returns = record { found = refl; uncounted = refl; unstamped = append-nil; alone = λ keys olds news. refl }
+ordinary Counts = record { found = refl; uncounted = refl; unstamped = append-nil; alone = λ keys olds news. refl }
+ordinary Cons = record { found = refl; uncounted = refl; unstamped = append-nil; alone = λ keys olds news. refl }
+ordinary Lots = record { found = refl; uncounted = refl; unstamped = append-nil; alone = λ keys olds news. refl }
+ordinary Seats = record { found = refl; uncounted = refl; unstamped = append-nil; alone = λ keys olds news. refl }
+ordinary Gone = record { found = refl; uncounted = refl; unstamped = append-nil; alone = λ keys olds news. refl }
+ordinary Totals = record { found = refl; uncounted = refl; unstamped = append-nil; alone = λ keys olds news. refl }
+ordinary Past = record { found = refl; uncounted = refl; unstamped = append-nil; alone = λ keys olds news. refl }
+
+pub no_index : (t : KeyedTable) → IsNoIndex office_schema (tree_of t)
+no_index Returns = (λ e. omega arith, (λ e. omega arith, (λ e. omega arith, (λ e. omega arith, (λ e. omega arith, (λ e. omega arith, (λ e. omega arith, (λ e. omega arith, tt))))))))
+no_index Counts = (λ e. omega arith, (λ e. omega arith, (λ e. omega arith, (λ e. omega arith, (λ e. omega arith, (λ e. omega arith, (λ e. omega arith, (λ e. omega arith, tt))))))))
+no_index Cons = (λ e. omega arith, (λ e. omega arith, (λ e. omega arith, (λ e. omega arith, (λ e. omega arith, (λ e. omega arith, (λ e. omega arith, (λ e. omega arith, tt))))))))
+no_index Lots = (λ e. omega arith, (λ e. omega arith, (λ e. omega arith, (λ e. omega arith, (λ e. omega arith, (λ e. omega arith, (λ e. omega arith, (λ e. omega arith, tt))))))))
+no_index Seats = (λ e. omega arith, (λ e. omega arith, (λ e. omega arith, (λ e. omega arith, (λ e. omega arith, (λ e. omega arith, (λ e. omega arith, (λ e. omega arith, tt))))))))
+no_index Gone = (λ e. omega arith, (λ e. omega arith, (λ e. omega arith, (λ e. omega arith, (λ e. omega arith, (λ e. omega arith, (λ e. omega arith, (λ e. omega arith, tt))))))))
+no_index Totals = (λ e. omega arith, (λ e. omega arith, (λ e. omega arith, (λ e. omega arith, (λ e. omega arith, (λ e. omega arith, (λ e. omega arith, (λ e. omega arith, tt))))))))
+no_index Past = (λ e. omega arith, (λ e. omega arith, (λ e. omega arith, (λ e. omega arith, (λ e. omega arith, (λ e. omega arith, (λ e. omega arith, (λ e. omega arith, tt))))))))
+
+pub no_index_setup : IsNoIndex office_schema setup_tree
+no_index_setup = (λ e. omega arith, (λ e. omega arith, (λ e. omega arith, (λ e. omega arith, (λ e. omega arith, (λ e. omega arith, (λ e. omega arith, (λ e. omega arith, tt))))))))
+
+pub not_setup : (t : KeyedTable) → setup_tree ≢ tree_of t
+not_setup Returns e = omega arith
+not_setup Counts e = omega arith
+not_setup Cons e = omega arith
+not_setup Lots e = omega arith
+not_setup Seats e = omega arith
+not_setup Gone e = omega arith
+not_setup Totals e = omega arith
+not_setup Past e = omega arith
+
+-- what a change of one table leaves of all of them
+pub still_inside : (t : KeyedTable) (old new : State) → IsInside old → new.now.schema ≡ office_schema → HaveDistinctRowids (new.now.trees (tree_of t))
+    → ((u : ℕ) → u ≢ tree_of t → IsNoIndex office_schema u → new.now.trees u ≡ old.now.trees u) → IsTrue new.in_transaction → IsInside new
+still_inside t old new inside schema own others mode = record { schema = schema; distinct = each; inside = mode }
+  where
+    each : (u : KeyedTable) → HaveDistinctRowids (new.now.trees (tree_of u))
+    each u = go (eqb_tells (tree_of u) (tree_of t))
+      where
+        go : ((eqb (tree_of u) (tree_of t) ≡ true) × (tree_of u ≡ tree_of t)) ⊎ ((eqb (tree_of u) (tree_of t) ≡ false) × (tree_of u ≢ tree_of t)) → HaveDistinctRowids (new.now.trees (tree_of u))
+        go (inl same) = subst (λ n. HaveDistinctRowids (new.now.trees n)) (sym same.1) own
+        go (inr other) = subst HaveDistinctRowids (sym (others (tree_of u) other.1 (no_index u))) (inside.distinct u)

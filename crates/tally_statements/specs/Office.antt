@@ -1,0 +1,149 @@
+-- The tables of the office in a transaction, and what a statement does to the rows of one of them.
+use Rattle.std.specs.Prelude.{◌≡◌, ◌≢◌, ℕ, pos, List, [], ◌∷◌, IsTrue, IsPermutation, map, Result, Ok, OnOk, Bool, ◌&&◌, filter}
+use Rattle.std.specs.List.{AllByRecursion}
+use Rattle.std.specs.Ordering.{is_eq}
+use Rattle.std.specs.declared.cmp.Ordering.TheVariants.{Less}
+use Rattle.sqlite_value.specs.declared.value.Value.TheVariants.{Int, Text}
+use Rattle.sqlite_value.specs.Order.{Row, column, value_cmp, row_cmp}
+use Rattle.sqlite_trees.specs.Tree.{IsAscending, rowid}
+use Rattle.sqlite_schema.specs.declared.schema.Table.{Table}
+use Rattle.sqlite.specs.declared.error.Error.{Error}
+use Rattle.sqlite.specs.Effect.{IsDatabase}
+use Rattle.sqlite.specs.State.{State as Seen, HasCleanDisk, KeepsCommit, ExecutesInside}
+use Rattle.tally_rows.specs.Rows.{cells, has_key, others, HaveDistinctRowids}
+use Rattle.tally_schema.specs.Tables.{office_schema, setup_tree, returns_table, returns_tree, counts_table, counts_tree, cons_table, cons_tree, lots_table, lots_tree, seats_table, seats_tree, gone_table, gone_tree, totals_table, totals_tree, past_table, past_tree}
+use Rattle.tally_statements.specs.declared.table.KeyedTable.{KeyedTable}
+use Rattle.tally_statements.specs.declared.table.KeyedTable.TheVariants.{Returns, Counts, Cons, Lots, Seats, Gone, Totals, Past}
+
+-- ---- the tables
+
+abbrev pub table_of : KeyedTable → Table
+table_of Returns = returns_table returns_tree
+table_of Counts = counts_table counts_tree
+table_of Cons = cons_table cons_tree
+table_of Lots = lots_table lots_tree
+table_of Seats = seats_table seats_tree
+table_of Gone = gone_table gone_tree
+table_of Totals = totals_table totals_tree
+table_of Past = past_table past_tree
+
+-- its place among the tables of the office, counted from 0
+abbrev pub place_of : KeyedTable → ℕ
+place_of Returns = 1
+place_of Counts = 2
+place_of Cons = 3
+place_of Lots = 4
+place_of Seats = 5
+place_of Gone = 6
+place_of Totals = 7
+place_of Past = 8
+
+-- the tree that holds its rows
+abbrev pub tree_of : KeyedTable → ℕ
+tree_of t = (table_of t).tree
+
+-- its rows, without their rowids
+abbrev pub rows_in : KeyedTable → Seen → List Row
+rows_in t s = cells (s.now.trees (tree_of t))
+
+-- The tables of the office are open in a transaction, and in none of them two rows have the same rowid.
+pub record IsInside (s : Seen) : Type 0 where
+  pub schema : s.now.schema ≡ office_schema
+  pub distinct : (t : KeyedTable) → HaveDistinctRowids (s.now.trees (tree_of t))
+  pub inside : IsTrue s.in_transaction
+
+-- ---- what a statement does
+
+-- The table has these rows now, in any order, and every other table is as it was.
+pub record HasRows (t : KeyedTable) (now : List Row) (old new : Seen) : Type 0 where
+  pub inside : IsInside new
+  pub rows : IsPermutation now (rows_in t new)
+  pub others : (u : KeyedTable) → tree_of u ≢ tree_of t → new.now.trees (tree_of u) ≡ old.now.trees (tree_of u)
+  pub setup : new.now.trees setup_tree ≡ old.now.trees setup_tree
+
+-- a row of a key, the number of an item and a number
+abbrev pub item_cells : List ℕ → ℕ → ℕ → Row
+item_cells key item n = Text key ∷ Int (pos item) ∷ Int (pos n) ∷ []
+
+-- the row is that of an item of a key
+abbrev pub is_item : List ℕ → ℕ → Row → Bool
+is_item key item row = has_key key row && is_eq (value_cmp (column row 1) (Int (pos item)))
+
+-- ---- what a call says, of a disk that returned what was written
+
+-- whatever it answers, nothing was committed
+abbrev pub KeepsCommitIfClean : Seen → Seen → Type 0
+KeepsCommitIfClean old new = HasCleanDisk new → KeepsCommit old new
+
+-- the text was run with these values
+abbrev pub Runs : List ℕ → Row → Seen → Seen → Result Unit Error → Type 0
+Runs sql params old new result = HasCleanDisk new → IsTrue old.in_transaction → OnOk result ((count : ℕ) × ExecutesInside 0 sql params old new (Ok count))
+
+-- the row is one more
+abbrev pub Inserts : KeyedTable → Row → Seen → Seen → Result Unit Error → Type 0
+Inserts t row old new result = HasCleanDisk new → IsInside old → OnOk result (HasRows t (row ∷ rows_in t old) old new)
+
+-- the row takes the place of the one row of a key, whose columns were these
+abbrev pub Replaces : KeyedTable → List ℕ → Row → Row → Seen → Seen → Result Unit Error → Type 0
+Replaces t key before row old new result =
+    HasCleanDisk new → IsInside old → filter (has_key key) (rows_in t old) ≡ before ∷ [] → OnOk result (HasRows t (row ∷ others key (rows_in t old)) old new)
+
+-- the item of a key has another number, where the table had a row for it beside these
+abbrev pub SetsItem : KeyedTable → List ℕ → ℕ → ℕ → Seen → Seen → Result Unit Error → Type 0
+SetsItem t key item n old new result =
+    HasCleanDisk new → IsInside old → (before : ℕ) (rest : List Row) → filter (is_item key item) rest ≡ [] → IsPermutation (item_cells key item before ∷ rest) (rows_in t old)
+    → OnOk result (HasRows t (item_cells key item n ∷ rest) old new)
+
+-- the rows of a key are gone
+abbrev pub Deletes : KeyedTable → List ℕ → Seen → Seen → Result Unit Error → Type 0
+Deletes t key old new result = HasCleanDisk new → IsInside old → OnOk result (HasRows t (others key (rows_in t old)) old new)
+
+-- ---- what a SELECT answers
+
+-- the columns of the key of a table
+abbrev pub key_cells : KeyedTable → Row → Row
+key_cells Returns r = column r 0 ∷ []
+key_cells Counts r = column r 0 ∷ column r 1 ∷ []
+key_cells Cons r = column r 0 ∷ []
+key_cells Lots r = column r 0 ∷ column r 1 ∷ []
+key_cells Seats r = column r 0 ∷ column r 1 ∷ []
+key_cells Gone r = column r 0 ∷ column r 1 ∷ column r 2 ∷ []
+key_cells Totals r = column r 0 ∷ column r 1 ∷ []
+key_cells Past r = column r 0 ∷ column r 1 ∷ column r 2 ∷ []
+
+-- all of its columns
+abbrev pub all_cells : KeyedTable → Row → Row
+all_cells Returns r = column r 0 ∷ column r 1 ∷ column r 2 ∷ column r 3 ∷ column r 4 ∷ column r 5 ∷ []
+all_cells Counts r = column r 0 ∷ column r 1 ∷ column r 2 ∷ []
+all_cells Cons r = column r 0 ∷ column r 1 ∷ column r 2 ∷ column r 3 ∷ []
+all_cells Lots r = column r 0 ∷ column r 1 ∷ column r 2 ∷ []
+all_cells Seats r = column r 0 ∷ column r 1 ∷ column r 2 ∷ []
+all_cells Gone r = column r 0 ∷ column r 1 ∷ column r 2 ∷ column r 3 ∷ []
+all_cells Totals r = column r 0 ∷ column r 1 ∷ column r 2 ∷ []
+all_cells Past r = column r 0 ∷ column r 1 ∷ column r 2 ∷ column r 3 ∷ []
+
+-- Each row has the columns of the table and no more, and the key of each is below that of the next: texts by their bytes, numbers by their size.
+pub record AreInOrder (t : KeyedTable) (rows : List Row) : Type 0 where
+  pub whole : AllByRecursion (λ r. all_cells t r ≡ r) rows
+  pub rising : IsAscending (λ a b. row_cmp (key_cells t a) (key_cells t b) ≡ Less) rows
+
+-- Where these are the rows of a key, in order, they are what was answered.
+abbrev pub IsFound : KeyedTable → List ℕ → Seen → List Row → Type 0
+IsFound t key s answer = (rows : List Row) → AreInOrder t rows → IsPermutation rows (filter (has_key key) (rows_in t s)) → answer ≡ rows
+
+-- ---- whole tables
+
+-- The tables of the office are there in a transaction, whatever their rows are.
+pub record HasTables (s : Seen) : Type 0 where
+  pub schema : s.now.schema ≡ office_schema
+  pub sound : IsTrue s.is_open → IsDatabase s.now
+  pub inside : IsTrue s.in_transaction
+
+-- The answer has the rows of a table and no others. Where these rows are the table's, in order, they are the answer.
+pub record ShowsTable (t : KeyedTable) (s : Seen) (answer : List Row) : Type 0 where
+  pub same : IsPermutation (rows_in t s) answer
+  pub in_order : (rows : List Row) → AreInOrder t rows → IsPermutation rows (rows_in t s) → answer ≡ rows
+
+-- the answer has the rowids of a table
+abbrev pub ShowsRowids : KeyedTable → Seen → List Row → Type 0
+ShowsRowids t s answer = IsPermutation (map (λ r. rowid r ∷ []) (s.now.trees (tree_of t))) answer

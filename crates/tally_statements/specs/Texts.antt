@@ -1,0 +1,88 @@
+-- The statements of the store, as sqlite is given them.
+use Rattle.std.specs.Prelude.{List, ℕ, codes}
+use Rattle.tally_statements.specs.declared.table.KeyedTable.{KeyedTable}
+use Rattle.tally_statements.specs.declared.table.KeyedTable.TheVariants.{Returns, Counts, Cons, Lots, Seats, Gone, Totals, Past}
+
+-- ---- INSERT of one row
+
+abbrev pub insert_return_text : List ℕ
+insert_return_text = codes "INSERT INTO returns (station, con, rev, slip, status, note) VALUES (?1, ?2, ?3, ?4, ?5, ?6)"
+
+abbrev pub insert_count_text : List ℕ
+insert_count_text = codes "INSERT INTO counts (station, item, n) VALUES (?1, ?2, ?3)"
+
+abbrev pub insert_con_text : List ℕ
+insert_con_text = codes "INSERT INTO cons (con, edition, certified, note) VALUES (?1, ?2, ?3, ?4)"
+
+abbrev pub insert_lot_text : List ℕ
+insert_lot_text = codes "INSERT INTO lots (con, place, list) VALUES (?1, ?2, ?3)"
+
+abbrev pub insert_seats_text : List ℕ
+insert_seats_text = codes "INSERT INTO seats (con, list, n) VALUES (?1, ?2, ?3)"
+
+abbrev pub insert_gone_text : List ℕ
+insert_gone_text = codes "INSERT INTO gone (con, list, place, note) VALUES (?1, ?2, ?3, ?4)"
+
+abbrev pub insert_total_text : List ℕ
+insert_total_text = codes "INSERT INTO totals (con, item, n) VALUES (?1, ?2, ?3)"
+
+abbrev pub insert_past_text : List ℕ
+insert_past_text = codes "INSERT INTO past (con, edition, list, n) VALUES (?1, ?2, ?3, ?4)"
+
+-- ---- UPDATE of one row
+
+abbrev pub update_return_text : List ℕ
+update_return_text = codes "UPDATE returns SET rev = ?2, slip = ?3, status = ?4, note = ?5 WHERE station = ?1"
+
+abbrev pub update_count_text : List ℕ
+update_count_text = codes "UPDATE counts SET n = ?3 WHERE station = ?1 AND item = ?2"
+
+abbrev pub update_con_text : List ℕ
+update_con_text = codes "UPDATE cons SET edition = ?2, certified = ?3, note = ?4 WHERE con = ?1"
+
+abbrev pub update_total_text : List ℕ
+update_total_text = codes "UPDATE totals SET n = ?3 WHERE con = ?1 AND item = ?2"
+
+-- ---- DELETE of the rows of a constituency
+
+abbrev pub delete_lot_text : List ℕ
+delete_lot_text = codes "DELETE FROM lots WHERE con = ?1"
+
+abbrev pub delete_seats_text : List ℕ
+delete_seats_text = codes "DELETE FROM seats WHERE con = ?1"
+
+-- ---- SELECT of the rows of a key, in the order of the table's whole key
+
+abbrev pub rows_of_text : KeyedTable → List ℕ
+rows_of_text Returns = codes "SELECT station, con, rev, slip, status, note FROM returns WHERE station = ?1 ORDER BY station"
+rows_of_text Counts = codes "SELECT station, item, n FROM counts WHERE station = ?1 ORDER BY station, item"
+rows_of_text Cons = codes "SELECT con, edition, certified, note FROM cons WHERE con = ?1 ORDER BY con"
+rows_of_text Lots = codes "SELECT con, place, list FROM lots WHERE con = ?1 ORDER BY con, place"
+rows_of_text Seats = codes "SELECT con, list, n FROM seats WHERE con = ?1 ORDER BY con, list"
+rows_of_text Gone = codes "SELECT con, list, place, note FROM gone WHERE con = ?1 ORDER BY con, list, place"
+rows_of_text Totals = codes "SELECT con, item, n FROM totals WHERE con = ?1 ORDER BY con, item"
+rows_of_text Past = codes "SELECT con, edition, list, n FROM past WHERE con = ?1 ORDER BY con, edition, list"
+
+-- ---- SELECT of all rows, in the order of the table's key
+
+abbrev pub all_rows_text : KeyedTable → List ℕ
+all_rows_text Returns = codes "SELECT station, con, rev, slip, status, note FROM returns ORDER BY station"
+all_rows_text Counts = codes "SELECT station, item, n FROM counts ORDER BY station, item"
+all_rows_text Cons = codes "SELECT con, edition, certified, note FROM cons ORDER BY con"
+all_rows_text Lots = codes "SELECT con, place, list FROM lots ORDER BY con, place"
+all_rows_text Seats = codes "SELECT con, list, n FROM seats ORDER BY con, list"
+all_rows_text Gone = codes "SELECT con, list, place, note FROM gone ORDER BY con, list, place"
+all_rows_text Totals = codes "SELECT con, item, n FROM totals ORDER BY con, item"
+all_rows_text Past = codes "SELECT con, edition, list, n FROM past ORDER BY con, edition, list"
+
+-- ---- SELECT of all rowids
+
+abbrev pub rowids_text : KeyedTable → List ℕ
+rowids_text Returns = codes "SELECT rowid FROM returns ORDER BY rowid"
+rowids_text Counts = codes "SELECT rowid FROM counts ORDER BY rowid"
+rowids_text Cons = codes "SELECT rowid FROM cons ORDER BY rowid"
+rowids_text Lots = codes "SELECT rowid FROM lots ORDER BY rowid"
+rowids_text Seats = codes "SELECT rowid FROM seats ORDER BY rowid"
+rowids_text Gone = codes "SELECT rowid FROM gone ORDER BY rowid"
+rowids_text Totals = codes "SELECT rowid FROM totals ORDER BY rowid"
+rowids_text Past = codes "SELECT rowid FROM past ORDER BY rowid"

@@ -1,0 +1,179 @@
+//! INSERT of one row into a table.
+
+ghost use Rattle.std.specs.Prelude.{◌≡◌, ◌≤◌, ◌∷◌, [], pos, if◌then◌else◌, List, ℕ};
+ghost use Rattle.sqlite_value.specs.declared.value.Value.TheVariants.{Int, Text};
+ghost use Rattle.sqlite_value.specs.Order.{Row};
+ghost use Rattle.sqlite.specs.State.{Survives};
+ghost use Rattle.sqlite.specs.Held.{state};
+ghost use Rattle.tally_statements.specs.Office.{KeepsCommitIfClean, Inserts, item_cells};
+ghost use Rattle.tally_statements.specs.declared.table.KeyedTable.TheVariants.{Returns, Counts, Cons, Lots, Seats, Gone, Totals, Past};
+
+use crate::running::run;
+use sqlite::{Alter, Error, Transaction, params};
+
+/// Adds the row of a return.
+pub fn insert_return<S: Alter>(
+    tx: &mut Transaction<'_, S>,
+    station: &str,
+    con: &str,
+    rev: u32,
+    slip: &str,
+    status: u32,
+    note: &str,
+) -> Result<(), Error>
+    ensures same_reference { tx.new.conn.ghost_name ≡ tx.old.conn.ghost_name }
+    ensures kept { KeepsCommitIfClean (state S.Store tx.old.conn.now) (state S.Store tx.new.conn.now) }
+    ensures inserted { Inserts Returns (Text station.now ∷ Text con.now ∷ Int (pos rev) ∷ Text slip.now ∷ Int (pos status)
+        ∷ Text note.now ∷ [])
+        (state S.Store tx.old.conn.now) (state S.Store tx.new.conn.now) result }
+    ensures survives { Survives (state S.Store tx.old.conn.now) (state S.Store tx.new.conn.now) (λ _. ⊥) }
+{
+    run(
+        tx,
+        "INSERT INTO returns (station, con, rev, slip, status, note) VALUES (?1, ?2, ?3, ?4, ?5, ?6)",
+        params![station, con, rev, slip, status, note],
+    )
+}
+
+/// Adds the number of an item of a return.
+pub fn insert_count<S: Alter>(
+    tx: &mut Transaction<'_, S>,
+    station: &str,
+    item: u32,
+    n: u32,
+) -> Result<(), Error>
+    ensures same_reference { tx.new.conn.ghost_name ≡ tx.old.conn.ghost_name }
+    ensures kept { KeepsCommitIfClean (state S.Store tx.old.conn.now) (state S.Store tx.new.conn.now) }
+    ensures inserted { Inserts Counts (item_cells station.now item n)
+        (state S.Store tx.old.conn.now) (state S.Store tx.new.conn.now) result }
+    ensures survives { Survives (state S.Store tx.old.conn.now) (state S.Store tx.new.conn.now) (λ _. ⊥) }
+{
+    run(
+        tx,
+        "INSERT INTO counts (station, item, n) VALUES (?1, ?2, ?3)",
+        params![station, item, n],
+    )
+}
+
+/// Adds the row of a constituency.
+pub fn insert_con<S: Alter>(
+    tx: &mut Transaction<'_, S>,
+    con: &str,
+    edition: u32,
+    certified: bool,
+    note: &str,
+) -> Result<(), Error>
+    ensures same_reference { tx.new.conn.ghost_name ≡ tx.old.conn.ghost_name }
+    ensures kept { KeepsCommitIfClean (state S.Store tx.old.conn.now) (state S.Store tx.new.conn.now) }
+    ensures inserted { Inserts Cons (Text con.now ∷ Int (pos edition) ∷ Int (if certified then pos 1 else pos 0) ∷ Text note.now ∷ [])
+        (state S.Store tx.old.conn.now) (state S.Store tx.new.conn.now) result }
+    ensures survives { Survives (state S.Store tx.old.conn.now) (state S.Store tx.new.conn.now) (λ _. ⊥) }
+{
+    run(
+        tx,
+        "INSERT INTO cons (con, edition, certified, note) VALUES (?1, ?2, ?3, ?4)",
+        params![con, edition, certified, note],
+    )
+}
+
+/// Adds a place of a lot.
+pub fn insert_lot<S: Alter>(
+    tx: &mut Transaction<'_, S>,
+    con: &str,
+    place: u32,
+    list: u32,
+) -> Result<(), Error>
+    ensures same_reference { tx.new.conn.ghost_name ≡ tx.old.conn.ghost_name }
+    ensures kept { KeepsCommitIfClean (state S.Store tx.old.conn.now) (state S.Store tx.new.conn.now) }
+    ensures inserted { Inserts Lots (item_cells con.now place list)
+        (state S.Store tx.old.conn.now) (state S.Store tx.new.conn.now) result }
+    ensures survives { Survives (state S.Store tx.old.conn.now) (state S.Store tx.new.conn.now) (λ _. ⊥) }
+{
+    run(
+        tx,
+        "INSERT INTO lots (con, place, list) VALUES (?1, ?2, ?3)",
+        params![con, place, list],
+    )
+}
+
+/// Adds the seats of a list.
+pub fn insert_seats<S: Alter>(
+    tx: &mut Transaction<'_, S>,
+    con: &str,
+    list: u32,
+    n: u32,
+) -> Result<(), Error>
+    ensures same_reference { tx.new.conn.ghost_name ≡ tx.old.conn.ghost_name }
+    ensures kept { KeepsCommitIfClean (state S.Store tx.old.conn.now) (state S.Store tx.new.conn.now) }
+    ensures inserted { Inserts Seats (item_cells con.now list n)
+        (state S.Store tx.old.conn.now) (state S.Store tx.new.conn.now) result }
+    ensures survives { Survives (state S.Store tx.old.conn.now) (state S.Store tx.new.conn.now) (λ _. ⊥) }
+{
+    run(
+        tx,
+        "INSERT INTO seats (con, list, n) VALUES (?1, ?2, ?3)",
+        params![con, list, n],
+    )
+}
+
+/// Adds a candidate who is gone.
+pub fn insert_gone<S: Alter>(
+    tx: &mut Transaction<'_, S>,
+    con: &str,
+    list: u32,
+    place: u32,
+    note: &str,
+) -> Result<(), Error>
+    ensures same_reference { tx.new.conn.ghost_name ≡ tx.old.conn.ghost_name }
+    ensures kept { KeepsCommitIfClean (state S.Store tx.old.conn.now) (state S.Store tx.new.conn.now) }
+    ensures inserted { Inserts Gone (Text con.now ∷ Int (pos list) ∷ Int (pos place) ∷ Text note.now ∷ [])
+        (state S.Store tx.old.conn.now) (state S.Store tx.new.conn.now) result }
+    ensures survives { Survives (state S.Store tx.old.conn.now) (state S.Store tx.new.conn.now) (λ _. ⊥) }
+{
+    run(
+        tx,
+        "INSERT INTO gone (con, list, place, note) VALUES (?1, ?2, ?3, ?4)",
+        params![con, list, place, note],
+    )
+}
+
+/// Adds the sum of an item of a constituency.
+pub fn insert_total<S: Alter>(
+    tx: &mut Transaction<'_, S>,
+    con: &str,
+    item: u32,
+    n: i64,
+) -> Result<(), Error>
+    ensures same_reference { tx.new.conn.ghost_name ≡ tx.old.conn.ghost_name }
+    ensures kept { KeepsCommitIfClean (state S.Store tx.old.conn.now) (state S.Store tx.new.conn.now) }
+    ensures inserted { (m : ℕ) → n ≡ pos m → Inserts Totals (item_cells con.now item m)
+        (state S.Store tx.old.conn.now) (state S.Store tx.new.conn.now) result }
+    ensures survives { Survives (state S.Store tx.old.conn.now) (state S.Store tx.new.conn.now) (λ _. ⊥) }
+{
+    run(
+        tx,
+        "INSERT INTO totals (con, item, n) VALUES (?1, ?2, ?3)",
+        params![con, item, n],
+    )
+}
+
+/// Adds the seats of a list on record.
+pub fn insert_past<S: Alter>(
+    tx: &mut Transaction<'_, S>,
+    con: &str,
+    edition: u32,
+    list: u32,
+    n: u32,
+) -> Result<(), Error>
+    ensures same_reference { tx.new.conn.ghost_name ≡ tx.old.conn.ghost_name }
+    ensures kept { KeepsCommitIfClean (state S.Store tx.old.conn.now) (state S.Store tx.new.conn.now) }
+    ensures inserted { Inserts Past (Text con.now ∷ Int (pos edition) ∷ Int (pos list) ∷ Int (pos n) ∷ [])
+        (state S.Store tx.old.conn.now) (state S.Store tx.new.conn.now) result }
+    ensures survives { Survives (state S.Store tx.old.conn.now) (state S.Store tx.new.conn.now) (λ _. ⊥) }
+{
+    run(
+        tx,
+        "INSERT INTO past (con, edition, list, n) VALUES (?1, ?2, ?3, ?4)",
+        params![con, edition, list, n],
+    )
+}

@@ -1,0 +1,19 @@
+//! The statements of the store, each in a function of its own. It knows rows and tables, and nothing of
+//! what the rows mean.
+#![tactic(auto)]
+
+mod delete;
+mod insert;
+mod running;
+mod select;
+mod table;
+mod update;
+
+pub use delete::{delete_lot, delete_seats};
+pub use insert::{
+    insert_con, insert_count, insert_gone, insert_lot, insert_past, insert_return, insert_seats,
+    insert_total,
+};
+pub use select::{all_rows, rowids, rows_of_key};
+pub use table::KeyedTable;
+pub use update::{update_con, update_count, update_return, update_total};

@@ -1,0 +1,125 @@
+//! SELECT of the rows of a key, and of whole tables.
+
+ghost use Rattle.std.specs.Prelude.{◌≡◌, IsTrue, IfOk, OnOk};
+ghost use Rattle.sqlite.specs.State.{HasCleanDisk, KeepsCommit, IsUnchanged, Survives};
+ghost use Rattle.sqlite.specs.Held.{state};
+ghost use Rattle.tally_statements.specs.Office.{IsInside, IsFound, HasTables, ShowsTable, ShowsRowids};
+ghost use Rattle.tally_statements.specs.Texts.{rows_of_text, all_rows_text, rowids_text};
+
+use crate::table::KeyedTable;
+use sqlite::{Alter, Error, Row, Transaction, params};
+
+fn text_of(table: KeyedTable) -> &'static str
+    ensures { result.now ≡ rows_of_text table }
+{
+    match table {
+        KeyedTable::Returns => {
+            "SELECT station, con, rev, slip, status, note FROM returns WHERE station = ?1 ORDER BY station"
+        }
+        KeyedTable::Counts => {
+            "SELECT station, item, n FROM counts WHERE station = ?1 ORDER BY station, item"
+        }
+        KeyedTable::Cons => {
+            "SELECT con, edition, certified, note FROM cons WHERE con = ?1 ORDER BY con"
+        }
+        KeyedTable::Lots => "SELECT con, place, list FROM lots WHERE con = ?1 ORDER BY con, place",
+        KeyedTable::Seats => "SELECT con, list, n FROM seats WHERE con = ?1 ORDER BY con, list",
+        KeyedTable::Gone => {
+            "SELECT con, list, place, note FROM gone WHERE con = ?1 ORDER BY con, list, place"
+        }
+        KeyedTable::Totals => "SELECT con, item, n FROM totals WHERE con = ?1 ORDER BY con, item",
+        KeyedTable::Past => {
+            "SELECT con, edition, list, n FROM past WHERE con = ?1 ORDER BY con, edition, list"
+        }
+    }
+}
+
+/// The rows of a key, with all columns, in the order of the table's whole key.
+pub fn rows_of_key<S: Alter>(
+    tx: &mut Transaction<'_, S>,
+    table: KeyedTable,
+    key: &str,
+) -> Result<Vec<Row>, Error>
+    ensures same_reference { tx.new.conn.ghost_name ≡ tx.old.conn.ghost_name }
+    ensures kept { HasCleanDisk (state S.Store tx.new.conn.now) → IsInside (state S.Store tx.old.conn.now) →
+        KeepsCommit (state S.Store tx.old.conn.now) (state S.Store tx.new.conn.now) }
+    ensures found { HasCleanDisk (state S.Store tx.new.conn.now) → IsInside (state S.Store tx.old.conn.now) →
+        IfOk result (λ rows. IsFound table key.now (state S.Store tx.old.conn.now) rows.items) }
+    ensures same { HasCleanDisk (state S.Store tx.new.conn.now) → IsInside (state S.Store tx.old.conn.now) →
+        OnOk result (IsUnchanged (state S.Store tx.old.conn.now) (state S.Store tx.new.conn.now)) }
+    ensures was_open { HasCleanDisk (state S.Store tx.new.conn.now) → IsTrue (state S.Store tx.new.conn.now).is_open →
+        IsTrue (state S.Store tx.old.conn.now).is_open }
+    ensures answered_open { HasCleanDisk (state S.Store tx.new.conn.now) →
+        OnOk result (IsTrue (state S.Store tx.old.conn.now).is_open) }
+    ensures survives { Survives (state S.Store tx.old.conn.now) (state S.Store tx.new.conn.now) (λ _. ⊥) }
+{
+    tx.query_all(text_of(table), params![key])
+}
+
+fn all_rows_text(table: KeyedTable) -> &'static str
+    ensures { result.now ≡ all_rows_text table }
+{
+    match table {
+        KeyedTable::Returns => {
+            "SELECT station, con, rev, slip, status, note FROM returns ORDER BY station"
+        }
+        KeyedTable::Counts => "SELECT station, item, n FROM counts ORDER BY station, item",
+        KeyedTable::Cons => "SELECT con, edition, certified, note FROM cons ORDER BY con",
+        KeyedTable::Lots => "SELECT con, place, list FROM lots ORDER BY con, place",
+        KeyedTable::Seats => "SELECT con, list, n FROM seats ORDER BY con, list",
+        KeyedTable::Gone => "SELECT con, list, place, note FROM gone ORDER BY con, list, place",
+        KeyedTable::Totals => "SELECT con, item, n FROM totals ORDER BY con, item",
+        KeyedTable::Past => "SELECT con, edition, list, n FROM past ORDER BY con, edition, list",
+    }
+}
+
+/// All rows of a table, with all columns, in the order of the table's key.
+pub fn all_rows<S: Alter>(tx: &mut Transaction<'_, S>, table: KeyedTable) -> Result<Vec<Row>, Error>
+    ensures same_reference { tx.new.conn.ghost_name ≡ tx.old.conn.ghost_name }
+    ensures kept { HasCleanDisk (state S.Store tx.new.conn.now) → HasTables (state S.Store tx.old.conn.now) →
+        KeepsCommit (state S.Store tx.old.conn.now) (state S.Store tx.new.conn.now) }
+    ensures shown { HasCleanDisk (state S.Store tx.new.conn.now) → HasTables (state S.Store tx.old.conn.now) →
+        IfOk result (λ rows. ShowsTable table (state S.Store tx.old.conn.now) rows.items) }
+    ensures same { HasCleanDisk (state S.Store tx.new.conn.now) → HasTables (state S.Store tx.old.conn.now) →
+        OnOk result (IsUnchanged (state S.Store tx.old.conn.now) (state S.Store tx.new.conn.now)) }
+    ensures was_open { HasCleanDisk (state S.Store tx.new.conn.now) → IsTrue (state S.Store tx.new.conn.now).is_open →
+        IsTrue (state S.Store tx.old.conn.now).is_open }
+    ensures answered_open { HasCleanDisk (state S.Store tx.new.conn.now) →
+        OnOk result (IsTrue (state S.Store tx.old.conn.now).is_open) }
+    ensures survives { Survives (state S.Store tx.old.conn.now) (state S.Store tx.new.conn.now) (λ _. ⊥) }
+{
+    tx.query_all(all_rows_text(table), &[])
+}
+
+fn rowids_text(table: KeyedTable) -> &'static str
+    ensures { result.now ≡ rowids_text table }
+{
+    match table {
+        KeyedTable::Returns => "SELECT rowid FROM returns ORDER BY rowid",
+        KeyedTable::Counts => "SELECT rowid FROM counts ORDER BY rowid",
+        KeyedTable::Cons => "SELECT rowid FROM cons ORDER BY rowid",
+        KeyedTable::Lots => "SELECT rowid FROM lots ORDER BY rowid",
+        KeyedTable::Seats => "SELECT rowid FROM seats ORDER BY rowid",
+        KeyedTable::Gone => "SELECT rowid FROM gone ORDER BY rowid",
+        KeyedTable::Totals => "SELECT rowid FROM totals ORDER BY rowid",
+        KeyedTable::Past => "SELECT rowid FROM past ORDER BY rowid",
+    }
+}
+
+/// The rowids of a table, in order.
+pub fn rowids<S: Alter>(tx: &mut Transaction<'_, S>, table: KeyedTable) -> Result<Vec<Row>, Error>
+    ensures same_reference { tx.new.conn.ghost_name ≡ tx.old.conn.ghost_name }
+    ensures kept { HasCleanDisk (state S.Store tx.new.conn.now) → HasTables (state S.Store tx.old.conn.now) →
+        KeepsCommit (state S.Store tx.old.conn.now) (state S.Store tx.new.conn.now) }
+    ensures shown { HasCleanDisk (state S.Store tx.new.conn.now) → HasTables (state S.Store tx.old.conn.now) →
+        IfOk result (λ rows. ShowsRowids table (state S.Store tx.old.conn.now) rows.items) }
+    ensures same { HasCleanDisk (state S.Store tx.new.conn.now) → HasTables (state S.Store tx.old.conn.now) →
+        OnOk result (IsUnchanged (state S.Store tx.old.conn.now) (state S.Store tx.new.conn.now)) }
+    ensures was_open { HasCleanDisk (state S.Store tx.new.conn.now) → IsTrue (state S.Store tx.new.conn.now).is_open →
+        IsTrue (state S.Store tx.old.conn.now).is_open }
+    ensures answered_open { HasCleanDisk (state S.Store tx.new.conn.now) →
+        OnOk result (IsTrue (state S.Store tx.old.conn.now).is_open) }
+    ensures survives { Survives (state S.Store tx.old.conn.now) (state S.Store tx.new.conn.now) (λ _. ⊥) }
+{
+    tx.query_all(rowids_text(table), &[])
+}
