@@ -38,7 +38,7 @@ RULES = [
 CALLS = ["allot", "lot_need", "is_allotment", "votes_short"]
 
 # At most so many times the time of the plain program's award.
-GOALS = {"allot": 1.5, "lot_need": 20, "is_allotment": 20}
+GOALS = {"allot": 1.3, "lot_need": 20, "is_allotment": 20}
 
 # votes_short takes at most so many times the time of one allot of this repository, not the plain one's.
 MOST_ALLOTS = 3
@@ -60,8 +60,8 @@ def votes_alike(numbers):
 
 # The workloads by name: how a poll is made, how many polls, and whether the goals are set for them.
 WORKLOADS = {
-    "votes apart": (votes_apart, POLLS, True),
-    "votes alike, a lot": (votes_alike, POLLS // 10, False),
+    "votes apart": (votes_apart, POLLS),
+    "votes alike, a lot": (votes_alike, POLLS // 10),
 }
 
 
@@ -108,7 +108,7 @@ def agree(rule, make, polls, counts, seats, plain_seats):
 
 def measure(office, plain, name, rule, runs, rounds):
     """Prints the times of each call on a workload by a rule: whether the goals were met."""
-    make, polls, has_goal = WORKLOADS[name]
+    make, polls = WORKLOADS[name]
     text = text_of(make, polls)
     taken = {call: [] for call in CALLS}
     plain_taken = []
@@ -130,9 +130,9 @@ def measure(office, plain, name, rule, runs, rounds):
         ratio = median / beside
         print(
             f"{name:20} {rule:33} {call:13} {median / polls / 1000:10.2f}"
-            f" {beside / polls / 1000:10.2f} {ratio:8.2f} {goal if has_goal else '-':>6}"
+            f" {beside / polls / 1000:10.2f} {ratio:8.2f} {goal:>6}"
         )
-        met = met and (ratio <= goal or not has_goal)
+        met = met and ratio <= goal
     return met
 
 
