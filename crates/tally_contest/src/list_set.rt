@@ -69,6 +69,7 @@ impl ListSet {
     pub(crate) fn strike(&mut self, place: u32) -> bool
         ensures had { result ≡ has_place self.old place }
         ensures struck { IsTrue result → self.new ≡ slice_set self.old (place - 1) false }
+        ensures kept { result ≡ false → self.new ≡ self.old }
     {
         let marks = &self.marks;
         if place < 1 || place as usize > MOST_LISTS {

@@ -16,7 +16,8 @@ use Rattle.tally_returns.specs.Lawful.{IsLawful}
 use Rattle.tally_machine.specs.LawfulState.{IsLawfulState}
 use Rattle.tally_returns.specs.Lodge.{StationLimits, Stations, admitted, counts_checks, decided_at_code, lodge_answer}
 use Rattle.tally_returns.specs.Named.{station_named}
-use Rattle.tally_machine.specs.Step.{move_reply, after, after_put, con_of_station, decided_in, is_certified, with_return, without_lot}
+use Rattle.tally_machine.specs.Decisions.{told}
+use Rattle.tally_machine.specs.Step.{Answer, move_reply, after, after_put, con_of_station, decided_in, is_certified, with_return, without_lot}
 use Rattle.tally_returns.specs.Return.{StationReturn, Returns, first_return}
 use Rattle.tally_returns.specs.State.{State, con_state, stations_of}
 use Rattle.tally_returns.specs.View.{View}
@@ -32,8 +33,8 @@ use Rattle.tally_returns.specs.declared.reply.Reply.TheVariants.{Moved}
 use Rattle.tally_returns.proofs.ClosedLemmas.{station_with-con}
 use Rattle.tally_returns.proofs.DecideLemmas.{passed-first, passed-rest}
 use Rattle.tally_ledger.specs.Kept.{Kept, state_in, view_in, with_no_lot}
-use Rattle.tally_core.specs.Held.{IsAnsweredInMemory, IsHeld, IsLodged, IsMoved, is_query, with_state}
-use Rattle.tally_machine.proofs.DecisionLemmas.{certified-found, con_of-found, decided-named, decided-none}
+use Rattle.tally_core.specs.Held.{IsAnsweredInMemory, IsHeld, IsLodged, IsMoved, is_query, moves_return, with_state}
+use Rattle.tally_machine.proofs.DecisionLemmas.{certified-found, changed-step, con_of-found, decided-named, decided-none}
 use Rattle.tally_core.proofs.HeldLemmas.{lodge-step}
 
 -- ---- what is decided at a station
@@ -158,19 +159,20 @@ moved-refused k ask station con place certified found e looked named is = go (me
     go (inl memory) = inr (ap Err memory, refl)
     go (inr other) = moved-err k ask e (looked_up-decided k ask station con place certified found looked named ∙ is other)
 
--- one that moved nothing, which does not come about
-pub moved-other : (k : Kept) (ask : Ask) (station : List ℕ) (con : Constituency) (place : Station) (certified : Bool) (found : Option StationReturn) (other : Change)
-    → IsLookedUp k station con place certified found → station_named ask ≡ Some station → decided_return (Some (limits_of con place)) certified found ask ≡ Ok other
-    → ((r : StationReturn) → other ≢ change.PutReturn r) → IsMoved k ask (Err NoReturn) k
-moved-other k ask station con place certified found other looked named is not_put = go other (looked_up-decided k ask station con place certified found looked named ∙ is) not_put
-  where
-    go : (d : Change) → decided_in k.setup (state_in k) ask ≡ Ok d → ((r : StationReturn) → d ≢ change.PutReturn r) → IsMoved k ask (Err NoReturn) k
-    go change.Same same never = inl (sym (ap move_reply same), ap (λ x. with_state k (after k.setup (state_in k) ask x)) (sym same))
-    go (change.PutReturn standing) same never = absurd (never standing refl)
-    go (change.SetLot places) same never = inl (sym (ap move_reply same), ap (λ x. with_state k (after k.setup (state_in k) ask x)) (sym same))
-    go (change.SetCertified seats) same never = inl (sym (ap move_reply same), ap (λ x. with_state k (after k.setup (state_in k) ask x)) (sym same))
-    go (change.SetReopened note past) same never = inl (sym (ap move_reply same), ap (λ x. with_state k (after k.setup (state_in k) ask x)) (sym same))
-    go (change.SetGone candidate next) same never = inl (sym (ap move_reply same), ap (λ x. with_state k (after k.setup (state_in k) ask x)) (sym same))
+-- a command that moves a return changes nothing else
+told-put : (ask : Ask) (found : Option StationReturn) (d : Change) (a : Answer) → moves_return ask ≡ true → told ask found d ≡ Some a → ((r : StationReturn) → d ≢ change.PutReturn r) → ⊥
+told-put ask found (change.PutReturn r) a moves is never = never r refl
+told-put (Query code rev note) found d a moves is never = cc
+told-put (Correct code rev slip counts) found d a moves is never = cc
+told-put (Close code rev) found d a moves is never = cc
+told-put ask found d a moves is never = cc
+
+pub moves-put : (k : Kept) (ask : Ask) (station : List ℕ) (con : Constituency) (place : Station) (certified : Bool) (found : Option StationReturn) (other : Change)
+    → IsLookedUp k station con place certified found → station_named ask ≡ Some station → moves_return ask ≡ true → decided_return (Some (limits_of con place)) certified found ask ≡ Ok other
+    → ((r : StationReturn) → other ≢ change.PutReturn r) → ⊥
+moves-put k ask station con place certified found other looked named moves is never =
+    let by = changed-step k.setup (state_in k) ask station other named (looked_up-decided k ask station con place certified found looked named ∙ is) in
+    told-put ask (fin.get k.returns station) other by.0 moves by.1 never
 
 -- a return that is put
 abbrev pub with_put : Kept → List ℕ → StationReturn → Kept

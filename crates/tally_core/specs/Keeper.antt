@@ -89,7 +89,8 @@ AreAllOf known rows = IfSome known (λ coming. (coming.rows ≡ rows) × (coming
 
 -- an import of all rows of a source, and what it leaves
 abbrev pub IsImportOf : List Constituency → Option State → Option Coming → ImportCount → Option State → Type 0
-IsImportOf setup old known count new = (rows : List Row) × (answered : List RowAnswer) × AreAllOf known rows × Happens setup old (whole_import rows answered count) new
+IsImportOf setup old known count new =
+    (rows : List Row) × (answered : List RowAnswer) × AreAllOf known rows × Happens setup old (whole_import rows answered count) new
 
 -- What an import comes to, by what was known of its source and by how the source ended.
 abbrev pub Imports : List Constituency → Option State → Option Coming → Ending → Result ImportCount ImportFault → Option State → Type 0

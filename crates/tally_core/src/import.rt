@@ -40,7 +40,7 @@ pub struct ImportCount {
 }
 
 impl ImportCount {
-    ghost use Rattle.tally_core.specs.Import.{RowAnswer, IsBelow, count_of, counted, or_else, with_refusal};
+    ghost use Rattle.tally_core.specs.Import.{RowAnswer, IsBelow, count_of, counted, note_at, or_else, with_refusal};
 
     /// The count of no row.
     pub fn new() -> ImportCount
@@ -98,7 +98,7 @@ impl ImportCount {
 
     // Notes a row that was neither lodged nor there already, if it is the first.
     fn note(&mut self, row: u32, number: u32)
-        ensures { self.new ≡ record self.old { first = or_else self.old.first (Some (record { row = row; number = number })) } }
+        ensures { self.new ≡ record self.old { first = or_else self.old.first (note_at row (Some number)) } }
     {
         if self.first.is_none() {
             self.first = Some(FirstRow { row, number });

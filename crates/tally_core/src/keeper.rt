@@ -27,7 +27,7 @@ pub trait Keeper {
     /// else. It may cease to hold at any call.
     ghost IsTrusted: { Self → Type 0 };
 
-    /// It stands on a database, which may fail.
+    /// It is over a database, which may fail.
     ghost HasDatabase: { Self → Type 0 };
 
     /// Without a database there is no disk to trust.

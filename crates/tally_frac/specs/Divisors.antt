@@ -9,6 +9,7 @@ dhondt_divisor k = k
 abbrev pub sainte_lague_divisor : ℕ → ℕ
 sainte_lague_divisor k = 2 * k - 1
 
--- Modified Sainte-Laguë: 1.4, and then the odd numbers 3, 5, 7 and so on (the first divisor of the Scandinavian election laws; Balinski and Young, Fair Representation), in fifths
+-- Modified Sainte-Laguë: 1.4, and then the odd numbers 3, 5, 7 and so on, in fifths (the first divisor of the
+-- Scandinavian election laws; Balinski and Young, Fair Representation)
 abbrev pub modified_sainte_lague_divisor : ℕ → ℕ
 modified_sainte_lague_divisor k = if k == 1 then 7 else 10 * k - 5

@@ -5,3 +5,4 @@ pub mod Fraction
 pub mod FractionOrder
 pub mod Rank
 pub mod RankOrder
+pub mod LawStatements

@@ -17,7 +17,8 @@ quotient p = record { num = p.votes; den = p.divisor }
 abbrev pub full_quotient : ℕ → Pair → Fraction
 full_quotient unit p = record { num = p.votes * unit; den = p.divisor }
 
--- the weak rank (LOREG 163.1 d), first half): the quotient x of a list with v votes is above the quotient y of one with w where it is greater, or where they are level and the list has more votes
+-- the weak rank (LOREG 163.1 d), first half): the quotient x of a list with v votes is above the quotient y of one with w
+-- where it is greater, or where they are level and the list has more votes
 abbrev pub IsHigher : (x : Fraction) (v : ℕ) (y : Fraction) (w : ℕ) → Type 0
 IsHigher x v y w = IsGreater x y ⊎ (IsLevel x y × (w < v))
 

@@ -1,9 +1,11 @@
 //! The laws of fractions and ranks. The functions do nothing: each contract is a law.
 
 ghost use Rattle.std.specs.Prelude.{ℕ, ◌≡◌, ◌*◌, ◌<◌, ◌≤◌, ◌⊎◌, ◌↔◌};
-ghost use Rattle.std.specs.declared.cmp.Ordering.TheVariants.{Less, Equal, Greater};
+ghost use Rattle.std.specs.declared.cmp.Ordering.TheVariants.{Equal};
 ghost use Rattle.tally_frac.specs.Fraction.{Fraction, IsGreater, IsLevel, whole_part};
-ghost use Rattle.tally_frac.specs.Rank.{Pair, quotient, full_quotient, RanksAboveByVotes, TiesByVotes, RanksAbove, RanksAboveTurned, IsWithinLimits, turned};
+ghost use Rattle.tally_frac.specs.LawStatements.{AreAlike, Chain, IsGreaterWhereAbove, IsLessWhereBelow, IsSameInAnyUnit};
+ghost use Rattle.tally_frac.specs.Rank.{Pair, RanksAboveByVotes, TiesByVotes, RanksAbove, RanksAboveTurned, IsWithinLimits};
+ghost use Rattle.tally_frac.specs.Rank.{turned};
 
 use crate::RankKey;
 
@@ -26,7 +28,7 @@ pub fn level_fractions_are_equal()
     ensures symmetric { (x y : Fraction) → IsLevel x y → IsLevel y x }
     ensures transitive { (x y z : Fraction) → 1 ≤ y.den → IsLevel x y → IsLevel y z → IsLevel x z }
     ensures other_terms { (x : Fraction) (k : ℕ) → IsLevel x (record { num = k * x.num; den = k * x.den }) }
-    ensures alike { (x y : Fraction) → 1 ≤ x.den → 1 ≤ y.den → IsLevel x y ↔ ((z : Fraction) → 1 ≤ z.den → IsGreater x z ↔ IsGreater y z) }
+    ensures alike { (x y : Fraction) → 1 ≤ x.den → 1 ≤ y.den → IsLevel x y ↔ AreAlike x y }
 {}
 
 /// The whole part is the greatest whole number that is not above the fraction, and a greater
@@ -38,8 +40,8 @@ pub fn whole_parts_are_rounded_down()
 
 /// Quotients compare alike with the rule's unit and without it.
 pub fn units_cancel()
-    ensures greater { (p q : Pair) (unit : ℕ) → 1 ≤ unit → IsGreater (full_quotient unit p) (full_quotient unit q) ↔ IsGreater (quotient p) (quotient q) }
-    ensures level { (p q : Pair) (unit : ℕ) → 1 ≤ unit → IsLevel (full_quotient unit p) (full_quotient unit q) ↔ IsLevel (quotient p) (quotient q) }
+    ensures greater { IsSameInAnyUnit IsGreater }
+    ensures level { IsSameInAnyUnit IsLevel }
 {}
 
 /// Of two pairs one ranks above the other by votes or they tie, and only one of these holds.
@@ -52,10 +54,10 @@ pub fn weak_rank_is_ordered()
 /// What ranks by votes above a pair that ranks above a third ranks above the third, and pairs that
 /// tie rank alike.
 pub fn weak_ranks_chain()
-    ensures above { (p q r : Pair) → 1 ≤ p.divisor → 1 ≤ q.divisor → 1 ≤ r.divisor → RanksAboveByVotes p q → RanksAboveByVotes q r → RanksAboveByVotes p r }
-    ensures ties { (p q r : Pair) → 1 ≤ p.divisor → 1 ≤ q.divisor → 1 ≤ r.divisor → TiesByVotes p q → TiesByVotes q r → TiesByVotes p r }
-    ensures tied_above { (p q r : Pair) → 1 ≤ p.divisor → 1 ≤ q.divisor → 1 ≤ r.divisor → TiesByVotes p q → RanksAboveByVotes q r → RanksAboveByVotes p r }
-    ensures tied_below { (p q r : Pair) → 1 ≤ p.divisor → 1 ≤ q.divisor → 1 ≤ r.divisor → RanksAboveByVotes p q → TiesByVotes q r → RanksAboveByVotes p r }
+    ensures above { Chain RanksAboveByVotes RanksAboveByVotes RanksAboveByVotes }
+    ensures ties { Chain TiesByVotes TiesByVotes TiesByVotes }
+    ensures tied_above { Chain TiesByVotes RanksAboveByVotes RanksAboveByVotes }
+    ensures tied_below { Chain RanksAboveByVotes TiesByVotes RanksAboveByVotes }
 {}
 
 /// Two pairs that tie by votes have the same divisor, and so are for seats of the same number.
@@ -78,13 +80,13 @@ pub fn strict_rank_is_ordered()
 
 /// What ranks above a pair that ranks above a third ranks above the third.
 pub fn strict_ranks_chain()
-    ensures { (p q r : Pair) → 1 ≤ p.divisor → 1 ≤ q.divisor → 1 ≤ r.divisor → RanksAbove p q → RanksAbove q r → RanksAbove p r }
+    ensures { Chain RanksAbove RanksAbove RanksAbove }
 {}
 
 /// The order of keys is the strict rank, and keys are equal exactly where their pairs are.
 pub fn keys_follow_the_strict_rank()
-    ensures greater { (p q : Pair) → IsWithinLimits p → IsWithinLimits q → (⟦<RankKey as Ord>⟧.cmp p q ≡ Greater) ↔ RanksAbove p q }
-    ensures less { (p q : Pair) → IsWithinLimits p → IsWithinLimits q → (⟦<RankKey as Ord>⟧.cmp p q ≡ Less) ↔ RanksAbove q p }
+    ensures greater { IsGreaterWhereAbove ⟦<RankKey as Ord>⟧.cmp RanksAbove }
+    ensures less { IsLessWhereBelow ⟦<RankKey as Ord>⟧.cmp RanksAbove }
     ensures equal { (p q : Pair) → (⟦<RankKey as Ord>⟧.cmp p q ≡ Equal) ↔ (p ≡ q) }
 {}
 
@@ -92,6 +94,6 @@ pub fn keys_follow_the_strict_rank()
 /// tie by votes go by later place. Such keys are made where a lot alternates and a seat is even.
 pub fn turned_keys_follow_the_turned_rank()
     ensures has_key { (p : Pair) → IsWithinLimits p → IsWithinLimits (turned p) }
-    ensures greater { (p q : Pair) → IsWithinLimits p → IsWithinLimits q → (⟦<RankKey as Ord>⟧.cmp (turned p) (turned q) ≡ Greater) ↔ RanksAboveTurned p q }
-    ensures less { (p q : Pair) → IsWithinLimits p → IsWithinLimits q → (⟦<RankKey as Ord>⟧.cmp (turned p) (turned q) ≡ Less) ↔ RanksAboveTurned q p }
+    ensures greater { IsGreaterWhereAbove (λ p q. ⟦<RankKey as Ord>⟧.cmp (turned p) (turned q)) RanksAboveTurned }
+    ensures less { IsLessWhereBelow (λ p q. ⟦<RankKey as Ord>⟧.cmp (turned p) (turned q)) RanksAboveTurned }
 {}

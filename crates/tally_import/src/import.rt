@@ -52,7 +52,7 @@ impl Import {
         })
     }
 
-    /// Takes the next row, by its number. After want of memory the import is of no further use.
+    /// Takes the next row, by its number. Once it is out of memory the import is of no further use.
     pub(crate) fn take(&mut self, alloc: Global, number: u32, row: Row) -> Result<(), AllocError>
         requires so_far { (taken : Taken) × HasTaken taken self.old × (number ≡ length taken.rows + 1) }
         requires few { number ≤ row_limit }
@@ -128,7 +128,7 @@ impl Import {
     }
 }
 
-// Counts one more row, by its number and what it was answered. A count of this row alone tells what
+// Counts one more row, by its number and what it was answered. A count of this row alone shows what
 // it adds.
 fn count_row(count: &mut ImportCount, number: u32, answer: Option<Result<LodgeReply, Refusal>>)
     requires before { (answered : List RowAnswer) × (count.old ≡ count_of answered) × (number ≡ length answered + 1) }

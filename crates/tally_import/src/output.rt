@@ -8,8 +8,8 @@ use crate::check::CheckFault;
 use std::io::Write;
 use tally_records::Watch;
 
-/// Writes a text as a whole and flushes. Where a write fails or takes nothing, the writer holds a front
-/// of the text.
+/// Writes a text as a whole and flushes. Where a write fails or takes nothing, the writer holds a
+/// prefix of the text.
 pub fn write_text<W: Write>(writer: &mut W, text: &[u8]) -> Result<(), CheckFault>
     ensures ok { OnOk result (Appends (W.contents writer.old) (W.contents writer.new) text.now) }
     ensures err { OnErr result ((n : ℕ) × Appends (W.contents writer.old) (W.contents writer.new) (take n text.now)) }

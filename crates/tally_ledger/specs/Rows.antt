@@ -1,5 +1,5 @@
 -- How what is kept stands in trees: the returns by station, and by constituency what is seen of it. No public contract speaks of it.
-use Rattle.std.specs.Prelude.{◌≡◌, ◌+◌, ◌++◌, ◌&&◌, ◌||◌, ◌==◌, nat_lt, ℕ, Bool, false, List, [], ◌∷◌, take, drop, Option, Some, None, is_some}
+use Rattle.std.specs.Prelude.{◌≡◌, ◌+◌, ◌++◌, ◌&&◌, ◌||◌, ◌==◌, nat_lt, ℕ, Bool, true, false, List, [], ◌∷◌, take, drop, Option, Some, None, is_some}
 use Rattle.std.specs.BTreeMap.{BTreeMap}
 use Rattle.std.specs.FinMap.{FinMap, get, empty, entries, from_entries, insert}
 use Rattle.std.specs.List.{prefix_len}
@@ -8,11 +8,10 @@ use Rattle.tally_rules.specs.Code.{code_cmp}
 use Rattle.tally_rules.specs.Constituency.{Constituency}
 use Rattle.tally_rules.specs.Setup.{constituency_with}
 use Rattle.tally_returns.specs.GoneCandidate.{GoneCandidate}
-use Rattle.tally_returns.specs.Lawful.{IsLawful}
-use Rattle.tally_returns.specs.Lodge.{StationLimits}
+use Rattle.tally_returns.specs.Lawful.{IsLawfulAt}
 use Rattle.tally_returns.specs.PastSeats.{PastSeats}
 use Rattle.tally_returns.specs.Return.{StationReturn, Returns}
-use Rattle.tally_returns.specs.State.{ConState, GoneCandidates, Records, opening_con, stations_of}
+use Rattle.tally_returns.specs.State.{ConState, GoneCandidates, Records, opening_con}
 use Rattle.tally_returns.specs.View.{View, view_with}
 use Rattle.tally_returns.specs.declared.progress.ProgressRow.{ProgressRow}
 use Rattle.tally_ledger.specs.Kept.{Seats}
@@ -38,7 +37,14 @@ past_of past = map_of (λ (p : PastSeats). p.edition) (λ p. p.seats) past
 
 -- what a constituency has come to, of what is seen of it
 abbrev pub con_of : View → ConState
-con_of view = record { edition = view.edition; certified = view.certified; note = view.note; lot = view.lot; gone = gone_by_places view.gone; past = past_of view.past }
+con_of view = record {
+  edition = view.edition;
+  certified = view.certified;
+  note = view.note;
+  lot = view.lot;
+  gone = gone_by_places view.gone;
+  past = past_of view.past;
+}
 
 abbrev pub cons_of : Views → FinMap code_cmp ConState
 cons_of views = map_of (λ (e : List ℕ × View). e.0) (λ e. con_of e.1) (entries views)
@@ -47,14 +53,18 @@ abbrev pub seats_of : Views → Seats
 seats_of views = map_of (λ (e : List ℕ × View). e.0) (λ e. e.1.seats) (entries views)
 
 abbrev pub AreLawfulReturns : List Constituency → Returns → Type 0
-AreLawfulReturns setup returns =
-    (station : List ℕ) → ForSome (get returns station) (λ standing. (limits : StationLimits) × (stations_of setup station ≡ Some limits) × IsLawful limits standing)
+AreLawfulReturns setup returns = (station : List ℕ) → ForSome (get returns station) (IsLawfulAt setup station)
+
+-- what is held of the constituency of a code is what is seen of it
+abbrev pub IsSeen : List Constituency → Returns → List ℕ → View → Type 0
+IsSeen setup returns code view =
+    (con : Constituency) × (constituency_with code setup ≡ Some con) × (view ≡ view_with con (con_of view) returns view.seats)
 
 -- Each return is lawful at its station; and what is held of each constituency is what is seen of it, its sums those of its closed
 -- returns.
 pub record IsTallied (setup : List Constituency) (returns : Returns) (views : Views) : Type 0 where
   pub lawful : AreLawfulReturns setup returns
-  pub seen : (code : List ℕ) → ForSome (get views code) (λ view. (con : Constituency) × (constituency_with code setup ≡ Some con) × (view ≡ view_with con (con_of view) returns view.seats))
+  pub seen : (code : List ℕ) → ForSome (get views code) (IsSeen setup returns code)
   pub known : (code : List ℕ) → is_some (get views code) ≡ is_some (constituency_with code setup)
 
 -- ---- changes
@@ -90,6 +100,16 @@ gone_place candidate gone = prefix_len (λ g. is_before g candidate) gone
 -- one more is gone, at its place
 abbrev pub with_gone : GoneCandidate → List GoneCandidate → List GoneCandidate
 with_gone candidate gone = take (gone_place candidate gone) gone ++ candidate ∷ drop (gone_place candidate gone) gone
+
+-- a lot stands, the constituency is certified with these seats, or a candidate is gone
+abbrev pub with_lot : List ℕ → View → View
+with_lot lot view = record view { edition = view.edition + 1; lot = lot }
+
+abbrev pub with_certificate : List ℕ → View → View
+with_certificate seats view = record view { edition = view.edition + 1; certified = true; seats = seats }
+
+abbrev pub with_one_gone : GoneCandidate → View → View
+with_one_gone candidate view = record view { gone = with_gone candidate view.gone }
 
 -- open again, with this note, and with the certificate that was reopened on record behind the others
 abbrev pub with_reopening : List ℕ → PastSeats → View → View

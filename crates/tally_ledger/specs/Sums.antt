@@ -1,5 +1,5 @@
 -- Sums of closed votes that are moved by a return.
-use Rattle.std.specs.Prelude.{◌≡◌, ◌+◌, ◌-◌, ◌≤◌, ◌<◌, if◌then◌else◌, ℕ, Bool, true, false, map, slice_index, length}
+use Rattle.std.specs.Prelude.{◌≡◌, ◌+◌, ◌-◌, ◌≤◌, ◌<◌, if◌then◌else◌, ℕ, Bool, true, false, List, map, slice_index, length}
 use Rattle.std.specs.List.{range_with_len}
 use Rattle.tally_returns.specs.Counts.{VoteCounts}
 use Rattle.tally_returns.specs.Progress.{is_received, is_queried, is_corrected, is_closed}
@@ -12,10 +12,18 @@ abbrev pub moved_sum : ℕ → ℕ → Bool → ℕ
 moved_sum n by true = n + by
 moved_sum n by false = n - by
 
+-- the sums of the same lists, each with its own number
+abbrev pub moved_sums : List ℕ → List ℕ → Bool → List ℕ
+moved_sums sums by add = map (λ place. moved_sum (slice_index sums place) (slice_index by place) add) (range_with_len 0 (length sums))
+
 -- the sum stays from 0 to 5,000,000,000
 abbrev pub CanMove : ℕ → ℕ → Bool → Type 0
 CanMove n by true = n + by ≤ 5000000000
 CanMove n by false = by ≤ n
+
+-- each of the sums does
+abbrev pub CanMoveEach : List ℕ → List ℕ → Bool → Type 0
+CanMoveEach sums by add = (place : ℕ) → place < length sums → CanMove (slice_index sums place) (slice_index by place) add
 
 -- what a return counts for in the number of returns with such a status
 abbrev pub moved_where : Bool → ℕ → Bool → ℕ
@@ -33,7 +41,7 @@ with_status view status add = record view {
 -- the view with the counts of a closed return moved
 abbrev pub with_counts : View → VoteCounts → Bool → View
 with_counts view counts add = record view {
-  votes = map (λ place. moved_sum (slice_index view.votes place) (slice_index counts.votes place) add) (range_with_len 0 (length view.votes));
+  votes = moved_sums view.votes counts.votes add;
   blank = moved_sum view.blank counts.blank add;
   spoiled = moved_sum view.spoiled counts.spoiled add;
 }
@@ -58,7 +66,7 @@ pub record CanCountOne (view : View) (status : Status) (add : Bool) : Type 0 whe
 -- each sum of a view can be moved by the counts of a return
 pub record CanMoveCounts (view : View) (counts : VoteCounts) (add : Bool) : Type 0 where
   pub lists : length counts.votes ≡ length view.votes
-  pub votes : (place : ℕ) → place < length view.votes → CanMove (slice_index view.votes place) (slice_index counts.votes place) add
+  pub votes : CanMoveEach view.votes counts.votes add
   pub blank : CanMove view.blank counts.blank add
   pub spoiled : CanMove view.spoiled counts.spoiled add
 

@@ -5,10 +5,9 @@ ghost use Rattle.std.specs.FinMap.{get, insert, remove};
 ghost use Rattle.std.specs.Option.{option_copied};
 ghost use Rattle.tally_ledger.specs.Kept.{AreEarlier, opening_kept, state_in, view_in, with_change, with_no_lot};
 ghost use Rattle.tally_machine.specs.Step.{certified_with, gone_for_good, lot_set, open_again};
-ghost use Rattle.tally_returns.specs.Lawful.{IsLawful};
-ghost use Rattle.tally_returns.specs.Lodge.{StationLimits};
+ghost use Rattle.tally_returns.specs.Lawful.{IsLawfulAt};
 ghost use Rattle.tally_returns.specs.Progress.{progress};
-ghost use Rattle.tally_returns.specs.State.{con_state, stations_of};
+ghost use Rattle.tally_returns.specs.State.{con_state};
 ghost use Rattle.tally_rules.specs.Limits.{IsSetup};
 ghost use Rattle.tally_rules.specs.Setup.{constituency_with};
 
@@ -68,6 +67,14 @@ impl Ledger {
         &self.setup
     }
 
+    /// The setup, of a ledger that is needed no longer.
+    pub fn into_setup(self) -> Setup
+        ensures { result ≡ self.setup }
+    {
+        let Ledger { setup, .. } = self;
+        setup
+    }
+
     /// The return of a station.
     pub fn return_at(&self, station: Code) -> Option<&Return>
         ensures { option_copied result ≡ get self.now.returns station }
@@ -100,7 +107,7 @@ impl Ledger {
     /// Puts the return of a station, in place of the one that stands if there is one. Only a first
     /// one takes memory.
     pub fn put(&mut self, station: Code, standing: Return) -> Result<(), AllocError>
-        requires lawful { (limits : StationLimits) × (stations_of self.now.setup station ≡ Some limits) × IsLawful limits standing }
+        requires lawful { IsLawfulAt self.now.setup station standing }
         ensures put { OnOk result (self.new ≡ record self.old { returns = insert self.old.returns station standing }) }
         ensures kept { OnErr result (self.new ≡ self.old) }
     {

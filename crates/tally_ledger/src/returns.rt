@@ -1,13 +1,11 @@
 //! Returns in a tree, counted in what is seen of their constituencies.
 
-ghost use Rattle.std.specs.Prelude.{◌≡◌, OnErr, OnOk, Some, false};
+ghost use Rattle.std.specs.Prelude.{◌≡◌, OnErr, OnOk, false};
 ghost use Rattle.std.specs.FinMap.{get, insert, remove};
 ghost use Rattle.std.specs.Option.{ForSome};
 ghost use Rattle.tally_ledger.specs.Rows.{IsTallied, cons_of, returns_of, seats_of, views_of, without_former};
 ghost use Rattle.tally_ledger.specs.Sums.{CanCount};
-ghost use Rattle.tally_returns.specs.Lawful.{IsLawful};
-ghost use Rattle.tally_returns.specs.Lodge.{StationLimits};
-ghost use Rattle.tally_returns.specs.State.{stations_of};
+ghost use Rattle.tally_returns.specs.Lawful.{IsLawfulAt};
 
 use crate::views::count;
 use std::alloc::AllocError;
@@ -24,7 +22,7 @@ pub(crate) fn put_return(
     standing: Return,
 ) -> Result<(), AllocError>
     requires tallied { IsTallied setup.now (returns_of returns.old) (views_of views.old) }
-    requires lawful { (limits : StationLimits) × (stations_of setup.now station ≡ Some limits) × IsLawful limits standing }
+    requires lawful { IsLawfulAt setup.now station standing }
     ensures put { OnOk result (returns_of returns.new ≡ insert (returns_of returns.old) station standing) }
     ensures kept { OnErr result (returns_of returns.new ≡ returns_of returns.old) }
     ensures tallied { IsTallied setup.now (returns_of returns.new) (views_of views.new) }
@@ -65,7 +63,7 @@ pub(crate) fn take_return(
 
 /// The return that stood, if one did, counts no longer.
 fn count_former(views: &mut BTreeMap<Code, ConView>, con: Code, former: Option<Return>)
-    requires { ForSome former (λ standing. ForSome (get (views_of views.old) con) (λ view. CanCount view standing false)) }
+    requires { ForSome former (λ standing. ForSome (get (views_of views.old) con) (λ v. CanCount v standing false)) }
     ensures { views_of views.new ≡ without_former (views_of views.old) con former }
 {
     if let Some(standing) = former {

@@ -1,8 +1,7 @@
 //! Sums of closed votes, and numbers of returns in each status.
 
-ghost use Rattle.std.specs.Prelude.{◌≡◌, ◌<◌, ◌≤◌, ℕ, length, map, slice_index};
-ghost use Rattle.std.specs.List.{range_with_len};
-ghost use Rattle.tally_ledger.specs.Sums.{CanCount, CanCountOne, CanMove, CanMoveCounts, moved_sum, with_counts, with_return_counted, with_status};
+ghost use Rattle.std.specs.Prelude.{◌≡◌, ◌≤◌, length};
+ghost use Rattle.tally_ledger.specs.Sums.{CanCount, CanCountOne, CanMove, CanMoveCounts, CanMoveEach, moved_sum, moved_sums, with_counts, with_return_counted, with_status};
 
 use tally_machine::{ConView, Counts, Return, Status};
 
@@ -62,8 +61,8 @@ fn count_votes(view: &mut ConView, counts: &Counts, add: bool)
 
 fn move_votes(votes: &mut [u64], by: &[u32], add: bool)
     requires lists { length by.now ≡ length votes.old }
-    requires each { (place : ℕ) → place < length votes.old → CanMove (slice_index votes.old place) (slice_index by.now place) add }
-    ensures { votes.new ≡ map (λ place. moved_sum (slice_index votes.old place) (slice_index by.now place) add) (range_with_len 0 (length votes.old)) }
+    requires each { CanMoveEach votes.old by.now add }
+    ensures { votes.new ≡ moved_sums votes.old by.now add }
 {
     for place in 0..votes.len() {
         votes[place] = moved(votes[place], by[place], add);

@@ -3,7 +3,7 @@
 ghost use Rattle.std.specs.Prelude.{◌≡◌, ◌<◌, ◌+◌, ◌^◌, [], IfOk, OnErr, OnOk, false, true, string_bytes};
 ghost use Rattle.std.specs.FinMap.{empty, get};
 ghost use Rattle.std.specs.Option.{ForSome, option_copied};
-ghost use Rattle.tally_ledger.specs.Rows.{gone_place, is_before, opening_view, opening_views, row_of, views_of, with_gone, with_reopening, with_view};
+ghost use Rattle.tally_ledger.specs.Rows.{gone_place, is_before, opening_view, opening_views, row_of, views_of, with_certificate, with_gone, with_lot, with_one_gone, with_reopening, with_view};
 ghost use Rattle.tally_ledger.specs.Sums.{CanCount, with_return_counted};
 ghost use Rattle.tally_returns.specs.View.{View};
 ghost use Rattle.tally_rules.specs.Limits.{IsSetup};
@@ -62,7 +62,7 @@ pub(crate) fn view_at(views: &BTreeMap<Code, ConView>, con: Code) -> Option<&Con
 /// Counts a return in the view of a constituency, or counts it no longer.
 pub(crate) fn count(views: &mut BTreeMap<Code, ConView>, con: Code, standing: &Return, add: bool)
     requires { ForSome (get (views_of views.old) con) (λ view. CanCount view standing.now add) }
-    ensures { views_of views.new ≡ with_view (views_of views.old) con (λ view. with_return_counted view standing.now add) }
+    ensures { views_of views.new ≡ with_view (views_of views.old) con (λ v. with_return_counted v standing.now add) }
 {
     if let Some(view) = views.get_mut(&con) {
         count_return(view, standing, add);
@@ -71,7 +71,7 @@ pub(crate) fn count(views: &mut BTreeMap<Code, ConView>, con: Code, standing: &R
 
 pub(crate) fn set_lot(views: &mut BTreeMap<Code, ConView>, con: Code, lot: Vec<u32>)
     requires { ForSome (get (views_of views.old) con) (λ view. view.edition + 1 < 2 ^ 32) }
-    ensures { views_of views.new ≡ with_view (views_of views.old) con (λ view. record view { edition = view.edition + 1; lot = lot.items }) }
+    ensures { views_of views.new ≡ with_view (views_of views.old) con (with_lot lot.items) }
 {
     if let Some(view) = views.get_mut(&con) {
         view.edition += 1;
@@ -89,7 +89,7 @@ pub(crate) fn drop_lot(views: &mut BTreeMap<Code, ConView>, con: Code)
 
 pub(crate) fn set_certified(views: &mut BTreeMap<Code, ConView>, con: Code, seats: Vec<u32>)
     requires { ForSome (get (views_of views.old) con) (λ view. view.edition + 1 < 2 ^ 32) }
-    ensures { views_of views.new ≡ with_view (views_of views.old) con (λ view. record view { edition = view.edition + 1; certified = true; seats = seats.items }) }
+    ensures { views_of views.new ≡ with_view (views_of views.old) con (with_certificate seats.items) }
 {
     if let Some(view) = views.get_mut(&con) {
         view.edition += 1;
@@ -133,7 +133,7 @@ pub(crate) fn set_gone(
     con: Code,
     gone: Gone,
 ) -> Result<(), AllocError>
-    ensures put { OnOk result (views_of views.new ≡ with_view (views_of views.old) con (λ view. record view { gone = with_gone gone view.gone })) }
+    ensures put { OnOk result (views_of views.new ≡ with_view (views_of views.old) con (with_one_gone gone)) }
     ensures kept { OnErr result (views_of views.new ≡ views_of views.old) }
 {
     let Some(view) = views.get_mut(&con) else {

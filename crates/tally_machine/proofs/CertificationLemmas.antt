@@ -1,5 +1,5 @@
 -- What votes and a lot come to, and what is decided by it.
-use Rattle.std.proofs.Common.{◌≡◌, ◌≢◌, ◌≤◌, ◌⊎◌, ◌∙◌, ℕ, List, [], ◌∷◌, Bool, true, false, Option, Some, None, Result, Ok, Err, IfOk, IfErr, OnOk, length, get_or, refl, sym, ap, subst, inl, inr, arith}
+use Rattle.std.proofs.Common.{◌≡◌, ◌≢◌, ◌≤◌, ◌⊎◌, ◌∙◌, ℕ, List, [], ◌∷◌, Bool, true, false, Option, Some, None, Result, Ok, Err, IfOk, IfErr, OnOk, length, get_or, refl, sym, subst, inl, inr, arith}
 use Rattle.std.proofs.lemmas.Bool.{false_from_ne_true}
 use Rattle.std.proofs.lemmas.List.{get_or_past}
 use Rattle.tally_rules.specs.Constituency.{Constituency}
@@ -8,14 +8,16 @@ use Rattle.tally_allot.specs.Conditions.{AreLimitsKept}
 use Rattle.tally_contest.specs.Allotment.{Rule, divisors, hare, IsAllotmentByVotes}
 use Rattle.tally_contest.specs.LotNeed.{IsDecidedByVotes, IsLotNeeded, IsLotTaken, IsLotWrong, IsNeed}
 use Rattle.tally_contest.specs.Poll.{Poll}
-use Rattle.tally_machine.specs.Certification.{Certifies, Draws, RefusedOr, certified_by, count_checks, drawn_places, drawn_where, list_places}
+use Rattle.tally_machine.specs.Certification.{ByOutcome, ByOutcomeOrWrongLot, Certifies, Draws, RefusedOr, certified_by, count_checks, drawn_in, drawn_places, drawn_where, list_places}
 use Rattle.tally_returns.specs.Checks.{first_refusal}
-use Rattle.tally_machine.specs.Outcome.{Outcome, HasWrongLot, IsLawfulView, IsOutcome, MayStand, allotted, lot_missing, poll_in, rule_in}
-use Rattle.tally_machine.specs.Step.{Decides, IsConRefusal, lot_refusal}
+use Rattle.tally_machine.specs.LawStatements.{WrongLotsLeadToNoOutcome}
+use Rattle.tally_machine.specs.Outcome.{Outcome, HasWrongLot, IsLawfulView, IsOutcome, MayStand, allotted, lot_missing, nobody, poll_in, rule_in}
+use Rattle.tally_machine.specs.Step.{Decides, IsConRefusal}
 use Rattle.tally_returns.specs.View.{FitsView, View}
 use Rattle.tally_returns.specs.declared.ask.Ask.{Ask}
+use Rattle.tally_returns.specs.declared.ask.Ask.TheVariants.{Certify, Draw}
 use Rattle.tally_returns.specs.declared.refusal.Refusal.{Refusal}
-use Rattle.tally_returns.specs.declared.refusal.Refusal.TheVariants.{LotMissing, LotNotNeeded, LotStands, Memory}
+use Rattle.tally_returns.specs.declared.refusal.Refusal.TheVariants.{LotMissing, LotNotNeeded, LotStands, Memory, Store}
 use Rattle.tally_machine.proofs.LotLemmas.{order-same}
 
 -- ---- limits
@@ -64,23 +66,33 @@ pub lot-right : (con : Constituency) (view : View) → (view.lot ≡ []) ⊎ May
 lot-right con view (inl none) wrong = some_lot-wrong (rule_in con) (poll_in con view) con.seats view.lot none wrong
 lot-right con view (inr may) wrong = taken-right (rule_in con) (poll_in con view) con.seats view.lot may.2 wrong
 
+-- and under a wrong lot the votes come to no outcome
+pub wrong-none : WrongLotsLeadToNoOutcome
+wrong-none con view nobody has wrong is = is has
+wrong-none con view (lot_missing group n) has wrong is = some_lot-wrong (rule_in con) (poll_in con view) con.seats view.lot is.2 wrong
+wrong-none con view (allotted seats) has wrong is = taken-right (rule_in con) (poll_in con view) con.seats view.lot is.1 wrong
+
+-- a refusal that no wrong lot has to do with
+refused-right : (con : Constituency) (view : View) (gives : Outcome → Result (List ℕ) Refusal) (told : Refusal) (refusal : Option Refusal) (result : Result (List ℕ) Refusal) → (HasWrongLot con view → ⊥)
+    → RefusedOr refusal (ByOutcomeOrWrongLot con view gives told) result → RefusedOr refusal (ByOutcome con view gives) result
+refused-right con view gives told (Some e) result right is = is
+refused-right con view gives told None result right (inl by) = by
+refused-right con view gives told None result right (inr wrong) = absurd (right wrong.1)
+
 -- so a refusal of a command on it is the one that is decided
 pub refused-lawful : (con : Constituency) (view : View) (ask : Ask) (refusal : Refusal) → IsLawfulView con view → IsConRefusal con view ask refusal
     → refusal ≢ Memory → Decides con view ask (Err refusal)
-refused-lawful con view ask refusal lawful refused other = go (refused other)
-  where
-    go : Decides con view ask (Err refusal) ⊎ (HasWrongLot con view × (lot_refusal ask ≡ Some refusal)) → Decides con view ask (Err refusal)
-    go (inl decides) = decides
-    go (inr wrong) = absurd (lot-right con view lawful.lawful.lot wrong.0)
+refused-lawful con view (Draw code edition order) e lawful refused other =
+    (Err e, refused-right con view (drawn_in con view order.items) LotStands (first_refusal (count_checks view edition)) (Err e) (lot-right con view lawful.lawful.lot) (refused other), refl)
+refused-lawful con view (Certify code edition) e lawful refused other =
+    (Err e, refused-right con view certified_by Store (first_refusal (count_checks view edition)) (Err e) (lot-right con view lawful.lawful.lot) (refused other), refl)
+refused-lawful con view ask e lawful refused other = refused other
 
--- a refusal of a call that this command makes is one of the command
-pub con-refusal : (con : Constituency) (view : View) (ask : Ask) (refusal told : Refusal) (P : Type 0) → lot_refusal ask ≡ Some told
-    → (P → Decides con view ask (Err refusal)) → (refusal ≢ Memory → P ⊎ (HasWrongLot con view × (refusal ≡ told))) → IsConRefusal con view ask refusal
-con-refusal con view ask refusal told P is decides refused other = go (refused other)
-  where
-    go : P ⊎ (HasWrongLot con view × (refusal ≡ told)) → Decides con view ask (Err refusal) ⊎ (HasWrongLot con view × (lot_refusal ask ≡ Some refusal))
-    go (inl p) = inl (decides p)
-    go (inr wrong) = inr (wrong.0, is ∙ ap Some (sym wrong.1))
+-- what is decided is so where the lot may be wrong, too
+pub told-by_outcome : (con : Constituency) (view : View) (gives : Outcome → Result (List ℕ) Refusal) (told : Refusal) (refusal : Option Refusal) (result : Result (List ℕ) Refusal)
+    → RefusedOr refusal (ByOutcome con view gives) result → RefusedOr refusal (ByOutcomeOrWrongLot con view gives told) result
+told-by_outcome con view gives told None result by = inl by
+told-by_outcome con view gives told (Some e) result is = is
 
 allotted-length : (rule : Rule) (poll : Poll) (seats : ℕ) (a : List ℕ) → IsAllotmentByVotes rule poll seats a → length a ≡ length poll.votes
 allotted-length (divisors nth unit lot_rule) poll seats a is = is.shares.one_each
@@ -133,12 +145,12 @@ refused (Some f) e P some = cc
 pub certifies : (con : Constituency) (view : View) (edition : ℕ) (seats : List ℕ) → first_refusal (count_checks view edition) ≡ None → IsOutcome con view (allotted seats)
     → Certifies con view edition (Ok seats)
 certifies con view edition seats none is =
-    not_refused (first_refusal (count_checks view edition)) (λ result. (outcome : Outcome) × IsOutcome con view outcome × (result ≡ certified_by outcome)) (Ok seats) none (allotted seats, is, refl)
+    not_refused (first_refusal (count_checks view edition)) (ByOutcome con view certified_by) (Ok seats) none (allotted seats, is, refl)
 
 pub certifies-missing : (con : Constituency) (view : View) (edition : ℕ) (group : List Bool) (n : ℕ) → first_refusal (count_checks view edition) ≡ None → IsOutcome con view (lot_missing group n)
     → Certifies con view edition (Err (LotMissing group n))
 certifies-missing con view edition group n none is =
-    not_refused (first_refusal (count_checks view edition)) (λ result. (outcome : Outcome) × IsOutcome con view outcome × (result ≡ certified_by outcome)) (Err (LotMissing group n)) none
+    not_refused (first_refusal (count_checks view edition)) (ByOutcome con view certified_by) (Err (LotMissing group n)) none
     (lot_missing group n, is, refl)
 
 drawn-decided : (lot : List ℕ) (seats : List ℕ) (places : Option (List ℕ)) → lot ≡ [] → Err LotNotNeeded ≡ drawn_where lot (allotted seats) places
@@ -156,7 +168,7 @@ drawn-missing (place ∷ lot) group n places none = cc
 draws : (con : Constituency) (view : View) (edition : ℕ) (order : List (List ℕ)) (result : Result (List ℕ) Refusal) (outcome : Outcome)
     → first_refusal (count_checks view edition) ≡ None → IsOutcome con view outcome → result ≡ drawn_where view.lot outcome (list_places con order) → Draws con view edition order result
 draws con view edition order result outcome none is gives =
-    not_refused (first_refusal (count_checks view edition)) (λ result. (outcome : Outcome) × IsOutcome con view outcome × (result ≡ drawn_where view.lot outcome (list_places con order))) result none
+    not_refused (first_refusal (count_checks view edition)) (ByOutcome con view (drawn_in con view order)) result none
     (outcome, is, gives)
 
 pub draws-decided : (con : Constituency) (view : View) (edition : ℕ) (order : List (List ℕ)) (seats : List ℕ) → first_refusal (count_checks view edition) ≡ None

@@ -166,7 +166,7 @@ show-changed (Some limits) (Some standing) code change is =
     (return_shown standing, ap (told (ShowReturn code) (Some standing)) (sym none), refl)
 
 -- what was decided is told, and leads to the state
-changed-step : (setup : List Constituency) (s : State) (ask : Ask) (station : List ℕ) (change : Change) → station_named ask ≡ Some station → decided_in setup s ask ≡ Ok change
+pub changed-step : (setup : List Constituency) (s : State) (ask : Ask) (station : List ℕ) (change : Change) → station_named ask ≡ Some station → decided_in setup s ask ≡ Ok change
     → (a : Answer) × (told ask (get s.returns station) change ≡ Some a) × IsStepSeen setup s ask (Ok a) (after setup s ask (Ok change))
 changed-step setup s (Lodge code slip counts) station change named is =
     let here : code ≡ station = cc in

@@ -9,7 +9,7 @@ use Rattle.tally_contest.specs.Allotment.{IsAllotment}
 use Rattle.tally_contest.specs.LotNeed.{IsLotNeeded, IsLotTaken, IsNeed}
 use Rattle.tally_contest.specs.Poll.{HasEligible}
 use Rattle.tally_allot.specs.LawStatements.{AllotmentsAreUnique, AllotmentsExist, EachOrderGivesAChoice, GroupsAreOfOneNumberOfVotes, NoLotIsNeededWhereVotesDecide, VotesDecideOrALotIsNeeded}
-use Rattle.tally_machine.specs.Certification.{Certifies, RefusedOr, certified_by, count_checks}
+use Rattle.tally_machine.specs.Certification.{ByOutcome, Certifies, RefusedOr, certified_by, count_checks}
 use Rattle.tally_returns.specs.Checks.{check, first_refusal}
 use Rattle.tally_machine.specs.Step.{IsView, certified_with, changed_by, IsAnswered, IsConStep, IsStep, con_answer, seen, IsStepSeenAt}
 use Rattle.tally_machine.specs.LawStatements.{CertificatesOfRunsStand}
@@ -148,10 +148,6 @@ seen-refused : (r : Result Reply Refusal) (refusal : Refusal) → seen r ≡ Err
 seen-refused (Ok reply) refusal is = cc
 seen-refused (Err e) refusal is = cc
 
--- what Certify gives where no check before it fails
-abbrev IsByOutcome : Constituency → View → Result (List ℕ) Refusal → Type 0
-IsByOutcome con view result = (outcome : Outcome) × IsOutcome con view outcome × (result ≡ certified_by outcome)
-
 -- a missing lot is told exactly where one is needed and none stands
 told-where_missing : AllotmentLaws → (con : Constituency) (view : View) (r : Result Reply Refusal) (outcome : Outcome) → 1 ≤ con.seats → HasEligible (poll_in con view) → IsOutcome con view outcome
     → seen r ≡ con_answer view (changed_by certified_with (certified_by outcome))
@@ -190,7 +186,7 @@ no_lot-checked true true true true now left group n is = cc
 certifies-told : (con : Constituency) (view : View) (edition : ℕ) (group : List Bool) (n : ℕ) → Certifies con view edition (Err (LotMissing group n)) → IsNeed (rule_in con) (poll_in con view) con.seats group n
 certifies-told con view edition group n certifies = at (first_refusal (count_checks view edition)) refl certifies
   where
-    at : (refusal : Option Refusal) → first_refusal (count_checks view edition) ≡ refusal → RefusedOr refusal (IsByOutcome con view) (Err (LotMissing group n)) → IsNeed (rule_in con) (poll_in con view) con.seats group n
+    at : (refusal : Option Refusal) → first_refusal (count_checks view edition) ≡ refusal → RefusedOr refusal (ByOutcome con view certified_by) (Err (LotMissing group n)) → IsNeed (rule_in con) (poll_in con view) con.seats group n
     at None none by = need-told con view group n by.0 by.1 by.2
     at (Some e) some by =
         let same : e ≡ LotMissing group n = cc in
@@ -227,7 +223,7 @@ missing-told laws setup s t code con view edition r ok is view_is none has step 
     let other = view_of con s its.seats in
     let none_there : first_refusal (count_checks other edition) ≡ None = ap (λ (v : View). first_refusal (count_checks v edition)) (sym same_view) ∙ none in
     let has_there : HasEligible (poll_in con other) = subst (λ (v : View). HasEligible (poll_in con v)) same_view has in
-    let by = otherwise (first_refusal (count_checks other edition)) (IsByOutcome con other) its.result none_there its.certifies in
+    let by = otherwise (first_refusal (count_checks other edition)) (ByOutcome con other certified_by) its.result none_there its.certifies in
     let answer : seen r ≡ con_answer other (changed_by certified_with (certified_by by.0)) = its.answer ∙ ap (λ (x : Result (List ℕ) Refusal). con_answer other (changed_by certified_with x)) by.2 in
     subst (λ (v : View). ((group : List Bool) × (in_question : ℕ) × (r ≡ Err (LotMissing group in_question))) ↔ (IsLotNeeded (rule_in con) (poll_in con v) con.seats × (v.lot ≡ []))) (sym same_view)
     (told-where_missing laws con other r by.0 (constituency-limits setup code con ok is).some_seat has_there by.1 answer)

@@ -3,7 +3,7 @@ use Rattle.std.proofs.Common.{◌≡◌, ◌∙◌, ℕ, List, Option, Some, Non
 use Rattle.tally_rules.specs.Constituency.{Constituency}
 use Rattle.tally_rules.specs.Limits.{IsSetup}
 use Rattle.tally_rules.specs.Setup.{constituency_with}
-use Rattle.tally_machine.specs.Certification.{Certifies, Draws, RefusedOr, certified_by, count_checks, drawn_where, list_places}
+use Rattle.tally_machine.specs.Certification.{ByOutcome, Certifies, Draws, RefusedOr, certified_by, count_checks, drawn_in, drawn_where, list_places}
 use Rattle.tally_returns.specs.Checks.{first_refusal}
 use Rattle.tally_machine.specs.Step.{ConChange, Decides, after_change, certified_with, changed_by, lot_set, Answer, IsConStepSeen, IsStepSeen, IsStepSeenAt, con_answer}
 use Rattle.tally_machine.specs.Outcome.{IsOutcome, Outcome, allotted, lot_missing, nobody, poll_in, rule_in}
@@ -44,13 +44,13 @@ refused-one (Some e) P a b one first second = first ∙ sym second
 certifies-one : AllotmentLaws → (setup : List Constituency) (code : List ℕ) (con : Constituency) (view : View) (edition : ℕ) (a b : Result (List ℕ) Refusal) → IsSetup setup → constituency_with code setup ≡ Some con
     → Certifies con view edition a → Certifies con view edition b → a ≡ b
 certifies-one laws setup code con view edition a b ok is =
-    refused-one (first_refusal (count_checks view edition)) (λ result. (outcome : Outcome) × IsOutcome con view outcome × (result ≡ certified_by outcome)) a b
+    refused-one (first_refusal (count_checks view edition)) (ByOutcome con view certified_by) a b
     (λ x y first second. first.2 ∙ ap certified_by (outcome-one laws setup code con view first.0 second.0 ok is first.1 second.1) ∙ sym second.2)
 
 draws-one : AllotmentLaws → (setup : List Constituency) (code : List ℕ) (con : Constituency) (view : View) (edition : ℕ) (order : List (List ℕ)) (a b : Result (List ℕ) Refusal) → IsSetup setup → constituency_with code setup ≡ Some con
     → Draws con view edition order a → Draws con view edition order b → a ≡ b
 draws-one laws setup code con view edition order a b ok is =
-    refused-one (first_refusal (count_checks view edition)) (λ result. (outcome : Outcome) × IsOutcome con view outcome × (result ≡ drawn_where view.lot outcome (list_places con order))) a b
+    refused-one (first_refusal (count_checks view edition)) (ByOutcome con view (drawn_in con view order)) a b
     (λ x y first second. first.2 ∙ ap (λ (o : Outcome). drawn_where view.lot o (list_places con order)) (outcome-one laws setup code con view first.0 second.0 ok is first.1 second.1) ∙ sym second.2)
 
 -- at most one thing is decided of a command

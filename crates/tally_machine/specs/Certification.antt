@@ -5,13 +5,14 @@ use Rattle.std.specs.Str.{bytes_eq}
 use Rattle.tally_rules.specs.Constituency.{Constituency, ListEntry}
 use Rattle.tally_rules.specs.Text.{is_note}
 use Rattle.tally_contest.specs.ListSet.{has_place}
+use Rattle.tally_contest.specs.Poll.{HasEligible}
 use Rattle.tally_returns.specs.Checks.{check, check_found, first_refusal, refused_or}
 use Rattle.tally_machine.specs.Holders.{is_among, holders, newcomer}
 use Rattle.tally_returns.specs.GoneCandidate.{GoneCandidate}
 use Rattle.tally_returns.specs.PastSeats.{PastSeats}
 use Rattle.tally_returns.specs.State.{last_edition}
 use Rattle.tally_returns.specs.View.{View}
-use Rattle.tally_machine.specs.Outcome.{Outcome, nobody, lot_missing, allotted, HasWrongLot, IsOutcome}
+use Rattle.tally_machine.specs.Outcome.{Outcome, nobody, lot_missing, allotted, HasWrongLot, IsOutcome, poll_in}
 use Rattle.tally_returns.specs.declared.refusal.Refusal.{Refusal}
 use Rattle.tally_returns.specs.declared.refusal.Refusal.TheVariants.{NoCandidate, BadNote, Certified, NotCertified, Stale, Exhausted, NotAllClosed, NoEligible, LotStands, LotNotNeeded, LotWrongGroup, LotMissing, AlreadyGone, NotHolder, Memory, Store}
 
@@ -29,6 +30,26 @@ abbrev pub RefusedOr : {X : Type 0} → Option Refusal → (Result X Refusal →
 RefusedOr (Some refusal) Otherwise result = result ≡ Err refusal
 RefusedOr None Otherwise result = Otherwise result
 
+-- What is given for the outcome of the closed votes.
+abbrev pub ByOutcome : Constituency → View → (Outcome → Result (List ℕ) Refusal) → Result (List ℕ) Refusal → Type 0
+ByOutcome con view gives result = (outcome : Outcome) × IsOutcome con view outcome × (result ≡ gives outcome)
+
+-- The same where the lot that stands may be wrong, as it is in no lawful view but may be in one that a database gave. Then some list is
+-- eligible, the votes come to no outcome, and this is the refusal.
+abbrev pub ByOutcomeOrWrongLot : Constituency → View → (Outcome → Result (List ℕ) Refusal) → Refusal → Result (List ℕ) Refusal → Type 0
+ByOutcomeOrWrongLot con view gives told result =
+    ByOutcome con view gives result ⊎ (HasEligible (poll_in con view) × HasWrongLot con view × (result ≡ Err told))
+
+-- Draw and Certify alike: the refusal of the first check that fails, or else what is given for the outcome.
+abbrev pub CountGives : Constituency → View → ℕ → (Outcome → Result (List ℕ) Refusal) → Result (List ℕ) Refusal → Type 0
+CountGives con view edition gives = RefusedOr (first_refusal (count_checks view edition)) (ByOutcome con view gives)
+
+-- A refusal of Draw or Certify, want of memory aside: that of the first check that fails, whatever lot stands; or else the one that is
+-- given for the outcome, or this one where the lot is wrong.
+abbrev pub IsCountRefusal : Constituency → View → ℕ → (Outcome → Result (List ℕ) Refusal) → Refusal → Refusal → Type 0
+IsCountRefusal con view edition gives told refusal =
+    refusal ≢ Memory → RefusedOr (first_refusal (count_checks view edition)) (ByOutcomeOrWrongLot con view gives told) (Err refusal)
+
 -- ---- Certify
 
 -- what Certify gives where the votes come to this: the seats of the lists
@@ -38,12 +59,11 @@ certified_by (lot_missing group in_question) = Err (LotMissing group in_question
 certified_by (allotted seats) = Ok seats
 
 abbrev pub Certifies : Constituency → View → ℕ → Result (List ℕ) Refusal → Type 0
-Certifies con view edition = RefusedOr (first_refusal (count_checks view edition)) (λ result. (outcome : Outcome) × IsOutcome con view outcome × (result ≡ certified_by outcome))
+Certifies con view edition = CountGives con view edition certified_by
 
--- A refusal of Certify, want of memory aside; where the lot that stands is wrong, the database that gave the view is refused.
+-- A refusal of Certify; where the lot that stands is wrong, the database that gave the view is refused.
 abbrev pub IsCertifyRefusal : Constituency → View → ℕ → Refusal → Type 0
-IsCertifyRefusal con view edition refusal =
-    refusal ≢ Memory → Certifies con view edition (Err refusal) ⊎ (HasWrongLot con view × (refusal ≡ Store))
+IsCertifyRefusal con view edition = IsCountRefusal con view edition certified_by Store
 
 -- ---- Draw
 
@@ -96,14 +116,16 @@ drawn_where [] outcome places = drawn_by outcome places
 drawn_where (place ∷ lot) nobody places = Err NoEligible
 drawn_where (place ∷ lot) other places = Err LotStands
 
-abbrev pub Draws : Constituency → View → ℕ → List (List ℕ) → Result (List ℕ) Refusal → Type 0
-Draws con view edition order =
-    RefusedOr (first_refusal (count_checks view edition)) (λ result. (outcome : Outcome) × IsOutcome con view outcome × (result ≡ drawn_where view.lot outcome (list_places con order)))
+-- what Draw gives for an outcome, in this view and with this order
+abbrev pub drawn_in : Constituency → View → List (List ℕ) → Outcome → Result (List ℕ) Refusal
+drawn_in con view order outcome = drawn_where view.lot outcome (list_places con order)
 
--- A refusal of Draw, want of memory aside; a lot that stands is one that stands, be it wrong.
+abbrev pub Draws : Constituency → View → ℕ → List (List ℕ) → Result (List ℕ) Refusal → Type 0
+Draws con view edition order = CountGives con view edition (drawn_in con view order)
+
+-- A refusal of Draw; a lot that stands is one that stands, be it wrong.
 abbrev pub IsDrawRefusal : Constituency → View → ℕ → List (List ℕ) → Refusal → Type 0
-IsDrawRefusal con view edition order refusal =
-    refusal ≢ Memory → Draws con view edition order (Err refusal) ⊎ (HasWrongLot con view × (refusal ≡ LotStands))
+IsDrawRefusal con view edition order = IsCountRefusal con view edition (drawn_in con view order) LotStands
 
 -- ---- Reopen
 
@@ -132,7 +154,9 @@ pub record ListFound : Type 0 where
 
 abbrev pub found_from : ℕ → List ℕ → List ListEntry → Option ListFound
 found_from place code [] = None
-found_from place code (list ∷ lists) = if bytes_eq code list.code then Some (record { place = place; candidates = length list.candidates }) else found_from (place + 1) code lists
+found_from place code (list ∷ lists) =
+    if bytes_eq code list.code then Some (record { place = place; candidates = length list.candidates })
+    else found_from (place + 1) code lists
 
 abbrev pub list_found : Constituency → List ℕ → Option ListFound
 list_found con code = found_from 1 code con.lists

@@ -6,7 +6,7 @@ use Rattle.tally_rules.specs.Constituency.{Constituency}
 use Rattle.tally_rules.specs.Limits.{IsSetup}
 use Rattle.tally_rules.specs.Setup.{constituency_with, station_with}
 use Rattle.tally_rules.specs.declared.constituency.Station.{Station}
-use Rattle.tally_returns.specs.Decide.{decided_return, limits_named}
+use Rattle.tally_returns.specs.Decide.{decided_where_named, limits_named}
 use Rattle.tally_returns.specs.GoneCandidate.{GoneCandidate}
 use Rattle.tally_returns.specs.PastSeats.{PastSeats}
 use Rattle.tally_returns.specs.Named.{con_named, station_named}
@@ -31,7 +31,7 @@ IsAt setup con code ask = (station_named ask ≡ Some code) × ((station : Stati
 
 -- what is decided of a command on the return of a station, by what a state says of it
 abbrev pub decided_of : State → Constituency → List ℕ → Ask → Result Change Refusal
-decided_of s con code ask = decided_return (limits_named con ask) (con_state s con.code).certified (get s.returns code) ask
+decided_of s con code ask = decided_where_named con (con_state s con.code).certified (get s.returns code) ask
 
 -- what a command on a return is answered where this is what it changes
 abbrev pub told : Ask → Option StationReturn → Change → Option Answer
@@ -45,22 +45,27 @@ told ask found other = None
 
 -- what a constituency says of its stations is what the setup says
 abbrev pub LimitsAreThoseOfTheSetup : Type 0
-LimitsAreThoseOfTheSetup = (setup : List Constituency) (con : Constituency) (code : List ℕ) (ask : Ask) → IsAt setup con code ask → limits_named con ask ≡ stations_of setup code
+LimitsAreThoseOfTheSetup =
+    (setup : List Constituency) (con : Constituency) (code : List ℕ) (ask : Ask) → IsAt setup con code ask
+    → limits_named con ask ≡ stations_of setup code
 
 abbrev pub RefusalsOnReturnsAreSteps : Type 0
 RefusalsOnReturnsAreSteps =
-    (setup : List Constituency) (s : State) (con : Constituency) (code : List ℕ) (ask : Ask) (refusal : Refusal) → IsAt setup con code ask
-    → decided_of s con code ask ≡ Err refusal → IsStepSeen setup s ask (Err refusal) s
+    (setup : List Constituency) (s : State) (con : Constituency) (code : List ℕ) (ask : Ask) (refusal : Refusal)
+    → IsAt setup con code ask → decided_of s con code ask ≡ Err refusal → IsStepSeen setup s ask (Err refusal) s
 
 abbrev pub ChangesOfReturnsAreSteps : Type 0
 ChangesOfReturnsAreSteps =
-    (setup : List Constituency) (s : State) (con : Constituency) (code : List ℕ) (ask : Ask) (change : Change) → IsAt setup con code ask
-    → decided_of s con code ask ≡ Ok change → (answer : Answer) × (told ask (get s.returns code) change ≡ Some answer) × IsStepSeen setup s ask (Ok answer) (after setup s ask (Ok change))
+    (setup : List Constituency) (s : State) (con : Constituency) (code : List ℕ) (ask : Ask) (change : Change)
+    → IsAt setup con code ask → decided_of s con code ask ≡ Ok change
+    → (answer : Answer) × (told ask (get s.returns code) change ≡ Some answer)
+    × IsStepSeen setup s ask (Ok answer) (after setup s ask (Ok change))
 
 -- a code that is no station
 abbrev pub UnknownStationsAreRefused : Type 0
 UnknownStationsAreRefused =
-    (setup : List Constituency) (s : State) (code : List ℕ) (ask : Ask) → station_named ask ≡ Some code → station_with code setup ≡ None → IsStepSeen setup s ask (Err NoStation) s
+    (setup : List Constituency) (s : State) (code : List ℕ) (ask : Ask)
+    → station_named ask ≡ Some code → station_with code setup ≡ None → IsStepSeen setup s ask (Err NoStation) s
 
 -- ---- commands on constituencies
 
@@ -71,31 +76,37 @@ IsOn setup con code ask = (con_named ask ≡ Some code) × (constituency_with co
 -- a refusal and a change alike
 abbrev pub DecisionsOnConstituenciesAreSteps : Type 0
 DecisionsOnConstituenciesAreSteps =
-    (setup : List Constituency) (s : State) (con : Constituency) (code : List ℕ) (view : View) (ask : Ask) (decided : Result ConChange Refusal) → IsOn setup con code ask
-    → IsView con s view → Decides con view ask decided → IsStepSeen setup s ask (con_answer view decided) (after_change s con.code decided)
+    (setup : List Constituency) (s : State) (con : Constituency) (code : List ℕ) (view : View) (ask : Ask)
+    (decided : Result ConChange Refusal) → IsOn setup con code ask → IsView con s view → Decides con view ask decided
+    → IsStepSeen setup s ask (con_answer view decided) (after_change s con.code decided)
 
 -- a code that is no constituency
 abbrev pub UnknownConstituenciesAreRefused : Type 0
 UnknownConstituenciesAreRefused =
-    (setup : List Constituency) (s : State) (code : List ℕ) (ask : Ask) → con_named ask ≡ Some code → constituency_with code setup ≡ None → IsStepSeen setup s ask (Err NoConstituency) s
+    (setup : List Constituency) (s : State) (code : List ℕ) (ask : Ask)
+    → con_named ask ≡ Some code → constituency_with code setup ≡ None → IsStepSeen setup s ask (Err NoConstituency) s
 
 -- the edition that a change leads to is one that a constituency can have
 abbrev pub EditionsStayWithinTheirLimit : Type 0
 EditionsStayWithinTheirLimit =
-    (setup : List Constituency) (s : State) (con : Constituency) (code : List ℕ) (view : View) (ask : Ask) (change : ConChange) → IsSetup setup → IsLawfulState setup s → IsOn setup con code ask
-    → IsView con s view → Decides con view ask (Ok change) → (changed (con_state s con.code) change).edition ≤ last_edition
+    (setup : List Constituency) (s : State) (con : Constituency) (code : List ℕ) (view : View) (ask : Ask) (change : ConChange)
+    → IsSetup setup → IsLawfulState setup s → IsOn setup con code ask → IsView con s view
+    → Decides con view ask (Ok change) → (changed (con_state s con.code) change).edition ≤ last_edition
 
 -- one who goes was not gone
 abbrev pub NobodyGoesTwice : Type 0
 NobodyGoesTwice =
-    (setup : List Constituency) (s : State) (con : Constituency) (code : List ℕ) (view : View) (ask : Ask) (gone : GoneCandidate) (next : Option ℕ) → IsOn setup con code ask
-    → IsView con s view → Decides con view ask (Ok (gone_for_good gone next)) → get (con_state s con.code).gone (gone.list ∷ gone.place ∷ []) ≡ None
+    (setup : List Constituency) (s : State) (con : Constituency) (code : List ℕ) (view : View) (ask : Ask) (gone : GoneCandidate)
+    (next : Option ℕ) → IsOn setup con code ask → IsView con s view → Decides con view ask (Ok (gone_for_good gone next))
+    → get (con_state s con.code).gone (gone.list ∷ gone.place ∷ []) ≡ None
 
 -- what is put on record comes after all that was
 abbrev pub RecordsComeLast : Type 0
 RecordsComeLast =
-    (setup : List Constituency) (s : State) (con : Constituency) (code : List ℕ) (view : View) (ask : Ask) (note : List ℕ) (past : PastSeats) → IsLawfulState setup s → IsOn setup con code ask
-    → IsView con s view → Decides con view ask (Ok (open_again note past)) → All (λ (earlier : PastSeats). earlier.edition < past.edition) (past_records (con_state s con.code).past)
+    (setup : List Constituency) (s : State) (con : Constituency) (code : List ℕ) (view : View) (ask : Ask) (note : List ℕ)
+    (past : PastSeats) → IsLawfulState setup s → IsOn setup con code ask → IsView con s view
+    → Decides con view ask (Ok (open_again note past))
+    → All (λ (earlier : PastSeats). earlier.edition < past.edition) (past_records (con_state s con.code).past)
 
 -- ---- steps
 
@@ -107,9 +118,12 @@ StepsAreOne =
 
 -- no step is refused as out of memory or by a store
 abbrev pub StepsAreOfTheMachine : Type 0
-StepsAreOfTheMachine = (setup : List Constituency) (s t : State) (ask : Ask) (refusal : Refusal) → IsStepSeen setup s ask (Err refusal) t → (refusal ≢ Memory) × (refusal ≢ Store)
+StepsAreOfTheMachine =
+    (setup : List Constituency) (s t : State) (ask : Ask) (refusal : Refusal)
+    → IsStepSeen setup s ask (Err refusal) t → (refusal ≢ Memory) × (refusal ≢ Store)
 
 -- what a command is answered is of its kind
 abbrev pub AnswersAreOfTheirKind : Type 0
 AnswersAreOfTheirKind =
-    (setup : List Constituency) (s t : State) (ask : Ask) (answer : Answer) → IsSetup setup → IsLawfulState setup s → IsStepSeen setup s ask (Ok answer) t → IsAnswerTo setup ask answer
+    (setup : List Constituency) (s t : State) (ask : Ask) (answer : Answer)
+    → IsSetup setup → IsLawfulState setup s → IsStepSeen setup s ask (Ok answer) t → IsAnswerTo setup ask answer

@@ -19,7 +19,7 @@ use Rattle.tally_returns.specs.declared.reply.Reply.{Reply}
 use Rattle.tally_machine.specs.Certification.{count_checks}
 use Rattle.tally_machine.specs.Step.{ConChange, Decides, IsView, Answer, IsStep, IsStepSeen}
 use Rattle.tally_machine.specs.LawfulState.{IsLawfulState}
-use Rattle.tally_machine.specs.Outcome.{HasWrongLot, IsCertificate, IsLawfulView, poll_in, rule_in}
+use Rattle.tally_machine.specs.Outcome.{Outcome, HasWrongLot, IsCertificate, IsLawfulView, IsOutcome, poll_in, rule_in}
 use Rattle.tally_machine.specs.Runs.{IsRun, is_act, IsSameCommand, acting_asks, kept}
 
 -- ---- lawful states
@@ -80,13 +80,20 @@ ViewsAreLawful =
 abbrev pub LotsOfLawfulViewsAreRight : Type 0
 LotsOfLawfulViewsAreRight = (con : Constituency) (view : View) → IsLawfulView con view → ¬ HasWrongLot con view
 
+-- where a wrong lot stands and some list is eligible, the votes come to no outcome: neither seats nor a lot that is missing
+abbrev pub WrongLotsLeadToNoOutcome : Type 0
+WrongLotsLeadToNoOutcome =
+    (con : Constituency) (view : View) (outcome : Outcome) → HasEligible (poll_in con view) → HasWrongLot con view → ¬ IsOutcome con view outcome
+
 -- ---- steps
 
 -- by the view of a lawful state each command on a constituency is decided
 abbrev pub CommandsAreDecided : Type 0
 CommandsAreDecided =
-    (setup : List Constituency) (s : State) (code : List ℕ) (con : Constituency) (view : View) (ask : Ask) → IsSetup setup → IsLawfulState setup s
-    → constituency_with code setup ≡ Some con → IsView con s view → con_named ask ≡ Some code → (decided : Result ConChange Refusal) × Decides con view ask decided
+    (setup : List Constituency) (s : State) (code : List ℕ) (con : Constituency) (view : View) (ask : Ask)
+    → IsSetup setup → IsLawfulState setup s
+    → constituency_with code setup ≡ Some con → IsView con s view → con_named ask ≡ Some code
+    → (decided : Result ConChange Refusal) × Decides con view ask decided
 
 -- in a lawful state there is a step for each command
 abbrev pub CommandsHaveSteps : Type 0
@@ -98,16 +105,18 @@ CommandsHaveSteps =
 -- is recorded
 abbrev pub MissingLotsAreTold : Type 0
 MissingLotsAreTold =
-    (setup : List Constituency) (s t : State) (code : List ℕ) (con : Constituency) (view : View) (edition : ℕ) (r : Result Reply Refusal) → IsSetup setup
-    → constituency_with code setup ≡ Some con → IsView con s view → first_refusal (count_checks view edition) ≡ None → HasEligible (poll_in con view)
-    → IsStep setup s (Certify code edition) r t
-    → ((group : List Bool) × (in_question : ℕ) × (r ≡ Err (LotMissing group in_question))) ↔ (IsLotNeeded (rule_in con) (poll_in con view) con.seats × (view.lot ≡ []))
+    (setup : List Constituency) (s t : State) (code : List ℕ) (con : Constituency) (view : View) (edition : ℕ)
+    (r : Result Reply Refusal) → IsSetup setup → constituency_with code setup ≡ Some con → IsView con s view
+    → first_refusal (count_checks view edition) ≡ None → HasEligible (poll_in con view) → IsStep setup s (Certify code edition) r t
+    → ((group : List Bool) × (in_question : ℕ) × (r ≡ Err (LotMissing group in_question)))
+    ↔ (IsLotNeeded (rule_in con) (poll_in con view) con.seats × (view.lot ≡ []))
 
 -- and it names the group and the seats in question
 abbrev pub MissingLotsAreToldAsNeeded : Type 0
 MissingLotsAreToldAsNeeded =
-    (setup : List Constituency) (s t : State) (code : List ℕ) (con : Constituency) (view : View) (edition : ℕ) (r : Result Reply Refusal)
-    → (group : List Bool) (in_question : ℕ) → constituency_with code setup ≡ Some con → IsView con s view → IsStep setup s (Certify code edition) r t
+    (setup : List Constituency) (s t : State) (code : List ℕ) (con : Constituency) (view : View) (edition : ℕ)
+    (r : Result Reply Refusal) (group : List Bool) (in_question : ℕ)
+    → constituency_with code setup ≡ Some con → IsView con s view → IsStep setup s (Certify code edition) r t
     → r ≡ Err (LotMissing group in_question) → IsNeed (rule_in con) (poll_in con view) con.seats group in_question
 
 -- ---- runs

@@ -1,13 +1,12 @@
 -- The states that an office may come to.
-use Rattle.std.specs.Prelude.{◌≡◌, ◌∷◌, ℕ, List, [], All, Some, is_some, slice_index}
+use Rattle.std.specs.Prelude.{◌≡◌, ◌∷◌, ℕ, List, [], All, is_some, slice_index}
 use Rattle.std.specs.FinMap.{entries, get}
 use Rattle.std.specs.Option.{ForSome}
 use Rattle.tally_rules.specs.Constituency.{Constituency}
 use Rattle.tally_rules.specs.Setup.{constituency_with}
-use Rattle.tally_returns.specs.Lawful.{IsLawful}
-use Rattle.tally_returns.specs.Lodge.{StationLimits}
+use Rattle.tally_returns.specs.Lawful.{IsLawfulAt}
 use Rattle.tally_machine.specs.Outcome.{IsLawfulCon}
-use Rattle.tally_returns.specs.State.{State, con_state, stations_of}
+use Rattle.tally_returns.specs.State.{State, con_state}
 use Rattle.tally_returns.specs.View.{view_of}
 
 -- a candidate who is gone is kept under two places: that of the list and the candidate's own
@@ -22,6 +21,6 @@ pub record IsLawfulIn (con : Constituency) (s : State) : Type 0 where
 -- A lawful state: each return is one of a station of the setup, and lawful there, and each constituency is one of the setup, and
 -- lawful too.
 pub record IsLawfulState (setup : List Constituency) (s : State) : Type 0 where
-  pub stations : (station : List ℕ) → ForSome (get s.returns station) (λ standing. (limits : StationLimits) × (stations_of setup station ≡ Some limits) × IsLawful limits standing)
+  pub stations : (station : List ℕ) → ForSome (get s.returns station) (IsLawfulAt setup station)
   pub cons : (code : List ℕ) → ForSome (constituency_with code setup) (λ con. IsLawfulIn con s)
   pub known : (code : List ℕ) → is_some (get s.cons code) ≡ is_some (constituency_with code setup)

@@ -29,7 +29,9 @@ poll_in con view = poll_of con.profile view.votes view.blank
 
 abbrev pub IsOutcome : Constituency → View → Outcome → Type 0
 IsOutcome con view nobody = ¬ HasEligible (poll_in con view)
-IsOutcome con view (lot_missing group in_question) = HasEligible (poll_in con view) × IsNeed (rule_in con) (poll_in con view) con.seats group in_question × (view.lot ≡ []) × (length group ≡ 60)
+IsOutcome con view (lot_missing group in_question) =
+    HasEligible (poll_in con view) × IsNeed (rule_in con) (poll_in con view) con.seats group in_question
+    × (view.lot ≡ []) × (length group ≡ 60)
 IsOutcome con view (allotted seats) = IsAllotmentUnderLot (rule_in con) (poll_in con view) view.lot con.seats seats
 
 -- where a constituency is certified its seats are those of the one allotment, and else none are shown
@@ -51,7 +53,9 @@ pub record IsCertificate (con : Constituency) (view : View) : Type 0 where
 
 -- a candidate of the constituency, by the place of the list and the candidate's own place there, both from 1
 abbrev pub is_candidate : Constituency → ℕ → ℕ → Bool
-is_candidate con list place = nat_le 1 list && option_map_or (λ (l : ListEntry). nat_le 1 place && nat_le place (length l.candidates)) (slice_get con.lists (list - 1)) false
+is_candidate con list place =
+    nat_le 1 list
+    && option_map_or (λ (l : ListEntry). nat_le 1 place && nat_le place (length l.candidates)) (slice_get con.lists (list - 1)) false
 
 -- One who is gone is a candidate of the constituency, and the note is kept.
 pub record IsLawfulGone (con : Constituency) (gone : GoneCandidate) : Type 0 where

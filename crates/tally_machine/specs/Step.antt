@@ -22,13 +22,13 @@ use Rattle.tally_returns.specs.declared.change.Change.{Change}
 use Rattle.tally_returns.specs.declared.change.Change.TheVariants.{Same, PutReturn, SetLot, SetCertified, SetReopened, SetGone}
 use Rattle.tally_returns.specs.declared.progress.ProgressRow.{ProgressRow}
 use Rattle.tally_returns.specs.declared.refusal.Refusal.{Refusal}
-use Rattle.tally_returns.specs.declared.refusal.Refusal.TheVariants.{LotStands, NoConstituency, NoReturn, Memory, Store}
+use Rattle.tally_returns.specs.declared.refusal.Refusal.TheVariants.{NoConstituency, NoReturn, Memory, Store}
 use Rattle.tally_returns.specs.declared.reply.LodgeReply.{LodgeReply}
 use Rattle.tally_returns.specs.declared.reply.LodgeReply.TheVariants as lodge
 use Rattle.tally_returns.specs.declared.reply.Reply.{Reply}
 use Rattle.tally_returns.specs.declared.reply.Reply.TheVariants as reply
-use Rattle.tally_machine.specs.Certification.{Certifies, Draws, reopened, vacates}
-use Rattle.tally_machine.specs.Outcome.{HasSeats, HasWrongLot}
+use Rattle.tally_machine.specs.Certification.{Certifies, Draws, IsCertifyRefusal, IsDrawRefusal, reopened, vacates}
+use Rattle.tally_machine.specs.Outcome.{HasSeats}
 
 -- ---- answers
 
@@ -106,13 +106,14 @@ lodge_reply (Ok (lodge.Lodged rev)) = Ok (lodged rev)
 lodge_reply (Ok (lodge.Same rev)) = Ok (same rev)
 lodge_reply (Err refusal) = Err refusal
 
--- what a command is answered that moves a return: the new revision. It always puts one.
+-- What a command is answered that moves a return: the new revision. It is refused or puts one (`ChangesOfReturnsAreSteps`), so the line for
+-- another change is never used.
 abbrev pub move_reply : Result Change Refusal → Result Answer Refusal
 move_reply (Ok (PutReturn standing)) = Ok (moved standing.rev)
 move_reply (Ok other) = Err NoReturn
 move_reply (Err refusal) = Err refusal
 
--- the recorded return
+-- The recorded return. That there is one is a check that comes before, so the line for none is never used.
 abbrev pub return_reply : Option StationReturn → Result Answer Refusal
 return_reply (Some standing) = Ok (return_shown standing)
 return_reply None = Err NoReturn
@@ -120,7 +121,8 @@ return_reply None = Err NoReturn
 -- what a command on a return is answered, or one that shows how far constituencies have come
 abbrev pub answer : List Constituency → State → Ask → Result Answer Refusal
 answer setup s (Lodge station slip counts) = lodge_reply (lodge_answer (stations_of setup) s.returns station slip counts)
-answer setup s (ShowReturn station) = refused_or (first_refusal (show_checks (stations_of setup station) (get s.returns station))) (return_reply (get s.returns station))
+answer setup s (ShowReturn station) =
+    refused_or (first_refusal (show_checks (stations_of setup station) (get s.returns station))) (return_reply (get s.returns station))
 answer setup s ShowProgress = Ok (progress_shown (progress setup s))
 answer setup s ask = move_reply (decided_in setup s ask)
 
@@ -154,10 +156,14 @@ changed_by change (Err refusal) = Err refusal
 
 -- What is decided of a command on a constituency with this view.
 abbrev pub Decides : Constituency → View → Ask → Result ConChange Refusal → Type 0
-Decides con view (Draw code edition order) decided = (places : Result (List ℕ) Refusal) × Draws con view edition order.items places × (decided ≡ changed_by lot_set places)
-Decides con view (Certify code edition) decided = (seats : Result (List ℕ) Refusal) × Certifies con view edition seats × (decided ≡ changed_by certified_with seats)
-Decides con view (Reopen code edition note) decided = decided ≡ changed_by (λ (r : List ℕ × PastSeats). open_again r.0 r.1) (reopened view edition (string_bytes note))
-Decides con view (Vacate code list place note) decided = decided ≡ changed_by (λ (v : GoneCandidate × Option ℕ). gone_for_good v.0 v.1) (vacates con view list place (string_bytes note))
+Decides con view (Draw code edition order) decided =
+    (places : Result (List ℕ) Refusal) × Draws con view edition order.items places × (decided ≡ changed_by lot_set places)
+Decides con view (Certify code edition) decided =
+    (seats : Result (List ℕ) Refusal) × Certifies con view edition seats × (decided ≡ changed_by certified_with seats)
+Decides con view (Reopen code edition note) decided =
+    decided ≡ changed_by (λ (r : List ℕ × PastSeats). open_again r.0 r.1) (reopened view edition (string_bytes note))
+Decides con view (Vacate code list place note) decided =
+    decided ≡ changed_by (λ (v : GoneCandidate × Option ℕ). gone_for_good v.0 v.1) (vacates con view list place (string_bytes note))
 Decides con view (ShowCon code) decided = decided ≡ Ok no_change
 Decides con view other decided = ⊥
 
@@ -165,16 +171,11 @@ Decides con view other decided = ⊥
 abbrev pub IsConDecision : Constituency → View → Ask → Change → Type 0
 IsConDecision con view ask change = (decided : ConChange) × (con_change change ≡ Some decided) × Decides con view ask (Ok decided)
 
--- what a command is refused with where the lot that stands is wrong, which it is in no lawful view
-abbrev pub lot_refusal : Ask → Option Refusal
-lot_refusal (Draw code edition order) = Some LotStands
-lot_refusal (Certify code edition) = Some Store
-lot_refusal other = None
-
--- A refusal that is decided of a command on a constituency, want of memory aside; or the lot that stands is wrong.
+-- A refusal that is decided of a command on a constituency, want of memory aside. Draw and Certify may meet a lot that is wrong.
 abbrev pub IsConRefusal : Constituency → View → Ask → Refusal → Type 0
-IsConRefusal con view ask refusal =
-    refusal ≢ Memory → Decides con view ask (Err refusal) ⊎ (HasWrongLot con view × (lot_refusal ask ≡ Some refusal))
+IsConRefusal con view (Draw code edition order) refusal = IsDrawRefusal con view edition order.items refusal
+IsConRefusal con view (Certify code edition) refusal = IsCertifyRefusal con view edition refusal
+IsConRefusal con view other refusal = refusal ≢ Memory → Decides con view other (Err refusal)
 
 -- This is what is seen of a constituency in a state: where it is certified, its seats are those of the one allotment.
 abbrev pub IsView : Constituency → State → View → Type 0
@@ -209,7 +210,8 @@ con_answer view (Err refusal) = Err refusal
 abbrev pub IsConStepSeen : Option Constituency → State → Ask → Result Answer Refusal → State → Type 0
 IsConStepSeen None s ask seen_as t = (seen_as ≡ Err NoConstituency) × (t ≡ s)
 IsConStepSeen (Some con) s ask seen_as t =
-    (view : View) × (decided : Result ConChange Refusal) × IsView con s view × Decides con view ask decided × (seen_as ≡ con_answer view decided) × (t ≡ after_change s con.code decided)
+    (view : View) × (decided : Result ConChange Refusal) × IsView con s view × Decides con view ask decided
+    × (seen_as ≡ con_answer view decided) × (t ≡ after_change s con.code decided)
 
 -- ---- all commands
 

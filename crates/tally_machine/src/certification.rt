@@ -25,7 +25,7 @@ pub struct Reopening {
 
 /// The seats that certifying gives each list, in the setup's order (LOREG article 163.1), or why
 /// it is refused. A view that came from a database may hold a lot that is not the one to be taken:
-/// then the database is refused.
+/// then, where the checks before it pass, the database is refused.
 pub fn certify(
     alloc: Global,
     con: &Constituency,
@@ -81,7 +81,7 @@ pub fn draw(
 
 /// The note of a reopening of this view and what is put on record, or why it is refused.
 pub fn reopen(alloc: Global, view: &ConView, edition: u32, note: &str) -> Result<Reopening, Refusal>
-    ensures reopened { IfOk result (λ reopening. reopened view.now edition note.now ≡ Ok (string_bytes reopening.note, reopening.past)) }
+    ensures reopened { IfOk result (λ r. reopened view.now edition note.now ≡ Ok (string_bytes r.note, r.past)) }
     ensures refused { IfErr result (λ refusal. refusal ≢ Memory → reopened view.now edition note.now ≡ Err refusal) }
 {
     if !good_note(note) {

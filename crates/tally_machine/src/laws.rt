@@ -39,6 +39,13 @@ pub fn a_constituency_has_a_view()
     laws_of_allotments();
 }
 
+/// Where a lot is recorded that is not the one to be taken, and some list is eligible, the closed
+/// votes come to no outcome. So, once the checks before it have passed, Certify and Draw have no
+/// refusal there but the one for the lot, and that they are out of memory.
+pub fn a_wrong_lot_leads_to_no_outcome()
+    ensures { law.WrongLotsLeadToNoOutcome }
+{}
+
 /// In a lawful state each command is decided: there is a step.
 pub fn each_command_has_a_step()
     ensures decided { law.CommandsAreDecided }

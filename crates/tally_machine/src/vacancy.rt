@@ -32,8 +32,8 @@ pub fn vacate(
     note: &str,
 ) -> Result<Vacancy, Refusal>
     requires { FitsView con.now view.now }
-    ensures vacated { IfOk result (λ vacancy. vacates con.now view.now list place note.now ≡ Ok (vacancy.gone, vacancy.next)) }
-    ensures refused { IfErr result (λ refusal. refusal ≢ Memory → vacates con.now view.now list place note.now ≡ Err refusal) }
+    ensures vacated { IfOk result (λ v. vacates con.now view.now list place note.now ≡ Ok (v.gone, v.next)) }
+    ensures refused { IfErr result (λ e. e ≢ Memory → vacates con.now view.now list place note.now ≡ Err e) }
 {
     let Some(found) = list_found(con, list) else {
         return Err(Refusal::NoCandidate);

@@ -159,7 +159,12 @@ reads_on a b c first second = (
   second.2 ∙ ap (λ (t : Connection). let same : Connection = record t { input = c.input } in same) first.2,
 )
 
--- ---- want of memory
+-- what came was put behind what was there, so it is no longer than both
+pub no_longer : (old input buf left : List ℕ) → old ++ input ≡ buf ++ left → length input ≤ length buf + length left
+no_longer old input buf left same =
+    omega (arith, sym (length-append old input) ∙ ap length same ∙ length-append buf left)
+
+-- ---- out of memory
 
 pub refused_head : (text buf left : List ℕ) (fails : Bool) (r : Result RequestSpans MessageFault) → IsErrAnd r (λ fault. fault ≡ Memory)
     → IfOk r (λ _. text ≡ buf ++ left) × IfErr r (IsFault text fails)

@@ -1,5 +1,5 @@
 -- Which message or which fault the bytes of a connection are: HTTP/1.1 (RFC 9112) as far as the desk speaks it.
-use Rattle.std.specs.Prelude.{◌≡◌, ◌⊎◌, ℕ, ◌<◌, ◌≤◌, Bool, true, false, ◌&&◌, if◌then◌else◌, nat_le, List, [], ◌∷◌, ◌++◌, map, filter, length, take, codes, bytes_eq, Option, Some, None, Result, Ok, Err, ⊤}
+use Rattle.std.specs.Prelude.{◌≡◌, ◌⊎◌, ℕ, ◌+◌, ◌<◌, ◌≤◌, Bool, true, false, ◌&&◌, if◌then◌else◌, nat_le, List, [], ◌∷◌, ◌++◌, map, filter, length, take, codes, bytes_eq, Option, Some, None, Result, Ok, Err, ⊤}
 use Rattle.std.specs.List.{list_any, list_all}
 use Rattle.std.specs.Char.{is_ascii_digit}
 use Rattle.std.specs.Str.{str_eq_ignore_ascii_case}
@@ -111,8 +111,9 @@ abbrev pub HasCutBody : List ℕ → Type 0
 HasCutBody text =
     (count : ℕ) × (head : RequestHead) × (rest : List ℕ) × Announces text count head rest × (length rest < count)
 
--- The faults of a connection that gives this text and then ends or, where it `fails`, has a failing read. A text that
--- can no longer become a head has either of the first two, and Read too where a read was made that failed.
+-- The faults of a connection that gives this text and then ends or, where it `fails`, has a failing read. A text of
+-- 16,384 bytes or more that can no longer become a head has either of the first two, and a shorter one Read too where a
+-- read was made that failed.
 abbrev pub IsFault : List ℕ → Bool → MessageFault → Type 0
 IsFault text fails BadHead =
     HasNoHead text × (((length text < head_limit) × (fails ≡ false)) ⊎ CannotBecomeHead (take head_limit text))
@@ -132,6 +133,16 @@ IsMessageOrFault text fails (Err fault) = IsFault text fails fault
 -- Bytes were taken from the front of a connection's input, and nothing else of it changed.
 abbrev pub OnlyReads : Connection → Connection → Type 0
 OnlyReads c d = (taken : List ℕ) × (c.input ≡ taken ++ d.input) × (d ≡ record c { input = d.input })
+
+-- at most so many bytes of a connection's input were taken
+abbrev pub TakesAtMost : ℕ → Connection → Connection → Type 0
+TakesAtMost most c d = length c.input ≤ most + length d.input
+
+-- With a message, at most as many bytes were taken as a head may have and the body has; with a fault, as many as both
+-- may have.
+abbrev pub TakesWithinLimits : Result Message MessageFault → Connection → Connection → Type 0
+TakesWithinLimits (Ok m) c d = TakesAtMost (head_limit + length m.body.items) c d
+TakesWithinLimits (Err fault) c d = TakesAtMost (head_limit + body_limit) c d
 
 -- What was answered is the message or a fault of the connection's whole input, of which some was taken.
 abbrev pub HasReadMessage : Result Message MessageFault → Connection → Connection → Type 0

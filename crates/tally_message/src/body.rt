@@ -2,6 +2,7 @@
 
 ghost use Rattle.std.specs.Prelude.{◌≡◌, ◌<◌, ◌≤◌, true, length, vec_len};
 ghost use Rattle.tally_door.specs.Connection.{ChangesCurrent};
+ghost use Rattle.tally_message.specs.Message.{TakesAtMost};
 ghost use Rattle.tally_message.specs.Reading.{ReadsBody};
 
 use crate::input::{Input, read_more};
@@ -20,6 +21,7 @@ pub(crate) fn read_body<D: Door>(
     requires within { vec_len body.old ≤ count }
     ensures connected { D.connected door.new ≡ true }
     ensures known { ChangesCurrent (D.known door.old) (D.known door.new) (ReadsBody body.old.items count result body.new.items) }
+    ensures taken { ChangesCurrent (D.known door.old) (D.known door.new) (TakesAtMost count) }
 {
     while body.len() < count {
         let missing = count - body.len();

@@ -1,11 +1,12 @@
 //! What a head's fields say of the length of its body.
 
-ghost use Rattle.std.specs.Prelude.{◌≡◌, ◌≤◌, List, ℕ, length, map, option_map, codes, bytes_eq, All, MatchResult, Ok, Err};
+ghost use Rattle.std.specs.Prelude.{◌≡◌, ◌≤◌, true, List, ℕ, length, map, None, is_some, option_map, codes, bytes_eq, All, IfOk, IfErr, MatchResult, Ok, Err};
 ghost use Rattle.std.specs.Char.{is_ascii_digit};
 ghost use Rattle.std.specs.List.{list_all, list_any};
 ghost use Rattle.std.specs.Str.{str_eq_ignore_ascii_case};
 ghost use Rattle.httparse.specs.Spans.{IsHeaderWithin, header_bytes};
 ghost use Rattle.tally_message.specs.Message.{is_named, values_of, single_value, is_content_length, content_length, announced_length};
+ghost use Rattle.tally_message.specs.declared.message.MessageFault.TheVariants.{BadLength};
 
 use crate::message::MessageFault;
 use httparse::spans::HeaderSpan;
@@ -33,6 +34,17 @@ fn has_field(bytes: &[u8], headers: &[HeaderSpan], name: &[u8]) -> bool
     false
 }
 
+/// The value of a field that may be given once, where it was not given before.
+fn first_value<'b>(before: Option<&'b [u8]>, value: &'b [u8]) -> Result<&'b [u8], MessageFault>
+    ensures first { IfOk result (λ first. (before.entry ≡ None) × (first.now ≡ value.now)) }
+    ensures again { IfErr result (λ fault. (is_some before.entry ≡ true) × (fault ≡ BadLength)) }
+{
+    match before {
+        Some(_) => Err(MessageFault::BadLength),
+        None => Ok(value),
+    }
+}
+
 /// The value of a field that may be given once.
 fn value_of<'b>(
     bytes: &'b [u8],
@@ -47,10 +59,10 @@ fn value_of<'b>(
     let mut found = None;
     for header in headers {
         if is_same_name(header.name.of(bytes), name) {
-            if found.is_some() {
-                return Err(MessageFault::BadLength);
+            match first_value(found, header.value.of(bytes)) {
+                Ok(value) => found = Some(value),
+                Err(fault) => return Err(fault),
             }
-            found = Some(header.value.of(bytes));
         }
     }
     Ok(found)

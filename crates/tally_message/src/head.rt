@@ -4,7 +4,7 @@ ghost use Rattle.std.specs.Prelude.{◌≡◌, ◌<◌, ◌≤◌, [], true, len
 ghost use Rattle.httparse.specs.Grammar.{HasNoRequest};
 ghost use Rattle.httparse.specs.Spans.{IsRequestWithin, IsRequestOf, RequestOverflows};
 ghost use Rattle.tally_door.specs.Connection.{ChangesCurrent};
-ghost use Rattle.tally_message.specs.Message.{head_limit, field_limit};
+ghost use Rattle.tally_message.specs.Message.{head_limit, field_limit, TakesAtMost};
 ghost use Rattle.tally_message.specs.Reading.{ReadsHead, HaveNoHead};
 ghost use Rattle.tally_message.specs.declared.message.MessageFault.TheVariants.{BadHead};
 
@@ -70,6 +70,7 @@ pub(crate) fn read_head<D: Door>(
     ensures within { IfOk result (IsRequestWithin bytes.new.items headers.new) }
     ensures head { IfOk result (IsRequestOf bytes.new.items headers.new) }
     ensures known { ChangesCurrent (D.known door.old) (D.known door.new) (ReadsHead result bytes.new.items) }
+    ensures taken { ChangesCurrent (D.known door.old) (D.known door.new) (TakesAtMost head_limit) }
 {
     let mut lines = Lines::new();
     loop {

@@ -2,6 +2,7 @@
 
 ghost use Rattle.std.specs.Prelude.{◌≡◌, ◌≤◌, ◌<◌, ◌+◌, true, IfOk, length, vec_len};
 ghost use Rattle.tally_door.specs.Connection.{ChangesCurrent};
+ghost use Rattle.tally_message.specs.Message.{TakesAtMost};
 ghost use Rattle.tally_message.specs.Reading.{ReadsOnto};
 ghost use Rattle.tally_message.specs.declared.input.Input.TheVariants.{Bytes};
 
@@ -30,6 +31,7 @@ pub(crate) fn read_more<D: Door>(
     ensures connected { D.connected door.new ≡ true }
     ensures more { IfOk result (λ input. input ≡ Bytes → vec_len bytes.old < vec_len bytes.new) }
     ensures within { vec_len bytes.new ≤ vec_len bytes.old + most }
+    ensures taken { ChangesCurrent (D.known door.old) (D.known door.new) (TakesAtMost most) }
     ensures known { ChangesCurrent (D.known door.old) (D.known door.new) (ReadsOnto bytes.old.items result bytes.new.items) }
 {
     let room = most.min(piece.len());

@@ -1,9 +1,12 @@
 //! Connections in memory and over TCP.
 
+ghost use Rattle.std.specs.Prelude.{◌≡◌, true};
+
 use std::alloc::{AllocError, Global};
 use std::io::{Read, Write};
 use std::net::{Shutdown, TcpListener, TcpStream};
 use std::test::Fail;
+use std::time::{Duration, Instant};
 use tally_door::{Door, DoorFault, MemoryConn, MemoryDoor, TcpDoor, write_all};
 
 // A connection that gives a text.
@@ -16,32 +19,71 @@ fn conn(
     MemoryConn::new(alloc, Vec::from_slice(alloc, text)?, read_fails, room)
 }
 
-#[test]
-fn a_door_in_memory_takes_up_each_connection_once(rt: HostRuntime) -> Result<(), Fail> {
-    let alloc = rt.alloc();
+// The first takes four bytes, of the second a read and each write fail, the third ends at once.
+fn three_connections(alloc: Global) -> Result<MemoryDoor, AllocError> {
     let mut conns = Vec::new(alloc);
     conns.push(conn(alloc, b"abc", None, 4)?)?;
     conns.push(conn(alloc, b"abc", Some(2), 0)?)?;
-    let mut door = MemoryDoor::new(conns);
-    let mut two = [0u8; 2];
-    let mut four = [0u8; 4];
-    assert_eq!(rt; door.next(), Ok(()));
-    assert_eq!(rt; door.read(&mut two), Ok(2));
-    assert_eq!(rt; &two, b"ab");
-    assert_eq!(rt; door.read(&mut four), Ok(1));
-    assert_eq!(rt; door.read(&mut four), Ok(0));
-    assert_eq!(rt; write_all(&mut door, b"hello"), Err(DoorFault::Failed));
-    assert_eq!(rt; door.next(), Ok(()));
-    assert_eq!(rt; door.read(&mut four), Ok(2));
-    assert_eq!(rt; door.read(&mut four), Err(DoorFault::Failed));
-    assert_eq!(rt; door.write(b"h"), Err(DoorFault::Failed));
-    assert_eq!(rt; door.next(), Err(DoorFault::Failed));
-    assert_eq!(rt; door.next(), Err(DoorFault::Failed));
-    let [first, second] = door.conns() else {
-        return Err(Fail::from("not two connections"));
-    };
-    assert_eq!(rt; first.written(), b"hell".as_slice());
-    assert_eq!(rt; second.written(), b"".as_slice());
+    conns.push(conn(alloc, b"", None, 8)?)?;
+    Ok(MemoryDoor::new(conns))
+}
+
+// What a read of four bytes at most gives.
+fn bytes_read<D: Door>(alloc: Global, door: &mut D, most: usize) -> Result<String, Fail>
+    requires { D.connected door.old ≡ true }
+    ensures { D.connected door.new ≡ true }
+{
+    let mut buf = [0u8; 4];
+    let most = most.min(buf.len());
+    match door.read(&mut buf[..most]) {
+        Ok(count) => Ok(String::from_utf8_lossy(alloc, &buf[..count])?),
+        Err(DoorFault::Failed) => Ok(String::from_str(alloc, "failed")?),
+    }
+}
+
+// Whether the current connection takes a text whole.
+fn is_taken<D: Door>(door: &mut D) -> bool
+    requires { D.connected door.old ≡ true }
+{
+    write_all(door, b"hello").is_ok()
+}
+
+// What three reads of the next connection give, and whether it takes a text.
+fn talk<D: Door>(alloc: Global, door: &mut D) -> Result<String, Fail> {
+    if door.next().is_err() {
+        return Ok(String::from_str(alloc, "none is to come")?);
+    }
+    let first = bytes_read(alloc, door, 2)?;
+    let second = bytes_read(alloc, door, 4)?;
+    let third = bytes_read(alloc, door, 4)?;
+    let taken = is_taken(door);
+    Ok(format!(in alloc; "[{first}] [{second}] [{third}] {taken}")?)
+}
+
+// What was written to the connections of a door.
+fn written(alloc: Global, door: &MemoryDoor) -> Result<String, Fail> {
+    let mut text = Vec::new(alloc);
+    for conn in door.conns() {
+        text.extend_from_slice(conn.written())?;
+        text.push(b'.')?;
+    }
+    Ok(String::from_utf8_lossy(alloc, &text)?)
+}
+
+#[test]
+fn a_door_in_memory_takes_up_each_connection_once(rt: HostRuntime) -> Result<(), Fail> {
+    let alloc = rt.alloc();
+    let mut door = three_connections(alloc)?;
+    for expected in [
+        "[ab] [c] [] false",
+        "[ab] [failed] [failed] false",
+        "[] [] [] true",
+        "none is to come",
+        "none is to come",
+    ] {
+        assert!(rt; talk(alloc, &mut door)?.as_str() == expected, "{expected}");
+    }
+    assert!(rt; written(alloc, &door)?.as_str() == "hell..hello.");
     Ok(())
 }
 
@@ -55,22 +97,36 @@ fn answer<D: Door + Drop>(mut door: D) -> Result<(), DoorFault> {
     write_all(&mut door, b"hello")
 }
 
+// What a client reads that sent three bytes.
+fn answer_to(rt: &HostRuntime, is_timed: bool, is_ended: bool) -> Result<String, Fail> {
+    let listener = TcpListener::bind(rt, "127.0.0.1:0")?;
+    let mut client = TcpStream::connect(rt, listener.local_addr()?)?;
+    client.write_all(b"abc")?;
+    if is_ended {
+        client.shutdown(Shutdown::Write)?;
+    }
+    if is_timed {
+        answer(TcpDoor::timed(listener, rt))?;
+    } else {
+        answer(TcpDoor::new(listener))?;
+    }
+    let mut text = Vec::new(rt.alloc());
+    client.read_to_end(&mut text)?;
+    Ok(String::from_utf8_lossy(rt.alloc(), &text)?)
+}
+
 #[test]
 fn an_answer_arrives_over_loopback(rt: HostRuntime) -> Result<(), Fail> {
-    let alloc = rt.alloc();
-    for timed in [false, true] {
-        let listener = TcpListener::bind(&rt, "127.0.0.1:0")?;
-        let mut client = TcpStream::connect(&rt, listener.local_addr()?)?;
-        client.write_all(b"abc")?;
-        if timed {
-            client.shutdown(Shutdown::Write)?;
-            answer(TcpDoor::timed(listener, &rt))?;
-        } else {
-            answer(TcpDoor::new(listener))?;
-        }
-        let mut text = Vec::new(alloc);
-        client.read_to_end(&mut text)?;
-        assert_eq!(rt; text.as_slice(), b"hello".as_slice());
+    for is_timed in [false, true] {
+        assert!(rt; answer_to(&rt, is_timed, true)?.as_str() == "hello");
     }
+    Ok(())
+}
+
+#[test]
+fn a_silent_client_is_waited_for(rt: HostRuntime) -> Result<(), Fail> {
+    let begun = Instant::now(&rt)?;
+    assert!(rt; answer_to(&rt, false, false)?.as_str() == "hello");
+    assert!(rt; begun.elapsed(&rt)? >= Duration::from_millis(1_900));
     Ok(())
 }

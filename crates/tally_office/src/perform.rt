@@ -99,7 +99,7 @@ fn report_fault<E: Write>(fault: LineFault, errors: &mut E) -> u8
     }
 }
 
-/// Writes words on the errors. A write that fails is passed over.
+/// Writes words on standard error. A write that fails is passed over.
 fn tell<E: Write>(words: &str, errors: &mut E)
     ensures { Told (E.contents errors.old) (E.contents errors.new) words.now }
 {

@@ -64,7 +64,7 @@ fn start_of(row: &ByteRecord) -> usize {
 }
 
 /// How many bytes of a piece need not be held: they end with the last of the records that were
-/// given. None, where this cannot be told.
+/// given. None, where this is not known.
 pub(crate) fn given_size(
     alloc: Global,
     piece: &[u8],

@@ -36,7 +36,7 @@ pub(crate) fn records_in(
 }
 
 /// Reads the next record, if there is one. A text in memory can always be read, and its records
-/// may have any length and any bytes, so what the reader refuses is for want of memory.
+/// may have any length and any bytes, so the reader refuses only where it is out of memory.
 pub(crate) fn next_record(
     reader: &mut Reader<Cursor<Vec<u8>>>,
     into: &mut ByteRecord,
@@ -51,7 +51,7 @@ pub(crate) fn next_record(
     Ok(found)
 }
 
-/// Passes over so many records, and tells whether there are so many.
+/// Passes over so many records, and answers whether there are so many.
 pub(crate) fn pass_over(
     reader: &mut Reader<Cursor<Vec<u8>>>,
     row: &mut ByteRecord,

@@ -17,7 +17,7 @@ use std::marker::Model;
 #[derive(Drop)]
 pub struct Records {
     work: Work,
-    /// Whether more of them can be asked for: neither did they end, nor was memory wanting.
+    /// Whether more of them can be asked for: they did not end, nor was it out of memory.
     at_work: bool,
 }
 
@@ -57,7 +57,7 @@ impl Records {
         })
     }
 
-    /// Gives the next record, or tells how the input ended. After the end, or want of memory, the
+    /// Gives the next record, or how the input ended. After the end, or once it is out of memory, the
     /// records are of no further use.
     pub fn next<R: Read>(
         &mut self,

@@ -98,7 +98,7 @@ impl Work {
         })
     }
 
-    /// Gives the next record, or tells how the input ended. After the end, or want of memory, the
+    /// Gives the next record, or how the input ended. After the end, or once it is out of memory, the
     /// records are of no further use.
     pub(crate) fn next<R: Read>(
         &mut self,
@@ -173,7 +173,7 @@ impl Work {
             return Ok(());
         }
         let size = held.bytes.len() + ALL;
-        // what was read of the record that goes on is read anew with it
+        // what was read of the record that goes on is read again with it
         self.rest.ahead = ByteRecord::new(alloc);
         let held = mem::replace(held, Held::new(alloc));
         *self = Work::read(alloc, held, input, watch, self.sep, size, self.given)?;

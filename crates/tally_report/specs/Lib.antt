@@ -2,6 +2,7 @@ pub mod Awards
 pub mod AwardsText
 pub mod Columns
 pub mod Fault
+pub mod GoneByList
 pub mod HoldersText
 pub mod PastText
 pub mod ProgressText

@@ -1,12 +1,13 @@
 //! Who holds the seats.
 
-ghost use Rattle.std.specs.Prelude.{◌≡◌, ℕ, ◌-◌, ◌<◌, ◌≤◌, ◌++◌, IfOk, OnOk, length, slice_index, string_bytes};
+ghost use Rattle.std.specs.Prelude.{◌≡◌, ℕ, ◌<◌, ◌≤◌, ◌++◌, IfOk, OnOk, [], length, map, replicate, slice_index, slice_index_or, string_bytes};
 ghost use Rattle.std.specs.List.{flat_map, repeat};
-ghost use Rattle.tally_machine.specs.Certification.{gone_of};
+ghost use Rattle.tally_machine.specs.Holders.{holders};
 ghost use Rattle.tally_returns.specs.View.{FitsView};
 ghost use Rattle.tally_report.specs.Fault.{IsRefused, seats_fault};
 ghost use Rattle.tally_report.specs.Columns.{list_lines};
-ghost use Rattle.tally_report.specs.HoldersText.{empty_line, holder_line, holder_lines, holders_text};
+ghost use Rattle.tally_report.specs.GoneByList.{AreByList, IsOneMore};
+ghost use Rattle.tally_report.specs.HoldersText.{empty_line, holder_line, holder_lines, holders_text, seat_lines};
 
 use crate::column::{push_heading, push_left, push_number};
 use crate::fault::ReportFault;
@@ -44,41 +45,87 @@ fn push_lists(
     requires { length view.now.seats ≡ length con.now.lists }
     ensures { OnOk result (string_bytes text.new ≡ string_bytes text.old ++ list_lines (holder_lines view.now) con.now) }
 {
+    let gone = gone_by_list(alloc, view, view.seats.len())?;
     for (place, list) in con.lists.iter().enumerate() {
-        push_list(alloc, text, view, place, list)?;
+        push_list(alloc, text, view, place, list, &gone)?;
     }
     Ok(())
 }
 
+#[tactic(auto, using(crate::proofs::GoneLemmas::gone_at))]
 fn push_list(
     alloc: Global,
     text: &mut String,
     view: &ConView,
     place: usize,
     list: &ListEntry,
+    gone: &[Vec<u32>],
 ) -> Result<(), AllocError>
     requires seats { place < length view.now.seats }
-    requires few { place < 60 }
+    requires gone { AreByList view.now.gone (length view.now.seats) (map (λ places. places.items) gone.now) }
     ensures { OnOk result (string_bytes text.new ≡ string_bytes text.old ++ holder_lines view.now place list.now) }
 {
-    let seats = view.seats[place];
-    let gone = gone_of(alloc, view, place as u32 + 1)?;
-    let held = holders(alloc, list.candidates.len() as u32, seats, &gone)?;
+    let gone = places_at(gone, place);
+    push_seats(alloc, text, list, view.seats[place], gone)
+}
+
+/// The lines of a list of so many seats, of whose candidates those at these places are gone.
+fn push_seats(
+    alloc: Global,
+    text: &mut String,
+    list: &ListEntry,
+    seats: u32,
+    gone: &[u32],
+) -> Result<(), AllocError>
+    ensures { OnOk result (string_bytes text.new ≡ string_bytes text.old ++ seat_lines list.now seats (holders (length list.now.candidates) seats gone.now)) }
+{
+    let held = holders(alloc, list.candidates.len() as u32, seats, gone)?;
     push_held(text, list, &held)?;
     push_empty(text, list, (seats as usize).saturating_sub(held.len()))
 }
 
-/// The places of the candidates of a list who are gone.
-fn gone_of(alloc: Global, view: &ConView, list: u32) -> Result<Vec<u32>, AllocError>
-    ensures { IfOk result (λ places. places.items ≡ gone_of view.now list) }
+/// The places of the candidates who are gone, those of each list, in one pass over them.
+#[tactic(auto, using(crate::proofs::GoneLemmas::none_gone, crate::proofs::GoneLemmas::one_more_gone))]
+fn gone_by_list(alloc: Global, view: &ConView, lists: usize) -> Result<Vec<Vec<u32>>, AllocError>
+    ensures { IfOk result (λ gone. AreByList view.now.gone lists (map (λ places. places.items) gone.items)) }
 {
-    let mut places = Vec::new(alloc);
+    let mut gone = nobody(alloc, lists)?;
     for candidate in &view.gone {
-        if candidate.list == list {
-            places.push(candidate.place)?;
-        }
+        add_gone(&mut gone, candidate.list, candidate.place)?;
     }
-    Ok(places)
+    Ok(gone)
+}
+
+/// No place for each of so many lists.
+#[tactic(auto, using(crate::proofs::GoneLemmas::one_more_none))]
+fn nobody(alloc: Global, lists: usize) -> Result<Vec<Vec<u32>>, AllocError>
+    ensures { IfOk result (λ gone. map (λ places. places.items) gone.items ≡ replicate lists []) }
+{
+    let mut gone = Vec::with_capacity(alloc, lists)?;
+    for _ in 0..lists {
+        gone.push(Vec::new(alloc))?;
+    }
+    Ok(gone)
+}
+
+/// One place more, of the list that is counted from 1; of another list there are no places here.
+#[tactic(auto, using(crate::proofs::GoneLemmas::not_listed))]
+fn add_gone(gone: &mut Vec<Vec<u32>>, list: u32, place: u32) -> Result<(), AllocError>
+    ensures { OnOk result (IsOneMore list place (map (λ places. places.items) gone.old.items) (map (λ places. places.items) gone.new.items)) }
+{
+    if list == 0 || list as usize > gone.len() {
+        return Ok(());
+    }
+    gone[list as usize - 1].push(place)?;
+    Ok(())
+}
+
+/// The places of the list at a place, from 0.
+fn places_at(gone: &[Vec<u32>], place: usize) -> &[u32]
+    requires { place < length (map (λ places. places.items) gone.now) }
+    ensures { result.now ≡ slice_index_or (map (λ places. places.items) gone.now) place [] }
+{
+    gone[place].as_slice()
 }
 
 /// The lines of those who hold seats.

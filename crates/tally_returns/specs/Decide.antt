@@ -6,7 +6,7 @@ use Rattle.tally_rules.specs.Constituency.{Constituency}
 use Rattle.tally_rules.specs.declared.constituency.Station.{Station}
 use Rattle.tally_returns.specs.Return.{StationReturn, first_return}
 use Rattle.tally_returns.specs.Counts.{VoteCounts}
-use Rattle.tally_returns.specs.Lodge.{StationLimits, decided_at_code}
+use Rattle.tally_returns.specs.Lodge.{StationLimits, decided_at_code, limits_for}
 use Rattle.tally_returns.specs.Moves.{query_checks, correct_checks, close_checks, queried, corrected, closed}
 use Rattle.tally_returns.specs.Named.{station_named}
 use Rattle.tally_returns.specs.Checks.{check, first_refusal, refused_or}
@@ -24,7 +24,7 @@ abbrev pub station_in : Constituency → List ℕ → Option Station
 station_in con code = find (λ (station : Station). bytes_eq code station.code) con.stations
 
 abbrev pub limits_of : Constituency → Station → StationLimits
-limits_of con station = record { lists = length con.lists; electors = station.electors }
+limits_of con station = limits_for (length con.lists) station.electors
 
 -- what the constituency says of the station that a command names
 abbrev pub limits_named : Constituency → Ask → Option StationLimits
@@ -40,7 +40,8 @@ lodge_change slip counts (Ok (reply.Lodged rev)) = Ok (PutReturn (first_return s
 lodge_change slip counts (Ok (reply.Same rev)) = Ok Same
 lodge_change slip counts (Err refusal) = Err refusal
 
--- the recorded return becomes the next one
+-- The recorded return becomes the next one. That there is one is among the checks of each command that moves it, so the line for none is
+-- never used.
 abbrev pub put_next : Option StationReturn → (StationReturn → StationReturn) → Change
 put_next None next = Same
 put_next (Some standing) next = PutReturn (next standing)
@@ -53,11 +54,21 @@ decided_move checks found next = refused_or (first_refusal checks) (Ok (put_next
 -- return.
 abbrev pub decided_return : Option StationLimits → Bool → Option StationReturn → Ask → Result Change Refusal
 decided_return station certified found (Lodge code slip counts) = lodge_change slip counts (decided_at_code station found slip counts)
-decided_return station certified found (Query code rev note) = decided_move (query_checks station certified found rev (string_bytes note)) found (queried (string_bytes note))
-decided_return station certified found (Correct code rev slip counts) = decided_move (correct_checks station certified found rev counts) found (corrected slip counts)
+decided_return station certified found (Query code rev note) =
+    decided_move (query_checks station certified found rev (string_bytes note)) found (queried (string_bytes note))
+decided_return station certified found (Correct code rev slip counts) =
+    decided_move (correct_checks station certified found rev counts) found (corrected slip counts)
 decided_return station certified found (Close code rev) = decided_move (close_checks station certified found rev) found closed
 decided_return station certified found (ShowReturn code) = refused_or (first_refusal (show_checks station found)) (Ok Same)
 decided_return station certified found other = Ok Same
+
+-- the same at a station of this constituency
+abbrev pub decided_there : Constituency → Station → Bool → Option StationReturn → Ask → Result Change Refusal
+decided_there con station certified found ask = decided_return (Some (limits_of con station)) certified found ask
+
+-- the same at the station of this constituency that the command names
+abbrev pub decided_where_named : Constituency → Bool → Option StationReturn → Ask → Result Change Refusal
+decided_where_named con certified found ask = decided_return (limits_named con ask) certified found ask
 
 -- what is answered is this, unless an allocation was refused
 abbrev pub IsUnlessMemory : {X : Type 0} → Result X Refusal → Result X Refusal → Type 0

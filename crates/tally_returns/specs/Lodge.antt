@@ -15,6 +15,9 @@ pub record StationLimits : Type 0 where
   pub lists : ℕ
   pub electors : ℕ
 
+abbrev pub limits_for : ℕ → ℕ → StationLimits
+limits_for lists electors = record { lists = lists; electors = electors }
+
 -- the same of each code that is a station
 abbrev pub Stations : Type 0
 Stations = List ℕ → Option StationLimits

@@ -10,7 +10,7 @@ pub enum Change {
     Same,
     /// This is now the return of the command's station.
     PutReturn(Return),
-    /// A lot stands in the constituency: the places of the lists, from 1, in its order.
+    /// A lot is recorded for the constituency: the places of the lists, from 1, in its order.
     SetLot(Vec<u32>),
     /// The constituency is certified, with these seats of its lists.
     SetCertified(Vec<u32>),

@@ -4,8 +4,8 @@ ghost use Rattle.std.specs.Prelude.{◌≡◌, ◌≤◌, ◌∷◌, [], Some, N
 ghost use Rattle.std.specs.Option.{ForSome, option_copied};
 ghost use Rattle.tally_rules.specs.Text.{is_note};
 ghost use Rattle.tally_returns.specs.Checks.{check, first_refusal, refused_or};
-ghost use Rattle.tally_returns.specs.Decide.{IsUnlessMemory, decided_return, limits_named, limits_of, lodge_change, decided_move, station_in};
-ghost use Rattle.tally_returns.specs.Lawful.{IsLawful, PutsLawful};
+ghost use Rattle.tally_returns.specs.Decide.{IsUnlessMemory, decided_move, decided_there, decided_where_named, limits_named, limits_of, lodge_change, station_in};
+ghost use Rattle.tally_returns.specs.Lawful.{IsLawful, IsLawfulWhereNamed, PutsLawful, PutsLawfulWhereNamed};
 ghost use Rattle.tally_returns.specs.Lodge.{decided_at};
 ghost use Rattle.tally_returns.specs.declared.change.Change.TheVariants.{Same};
 ghost use Rattle.tally_returns.specs.Moves.{closed, corrected, counts_checks_at, last_revision, may_close, may_correct, may_query, move_checks, queried};
@@ -32,9 +32,9 @@ pub fn decide_return(
     ask: &Ask,
 ) -> Result<Change, Refusal>
     requires station { IsSome (limits_named con.now ask.now) }
-    requires lawful { ForSome (limits_named con.now ask.now) (λ station. ForSome (option_copied found) (IsLawful station)) }
-    ensures decided { IsUnlessMemory result (decided_return (limits_named con.now ask.now) certified (option_copied found.entry) ask.now) }
-    ensures lawful { IfOk result (λ change. ForSome (limits_named con.now ask.now) (λ station. PutsLawful station change)) }
+    requires lawful { IsLawfulWhereNamed con.now ask.now (option_copied found) }
+    ensures decided { IsUnlessMemory result (decided_where_named con.now certified (option_copied found.entry) ask.now) }
+    ensures lawful { IfOk result (PutsLawfulWhereNamed con.now ask.now) }
 {
     let Some(code) = ask.station() else {
         return Ok(Change::Same);
@@ -55,7 +55,7 @@ pub fn decide_at(
     ask: &Ask,
 ) -> Result<Change, Refusal>
     requires lawful { ForSome (option_copied found) (IsLawful (limits_of con.now station.now)) }
-    ensures decided { IsUnlessMemory result (decided_return (Some (limits_of con.now station.now)) certified (option_copied found.entry) ask.now) }
+    ensures decided { IsUnlessMemory result (decided_there con.now station.now certified (option_copied found.entry) ask.now) }
     ensures lawful { IfOk result (PutsLawful (limits_of con.now station.now)) }
 {
     let _slip = ask.slip();

@@ -2,7 +2,7 @@
 
 ghost use Rattle.std.specs.Prelude.{◌≡◌, ◌≤◌};
 ghost use Rattle.std.specs.Option.{option_copied};
-ghost use Rattle.tally_returns.specs.Lodge.{decided_at, again};
+ghost use Rattle.tally_returns.specs.Lodge.{again, decided_at, limits_for};
 
 use crate::counts::Counts;
 use crate::refusal::Refusal;
@@ -21,7 +21,7 @@ pub fn decide_lodge(
     counts: &Counts,
 ) -> Result<LodgeReply, Refusal>
     requires { lists ≤ 60 }
-    ensures { result ≡ decided_at (record { lists = lists; electors = electors }) (option_copied found.entry) slip counts.now }
+    ensures { result ≡ decided_at (limits_for lists electors) (option_copied found.entry) slip counts.now }
 {
     if !counts.are_for(lists) {
         return Err(Refusal::BadCounts);

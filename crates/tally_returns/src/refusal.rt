@@ -32,7 +32,7 @@ pub enum Refusal {
     NotCertified,
     /// The revision or edition named is not the one that stands, which is this.
     Stale { now: u32 },
-    /// The return stands at the last revision, or the constituency at the last edition: 9,999.
+    /// The return is at the last revision, or the constituency at the last edition: 9,999.
     Exhausted,
     /// The command does not start from this status.
     WrongStatus { status: Status },

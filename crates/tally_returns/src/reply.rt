@@ -24,7 +24,7 @@ pub enum Reply {
     Moved { rev: u32 },
     /// The return of the station.
     Return(Return),
-    /// The constituency stands at this edition now.
+    /// The constituency is at this edition now.
     Edition { edition: u32 },
     /// The candidate is gone, and the one at this place of the list, from 1, moves in, or nobody.
     Vacated { next: Option<u32> },

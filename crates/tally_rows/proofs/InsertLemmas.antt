@@ -4,6 +4,7 @@ use Rattle.std.specs.Prelude.{if◌then◌else◌, MatchBool}
 use Rattle.std.specs.List.Sorted.{IsPermutation}
 use Rattle.std.proofs.lemmas.List.Sorted.{IsPermutation-map}
 use Rattle.std.proofs.lemmas.Bool.{and_parts, not-true}
+use Rattle.sqlite_value.specs.declared.value.Value.{Value}
 use Rattle.sqlite_value.specs.declared.value.Value.TheVariants.{Null, Int}
 use Rattle.sqlite_value.specs.Order.{Row}
 use Rattle.sqlite_trees.specs.Tree.{Trees, put_row}
@@ -14,9 +15,10 @@ use Rattle.sqlite_schema.specs.declared.command.Command.TheVariants.{Insert}
 use Rattle.sqlite_schema.specs.declared.schema.Schema.{Schema}
 use Rattle.sqlite_schema.specs.declared.schema.Table.{Table}
 use Rattle.sqlite_schema.specs.declared.schema.Keys.{Keys}
-use Rattle.sqlite_rules.specs.Edit.{edit_of, next_rowid, Applies, IsNoIndex, put_all, are_fresh, is_taken, taken_by}
+use Rattle.sqlite_schema.specs.declared.schema.Kind.TheVariants.{Integer}
+use Rattle.sqlite_rules.specs.Edit.{edit_of, with_rowid, next_rowid, Applies, IsNoIndex, put_all, are_fresh, is_taken, taken_by}
 use Rattle.sqlite_rules.specs.Action.{works}
-use Rattle.sqlite_rules.specs.Cast.{cast_all}
+use Rattle.sqlite_rules.specs.Cast.{cast, cast_all}
 use Rattle.sqlite_rules.specs.declared.error.Rowids.TheVariants.{Chosen, Above}
 use Rattle.sqlite.specs.declared.run.Mode.{Mode}
 use Rattle.sqlite.specs.Effect.{Database, value_rows}
@@ -39,30 +41,41 @@ pub record Adds (schema : Schema) (table : Table) (row : Row) (old new : Trees) 
   pub keyed : HaveDistinctRowids (old table.tree) → HaveDistinctRowids (new table.tree)
   pub others : (t : ℕ) → t ≢ table.tree → IsNoIndex schema t → new t ≡ old t
 
--- one row whose rowid is chosen
-pub applied_insert : (schema : Schema) (keys : Keys) (db next : Trees) (table : Table) (rows : List Row) (row : Row) → rows ≡ (Null ∷ row) ∷ [] → cast_all table.columns row ≡ row
-    → Applies schema keys db (edit_of db table [] Chosen 0 rows) next → Adds schema table row db next
-applied_insert schema keys db next table rows row is casts h =
-    let new : Row = Int (next_rowid (db table.tree)) ∷ row in
-    let news : (edit_of db table [] Chosen 0 rows).news ≡ new ∷ [] = ap (λ all. (edit_of db table [] Chosen 0 all).news) is ∙ rw (casts, cast_null) in
+-- the row is put with its rowid, which no row had, and every other table is as it was
+pub record Stores (schema : Schema) (table : Table) (row : Row) (old new : Trees) : Type 0 where
+  pub stored : new table.tree ≡ put_row row (old table.tree)
+  pub free : is_taken (old table.tree) row ≡ false
+  pub others : (t : ℕ) → t ≢ table.tree → IsNoIndex schema t → new t ≡ old t
+
+-- one row, whose rowid is chosen where none was given
+stored_by : (schema : Schema) (keys : Keys) (db next : Trees) (table : Table) (rows : List Row) (id : Value) (row : Row) → rows ≡ (id ∷ row) ∷ [] → cast Integer id ≡ id → cast_all table.columns row ≡ row
+    → Applies schema keys db (edit_of db table [] Chosen 0 rows) next → Stores schema table (with_rowid Chosen (db table.tree) (id ∷ row)) db next
+stored_by schema keys db next table rows id row is plain casts h =
+    let new : Row = with_rowid Chosen (db table.tree) (id ∷ row) in
+    let news : (edit_of db table [] Chosen 0 rows).news ≡ new ∷ [] = ap (λ all. (edit_of db table [] Chosen 0 all).news) is ∙ rw (casts, plain) in
     let put : next table.tree ≡ put_row new (db table.tree) = h.rows ∙ ap (put_all (db table.tree)) news in
     let fresh : are_fresh (db table.tree) (new ∷ []) ≡ true = subst (λ all. are_fresh (db table.tree) all ≡ true) news h.fresh in
-    let free : is_taken (db table.tree) new ≡ false = not-true _ (and_parts _ _ fresh).0 in
+    record { stored = put; free = not-true _ (and_parts _ _ fresh).0; others = h.others }
+
+-- a row whose rowid was chosen is one more
+chosen_adds : (schema : Schema) (table : Table) (row : Row) (db next : Trees) → Stores schema table (Int (next_rowid (db table.tree)) ∷ row) db next → Adds schema table row db next
+chosen_adds schema table row db next put =
+    let new : Row = Int (next_rowid (db table.tree)) ∷ row in
     record {
-      added = subst (λ l. IsPermutation (row ∷ cells (db table.tree)) (cells l)) (sym put) (IsPermutation-map (drop 1) (new ∷ db table.tree) (put_row new (db table.tree)) (put_adds new (db table.tree) free));
-      keyed = λ apart. subst HaveDistinctRowids (sym put) (distinct_put new (db table.tree) refl free apart);
-      others = h.others;
+      added = subst (λ l. IsPermutation (row ∷ cells (db table.tree)) (cells l)) (sym put.stored) (IsPermutation-map (drop 1) (new ∷ db table.tree) (put_row new (db table.tree)) (put_adds new (db table.tree) put.free));
+      keyed = λ apart. subst HaveDistinctRowids (sym put.stored) (distinct_put new (db table.tree) refl put.free apart);
+      others = put.others;
     }
 
 ungated : (P Q : Type 0) (b c : Bool) → b ≡ false → MatchBool (if b then c else false) P Q → Q
 ungated P Q true c is h = absurd (true≢false is)
 ungated P Q false c is h = h
 
-module _ (schema : Schema) (at : ℕ) (table : Table) (o : IsOrdinary schema at table) (terms : List Term) (width : ℕ) (params row : Row)
-    (is : value_rows params width (length terms / width) terms ≡ (Null ∷ row) ∷ []) (casts : cast_all table.columns row ≡ row) where
-  pub inserts_one : (limit : Option ℕ) (mode : Mode) (text : List ℕ) (trees : Trees) (tally : Tally) (new : Database)
-      → Does limit mode params (record { schema = schema; trees = trees }) text None (Insert at (Values terms width)) (Ok (tally, new)) → (new.schema ≡ schema) × Adds schema table row trees new.trees
-  inserts_one limit mode text trees tally new h =
+module _ (schema : Schema) (at : ℕ) (table : Table) (o : IsOrdinary schema at table) (terms : List Term) (width : ℕ) (params : Row) (id : Value) (row : Row)
+    (is : value_rows params width (length terms / width) terms ≡ (id ∷ row) ∷ []) (plain : cast Integer id ≡ id) (casts : cast_all table.columns row ≡ row) where
+  pub stores_one : (limit : Option ℕ) (mode : Mode) (text : List ℕ) (trees : Trees) (tally : Tally) (new : Database)
+      → Does limit mode params (record { schema = schema; trees = trees }) text None (Insert at (Values terms width)) (Ok (tally, new)) → (new.schema ≡ schema) × Stores schema table (with_rowid Chosen (trees table.tree) (id ∷ row)) trees new.trees
+  stores_one limit mode text trees tally new h =
       let done = succeeded (rw o.found at h) in
       let now = ap (λ (p : Tally × Database). p.1) (same_value (succeeded (succeeded done.2).2).2) in
       let given = succeeded done.1 in
@@ -75,6 +88,14 @@ module _ (schema : Schema) (at : ℕ) (table : Table) (o : IsOrdinary schema at 
       let kept : ◌≡◌ {A = Outcome Trees} (Ok counted.0) (Ok written.0) = ungated _ _ table.is_counted _ o.uncounted counted.1 in
       let last : done.0.trees ≡ written.0 = ap (λ (it : Written). it.trees) (same_value counted.2) ∙ same_value kept in
       let same : new.trees ≡ written.0 = ap (λ (d : Database). d.trees) now ∙ last in
-      let rows : given.0 ≡ (Null ∷ row) ∷ [] = given.1.1 ∙ ap (λ p. value_rows p width (length terms / width) terms) (o.unstamped params) ∙ is in
+      let rows : given.0 ≡ (id ∷ row) ∷ [] = given.1.1 ∙ ap (λ p. value_rows p width (length terms / width) terms) (o.unstamped params) ∙ is in
       let step = one_step schema mode.keys trees written.0 edit (o.alone mode.keys (taken_by trees edit) edit.news) wrote in
-      (ap (λ (d : Database). d.schema) now, subst (Adds schema table row trees) (sym same) (applied_insert schema mode.keys trees written.0 table given.0 row rows casts step))
+      (ap (λ (d : Database). d.schema) now, subst (Stores schema table (with_rowid Chosen (trees table.tree) (id ∷ row)) trees) (sym same) (stored_by schema mode.keys trees written.0 table given.0 id row rows plain casts step))
+
+module _ (schema : Schema) (at : ℕ) (table : Table) (o : IsOrdinary schema at table) (terms : List Term) (width : ℕ) (params row : Row)
+    (is : value_rows params width (length terms / width) terms ≡ (Null ∷ row) ∷ []) (casts : cast_all table.columns row ≡ row) where
+  pub inserts_one : (limit : Option ℕ) (mode : Mode) (text : List ℕ) (trees : Trees) (tally : Tally) (new : Database)
+      → Does limit mode params (record { schema = schema; trees = trees }) text None (Insert at (Values terms width)) (Ok (tally, new)) → (new.schema ≡ schema) × Adds schema table row trees new.trees
+  inserts_one limit mode text trees tally new h =
+      let put = stores_one schema at table o terms width params Null row is cast_null casts limit mode text trees tally new h in
+      (put.0, chosen_adds schema table row trees new.trees put.1)

@@ -83,7 +83,8 @@ equals_int (Text t) n = truth_back _
 equals_int (Blob b) n = truth_back _
 
 -- the row that passed is now this one, with its rowid, and every other table is as it was
-pub record Replaces (schema : Schema) (table : Table) (p : Row → Bool) (row : Row) (old new : Trees) : Type 0 where
+pub record Replaces (schema : Schema) (table : Table) (p : Row → Bool) (i : ℤ) (row : Row) (old new : Trees) : Type 0 where
+  pub stored : new table.tree ≡ put_row (Int i ∷ row) (without_rowid i (old table.tree))
   pub put : IsPermutation (row ∷ without p (cells (old table.tree))) (cells (new table.tree))
   pub keyed : HaveDistinctRowids (new table.tree)
   pub others : (t : ℕ) → t ≢ table.tree → IsNoIndex schema t → new t ≡ old t
@@ -115,7 +116,7 @@ module _ (rows : List Row) (p : Row → Bool) (r : Row) (i : ℤ) (up : HaveDist
   replaced new free = subst (λ l. IsPermutation (drop 1 new ∷ l) (cells (put_row new (without_rowid i rows)))) rest_is (IsPermutation-map (drop 1) (new ∷ without_rowid i rows) (put_row new (without_rowid i rows)) (put_adds new (without_rowid i rows) free))
 
 pub applied_update : (schema : Schema) (keys : Keys) (db next : Trees) (table : Table) (rows : List Row) (p : Row → Bool) (r row : Row) (i : ℤ) → rows ≡ (Int i ∷ Int i ∷ row) ∷ [] → cast_all table.columns row ≡ row
-    → HaveDistinctRowids (db table.tree) → IsOnly (db table.tree) p r i → Applies schema keys db (edit_of db table (ids_of rows) Given 1 rows) next → Replaces schema table p row db next
+    → HaveDistinctRowids (db table.tree) → IsOnly (db table.tree) p r i → Applies schema keys db (edit_of db table (ids_of rows) Given 1 rows) next → Replaces schema table p i row db next
 applied_update schema keys db next table rows p r row i is casts up only h =
     let new : Row = Int i ∷ row in
     let old = db table.tree in
@@ -126,6 +127,7 @@ applied_update schema keys db next table rows p r row i is casts up only h =
     let fresh : are_fresh (without_rowid i old) (new ∷ []) ≡ true = subst₂ (λ l all. are_fresh l all ≡ true) left news h.fresh in
     let free : is_taken (without_rowid i old) new ≡ false = not-true _ (and_parts _ _ fresh).0 in
     record {
+      stored = put;
       put = subst (λ l. IsPermutation (row ∷ without p (cells old)) (cells l)) (sym put) (replaced old p r i up only new free);
       keyed = subst HaveDistinctRowids (sym put) (distinct_put new (without_rowid i old) refl free (distinct_filter (λ x. not (has_rowid i x)) old up));
       others = h.others;
@@ -135,7 +137,7 @@ module _ (schema : Schema) (place : ℕ) (table : Table) (o : IsOrdinary schema 
     (shown : shows params project r ≡ Int i ∷ Int i ∷ row) (casts : cast_all table.columns row ≡ row) where
   pub updates_one : (limit : Option ℕ) (mode : Mode) (text : List ℕ) (trees : Trees) (tally : Tally) (new : Database) → overlay trees [] table.tree ≡ trees table.tree → HaveDistinctRowids (trees table.tree) → IsOnly (trees table.tree) p r i
       → Does limit mode params (record { schema = schema; trees = trees }) text None (Update place (record { lets = []; body = from_table table.tree where_all project [] })) (Ok (tally, new))
-      → (new.schema ≡ schema) × Replaces schema table p row trees new.trees
+      → (new.schema ≡ schema) × Replaces schema table p i row trees new.trees
   updates_one limit mode text trees tally new plain up only h =
       let done = succeeded (rw o.found at h) in
       let now = ap (λ (q : Tally × Database). q.1) (same_value (succeeded (succeeded done.2).2).2) in
@@ -148,7 +150,7 @@ module _ (schema : Schema) (place : ℕ) (table : Table) (o : IsOrdinary schema 
       let step = one_step schema mode.keys trees written.0 edit (o.alone mode.keys (taken_by trees edit) edit.news) written.1 in
       let last : done.0.trees ≡ written.0 = ap (λ (it : Written). it.trees) (same_value written.2) in
       let same : new.trees ≡ written.0 = ap (λ (d : Database). d.trees) now ∙ last in
-      (ap (λ (d : Database). d.schema) now, subst (Replaces schema table p row trees) (sym same) (applied_update schema mode.keys trees written.0 table found.0 p r row i rows casts up only step))
+      (ap (λ (d : Database). d.schema) now, subst (Replaces schema table p i row trees) (sym same) (applied_update schema mode.keys trees written.0 table found.0 p r row i rows casts up only step))
 
 one_from_map : {A B : Type 0} (f : A → B) (xs : List A) (y : B) → map f xs ≡ y ∷ [] → (x : A) × (xs ≡ x ∷ []) × (f x ≡ y)
 one_from_map f [] y h = absurd (let e = h in cc)

@@ -24,7 +24,9 @@ pub record IsIndex (codes : List (List ℕ)) (places : BTreeMap (List ℕ) ℕ) 
 
 -- the station at a place, by the number of its constituency and its own number in it
 abbrev pub station_at : List Constituency → StationPlace → Option (Constituency × Station)
-station_at cons place = option_and_then (λ (con : Constituency). option_map (λ (station : Station). (con, station)) (slice_get con.stations place.station)) (slice_get cons place.con)
+station_at cons place = option_and_then
+    (λ (con : Constituency). option_map (λ (station : Station). (con, station)) (slice_get con.stations place.station))
+    (slice_get cons place.con)
 
 -- Beside the constituencies of a setup: their codes, the codes of all stations, and the place of each station.
 pub record IsIndexed (cons : List Constituency) (codes stations : List (List ℕ)) (places : List StationPlace) : Type 0 where

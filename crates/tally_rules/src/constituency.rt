@@ -37,7 +37,11 @@ impl Model for ListEntry {
 
     ghost view = { λ list. record { code = list.code; name = string_bytes list.name; candidates = map string_bytes list.candidates.items } };
 
-    ghost invariant = { λ list. limits.IsListEntry (record { code = list.code; name = string_bytes list.name; candidates = map string_bytes list.candidates.items }) };
+    ghost invariant = { λ list. limits.IsListEntry (record {
+      code = list.code;
+      name = string_bytes list.name;
+      candidates = map string_bytes list.candidates.items;
+    }) };
 }
 
 impl ListEntry {
@@ -83,9 +87,25 @@ impl Model for Constituency {
 
     ghost Value = { value.Constituency };
 
-    ghost view = { λ con. record { code = con.code; name = string_bytes con.name; seats = con.seats; profile_code = con.profile_code; profile = con.profile; lists = con.lists.items; stations = con.stations.items } };
+    ghost view = { λ con. record {
+      code = con.code;
+      name = string_bytes con.name;
+      seats = con.seats;
+      profile_code = con.profile_code;
+      profile = con.profile;
+      lists = con.lists.items;
+      stations = con.stations.items;
+    } };
 
-    ghost invariant = { λ con. limits.IsConstituency (record { code = con.code; name = string_bytes con.name; seats = con.seats; profile_code = con.profile_code; profile = con.profile; lists = con.lists.items; stations = con.stations.items }) };
+    ghost invariant = { λ con. limits.IsConstituency (record {
+      code = con.code;
+      name = string_bytes con.name;
+      seats = con.seats;
+      profile_code = con.profile_code;
+      profile = con.profile;
+      lists = con.lists.items;
+      stations = con.stations.items;
+    }) };
 }
 
 impl Constituency {

@@ -11,11 +11,11 @@ use Rattle.sqlite.specs.Does.{lacks_sequence}
 use Rattle.sqlite.specs.Listing.{understood}
 use Rattle.sqlite.specs.State.{State}
 use Rattle.sqlite.specs.declared.error.Error.{Error}
-use Rattle.sqlite.proofs.Callers.{IsPlain, command_of, statement_of}
+use Rattle.sqlite.proofs.Callers.{IsPlain, command_of, statement_of, runs_as}
 use Rattle.sqlite_tied.specs.Compute.{everything}
 use Rattle.tally_rows.proofs.CreateLemmas.{made_by}
 use Rattle.tally_schema.specs.Tables.{schema_with, past_tree, setup_table, create_setup_text, returns_table, create_returns_text, counts_table, create_counts_text, cons_table, create_cons_text, lots_table, create_lots_text, seats_table, create_seats_text, gone_table, create_gone_text, totals_table, create_totals_text, past_table, create_past_text}
-use Rattle.tally_schema.specs.Made.{HasRun, HasTables, AddsTable, HasEmptyTables, Runs, Makes, MakesPast}
+use Rattle.tally_schema.specs.Made.{HasRun, HasFirstTables, AddsTable, HasEmptyTables, Runs, Makes, MakesPast}
 
 -- The text is that of a CREATE TABLE, which makes this table after the first `n` ones.
 record IsTextOf (n : ℕ) (table : ℕ → Table) (sql : List ℕ) : Type 0 where
@@ -28,10 +28,11 @@ record IsTextOf (n : ℕ) (table : ℕ → Table) (sql : List ℕ) : Type 0 wher
   tables : (schema_with (n + 1)).tables ≡ (schema_with n).tables ++ table (next_tree (schema_with n)) ∷ []
   tree : (table (next_tree (schema_with n))).tree ≡ next_tree (schema_with n)
 
-adds : (n : ℕ) (table : ℕ → Table) (sql : List ℕ) (old new : State) → IsTextOf n table sql → HasTables n old → HasRun sql old new → AddsTable n (next_tree (schema_with n)) old new
+adds : (n : ℕ) (table : ℕ → Table) (sql : List ℕ) (old new : State) → IsTextOf n table sql → HasFirstTables n old → HasRun sql old new → AddsTable n (next_tree (schema_with n)) old new
 adds n table sql old new is has ran =
     let made = made_by (schema_with n) (schema_with (n + 1)) (table 0) sql old new ran.0 has.schema is.command is.text is.defined is.made is.sequence is.plain ran.1 in
-    record { tables = record { schema = made.0; inside = ran.1.1.mode }; empty = made.1; others = made.2 }
+    let wrote = runs_as sql [] old new (schema_with n) has.schema CreateTable is.command is.plain ran.0 ran.1.0 in
+    record { tables = record { schema = made.0; inside = ran.1.1.mode }; empty = made.1; others = made.2; sound = wrote.sound }
 
 still_empty : (tables : List Table) (old new : Trees) → AllByRecursion (λ (t : Table). new t.tree ≡ old t.tree) tables → AllByRecursion (λ (t : Table). old t.tree ≡ []) tables → AllByRecursion (λ (t : Table). new t.tree ≡ []) tables
 still_empty [] old new same empty = tt

@@ -1,2 +1,3 @@
 pub mod Tables
 pub mod Made
+pub mod Cells

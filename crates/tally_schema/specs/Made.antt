@@ -6,26 +6,29 @@ use Rattle.sqlite_schema.specs.declared.schema.Table.{Table}
 use Rattle.sqlite_schema.specs.declared.schema.View.{View}
 use Rattle.sqlite_schema.specs.Names.{same_name, table_named, index_named, view_named}
 use Rattle.sqlite.specs.declared.error.Error.{Error}
+use Rattle.sqlite.specs.Effect.{IsDatabase}
 use Rattle.sqlite.specs.State.{State as Seen, HasCleanDisk, KeepsCommit, ExecutesInside}
 use Rattle.tally_schema.specs.Tables.{schema_with, past_tree}
 
 -- ---- making tables
 
 -- the first so many tables of the office are there, and a transaction is open
-pub record HasTables (n : ℕ) (s : Seen) : Type 0 where
+pub record HasFirstTables (n : ℕ) (s : Seen) : Type 0 where
   pub schema : s.now.schema ≡ schema_with n
   pub inside : IsTrue s.in_transaction
 
 -- they are there without rows
 pub record HasEmptyTables (n : ℕ) (s : Seen) : Type 0 where
-  pub tables : HasTables n s
+  pub tables : HasFirstTables n s
   pub empty : AllByRecursion (λ (t : Table). s.now.trees t.tree ≡ []) (schema_with n).tables
 
--- After the first `n` tables the next one is made, in this tree: it has no row, and the others are as they were.
+-- After the first `n` tables the next one is made, in this tree: it has no row, the others are as they were, and the
+-- database is in order under the new schema.
 pub record AddsTable (n : ℕ) (tree : ℕ) (old new : Seen) : Type 0 where
-  pub tables : HasTables (n + 1) new
+  pub tables : HasFirstTables (n + 1) new
   pub empty : new.now.trees tree ≡ []
   pub others : AllByRecursion (λ (t : Table). new.now.trees t.tree ≡ old.now.trees t.tree) (schema_with n).tables
+  pub sound : IsDatabase new.now
 
 -- the text was run as a statement of a transaction, without parameters
 abbrev pub HasRun : List ℕ → Seen → Seen → Type 0
@@ -46,7 +49,7 @@ Makes n m old new result = HasCleanDisk new → HasEmptyTables n old → OnOk re
 
 -- from the tables of version 1, whatever their rows are, to those and an empty `past`
 abbrev pub MakesPast : Seen → Seen → Result Unit Error → Type 0
-MakesPast old new result = HasCleanDisk new → HasTables 8 old → OnOk result (AddsTable 8 past_tree old new)
+MakesPast old new result = HasCleanDisk new → HasFirstTables 8 old → OnOk result (AddsTable 8 past_tree old new)
 
 -- ---- names
 
@@ -65,7 +68,7 @@ is_table_aside name view = unwrap_or (option_map (same_name name) view.foreign) 
 abbrev pub has_table : Schema → List ℕ → Bool
 has_table schema name = is_some (table_named schema name) || list_any (is_table_aside name) schema.views
 
--- a table, an index or a view of the name, in any letter case
+-- a table, an index, a view or a trigger of the name, in any letter case
 abbrev pub has_name : Schema → List ℕ → Bool
 has_name schema name = has_table schema name || is_some (index_named schema name) || is_some (view_named schema name)
 

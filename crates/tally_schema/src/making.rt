@@ -4,6 +4,7 @@ ghost use Rattle.std.specs.Prelude.{◌≡◌};
 ghost use Rattle.sqlite.specs.State.{Survives};
 ghost use Rattle.sqlite.specs.Held.{state};
 ghost use Rattle.tally_schema.specs.Made.{KeepsCommitIfClean, Runs, Makes, MakesPast};
+ghost use Rattle.tally_schema.specs.Tables.{create_returns_text};
 
 use sqlite::{Alter, Error, Transaction};
 
@@ -31,6 +32,13 @@ fn create_setup<S: Alter>(tx: &mut Transaction<'_, S>) -> Result<(), Error>
     )
 }
 
+/// The text that makes the table `returns`.
+fn returns_text() -> &'static str
+    ensures { result.now ≡ create_returns_text }
+{
+    "CREATE TABLE returns (station TEXT NOT NULL PRIMARY KEY, con TEXT NOT NULL, rev INTEGER NOT NULL, slip TEXT NOT NULL, status INTEGER NOT NULL CHECK (status >= 1 AND status <= 4), note TEXT NOT NULL) STRICT"
+}
+
 /// Makes the table `returns`.
 fn create_returns<S: Alter>(tx: &mut Transaction<'_, S>) -> Result<(), Error>
     ensures same_reference { tx.new.conn.ghost_name ≡ tx.old.conn.ghost_name }
@@ -38,10 +46,7 @@ fn create_returns<S: Alter>(tx: &mut Transaction<'_, S>) -> Result<(), Error>
     ensures made { Makes 1 2 (state S.Store tx.old.conn.now) (state S.Store tx.new.conn.now) result }
     ensures survives { Survives (state S.Store tx.old.conn.now) (state S.Store tx.new.conn.now) (λ _. ⊥) }
 {
-    run(
-        tx,
-        "CREATE TABLE returns (station TEXT NOT NULL PRIMARY KEY, con TEXT NOT NULL, rev INTEGER NOT NULL, slip TEXT NOT NULL, status INTEGER NOT NULL CHECK (status >= 1 AND status <= 4), note TEXT NOT NULL) STRICT",
-    )
+    run(tx, returns_text())
 }
 
 /// Makes the table `counts`.

@@ -59,7 +59,7 @@ pub fn has_past(schema: &Schema) -> bool
     has_table(schema, b"past")
 }
 
-/// Whether a table, an index or a view has the name of a table of the office.
+/// Whether a table, an index, a view or a trigger has the name of a table of the office.
 pub fn takes_office_name(schema: &Schema) -> bool
     ensures { result ≡ takes_office_name schema.now }
 {

@@ -3,3 +3,4 @@ pub mod WriteLemmas
 pub mod TextLemmas
 pub mod SelectLemmas
 pub mod WholeLemmas
+pub mod SetupLemmas

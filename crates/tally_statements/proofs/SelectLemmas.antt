@@ -6,8 +6,8 @@ use Rattle.sqlite_value.specs.declared.value.Value.TheVariants.{Null, Text}
 use Rattle.sqlite_value.specs.declared.keys.Collation.TheVariants.{Binary}
 use Rattle.sqlite_value.specs.declared.keys.Key.{Key}
 use Rattle.sqlite_value.specs.Keys.{ascending}
-use Rattle.sqlite_value.specs.Order.{Row, column, row_cmp}
-use Rattle.sqlite_trees.specs.Tree.{Trees, IsAscending}
+use Rattle.sqlite_value.specs.Order.{Row, row_cmp}
+use Rattle.sqlite_trees.specs.Tree.{Trees}
 use Rattle.sqlite_sql.specs.Term.{Term, col}
 use Rattle.sqlite_sql.specs.Query.{Output, output, output_cmp}
 use Rattle.sqlite_sql.specs.Program.{overlay}
@@ -23,7 +23,7 @@ use Rattle.tally_rows.proofs.UpdateLemmas.{by_text, by_text_is, next_column}
 use Rattle.tally_schema.specs.Tables.{office_schema}
 use Rattle.tally_statements.specs.declared.table.KeyedTable.{KeyedTable}
 use Rattle.tally_statements.specs.declared.table.KeyedTable.TheVariants.{Returns, Counts, Cons, Lots, Seats, Gone, Totals, Past}
-use Rattle.tally_statements.specs.Office.{tree_of, rows_in, IsInside, key_cells, all_cells, AreInOrder, IsFound}
+use Rattle.tally_statements.specs.Office.{tree_of, rows_in, IsInside, key_cells, all_cells, IsFound}
 use Rattle.tally_statements.specs.Texts.{rows_of_text}
 use Rattle.tally_statements.proofs.WriteLemmas.{Means}
 

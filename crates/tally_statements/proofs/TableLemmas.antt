@@ -1,17 +1,16 @@
 -- What is true of each table of the office.
-use Rattle.std.proofs.Common.{◌≡◌, ◌≢◌, ◌⊎◌, inl, inr, ℕ, eqb, true, false, List, [], ◌∷◌, IsTrue, refl, sym, ap, subst, arith, append-nil}
+use Rattle.std.proofs.Common.{◌≡◌, ◌≢◌, ◌⊎◌, inl, inr, ℕ, eqb, true, false, IsTrue, refl, sym, subst, arith, append-nil}
 use Rattle.std.proofs.lemmas.Bool.Decides.{eqb_tells}
 use Rattle.sqlite_rules.specs.Edit.{IsNoIndex}
-use Rattle.sqlite_trees.specs.Tree.{Trees}
 use Rattle.sqlite.specs.State.{State}
 use Rattle.tally_rows.specs.Rows.{HaveDistinctRowids}
 use Rattle.tally_rows.proofs.InsertLemmas.{IsOrdinary}
-use Rattle.tally_schema.specs.Tables.{office_schema, setup_tree}
+use Rattle.tally_schema.specs.Tables.{office_schema, setup_tree, setup_table}
 use Rattle.tally_statements.specs.declared.table.KeyedTable.{KeyedTable}
 use Rattle.tally_statements.specs.declared.table.KeyedTable.TheVariants.{Returns, Counts, Cons, Lots, Seats, Gone, Totals, Past}
-use Rattle.tally_statements.specs.Office.{table_of, place_of, tree_of, IsInside}
+use Rattle.tally_statements.specs.Office.{table_of, table_number, tree_of, IsInside}
 
-pub ordinary : (t : KeyedTable) → IsOrdinary office_schema (place_of t) (table_of t)
+pub ordinary : (t : KeyedTable) → IsOrdinary office_schema (table_number t) (table_of t)
 ordinary Returns = record { found = refl; uncounted = refl; unstamped = append-nil; alone = λ keys olds news. refl }
 ordinary Counts = record { found = refl; uncounted = refl; unstamped = append-nil; alone = λ keys olds news. refl }
 ordinary Cons = record { found = refl; uncounted = refl; unstamped = append-nil; alone = λ keys olds news. refl }
@@ -20,6 +19,9 @@ ordinary Seats = record { found = refl; uncounted = refl; unstamped = append-nil
 ordinary Gone = record { found = refl; uncounted = refl; unstamped = append-nil; alone = λ keys olds news. refl }
 ordinary Totals = record { found = refl; uncounted = refl; unstamped = append-nil; alone = λ keys olds news. refl }
 ordinary Past = record { found = refl; uncounted = refl; unstamped = append-nil; alone = λ keys olds news. refl }
+
+pub setup_ordinary : IsOrdinary office_schema 0 (setup_table setup_tree)
+setup_ordinary = record { found = refl; uncounted = refl; unstamped = append-nil; alone = λ keys olds news. refl }
 
 pub no_index : (t : KeyedTable) → IsNoIndex office_schema (tree_of t)
 no_index Returns = (λ e. omega arith, (λ e. omega arith, (λ e. omega arith, (λ e. omega arith, (λ e. omega arith, (λ e. omega arith, (λ e. omega arith, (λ e. omega arith, tt))))))))

@@ -1,26 +1,25 @@
 -- What each text means, as sqlite reads it, and what the statement does.
-use Rattle.std.proofs.Common.{◌≡◌, ℕ, ℤ, pos, List, [], ◌∷◌, cond, Ok, Err, Result, OnOk, refl}
+use Rattle.std.proofs.Common.{◌≡◌, ℕ, pos, List, [], ◌∷◌, true, false, Ok, Err, Result, OnOk, refl}
 use Rattle.std.specs.Prelude.{if◌then◌else◌, Bool}
 use Rattle.sqlite_value.specs.declared.value.Value.{Value}
 use Rattle.sqlite_value.specs.declared.value.Value.TheVariants.{Null, Int, Text}
-use Rattle.sqlite_value.specs.Order.{Row}
 use Rattle.sqlite_sql.specs.Term.{Term, lit, col}
 use Rattle.sqlite_schema.specs.declared.command.Command.TheVariants.{Insert, Update, Delete}
 use Rattle.sqlite_schema.specs.declared.command.Source.TheVariants.{Values}
 use Rattle.sqlite.specs.declared.error.Error.{Error}
 use Rattle.sqlite.specs.Listing.{understood}
-use Rattle.sqlite.specs.State.{State, ExecutesInside}
+use Rattle.sqlite.specs.State.{State}
 use Rattle.sqlite_tied.specs.Compute.{everything}
 use Rattle.tally_rows.proofs.AnswerLemmas.{from_table}
 use Rattle.tally_rows.proofs.StatementLemmas.{cast_int}
 use Rattle.tally_rows.proofs.UpdateLemmas.{by_text}
-use Rattle.tally_statements.specs.declared.table.KeyedTable.{KeyedTable}
+use Rattle.tally_schema.specs.Cells.{flag}
 use Rattle.tally_statements.specs.declared.table.KeyedTable.TheVariants.{Returns, Counts, Cons, Lots, Seats, Gone, Totals, Past}
-use Rattle.tally_statements.specs.Office.{place_of, tree_of, IsInside, HasRows, Runs, Inserts, Replaces, SetsItem, Deletes, item_cells}
+use Rattle.tally_statements.specs.Office.{table_number, tree_of, Runs, Inserts, Replaces, SetsItem, Deletes, item_cells}
 use Rattle.tally_statements.specs.Texts.{insert_return_text, insert_count_text, insert_con_text, insert_lot_text, insert_seats_text, insert_gone_text, insert_total_text, insert_past_text, update_return_text, update_count_text, update_con_text, update_total_text, delete_lot_text, delete_seats_text}
 use Rattle.tally_statements.proofs.WriteLemmas.{Means, inserts, replaces, sets_item, deletes, by_item, item_set}
 
-on_ok : {A B : Type 0} (r : Result Unit Error) → (A → B) → OnOk r A → OnOk r B
+pub on_ok : {A B : Type 0} (r : Result Unit Error) → (A → B) → OnOk r A → OnOk r B
 on_ok (Ok done) f h = f h
 on_ok (Err e) f h = tt
 
@@ -33,7 +32,7 @@ four = lit Null ∷ col 0 0 ∷ col 0 1 ∷ col 0 2 ∷ col 0 3 ∷ []
 abbrev six : List Term
 six = lit Null ∷ col 0 0 ∷ col 0 1 ∷ col 0 2 ∷ col 0 3 ∷ col 0 4 ∷ col 0 5 ∷ []
 
-insert_return_is : Means insert_return_text (Insert (place_of Returns) (Values six 7))
+insert_return_is : Means insert_return_text (Insert (table_number Returns) (Values six 7))
 unfolding understood everything
 insert_return_is = record { command = refl; plain = (refl, refl) }
 
@@ -41,7 +40,7 @@ pub insert_return_does : (station con : List ℕ) (rev : ℕ) (slip : List ℕ) 
 insert_return_does station con rev slip status note old new r ran clean inside =
     on_ok r (λ it. inserts Returns insert_return_text (Text station ∷ Text con ∷ Int (pos rev) ∷ Text slip ∷ Int (pos status) ∷ Text note ∷ []) (Text station ∷ Text con ∷ Int (pos rev) ∷ Text slip ∷ Int (pos status) ∷ Text note ∷ []) six 7 insert_return_is refl (rw (cast_int (pos rev), cast_int (pos status))) old new it.0 inside it.1) (ran clean inside.inside)
 
-insert_count_is : Means insert_count_text (Insert (place_of Counts) (Values three 4))
+insert_count_is : Means insert_count_text (Insert (table_number Counts) (Values three 4))
 unfolding understood everything
 insert_count_is = record { command = refl; plain = (refl, refl) }
 
@@ -49,15 +48,20 @@ pub insert_count_does : (key : List ℕ) (item n : ℕ) (old new : State) (r : R
 insert_count_does key item n old new r ran clean inside =
     on_ok r (λ it. inserts Counts insert_count_text (item_cells key item n) (item_cells key item n) three 4 insert_count_is refl (rw (cast_int (pos item), cast_int (pos n))) old new it.0 inside it.1) (ran clean inside.inside)
 
-insert_con_is : Means insert_con_text (Insert (place_of Cons) (Values four 5))
+-- how a yes or no is bound
+flag_is : (b : Bool) → (if b then pos 1 else pos 0) ≡ pos (flag b)
+flag_is true = refl
+flag_is false = refl
+
+insert_con_is : Means insert_con_text (Insert (table_number Cons) (Values four 5))
 unfolding understood everything
 insert_con_is = record { command = refl; plain = (refl, refl) }
 
-pub insert_con_does : (con : List ℕ) (edition : ℕ) (certified : ℤ) (note : List ℕ) (old new : State) (r : Result Unit Error) → Runs insert_con_text (Text con ∷ Int (pos edition) ∷ Int certified ∷ Text note ∷ []) old new r → Inserts Cons (Text con ∷ Int (pos edition) ∷ Int certified ∷ Text note ∷ []) old new r
+pub insert_con_does : (con : List ℕ) (edition : ℕ) (certified : Bool) (note : List ℕ) (old new : State) (r : Result Unit Error) → Runs insert_con_text (Text con ∷ Int (pos edition) ∷ Int (if certified then pos 1 else pos 0) ∷ Text note ∷ []) old new r → Inserts Cons (Text con ∷ Int (pos edition) ∷ Int (pos (flag certified)) ∷ Text note ∷ []) old new r
 insert_con_does con edition certified note old new r ran clean inside =
-    on_ok r (λ it. inserts Cons insert_con_text (Text con ∷ Int (pos edition) ∷ Int certified ∷ Text note ∷ []) (Text con ∷ Int (pos edition) ∷ Int certified ∷ Text note ∷ []) four 5 insert_con_is refl (rw (cast_int (pos edition), cast_int certified)) old new it.0 inside it.1) (ran clean inside.inside)
+    on_ok r (λ it. inserts Cons insert_con_text (Text con ∷ Int (pos edition) ∷ Int (pos (flag certified)) ∷ Text note ∷ []) (Text con ∷ Int (pos edition) ∷ Int (pos (flag certified)) ∷ Text note ∷ []) four 5 insert_con_is refl (rw (cast_int (pos edition), cast_int (pos (flag certified)))) old new it.0 inside it.1) (rw (flag_is certified) at (ran clean inside.inside))
 
-insert_lot_is : Means insert_lot_text (Insert (place_of Lots) (Values three 4))
+insert_lot_is : Means insert_lot_text (Insert (table_number Lots) (Values three 4))
 unfolding understood everything
 insert_lot_is = record { command = refl; plain = (refl, refl) }
 
@@ -65,7 +69,7 @@ pub insert_lot_does : (key : List ℕ) (item n : ℕ) (old new : State) (r : Res
 insert_lot_does key item n old new r ran clean inside =
     on_ok r (λ it. inserts Lots insert_lot_text (item_cells key item n) (item_cells key item n) three 4 insert_lot_is refl (rw (cast_int (pos item), cast_int (pos n))) old new it.0 inside it.1) (ran clean inside.inside)
 
-insert_seats_is : Means insert_seats_text (Insert (place_of Seats) (Values three 4))
+insert_seats_is : Means insert_seats_text (Insert (table_number Seats) (Values three 4))
 unfolding understood everything
 insert_seats_is = record { command = refl; plain = (refl, refl) }
 
@@ -73,7 +77,7 @@ pub insert_seats_does : (key : List ℕ) (item n : ℕ) (old new : State) (r : R
 insert_seats_does key item n old new r ran clean inside =
     on_ok r (λ it. inserts Seats insert_seats_text (item_cells key item n) (item_cells key item n) three 4 insert_seats_is refl (rw (cast_int (pos item), cast_int (pos n))) old new it.0 inside it.1) (ran clean inside.inside)
 
-insert_gone_is : Means insert_gone_text (Insert (place_of Gone) (Values four 5))
+insert_gone_is : Means insert_gone_text (Insert (table_number Gone) (Values four 5))
 unfolding understood everything
 insert_gone_is = record { command = refl; plain = (refl, refl) }
 
@@ -81,7 +85,7 @@ pub insert_gone_does : (con : List ℕ) (list place : ℕ) (note : List ℕ) (ol
 insert_gone_does con list place note old new r ran clean inside =
     on_ok r (λ it. inserts Gone insert_gone_text (Text con ∷ Int (pos list) ∷ Int (pos place) ∷ Text note ∷ []) (Text con ∷ Int (pos list) ∷ Int (pos place) ∷ Text note ∷ []) four 5 insert_gone_is refl (rw (cast_int (pos list), cast_int (pos place))) old new it.0 inside it.1) (ran clean inside.inside)
 
-insert_total_is : Means insert_total_text (Insert (place_of Totals) (Values three 4))
+insert_total_is : Means insert_total_text (Insert (table_number Totals) (Values three 4))
 unfolding understood everything
 insert_total_is = record { command = refl; plain = (refl, refl) }
 
@@ -89,7 +93,7 @@ pub insert_total_does : (key : List ℕ) (item n : ℕ) (old new : State) (r : R
 insert_total_does key item n old new r ran clean inside =
     on_ok r (λ it. inserts Totals insert_total_text (item_cells key item n) (item_cells key item n) three 4 insert_total_is refl (rw (cast_int (pos item), cast_int (pos n))) old new it.0 inside it.1) (ran clean inside.inside)
 
-insert_past_is : Means insert_past_text (Insert (place_of Past) (Values four 5))
+insert_past_is : Means insert_past_text (Insert (table_number Past) (Values four 5))
 unfolding understood everything
 insert_past_is = record { command = refl; plain = (refl, refl) }
 
@@ -100,7 +104,7 @@ insert_past_does con edition list n old new r ran clean inside =
 abbrev return_set : List Term
 return_set = col 1 0 ∷ col 1 0 ∷ col 1 1 ∷ col 1 2 ∷ col 0 1 ∷ col 0 2 ∷ col 0 3 ∷ col 0 4 ∷ []
 
-update_return_is : Means update_return_text (Update (place_of Returns) (record { lets = []; body = from_table (tree_of Returns) by_text return_set [] }))
+update_return_is : Means update_return_text (Update (table_number Returns) (record { lets = []; body = from_table (tree_of Returns) by_text return_set [] }))
 unfolding understood everything
 update_return_is = record { command = refl; plain = (refl, refl) }
 
@@ -116,20 +120,20 @@ update_return_does station rev slip status note con a b c d old new r ran clean 
 abbrev con_set : List Term
 con_set = col 1 0 ∷ col 1 0 ∷ col 1 1 ∷ col 0 1 ∷ col 0 2 ∷ col 0 3 ∷ []
 
-update_con_is : Means update_con_text (Update (place_of Cons) (record { lets = []; body = from_table (tree_of Cons) by_text con_set [] }))
+update_con_is : Means update_con_text (Update (table_number Cons) (record { lets = []; body = from_table (tree_of Cons) by_text con_set [] }))
 unfolding understood everything
 update_con_is = record { command = refl; plain = (refl, refl) }
 
-pub update_con_does : (con : List ℕ) (edition : ℕ) (certified : ℤ) (note : List ℕ) (a b c : Value) (old new : State) (r : Result Unit Error)
-    → Runs update_con_text (Text con ∷ Int (pos edition) ∷ Int certified ∷ Text note ∷ []) old new r
-    → Replaces Cons con (Text con ∷ a ∷ b ∷ c ∷ []) (Text con ∷ Int (pos edition) ∷ Int certified ∷ Text note ∷ []) old new r
+pub update_con_does : (con : List ℕ) (edition : ℕ) (certified : Bool) (note : List ℕ) (a b c : Value) (old new : State) (r : Result Unit Error)
+    → Runs update_con_text (Text con ∷ Int (pos edition) ∷ Int (if certified then pos 1 else pos 0) ∷ Text note ∷ []) old new r
+    → Replaces Cons con (Text con ∷ a ∷ b ∷ c ∷ []) (Text con ∷ Int (pos edition) ∷ Int (pos (flag certified)) ∷ Text note ∷ []) old new r
 update_con_does con edition certified note a b c old new r ran clean inside one =
     on_ok r
-    (λ it. replaces Cons update_con_text con (Int (pos edition) ∷ Int certified ∷ Text note ∷ []) (Text con ∷ Int (pos edition) ∷ Int certified ∷ Text note ∷ []) con_set update_con_is
-    (rw (cast_int (pos edition), cast_int certified)) (Text con) (a ∷ b ∷ c ∷ []) (λ i. refl) (λ trees. refl) old new it.0 inside it.1 one)
-    (ran clean inside.inside)
+    (λ it. replaces Cons update_con_text con (Int (pos edition) ∷ Int (pos (flag certified)) ∷ Text note ∷ []) (Text con ∷ Int (pos edition) ∷ Int (pos (flag certified)) ∷ Text note ∷ []) con_set update_con_is
+    (rw (cast_int (pos edition), cast_int (pos (flag certified)))) (Text con) (a ∷ b ∷ c ∷ []) (λ i. refl) (λ trees. refl) old new it.0 inside it.1 one)
+    (rw (flag_is certified) at (ran clean inside.inside))
 
-update_count_is : Means update_count_text (Update (place_of Counts) (record { lets = []; body = from_table (tree_of Counts) by_item item_set [] }))
+update_count_is : Means update_count_text (Update (table_number Counts) (record { lets = []; body = from_table (tree_of Counts) by_item item_set [] }))
 unfolding understood everything
 update_count_is = record { command = refl; plain = (refl, refl) }
 
@@ -137,7 +141,7 @@ pub update_count_does : (key : List ℕ) (item n : ℕ) (old new : State) (r : R
 update_count_does key item n old new r ran clean inside before rest none held =
     on_ok r (λ it. sets_item Counts update_count_text key item n update_count_is (rw (cast_int (pos item), cast_int (pos n))) (λ trees. refl) old new it.0 inside it.1 before rest none held) (ran clean inside.inside)
 
-update_total_is : Means update_total_text (Update (place_of Totals) (record { lets = []; body = from_table (tree_of Totals) by_item item_set [] }))
+update_total_is : Means update_total_text (Update (table_number Totals) (record { lets = []; body = from_table (tree_of Totals) by_item item_set [] }))
 unfolding understood everything
 update_total_is = record { command = refl; plain = (refl, refl) }
 
@@ -145,14 +149,14 @@ pub update_total_does : (key : List ℕ) (item n : ℕ) (old new : State) (r : R
 update_total_does key item n old new r ran clean inside before rest none held =
     on_ok r (λ it. sets_item Totals update_total_text key item n update_total_is (rw (cast_int (pos item), cast_int (pos n))) (λ trees. refl) old new it.0 inside it.1 before rest none held) (ran clean inside.inside)
 
-delete_lot_is : Means delete_lot_text (Delete (place_of Lots) (record { lets = []; body = from_table (tree_of Lots) by_text (col 1 0 ∷ []) [] }))
+delete_lot_is : Means delete_lot_text (Delete (table_number Lots) (record { lets = []; body = from_table (tree_of Lots) by_text (col 1 0 ∷ []) [] }))
 unfolding understood everything
 delete_lot_is = record { command = refl; plain = (refl, refl) }
 
 pub delete_lot_does : (key : List ℕ) (old new : State) (r : Result Unit Error) → Runs delete_lot_text (Text key ∷ []) old new r → Deletes Lots key old new r
 delete_lot_does key old new r ran clean inside = on_ok r (λ it. deletes Lots delete_lot_text key delete_lot_is (λ trees. refl) old new it.0 inside it.1) (ran clean inside.inside)
 
-delete_seats_is : Means delete_seats_text (Delete (place_of Seats) (record { lets = []; body = from_table (tree_of Seats) by_text (col 1 0 ∷ []) [] }))
+delete_seats_is : Means delete_seats_text (Delete (table_number Seats) (record { lets = []; body = from_table (tree_of Seats) by_text (col 1 0 ∷ []) [] }))
 unfolding understood everything
 delete_seats_is = record { command = refl; plain = (refl, refl) }
 

@@ -7,10 +7,10 @@ use Rattle.sqlite_value.specs.declared.value.Value.TheVariants.{Null}
 use Rattle.sqlite_value.specs.declared.keys.Collation.TheVariants.{Binary}
 use Rattle.sqlite_value.specs.declared.keys.Key.{Key}
 use Rattle.sqlite_value.specs.Keys.{ascending}
-use Rattle.sqlite_value.specs.Order.{Row, column}
+use Rattle.sqlite_value.specs.Order.{Row}
 use Rattle.sqlite_trees.specs.Tree.{Trees}
 use Rattle.sqlite_sql.specs.Term.{Term, col}
-use Rattle.sqlite_sql.specs.Query.{IsAnswer, Output, output, output_cmp}
+use Rattle.sqlite_sql.specs.Query.{IsAnswer, output_cmp}
 use Rattle.sqlite_sql.specs.Program.{overlay}
 use Rattle.sqlite_schema.specs.declared.command.Command.TheVariants.{Select}
 use Rattle.sqlite_schema.specs.declared.schema.Column.{Column}
@@ -31,7 +31,7 @@ use Rattle.tally_rows.proofs.ReadLemmas.{shown_open}
 use Rattle.tally_schema.specs.Tables.{office_schema}
 use Rattle.tally_statements.specs.declared.table.KeyedTable.{KeyedTable}
 use Rattle.tally_statements.specs.declared.table.KeyedTable.TheVariants.{Returns, Counts, Cons, Lots, Seats, Gone, Totals, Past}
-use Rattle.tally_statements.specs.Office.{table_of, tree_of, rows_in, HasTables, AreInOrder, ShowsTable, ShowsRowids}
+use Rattle.tally_statements.specs.Office.{table_of, tree_of, HasTables, ShowsTable, ShowsRowids}
 use Rattle.tally_statements.specs.Texts.{all_rows_text, rowids_text}
 use Rattle.tally_statements.proofs.WriteLemmas.{Means}
 use Rattle.tally_statements.proofs.SelectLemmas.{columns_of, order_of, names_of, plain, out_of, outputs_at, compared_at, shown_whole}
@@ -43,10 +43,10 @@ module _ (table : Table) (db : Trees) (not_null : AllByRecursion (λ (c : Column
   row_whole row typed there = whole_row_is table.columns 0 row (drop 1 row) refl not_null (and_parts (are_typed None 0 table.columns (drop 1 row)) (has_computed table row) typed).0 there
 
 module _ (db : Database) (is : db.schema ≡ office_schema) (sound : IsDatabase db) where
-  typed : Keeps Datatype office_schema db.trees
+  pub typed : Keeps Datatype office_schema db.trees
   typed = subst (λ s. Keeps Datatype s db.trees) is (sound.obeys.rules Datatype)
 
-  present : Keeps NotNull office_schema db.trees
+  pub present : Keeps NotNull office_schema db.trees
   present = subst (λ s. Keeps NotNull s db.trees) is (sound.obeys.rules NotNull)
 
   whole_table : (t : KeyedTable) → AllByRecursion (λ row. drop 1 row ≡ values_from 0 (table_of t).columns row) (db.trees (tree_of t))
@@ -142,7 +142,7 @@ all_there : (rows : List Row) → filter (λ x. true) rows ≡ rows
 all_there [] = refl
 all_there (r ∷ rows) = ap (λ l. r ∷ l) (all_there rows)
 
-all_shown : (t : ℕ) (project : List Term) (order : List (Term × Key)) (db : Trees) (rows : List Row) → IsAnswer (from_table t [] project order) (overlay db []) [] rows → overlay db [] t ≡ db t
+pub all_shown : (t : ℕ) (project : List Term) (order : List (Term × Key)) (db : Trees) (rows : List Row) → IsAnswer (from_table t [] project order) (overlay db []) [] rows → overlay db [] t ≡ db t
     → IsPermutation (map (shows [] project) (db t)) rows
 all_shown t project order db rows a same = subst (λ l. IsPermutation (map (shows [] project) l) rows) (all_there (db t)) (answer_is [] [] t project order db rows a same)
 

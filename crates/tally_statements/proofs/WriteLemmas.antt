@@ -1,5 +1,5 @@
 -- What an INSERT, an UPDATE and a DELETE do to the tables of the office.
-use Rattle.std.proofs.Common.{◌≡◌, ◌≢◌, ℕ, ◌/◌, ℤ, pos, List, [], ◌∷◌, length, drop, filter, not, ◌&&◌, cond, true, None, Ok, refl, sym, ap, ap₂, subst, ◌∙◌}
+use Rattle.std.proofs.Common.{◌≡◌, ℕ, ◌/◌, ℤ, pos, List, [], ◌∷◌, length, drop, filter, not, ◌&&◌, cond, true, None, Ok, sym, ap, ap₂, subst, ◌∙◌}
 use Rattle.std.specs.List.Sorted.{IsPermutation}
 use Rattle.std.proofs.lemmas.List.Sorted.{IsPermutation-refl, IsPermutation-cons, IsPermutation-trans}
 use Rattle.std.proofs.lemmas.Cmp.{tied_itself}
@@ -23,7 +23,7 @@ use Rattle.sqlite.specs.Listing.{understood}
 use Rattle.sqlite.specs.State.{State, Writes, mode_of, ExecutesInside}
 use Rattle.sqlite.proofs.Callers.{IsPlain, command_of, statement_of, runs_as, one_permutation}
 use Rattle.sqlite_keyed.proofs.ListLemmas.{IsPermutation-filter}
-use Rattle.tally_rows.specs.Rows.{cells, has_key, others, without}
+use Rattle.tally_rows.specs.Rows.{has_key, others, without}
 use Rattle.tally_rows.proofs.AnswerLemmas.{from_table, passes_all, shows}
 use Rattle.tally_rows.proofs.RowsLemmas.{none_then_all}
 use Rattle.tally_rows.proofs.InsertLemmas.{inserts_one}
@@ -31,7 +31,7 @@ use Rattle.tally_rows.proofs.UpdateLemmas.{by_text, by_text_is, equals_text, equ
 use Rattle.tally_rows.proofs.DeleteLemmas.{deletes_all}
 use Rattle.tally_schema.specs.Tables.{office_schema, setup_tree}
 use Rattle.tally_statements.specs.declared.table.KeyedTable.{KeyedTable}
-use Rattle.tally_statements.specs.Office.{table_of, place_of, tree_of, rows_in, IsInside, HasRows, item_cells, is_item}
+use Rattle.tally_statements.specs.Office.{table_of, table_number, tree_of, rows_in, IsInside, HasRows, item_cells, is_item}
 use Rattle.tally_statements.proofs.TableLemmas.{ordinary, no_index, no_index_setup, not_setup, still_inside}
 
 -- the text means this command
@@ -40,16 +40,16 @@ pub record Means (sql : List ℕ) (meant : Command) : Type 0 where
   pub plain : IsPlain (understood office_schema sql)
 
 -- what a write did, under the schema of the office
-does : (sql : List ℕ) (params : Row) (command : Command) (old new : State) (count : ℕ) → old.now.schema ≡ office_schema → (w : Writes old new None command (statement_of sql (understood office_schema sql)) params count)
+pub does : (sql : List ℕ) (params : Row) (command : Command) (old new : State) (count : ℕ) → old.now.schema ≡ office_schema → (w : Writes old new None command (statement_of sql (understood office_schema sql)) params count)
     → Does old.step_limit (mode_of old) params (record old.now { schema = office_schema }) (statement_of sql (understood office_schema sql)) None command (Ok (w.tally, new.now))
 does sql params command old new count has w = subst (λ s. Does old.step_limit (mode_of old) params (record old.now { schema = s }) (statement_of sql (understood office_schema sql)) None command (Ok (w.tally, new.now))) has w.changed
 
 module _ (t : KeyedTable) (sql : List ℕ) (params row : Row) where
-  pub inserts : (terms : List Term) (width : ℕ) → Means sql (Insert (place_of t) (Values terms width)) → value_rows params width (length terms / width) terms ≡ (Null ∷ row) ∷ [] → cast_all (table_of t).columns row ≡ row
+  pub inserts : (terms : List Term) (width : ℕ) → Means sql (Insert (table_number t) (Values terms width)) → value_rows params width (length terms / width) terms ≡ (Null ∷ row) ∷ [] → cast_all (table_of t).columns row ≡ row
       → (old new : State) (count : ℕ) → IsInside old → ExecutesInside 0 sql params old new (Ok count) → HasRows t (row ∷ rows_in t old) old new
   inserts terms width means is casts old new count inside ran =
-      let w = runs_as sql params old new office_schema inside.schema (Insert (place_of t) (Values terms width)) means.command means.plain count ran.0 in
-      let made = inserts_one office_schema (place_of t) (table_of t) (ordinary t) terms width params row is casts old.step_limit (mode_of old) (statement_of sql (understood office_schema sql)) old.now.trees w.tally new.now (does sql params (Insert (place_of t) (Values terms width)) old new count inside.schema w) in
+      let w = runs_as sql params old new office_schema inside.schema (Insert (table_number t) (Values terms width)) means.command means.plain count ran.0 in
+      let made = inserts_one office_schema (table_number t) (table_of t) (ordinary t) terms width params row is casts old.step_limit (mode_of old) (statement_of sql (understood office_schema sql)) old.now.trees w.tally new.now (does sql params (Insert (table_number t) (Values terms width)) old new count inside.schema w) in
       record {
         inside = still_inside t old new inside made.0 (made.1.keyed (inside.distinct t)) made.1.others ran.1.mode;
         rows = made.1.added;
@@ -59,15 +59,15 @@ module _ (t : KeyedTable) (sql : List ℕ) (params row : Row) where
 
 -- WHERE the first column is the first parameter
 module _ (t : KeyedTable) (sql key : List ℕ) (more row : Row) where
-  pub replaces : (project : List Term) → Means sql (Update (place_of t) (record { lets = []; body = from_table (tree_of t) by_text project [] })) → cast_all (table_of t).columns row ≡ row
+  pub replaces : (project : List Term) → Means sql (Update (table_number t) (record { lets = []; body = from_table (tree_of t) by_text project [] })) → cast_all (table_of t).columns row ≡ row
       → (v : Value) (rest : Row) → ((i : ℤ) → shows (Text key ∷ more) project (Int i ∷ v ∷ rest) ≡ Int i ∷ Int i ∷ row) → ((trees : _) → overlay trees [] (tree_of t) ≡ trees (tree_of t))
       → (old new : State) (count : ℕ) → IsInside old → ExecutesInside 0 sql (Text key ∷ more) old new (Ok count) → filter (has_key key) (rows_in t old) ≡ (v ∷ rest) ∷ []
       → HasRows t (row ∷ others key (rows_in t old)) old new
   replaces project means casts v rest shown plain old new count inside ran one =
       let params : Row = Text key ∷ more in
       let found = only_row (old.now.trees (tree_of t)) (has_key key) v rest one (inside.distinct t) in
-      let w = runs_as sql params old new office_schema inside.schema (Update (place_of t) (record { lets = []; body = from_table (tree_of t) by_text project [] })) means.command means.plain count ran.0 in
-      let made = updates_one office_schema (place_of t) (table_of t) (ordinary t) by_text project params (has_key key) (by_text_is key more) found.0 row found.1 (ap (shows params project) found.3 ∙ shown found.1) casts old.step_limit (mode_of old) (statement_of sql (understood office_schema sql)) old.now.trees w.tally new.now (plain old.now.trees) (inside.distinct t) found.2 (does sql params (Update (place_of t) (record { lets = []; body = from_table (tree_of t) by_text project [] })) old new count inside.schema w) in
+      let w = runs_as sql params old new office_schema inside.schema (Update (table_number t) (record { lets = []; body = from_table (tree_of t) by_text project [] })) means.command means.plain count ran.0 in
+      let made = updates_one office_schema (table_number t) (table_of t) (ordinary t) by_text project params (has_key key) (by_text_is key more) found.0 row found.1 (ap (shows params project) found.3 ∙ shown found.1) casts old.step_limit (mode_of old) (statement_of sql (understood office_schema sql)) old.now.trees w.tally new.now (plain old.now.trees) (inside.distinct t) found.2 (does sql params (Update (table_number t) (record { lets = []; body = from_table (tree_of t) by_text project [] })) old new count inside.schema w) in
       record {
         inside = still_inside t old new inside made.0 made.1.keyed made.1.others ran.1.mode;
         rows = made.1.put;
@@ -99,7 +99,7 @@ abbrev pub item_set : List Term
 item_set = col 1 0 ∷ col 1 0 ∷ col 1 1 ∷ col 1 2 ∷ col 0 2 ∷ []
 
 module _ (t : KeyedTable) (sql key : List ℕ) (item n : ℕ) where
-  pub sets_item : Means sql (Update (place_of t) (record { lets = []; body = from_table (tree_of t) by_item item_set [] })) → cast_all (table_of t).columns (item_cells key item n) ≡ item_cells key item n
+  pub sets_item : Means sql (Update (table_number t) (record { lets = []; body = from_table (tree_of t) by_item item_set [] })) → cast_all (table_of t).columns (item_cells key item n) ≡ item_cells key item n
       → ((trees : _) → overlay trees [] (tree_of t) ≡ trees (tree_of t))
       → (old new : State) (count : ℕ) → IsInside old → ExecutesInside 0 sql (item_cells key item n) old new (Ok count)
       → (before : ℕ) (rest : List Row) → filter (is_item key item) rest ≡ [] → IsPermutation (item_cells key item before ∷ rest) (rows_in t old) → HasRows t (item_cells key item n ∷ rest) old new
@@ -108,8 +108,8 @@ module _ (t : KeyedTable) (sql key : List ℕ) (item n : ℕ) where
       let cut : filter (is_item key item) (rows_in t old) ≡ item_cells key item before ∷ [] =
       one_permutation _ _ (subst (λ l. IsPermutation l (filter (is_item key item) (rows_in t old))) (at_first key item before rest none) (IsPermutation-filter (is_item key item) _ _ held)) in
       let found = only_row (old.now.trees (tree_of t)) (is_item key item) _ _ cut (inside.distinct t) in
-      let w = runs_as sql params old new office_schema inside.schema (Update (place_of t) (record { lets = []; body = from_table (tree_of t) by_item item_set [] })) means.command means.plain count ran.0 in
-      let made = updates_one office_schema (place_of t) (table_of t) (ordinary t) by_item item_set params (is_item key item) (by_item_is key item (Int (pos n) ∷ [])) found.0 params found.1 (ap (shows params item_set) found.3) casts old.step_limit (mode_of old) (statement_of sql (understood office_schema sql)) old.now.trees w.tally new.now (plain old.now.trees) (inside.distinct t) found.2 (does sql params (Update (place_of t) (record { lets = []; body = from_table (tree_of t) by_item item_set [] })) old new count inside.schema w) in
+      let w = runs_as sql params old new office_schema inside.schema (Update (table_number t) (record { lets = []; body = from_table (tree_of t) by_item item_set [] })) means.command means.plain count ran.0 in
+      let made = updates_one office_schema (table_number t) (table_of t) (ordinary t) by_item item_set params (is_item key item) (by_item_is key item (Int (pos n) ∷ [])) found.0 params found.1 (ap (shows params item_set) found.3) casts old.step_limit (mode_of old) (statement_of sql (understood office_schema sql)) old.now.trees w.tally new.now (plain old.now.trees) (inside.distinct t) found.2 (does sql params (Update (table_number t) (record { lets = []; body = from_table (tree_of t) by_item item_set [] })) old new count inside.schema w) in
       let left : IsPermutation rest (without (is_item key item) (rows_in t old)) =
       subst (λ l. IsPermutation l (without (is_item key item) (rows_in t old))) (without_first key item before rest none) (IsPermutation-filter (λ x. not (is_item key item x)) _ _ held) in
       record {
@@ -120,12 +120,12 @@ module _ (t : KeyedTable) (sql key : List ℕ) (item n : ℕ) where
       }
 
 module _ (t : KeyedTable) (sql key : List ℕ) where
-  pub deletes : Means sql (Delete (place_of t) (record { lets = []; body = from_table (tree_of t) by_text (col 1 0 ∷ []) [] })) → ((trees : _) → overlay trees [] (tree_of t) ≡ trees (tree_of t))
+  pub deletes : Means sql (Delete (table_number t) (record { lets = []; body = from_table (tree_of t) by_text (col 1 0 ∷ []) [] })) → ((trees : _) → overlay trees [] (tree_of t) ≡ trees (tree_of t))
       → (old new : State) (count : ℕ) → IsInside old → ExecutesInside 0 sql (Text key ∷ []) old new (Ok count) → HasRows t (others key (rows_in t old)) old new
   deletes means plain old new count inside ran =
       let params : Row = Text key ∷ [] in
-      let w = runs_as sql params old new office_schema inside.schema (Delete (place_of t) (record { lets = []; body = from_table (tree_of t) by_text (col 1 0 ∷ []) [] })) means.command means.plain count ran.0 in
-      let made = deletes_all office_schema (place_of t) (table_of t) (ordinary t) by_text params (has_key key) (by_text_is key []) old.step_limit (mode_of old) (statement_of sql (understood office_schema sql)) old.now.trees w.tally new.now (plain old.now.trees) (inside.distinct t) (does sql params (Delete (place_of t) (record { lets = []; body = from_table (tree_of t) by_text (col 1 0 ∷ []) [] })) old new count inside.schema w) in
+      let w = runs_as sql params old new office_schema inside.schema (Delete (table_number t) (record { lets = []; body = from_table (tree_of t) by_text (col 1 0 ∷ []) [] })) means.command means.plain count ran.0 in
+      let made = deletes_all office_schema (table_number t) (table_of t) (ordinary t) by_text params (has_key key) (by_text_is key []) old.step_limit (mode_of old) (statement_of sql (understood office_schema sql)) old.now.trees w.tally new.now (plain old.now.trees) (inside.distinct t) (does sql params (Delete (table_number t) (record { lets = []; body = from_table (tree_of t) by_text (col 1 0 ∷ []) [] })) old new count inside.schema w) in
       record {
         inside = still_inside t old new inside made.0 made.1.keyed made.1.others ran.1.mode;
         rows = subst (λ l. IsPermutation (others key (rows_in t old)) l) (sym made.1.left) (IsPermutation-refl _);

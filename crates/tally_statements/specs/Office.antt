@@ -3,7 +3,7 @@ use Rattle.std.specs.Prelude.{◌≡◌, ◌≢◌, ℕ, pos, List, [], ◌∷�
 use Rattle.std.specs.List.{AllByRecursion}
 use Rattle.std.specs.Ordering.{is_eq}
 use Rattle.std.specs.declared.cmp.Ordering.TheVariants.{Less}
-use Rattle.sqlite_value.specs.declared.value.Value.TheVariants.{Int, Text}
+use Rattle.sqlite_value.specs.declared.value.Value.TheVariants.{Null, Int, Text}
 use Rattle.sqlite_value.specs.Order.{Row, column, value_cmp, row_cmp}
 use Rattle.sqlite_trees.specs.Tree.{IsAscending, rowid}
 use Rattle.sqlite_schema.specs.declared.schema.Table.{Table}
@@ -11,6 +11,7 @@ use Rattle.sqlite.specs.declared.error.Error.{Error}
 use Rattle.sqlite.specs.Effect.{IsDatabase}
 use Rattle.sqlite.specs.State.{State as Seen, HasCleanDisk, KeepsCommit, ExecutesInside}
 use Rattle.tally_rows.specs.Rows.{cells, has_key, others, HaveDistinctRowids}
+use Rattle.tally_schema.specs.Cells.{setup_row}
 use Rattle.tally_schema.specs.Tables.{office_schema, setup_tree, returns_table, returns_tree, counts_table, counts_tree, cons_table, cons_tree, lots_table, lots_tree, seats_table, seats_tree, gone_table, gone_tree, totals_table, totals_tree, past_table, past_tree}
 use Rattle.tally_statements.specs.declared.table.KeyedTable.{KeyedTable}
 use Rattle.tally_statements.specs.declared.table.KeyedTable.TheVariants.{Returns, Counts, Cons, Lots, Seats, Gone, Totals, Past}
@@ -28,15 +29,15 @@ table_of Totals = totals_table totals_tree
 table_of Past = past_table past_tree
 
 -- its place among the tables of the office, counted from 0
-abbrev pub place_of : KeyedTable → ℕ
-place_of Returns = 1
-place_of Counts = 2
-place_of Cons = 3
-place_of Lots = 4
-place_of Seats = 5
-place_of Gone = 6
-place_of Totals = 7
-place_of Past = 8
+abbrev pub table_number : KeyedTable → ℕ
+table_number Returns = 1
+table_number Counts = 2
+table_number Cons = 3
+table_number Lots = 4
+table_number Seats = 5
+table_number Gone = 6
+table_number Totals = 7
+table_number Past = 8
 
 -- the tree that holds its rows
 abbrev pub tree_of : KeyedTable → ℕ
@@ -147,3 +148,33 @@ pub record ShowsTable (t : KeyedTable) (s : Seen) (answer : List Row) : Type 0 w
 -- the answer has the rowids of a table
 abbrev pub ShowsRowids : KeyedTable → Seen → List Row → Type 0
 ShowsRowids t s answer = IsPermutation (map (λ r. rowid r ∷ []) (s.now.trees (tree_of t))) answer
+
+-- ---- the table `setup`
+
+-- `setup` has one row, of this version and text, and every other table is as it was.
+pub record HasSetup (version : ℕ) (text : List ℕ) (old new : Seen) : Type 0 where
+  pub inside : IsInside new
+  pub setup : new.now.trees setup_tree ≡ setup_row version text ∷ []
+  pub others : (t : KeyedTable) → new.now.trees (tree_of t) ≡ old.now.trees (tree_of t)
+
+-- the row stands in the table, which was empty
+abbrev pub InsertsSetup : ℕ → List ℕ → Seen → Seen → Result Unit Error → Type 0
+InsertsSetup version text old new result = HasCleanDisk new → IsInside old → old.now.trees setup_tree ≡ [] → OnOk result (HasSetup version text old new)
+
+-- the one row has another version
+abbrev pub SetsVersion : ℕ → Seen → Seen → Result Unit Error → Type 0
+SetsVersion version old new result =
+    HasCleanDisk new → IsInside old → (before : ℕ) (text : List ℕ) → old.now.trees setup_tree ≡ setup_row before text ∷ [] → OnOk result (HasSetup version text old new)
+
+-- what is shown of a row of `setup`: its id, its version and its text
+abbrev pub shown_setup : Row → Row
+shown_setup row = column row 0 ∷ column row 2 ∷ column row 3 ∷ []
+
+-- the row of which this is shown: the id is the rowid
+abbrev pub stored_setup : Row → Row
+stored_setup shown = column shown 0 ∷ Null ∷ column shown 1 ∷ column shown 2 ∷ []
+
+-- The answer has what is shown of each row of `setup`, and these rows are all of them.
+pub record ShowsSetup (s : Seen) (answer : List Row) : Type 0 where
+  pub shown : IsPermutation (map shown_setup (s.now.trees setup_tree)) answer
+  pub stored : IsPermutation (map stored_setup answer) (s.now.trees setup_tree)

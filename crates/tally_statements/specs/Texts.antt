@@ -29,6 +29,9 @@ insert_total_text = codes "INSERT INTO totals (con, item, n) VALUES (?1, ?2, ?3)
 abbrev pub insert_past_text : List ℕ
 insert_past_text = codes "INSERT INTO past (con, edition, list, n) VALUES (?1, ?2, ?3, ?4)"
 
+abbrev pub insert_setup_text : List ℕ
+insert_setup_text = codes "INSERT INTO setup (id, version, text) VALUES (1, ?1, ?2)"
+
 -- ---- UPDATE of one row
 
 abbrev pub update_return_text : List ℕ
@@ -42,6 +45,9 @@ update_con_text = codes "UPDATE cons SET edition = ?2, certified = ?3, note = ?4
 
 abbrev pub update_total_text : List ℕ
 update_total_text = codes "UPDATE totals SET n = ?3 WHERE con = ?1 AND item = ?2"
+
+abbrev pub update_version_text : List ℕ
+update_version_text = codes "UPDATE setup SET version = ?1"
 
 -- ---- DELETE of the rows of a constituency
 
@@ -86,3 +92,8 @@ rowids_text Seats = codes "SELECT rowid FROM seats ORDER BY rowid"
 rowids_text Gone = codes "SELECT rowid FROM gone ORDER BY rowid"
 rowids_text Totals = codes "SELECT rowid FROM totals ORDER BY rowid"
 rowids_text Past = codes "SELECT rowid FROM past ORDER BY rowid"
+
+-- ---- SELECT of the rows of `setup`
+
+abbrev pub all_setup_text : List ℕ
+all_setup_text = codes "SELECT id, version, text FROM setup ORDER BY id"

@@ -6,6 +6,7 @@ mod delete;
 mod insert;
 mod running;
 mod select;
+mod setup;
 mod table;
 mod update;
 
@@ -15,5 +16,6 @@ pub use insert::{
     insert_total,
 };
 pub use select::{all_rows, rowids, rows_of_key};
+pub use setup::{all_setup, insert_setup, update_version};
 pub use table::KeyedTable;
 pub use update::{update_con, update_count, update_return, update_total};

@@ -1,10 +1,11 @@
 //! UPDATE of one row by its key.
 
-ghost use Rattle.std.specs.Prelude.{◌≡◌, ◌≤◌, ◌∷◌, [], pos, if◌then◌else◌, List, ℕ};
+ghost use Rattle.std.specs.Prelude.{◌≡◌, ◌∷◌, [], pos, List, ℕ};
 ghost use Rattle.sqlite_value.specs.declared.value.Value.TheVariants.{Int, Text};
 ghost use Rattle.sqlite_value.specs.Order.{Row};
 ghost use Rattle.sqlite.specs.State.{Survives};
 ghost use Rattle.sqlite.specs.Held.{state};
+ghost use Rattle.tally_schema.specs.Cells.{flag};
 ghost use Rattle.tally_statements.specs.Office.{KeepsCommitIfClean, Replaces, SetsItem};
 ghost use Rattle.tally_statements.specs.declared.table.KeyedTable.TheVariants.{Returns, Counts, Cons, Totals};
 
@@ -65,7 +66,7 @@ pub fn update_con<S: Alter>(
     ensures same_reference { tx.new.conn.ghost_name ≡ tx.old.conn.ghost_name }
     ensures kept { KeepsCommitIfClean (state S.Store tx.old.conn.now) (state S.Store tx.new.conn.now) }
     ensures updated { (r s t : _) → Replaces Cons con.now (Text con.now ∷ r ∷ s ∷ t ∷ [])
-        (Text con.now ∷ Int (pos edition) ∷ Int (if certified then pos 1 else pos 0) ∷ Text note.now ∷ [])
+        (Text con.now ∷ Int (pos edition) ∷ Int (pos (flag certified)) ∷ Text note.now ∷ [])
         (state S.Store tx.old.conn.now) (state S.Store tx.new.conn.now) result }
     ensures survives { Survives (state S.Store tx.old.conn.now) (state S.Store tx.new.conn.now) (λ _. ⊥) }
 {

@@ -18,8 +18,8 @@ use Rattle.tally_returns.specs.declared.returns.Status.{Status}
 use Rattle.tally_returns.specs.declared.returns.Status.TheVariants.{Received, Queried, Corrected, Closed}
 use Rattle.tally_rows.specs.Cells.{text_of, number_of}
 use Rattle.tally_tables.specs.Cells.{status_number, item_row, numbered, items_of, spoiled_item, constituency_of, return_row, return_rows, count_rows}
-use Rattle.tally_tables.specs.Reading.{with_text, utf8_of, status_of, number_for, numbers_from, counts_of, return_of, place_of, entry_of, next_entry, entries_in}
-use Rattle.tally_tables.proofs.ItemLemmas.{and_then_some, map_some, if_some, text_is, number_is, number_reads, same_text, with_text_is, with_text_there, number_for_is, number_again, number_rows, numbers_are, numbers_again}
+use Rattle.tally_tables.specs.Reading.{with_text, utf8_of, status_of, item_for, items_from, counts_by, counts_of, return_of, station_of_row, entry_of, next_entry, entries_in}
+use Rattle.tally_tables.proofs.ItemLemmas.{and_then_some, map_some, if_some, text_is, number_is, number_reads, same_text, with_text_is, with_text_there, IsExact, IsRead, item_for_is, item_again, number_rows, items_are, items_again}
 
 -- ---- the first row, those between, and the last
 
@@ -50,42 +50,43 @@ last_is x y middle = ap (λ n. slice_index_or (x ∷ middle ++ y ∷ []) n []) (
 count_rows_are : (key : List ℕ) (c : VoteCounts) → map (item_row key) (items_of c) ≡ item_row key (0, c.blank) ∷ number_rows key 1 c.votes ++ item_row key (spoiled_item, c.spoiled) ∷ []
 count_rows_are key c = ap (λ l. item_row key (0, c.blank) ∷ l) (map-append (item_row key) (numbered 1 c.votes) ((spoiled_item, c.spoiled) ∷ []))
 
-pub counts_are : (key : List ℕ) (rows : List Row) (c : VoteCounts) → counts_of key rows ≡ Some c → rows ≡ map (item_row key) (items_of c)
-counts_are key rows c h =
+pub counts_are : (read : Value → Option ℕ) → IsExact read → (key : List ℕ) (rows : List Row) (c : VoteCounts) → counts_by read key rows ≡ Some c → rows ≡ map (item_row key) (items_of c)
+counts_are read exact key rows c h =
     let whole = if_some (nat_le 2 (length rows)) _ c h in
-    let blank = and_then_some _ (number_for (slice_index_or rows 0 []) key 0) c whole.1 in
-    let spoiled = and_then_some _ (number_for (slice_index_or rows (length rows - 1) []) key spoiled_item) c blank.2 in
-    let votes = map_some _ (numbers_from key 1 (slice_range rows 1 (length rows - 1))) c spoiled.2 in
+    let blank = and_then_some _ (item_for read (slice_index_or rows 0 []) key 0) c whole.1 in
+    let spoiled = and_then_some _ (item_for read (slice_index_or rows (length rows - 1) []) key spoiled_item) c blank.2 in
+    let votes = map_some _ (items_from read key 1 (slice_range rows 1 (length rows - 1))) c spoiled.2 in
     let ends = ends_of rows (omega (arith, leb-true 2 (length rows) whole.0)) in
     let same : rows ≡ item_row key (0, blank.0) ∷ number_rows key 1 votes.0 ++ item_row key (spoiled_item, spoiled.0) ∷ [] =
-    ends ∙ ap (λ r. r ∷ slice_range rows 1 (length rows - 1) ++ slice_index_or rows (length rows - 1) [] ∷ []) (number_for_is _ key 0 blank.0 blank.1)
-    ∙ ap (λ l. item_row key (0, blank.0) ∷ l ++ slice_index_or rows (length rows - 1) [] ∷ []) (numbers_are key 1 _ votes.0 votes.1)
-    ∙ ap (λ r. item_row key (0, blank.0) ∷ number_rows key 1 votes.0 ++ r ∷ []) (number_for_is _ key spoiled_item spoiled.0 spoiled.1) in
+    ends ∙ ap (λ r. r ∷ slice_range rows 1 (length rows - 1) ++ slice_index_or rows (length rows - 1) [] ∷ []) (item_for_is read exact _ key 0 blank.0 blank.1)
+    ∙ ap (λ l. item_row key (0, blank.0) ∷ l ++ slice_index_or rows (length rows - 1) [] ∷ []) (items_are read exact key 1 _ votes.0 votes.1)
+    ∙ ap (λ r. item_row key (0, blank.0) ∷ number_rows key 1 votes.0 ++ r ∷ []) (item_for_is read exact _ key spoiled_item spoiled.0 spoiled.1) in
     same ∙ ap (λ (x : VoteCounts). item_row key (0, x.blank) ∷ number_rows key 1 x.votes ++ item_row key (spoiled_item, x.spoiled) ∷ []) votes.2 ∙ sym (count_rows_are key c)
 
-pub record HasSmallNumbers (c : VoteCounts) : Type 0 where
-  pub votes : AllByRecursion (λ n. n < 2 ^ 32) c.votes
-  pub blank : c.blank < 2 ^ 32
-  pub spoiled : c.spoiled < 2 ^ 32
+-- the counts can be read again
+pub record AreRead (read : Value → Option ℕ) (c : VoteCounts) : Type 0 where
+  pub votes : AllByRecursion (IsRead read) c.votes
+  pub blank : IsRead read c.blank
+  pub spoiled : IsRead read c.spoiled
 
-counts_read : (key : List ℕ) (c : VoteCounts) (rows : List Row) → rows ≡ item_row key (0, c.blank) ∷ number_rows key 1 c.votes ++ item_row key (spoiled_item, c.spoiled) ∷ [] → HasSmallNumbers c
+counts_read : (read : Value → Option ℕ) (key : List ℕ) (c : VoteCounts) (rows : List Row) → AreRead read c
     → (slice_index_or rows 0 [] ≡ item_row key (0, c.blank)) → (slice_range rows 1 (length rows - 1) ≡ number_rows key 1 c.votes) → (slice_index_or rows (length rows - 1) [] ≡ item_row key (spoiled_item, c.spoiled)) → nat_le 2 (length rows) ≡ true
-    → counts_of key rows ≡ Some c
-counts_read key c rows is small first middle last long =
-    let read : ℕ → ℕ → List ℕ → VoteCounts = λ blank spoiled votes. record { votes = votes; blank = blank; spoiled = spoiled } in
-    ap (λ b. cond b (option_and_then (λ blank. option_and_then (λ spoiled. option_map (read blank spoiled) (numbers_from key 1 (slice_range rows 1 (length rows - 1)))) (number_for (slice_index_or rows (length rows - 1) []) key spoiled_item)) (number_for (slice_index_or rows 0 []) key 0)) None) long
-    ∙ ap (option_and_then (λ blank. option_and_then (λ spoiled. option_map (read blank spoiled) (numbers_from key 1 (slice_range rows 1 (length rows - 1)))) (number_for (slice_index_or rows (length rows - 1) []) key spoiled_item))) (ap (λ r. number_for r key 0) first ∙ number_again key 0 c.blank small.blank)
-    ∙ ap (option_and_then (λ spoiled. option_map (read c.blank spoiled) (numbers_from key 1 (slice_range rows 1 (length rows - 1))))) (ap (λ r. number_for r key spoiled_item) last ∙ number_again key spoiled_item c.spoiled small.spoiled)
-    ∙ ap (option_map (read c.blank c.spoiled)) (ap (numbers_from key 1) middle ∙ numbers_again key 1 c.votes small.votes)
+    → counts_by read key rows ≡ Some c
+counts_read read key c rows is first middle last long =
+    let made : ℕ → ℕ → List ℕ → VoteCounts = λ blank spoiled votes. record { votes = votes; blank = blank; spoiled = spoiled } in
+    ap (λ b. cond b (option_and_then (λ blank. option_and_then (λ spoiled. option_map (made blank spoiled) (items_from read key 1 (slice_range rows 1 (length rows - 1)))) (item_for read (slice_index_or rows (length rows - 1) []) key spoiled_item)) (item_for read (slice_index_or rows 0 []) key 0)) None) long
+    ∙ ap (option_and_then (λ blank. option_and_then (λ spoiled. option_map (made blank spoiled) (items_from read key 1 (slice_range rows 1 (length rows - 1)))) (item_for read (slice_index_or rows (length rows - 1) []) key spoiled_item))) (ap (λ r. item_for read r key 0) first ∙ item_again read key 0 c.blank is.blank)
+    ∙ ap (option_and_then (λ spoiled. option_map (made c.blank spoiled) (items_from read key 1 (slice_range rows 1 (length rows - 1))))) (ap (λ r. item_for read r key spoiled_item) last ∙ item_again read key spoiled_item c.spoiled is.spoiled)
+    ∙ ap (option_map (made c.blank c.spoiled)) (ap (items_from read key 1) middle ∙ items_again read key 1 c.votes is.votes)
 
-pub counts_again : (key : List ℕ) (c : VoteCounts) → HasSmallNumbers c → counts_of key (map (item_row key) (items_of c)) ≡ Some c
-counts_again key c small =
+pub counts_again : (read : Value → Option ℕ) (key : List ℕ) (c : VoteCounts) → AreRead read c → counts_by read key (map (item_row key) (items_of c)) ≡ Some c
+counts_again read key c is =
     let first = item_row key (0, c.blank) in
     let last = item_row key (spoiled_item, c.spoiled) in
     let middle = number_rows key 1 c.votes in
     let rows = first ∷ middle ++ last ∷ [] in
-    ap (counts_of key) (count_rows_are key c)
-    ∙ counts_read key c rows refl small refl (between_is first last middle) (last_is first last middle) (le-leb 2 (length rows) (omega (arith, length-append middle (last ∷ []))))
+    ap (counts_by read key) (count_rows_are key c)
+    ∙ counts_read read key c rows is refl (between_is first last middle) (last_is first last middle) (le-leb 2 (length rows) (omega (arith, length-append middle (last ∷ []))))
 
 -- ---- the row of a return
 
@@ -127,7 +128,7 @@ of_six row a b c d e f len p q r s t u = six row len ∙ (λ i. p i ∷ q i ∷ 
 code_is : (text code : List ℕ) → code_of text ≡ Some code → text ≡ code
 code_is text code h = let it = if_some (is_code text) (Some text) code h in (let k = it.1 in cc)
 
-utf8_is : (text note : List ℕ) → utf8_of text ≡ Some note → text ≡ note
+pub utf8_is : (text note : List ℕ) → utf8_of text ≡ Some note → text ≡ note
 utf8_is text note h = let it = if_some (is_utf8 text) (Some text) note h in (let k = it.1 in cc)
 
 abbrev as_return : VoteCounts → ℕ → List ℕ → Status → List ℕ → StationReturn
@@ -155,7 +156,7 @@ pub record IsReadable (standing : StationReturn) : Type 0 where
   pub rev : standing.rev < 2 ^ 32
   pub slip : is_code standing.slip ≡ true
   pub note : is_utf8 standing.note ≡ true
-  pub counts : HasSmallNumbers standing.counts
+  pub counts : AreRead number_of standing.counts
 
 pub return_again : (station con : List ℕ) (standing : StationReturn) → IsReadable standing → return_of station con standing.counts (return_row con (station, standing)) ≡ Some standing
 return_again station con standing fine =
@@ -176,11 +177,11 @@ entry_is con station row counts e h =
     let standing = map_some _ (return_of station con c.0 row) e c.2 in
     let first = return_is station con c.0 row standing.0 standing.1 in
     subst (λ (x : List ℕ × StationReturn). (x.0 ≡ station) × (row ≡ return_row con x) × (counts ≡ count_rows x)) standing.2
-    (refl, first.0, counts_are station counts c.0 c.1 ∙ ap (λ (v : VoteCounts). map (item_row station) (items_of v)) first.1)
+    (refl, first.0, counts_are number_of number_is station counts c.0 c.1 ∙ ap (λ (v : VoteCounts). map (item_row station) (items_of v)) first.1)
 
 pub entry_again : (con : List ℕ) (e : List ℕ × StationReturn) → IsReadable e.1 → entry_of con e.0 (return_row con e) (count_rows e) ≡ Some e
 entry_again con e fine =
-    ap (option_and_then (λ counts. option_map (λ standing. (e.0, standing)) (return_of e.0 con counts (return_row con e)))) (counts_again e.0 e.1.counts fine.counts)
+    ap (option_and_then (λ counts. option_map (λ standing. (e.0, standing)) (return_of e.0 con counts (return_row con e)))) (counts_again number_of e.0 e.1.counts fine.counts)
     ∙ ap (option_map (λ standing. (e.0, standing))) (return_again e.0 con e.1 fine)
 
 -- ---- all returns
@@ -188,7 +189,7 @@ entry_again con e fine =
 constituency_is : (setup : List Constituency) (station : List ℕ) (place : Constituency × Station) → station_with station setup ≡ Some place → constituency_of setup station ≡ place.0.code
 constituency_is setup station place found = ap (λ o. Rattle.std.specs.Option.option_map_or (λ (p : Constituency × Station). p.0.code) o []) found
 
-placed : (setup : List Constituency) (row : Row) (station : List ℕ) (place : Constituency × Station) → column row 0 ≡ Text station → place_of setup row ≡ Some place → station_with station setup ≡ Some place
+placed : (setup : List Constituency) (row : Row) (station : List ℕ) (place : Constituency × Station) → column row 0 ≡ Text station → station_of_row setup row ≡ Some place → station_with station setup ≡ Some place
 placed setup row station place is h =
     let here : option_and_then (λ code. station_with code setup) (code_of station) ≡ Some place = ap (λ v. option_and_then (λ code. station_with code setup) (option_and_then code_of (text_of v))) (sym is) ∙ h in
     let code = and_then_some (λ code. station_with code setup) (code_of station) place here in
@@ -203,7 +204,7 @@ pub entries_are : (setup : List Constituency) (rows counts : List Row) (es : Lis
 entries_are setup [] [] es h = let e : ◌≡◌ {A = List (List ℕ × StationReturn)} [] es = (let k = h in cc) in subst (AreRows setup [] []) e (record { rows_are = refl; counts_are = refl })
 entries_are setup [] (c ∷ counts) es h = absurd (let e = h in cc)
 entries_are setup (row ∷ rows) counts es h =
-    let place = and_then_some _ (place_of setup row) es h in
+    let place = and_then_some _ (station_of_row setup row) es h in
     let con = place.0.0 in
     let items = length con.lists + 2 in
     let long = if_some (nat_le items (length counts)) _ es place.2 in
@@ -227,7 +228,7 @@ pub record IsPlaced (setup : List Constituency) (e : List ℕ × StationReturn) 
   pub lists : length e.1.counts.votes ≡ length place.0.lists
   pub fine : IsReadable e.1
 
-length_numbered : (first : ℕ) (ns : List ℕ) → length (numbered first ns) ≡ length ns
+pub length_numbered : (first : ℕ) (ns : List ℕ) → length (numbered first ns) ≡ length ns
 length_numbered first [] = refl
 length_numbered first (n ∷ ns) = omega (arith, length_numbered (first + 1) ns)
 
@@ -235,7 +236,7 @@ length_count_rows : (e : List ℕ × StationReturn) → length (count_rows e) �
 length_count_rows e =
     length-map (items_of e.1.counts) (item_row e.0) ∙ omega (arith, length-append (numbered 1 e.1.counts.votes) ((spoiled_item, e.1.counts.spoiled) ∷ []), length_numbered 1 e.1.counts.votes)
 
-place_again : (setup : List Constituency) (con : List ℕ) (e : List ℕ × StationReturn) (h : IsPlaced setup e) → place_of setup (return_row con e) ≡ Some h.place
+place_again : (setup : List Constituency) (con : List ℕ) (e : List ℕ × StationReturn) (h : IsPlaced setup e) → station_of_row setup (return_row con e) ≡ Some h.place
 place_again setup con e h = ap (λ b. option_and_then (λ code. station_with code setup) (cond b (Some e.0) None)) h.code ∙ h.found
 
 next_again : (others : List Row → Option (List (List ℕ × StationReturn))) (setup : List Constituency) (e : List ℕ × StationReturn) (h : IsPlaced setup e) (counts : List Row) (es : List (List ℕ × StationReturn)) → others counts ≡ Some es
@@ -276,16 +277,16 @@ reading_starts setup rows counts = go (entries_in setup rows counts)
     go (Some es) = refl
 
 -- the row at a place of the loop, by the station that it names
-at_row : (setup : List Constituency) (so_far : List (List ℕ × StationReturn)) (rows counts : List Row) (i : ℕ) (row : Row) (o : Option (Constituency × Station)) → i < length rows → row ≡ get_or rows i row → o ≡ place_of setup row
+at_row : (setup : List Constituency) (so_far : List (List ℕ × StationReturn)) (rows counts : List Row) (i : ℕ) (row : Row) (o : Option (Constituency × Station)) → i < length rows → row ≡ get_or rows i row → o ≡ station_of_row setup row
     → Reading setup so_far (drop i rows) counts ≡ option_map (λ es. so_far ++ es) (option_and_then (λ place. next_entry (entries_in setup (drop (i + 1) rows)) (length place.0.lists + 2) place row counts) o)
 at_row setup so_far rows counts i row o low at is =
     ap (λ l. Reading setup so_far l counts) (drop_more rows i row low ∙ ap (λ r. r ∷ drop (i + 1) rows) (sym at))
     ∙ ap (λ p. option_map (λ es. so_far ++ es) (option_and_then (λ (place : Constituency × Station). next_entry (entries_in setup (drop (i + 1) rows)) (length place.0.lists + 2) place row counts) p)) (sym is)
 
-pub no_place : (setup : List Constituency) (so_far : List (List ℕ × StationReturn)) (rows counts : List Row) (i : ℕ) (row : Row) → i < length rows → row ≡ get_or rows i row → None ≡ place_of setup row → Reading setup so_far (drop i rows) counts ≡ None
+pub no_place : (setup : List Constituency) (so_far : List (List ℕ × StationReturn)) (rows counts : List Row) (i : ℕ) (row : Row) → i < length rows → row ≡ get_or rows i row → None ≡ station_of_row setup row → Reading setup so_far (drop i rows) counts ≡ None
 no_place setup so_far rows counts i row low at is = at_row setup so_far rows counts i row None low at is
 
-pub too_few : (setup : List Constituency) (so_far : List (List ℕ × StationReturn)) (rows counts : List Row) (i : ℕ) (row : Row) (place : Constituency × Station) → i < length rows → row ≡ get_or rows i row → Some place ≡ place_of setup row
+pub too_few : (setup : List Constituency) (so_far : List (List ℕ × StationReturn)) (rows counts : List Row) (i : ℕ) (row : Row) (place : Constituency × Station) → i < length rows → row ≡ get_or rows i row → Some place ≡ station_of_row setup row
     → length counts < length place.0.lists + 2 → Reading setup so_far (drop i rows) counts ≡ None
 too_few setup so_far rows counts i row place low at is few =
     at_row setup so_far rows counts i row (Some place) low at is
@@ -293,18 +294,18 @@ too_few setup so_far rows counts i row place low at is few =
 
 -- with rows enough of `counts`
 with_entry : (setup : List Constituency) (so_far : List (List ℕ × StationReturn)) (rows counts : List Row) (i : ℕ) (row : Row) (place : Constituency × Station) (o : Option (List ℕ × StationReturn)) → i < length rows → row ≡ get_or rows i row
-    → Some place ≡ place_of setup row → length place.0.lists + 2 ≤ length counts → o ≡ entry_of place.0.code place.1.code row (take (length place.0.lists + 2) counts)
+    → Some place ≡ station_of_row setup row → length place.0.lists + 2 ≤ length counts → o ≡ entry_of place.0.code place.1.code row (take (length place.0.lists + 2) counts)
     → Reading setup so_far (drop i rows) counts ≡ option_map (λ es. so_far ++ es) (option_and_then (λ x. option_map (λ l. x ∷ l) (entries_in setup (drop (i + 1) rows) (drop (length place.0.lists + 2) counts))) o)
 with_entry setup so_far rows counts i row place o low at is enough e =
     at_row setup so_far rows counts i row (Some place) low at is
     ∙ ap (λ b. option_map (λ es. so_far ++ es) (cond b (option_and_then (λ x. option_map (λ l. x ∷ l) (entries_in setup (drop (i + 1) rows) (drop (length place.0.lists + 2) counts))) (entry_of place.0.code place.1.code row (take (length place.0.lists + 2) counts))) None)) (le-leb (length place.0.lists + 2) (length counts) enough)
     ∙ ap (λ p. option_map (λ es. so_far ++ es) (option_and_then (λ x. option_map (λ l. x ∷ l) (entries_in setup (drop (i + 1) rows) (drop (length place.0.lists + 2) counts))) p)) (sym e)
 
-pub no_entry : (setup : List Constituency) (so_far : List (List ℕ × StationReturn)) (rows counts : List Row) (i : ℕ) (row : Row) (place : Constituency × Station) → i < length rows → row ≡ get_or rows i row → Some place ≡ place_of setup row
+pub no_entry : (setup : List Constituency) (so_far : List (List ℕ × StationReturn)) (rows counts : List Row) (i : ℕ) (row : Row) (place : Constituency × Station) → i < length rows → row ≡ get_or rows i row → Some place ≡ station_of_row setup row
     → length place.0.lists + 2 ≤ length counts → None ≡ entry_of place.0.code place.1.code row (take (length place.0.lists + 2) counts) → Reading setup so_far (drop i rows) counts ≡ None
 no_entry setup so_far rows counts i row place low at is enough e = with_entry setup so_far rows counts i row place None low at is enough e
 
-pub one_entry : (setup : List Constituency) (so_far : List (List ℕ × StationReturn)) (rows counts : List Row) (i : ℕ) (row : Row) (place : Constituency × Station) (e : List ℕ × StationReturn) → i < length rows → row ≡ get_or rows i row → Some place ≡ place_of setup row
+pub one_entry : (setup : List Constituency) (so_far : List (List ℕ × StationReturn)) (rows counts : List Row) (i : ℕ) (row : Row) (place : Constituency × Station) (e : List ℕ × StationReturn) → i < length rows → row ≡ get_or rows i row → Some place ≡ station_of_row setup row
     → length place.0.lists + 2 ≤ length counts → Some e ≡ entry_of place.0.code place.1.code row (take (length place.0.lists + 2) counts)
     → Reading setup so_far (drop i rows) counts ≡ Reading setup (so_far ++ e ∷ []) (drop (i + 1) rows) (drop (length place.0.lists + 2) counts)
 one_entry setup so_far rows counts i row place e low at is enough found =

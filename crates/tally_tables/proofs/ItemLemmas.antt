@@ -8,10 +8,9 @@ use Rattle.std.proofs.lemmas.Slice.Eq.{bytes_eq-Decides}
 use Rattle.sqlite_value.specs.declared.value.Value.{Value}
 use Rattle.sqlite_value.specs.declared.value.Value.TheVariants.{Null, Int, Real, Text, Blob}
 use Rattle.sqlite_value.specs.Order.{Row, column}
-use Rattle.tally_returns.specs.Counts.{VoteCounts}
 use Rattle.tally_rows.specs.Cells.{text_of, number_of, wide_number_of}
-use Rattle.tally_tables.specs.Cells.{item_row, items_of, numbered, spoiled_item}
-use Rattle.tally_tables.specs.Reading.{has_text, with_text, number_for, numbers_from, counts_of}
+use Rattle.tally_tables.specs.Cells.{item_row, numbered}
+use Rattle.tally_tables.specs.Reading.{has_text, with_text, item_for, items_from}
 
 -- ---- steps that gave a value
 
@@ -82,8 +81,16 @@ with_text_is row place text read x h = let it = if_some (has_text row place text
 pub with_text_there : {X : Type 0} (row : Row) (place : ℕ) (text : List ℕ) (read : Option X) → column row place ≡ Text text → with_text row place text read ≡ read
 with_text_there row place text read is = ap (λ v. cond (option_map_or (λ found. bytes_eq found text) (text_of v) false) read None) is ∙ ap (λ b. cond b read None) (same_text text)
 
-pub number_for_is : (row : Row) (key : List ℕ) (item n : ℕ) → number_for row key item ≡ Some n → row ≡ item_row key (item, n)
-number_for_is row key item n h =
+-- what reads as a number is that number
+abbrev pub IsExact : (Value → Option ℕ) → Type 0
+IsExact read = (v : Value) (n : ℕ) → read v ≡ Some n → v ≡ Int (pos n)
+
+-- the number can be read again
+abbrev pub IsRead : (Value → Option ℕ) → ℕ → Type 0
+IsRead read n = read (Int (pos n)) ≡ Some n
+
+pub item_for_is : (read : Value → Option ℕ) → IsExact read → (row : Row) (key : List ℕ) (item n : ℕ) → item_for read row key item ≡ Some n → row ≡ item_row key (item, n)
+item_for_is read exact row key item n h =
     let whole = if_some (length row == 3) _ n h in
     let text = with_text_is row 0 key _ n whole.1 in
     let at = and_then_some _ (wide_number_of (column row 1)) n text.1 in
@@ -91,27 +98,27 @@ number_for_is row key item n h =
     of_three row (Text key) (Int (pos item)) (Int (pos n)) whole.0
     text.0
     (wide_number_is _ _ at.1 ∙ ap (λ x. Int (pos x)) (eqb-true at.0 item same.0))
-    (number_is _ _ same.1)
+    (exact _ _ same.1)
 
-pub number_again : (key : List ℕ) (item n : ℕ) → n < 2 ^ 32 → number_for (item_row key (item, n)) key item ≡ Some n
-number_again key item n small =
-    ap (λ b. cond b (cond (item == item) (number_of (Int (pos n))) None) None) (same_text key)
-    ∙ ap (λ b. cond b (number_of (Int (pos n))) None) (eq-eqb item item refl) ∙ number_reads n small
+pub item_again : (read : Value → Option ℕ) (key : List ℕ) (item n : ℕ) → IsRead read n → item_for read (item_row key (item, n)) key item ≡ Some n
+item_again read key item n is =
+    ap (λ b. cond b (cond (item == item) (read (Int (pos n))) None) None) (same_text key)
+    ∙ ap (λ b. cond b (read (Int (pos n))) None) (eq-eqb item item refl) ∙ is
 
 -- ---- rows of numbers
 
 abbrev pub number_rows : List ℕ → ℕ → List ℕ → List Row
 number_rows key first ns = map (item_row key) (numbered first ns)
 
-pub numbers_are : (key : List ℕ) (first : ℕ) (rows : List Row) (ns : List ℕ) → numbers_from key first rows ≡ Some ns → rows ≡ number_rows key first ns
-numbers_are key first [] ns h = let e : ◌≡◌ {A = List ℕ} [] ns = (let k = h in cc) in subst (λ l. [] ≡ number_rows key first l) e refl
-numbers_are key first (row ∷ rows) ns h =
-    let one = and_then_some _ (number_for row key first) ns h in
-    let rest = map_some _ (numbers_from key (first + 1) rows) ns one.2 in
-    subst (λ l. row ∷ rows ≡ number_rows key first l) rest.2 (ap₂ (λ r l. r ∷ l) (number_for_is row key first one.0 one.1) (numbers_are key (first + 1) rows rest.0 rest.1))
+pub items_are : (read : Value → Option ℕ) → IsExact read → (key : List ℕ) (first : ℕ) (rows : List Row) (ns : List ℕ) → items_from read key first rows ≡ Some ns → rows ≡ number_rows key first ns
+items_are read exact key first [] ns h = let e : ◌≡◌ {A = List ℕ} [] ns = (let k = h in cc) in subst (λ l. [] ≡ number_rows key first l) e refl
+items_are read exact key first (row ∷ rows) ns h =
+    let one = and_then_some _ (item_for read row key first) ns h in
+    let rest = map_some _ (items_from read key (first + 1) rows) ns one.2 in
+    subst (λ l. row ∷ rows ≡ number_rows key first l) rest.2 (ap₂ (λ r l. r ∷ l) (item_for_is read exact row key first one.0 one.1) (items_are read exact key (first + 1) rows rest.0 rest.1))
 
-pub numbers_again : (key : List ℕ) (first : ℕ) (ns : List ℕ) → AllByRecursion (λ n. n < 2 ^ 32) ns → numbers_from key first (number_rows key first ns) ≡ Some ns
-numbers_again key first [] small = refl
-numbers_again key first (n ∷ ns) small =
-    ap (option_and_then (λ m. option_map (λ l. m ∷ l) (numbers_from key (first + 1) (number_rows key (first + 1) ns)))) (number_again key first n small.0)
-    ∙ ap (option_map (λ l. n ∷ l)) (numbers_again key (first + 1) ns small.1)
+pub items_again : (read : Value → Option ℕ) (key : List ℕ) (first : ℕ) (ns : List ℕ) → AllByRecursion (IsRead read) ns → items_from read key first (number_rows key first ns) ≡ Some ns
+items_again read key first [] is = refl
+items_again read key first (n ∷ ns) is =
+    ap (option_and_then (λ m. option_map (λ l. m ∷ l) (items_from read key (first + 1) (number_rows key (first + 1) ns)))) (item_again read key first n is.0)
+    ∙ ap (option_map (λ l. n ∷ l)) (items_again read key (first + 1) ns is.1)

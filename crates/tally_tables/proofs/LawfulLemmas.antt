@@ -1,6 +1,6 @@
 -- The return of a lawful state can be read again.
-use Rattle.std.proofs.Common.{◌≡◌, ◌<◌, ◌≤◌, ◌^◌, ◌&&◌, ℕ, Bool, true, false, cond, Option, Some, None, List, [], ◌∷◌, length, refl, sym, ap, subst, ◌∙◌, arith}
-use Rattle.std.specs.Prelude.{option_map, nat_le, ◌==◌}
+use Rattle.std.proofs.Common.{◌≡◌, ◌&&◌, ℕ, Bool, true, false, cond, Some, List, [], ◌∷◌, length, refl, sym, ap, subst, ◌∙◌, arith}
+use Rattle.std.specs.Prelude.{◌==◌}
 use Rattle.std.specs.List.{AllByRecursion, list_all, find}
 use Rattle.std.specs.Str.{bytes_eq, is_utf8, chars}
 use Rattle.std.proofs.lemmas.Bool.{and_parts, eqb-true, leb-true}
@@ -16,27 +16,28 @@ use Rattle.tally_returns.specs.Lawful.{IsLawful, may_stand}
 use Rattle.tally_returns.specs.Lodge.{StationLimits}
 use Rattle.tally_returns.specs.Return.{StationReturn}
 use Rattle.tally_returns.specs.State.{stations_of}
-use Rattle.tally_tables.proofs.ItemLemmas.{map_some}
-use Rattle.tally_tables.proofs.EntryLemmas.{HasSmallNumbers, IsReadable, IsPlaced}
+use Rattle.tally_rows.specs.Cells.{number_of}
+use Rattle.tally_tables.proofs.ItemLemmas.{map_some, number_reads, IsRead}
+use Rattle.tally_tables.proofs.EntryLemmas.{AreRead, IsPlaced}
 
-numbers_small : (ns : List ℕ) → list_all is_number ns ≡ true → AllByRecursion (λ n. n < 2 ^ 32) ns
+numbers_small : (ns : List ℕ) → list_all is_number ns ≡ true → AllByRecursion (IsRead number_of) ns
 numbers_small [] h = tt
 numbers_small (n ∷ ns) h =
     let parts = and_parts (is_number n) (list_all is_number ns) h in
-    (omega (arith, leb-true n 1000000 parts.0), numbers_small ns parts.1)
+    (number_reads n (omega (arith, leb-true n 1000000 parts.0)), numbers_small ns parts.1)
 
-counts_fit : (lists : ℕ) (c : VoteCounts) → are_counts lists c ≡ true → (length c.votes ≡ lists) × HasSmallNumbers c
+counts_fit : (lists : ℕ) (c : VoteCounts) → are_counts lists c ≡ true → (length c.votes ≡ lists) × AreRead number_of c
 counts_fit lists c h =
     let spoiled = and_parts ((length c.votes == lists) && list_all is_number c.votes && is_number c.blank) (is_number c.spoiled) h in
     let blank = and_parts ((length c.votes == lists) && list_all is_number c.votes) (is_number c.blank) spoiled.0 in
     let votes = and_parts (length c.votes == lists) (list_all is_number c.votes) blank.0 in
-    (eqb-true (length c.votes) lists votes.0, record { votes = numbers_small c.votes votes.1; blank = omega (arith, leb-true c.blank 1000000 blank.1); spoiled = omega (arith, leb-true c.spoiled 1000000 spoiled.1) })
+    (eqb-true (length c.votes) lists votes.0, record { votes = numbers_small c.votes votes.1; blank = number_reads c.blank (omega (arith, leb-true c.blank 1000000 blank.1)); spoiled = number_reads c.spoiled (omega (arith, leb-true c.spoiled 1000000 spoiled.1)) })
 
 nothing_is_text : is_utf8 [] ≡ true
 unfolding is_utf8 chars
 nothing_is_text = refl
 
-note_is_text : (note : List ℕ) → may_stand note ≡ true → is_utf8 note ≡ true
+pub note_is_text : (note : List ℕ) → may_stand note ≡ true → is_utf8 note ≡ true
 note_is_text [] h = nothing_is_text
 note_is_text (byte ∷ note) h = (and_parts (is_note (byte ∷ note)) (is_utf8 (byte ∷ note)) h).1
 

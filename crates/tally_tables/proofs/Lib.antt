@@ -1,8 +1,8 @@
 pub mod ReadAllLemmas
-pub mod AllLemmas
 pub mod Utf8Lemmas
 pub mod ItemLemmas
 pub mod EntryLemmas
+pub mod PastLemmas
+pub mod ConLemmas
+pub mod FoundLemmas
 pub mod LawfulLemmas
-pub mod OrderLemmas
-pub mod JudgeLemmas

@@ -1,5 +1,5 @@
 -- The tables of a state: the rows that each entry of its maps has in each table, without their rowids.
-use Rattle.std.specs.Prelude.{◌+◌, ℕ, pos, Bool, if◌then◌else◌, List, [], ◌∷◌, ◌++◌, length, map, slice_index}
+use Rattle.std.specs.Prelude.{◌+◌, ℕ, pos, List, [], ◌∷◌, ◌++◌, length, map, slice_index}
 use Rattle.std.specs.List.{flat_map}
 use Rattle.std.specs.Option.{option_map_or}
 use Rattle.std.specs.FinMap.{entries}
@@ -13,6 +13,7 @@ use Rattle.tally_returns.specs.Return.{StationReturn, Returns}
 use Rattle.tally_returns.specs.declared.returns.Status.{Status}
 use Rattle.tally_returns.specs.declared.returns.Status.TheVariants.{Received, Queried, Corrected, Closed}
 use Rattle.tally_returns.specs.State.{ConState}
+use Rattle.tally_schema.specs.Cells.{flag}
 use Rattle.tally_returns.specs.View.{closed_counts, votes_of_lists, blank_of, spoiled_of}
 
 -- the number of a status
@@ -56,9 +57,6 @@ abbrev pub count_rows : List ℕ × StationReturn → List Row
 count_rows e = map (item_row e.0) (items_of e.1.counts)
 
 -- ---- constituencies
-
-abbrev pub flag : Bool → ℕ
-flag certified = if certified then 1 else 0
 
 abbrev pub con_rows : List ℕ × ConState → List Row
 con_rows e = (Text e.0 ∷ Int (pos e.1.edition) ∷ Int (pos (flag e.1.certified)) ∷ Text e.1.note ∷ []) ∷ []

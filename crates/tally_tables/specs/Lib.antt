@@ -1,3 +1,4 @@
 pub mod Cells
 pub mod Reading
-pub mod Judge
+pub mod Views
+pub mod TablesOfState

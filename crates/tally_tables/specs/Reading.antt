@@ -1,8 +1,9 @@
--- What rows read as. Each reading gives what a lawful state may have, or nothing.
-use Rattle.std.specs.Prelude.{◌==◌, ◌+◌, ◌-◌, if◌then◌else◌, ℕ, nat_le, Bool, true, false, Option, Some, None, option_map, option_and_then, List, [], ◌∷◌, length, bytes_eq, slice_index_or, slice_range, take, drop}
+-- What rows read as, or nothing. Whether what they read as is lawful is judged apart.
+use Rattle.std.specs.Prelude.{◌==◌, ◌+◌, ◌-◌, if◌then◌else◌, ℕ, zero, suc, nat_le, Bool, true, false, Option, Some, None, option_map, option_and_then, List, [], ◌∷◌, length, bytes_eq, slice_index_or, slice_range, take, drop}
 use Rattle.std.specs.Option.{option_map_or}
 use Rattle.std.specs.Str.{is_utf8}
 use Rattle.sqlite_value.specs.Order.{Row, column}
+use Rattle.sqlite_value.specs.declared.value.Value.{Value}
 use Rattle.tally_rows.specs.Cells.{text_of, number_of, wide_number_of}
 use Rattle.tally_rules.specs.Code.{code_of}
 use Rattle.tally_rules.specs.Constituency.{Constituency}
@@ -10,6 +11,7 @@ use Rattle.tally_rules.specs.Setup.{station_with}
 use Rattle.tally_rules.specs.declared.constituency.Station.{Station}
 use Rattle.tally_returns.specs.Counts.{VoteCounts}
 use Rattle.tally_returns.specs.GoneCandidate.{GoneCandidate}
+use Rattle.tally_returns.specs.PastSeats.{PastSeats}
 use Rattle.tally_returns.specs.Return.{StationReturn}
 use Rattle.tally_returns.specs.declared.returns.Status.{Status}
 use Rattle.tally_returns.specs.declared.returns.Status.TheVariants.{Received, Queried, Corrected, Closed}
@@ -40,18 +42,33 @@ read_all read first (row ∷ rows) = option_and_then (λ x. option_map (λ xs. x
 
 -- ---- rows of a key, an item and a number
 
--- the number that a row has for this item of a key, where it is such a row
-abbrev pub number_for : Row → List ℕ → ℕ → Option ℕ
-number_for row key item = if length row == 3 then with_text row 0 key (option_and_then (λ i. if i == item then number_of (column row 2) else None) (wide_number_of (column row 1))) else None
+-- the number that a row has for this item of a key, where it is such a row and its number is read so
+abbrev pub item_for : (Value → Option ℕ) → Row → List ℕ → ℕ → Option ℕ
+item_for read row key item = if length row == 3 then with_text row 0 key (option_and_then (λ i. if i == item then read (column row 2) else None) (wide_number_of (column row 1))) else None
 
 -- the numbers of the items from this one on, one row for each and in order
+abbrev pub items_from : (Value → Option ℕ) → List ℕ → ℕ → List Row → Option (List ℕ)
+items_from read key = read_all (λ item row. item_for read row key item)
+
+-- the blank votes, those of each list and the spoiled ones, one row for each and in order
+abbrev pub counts_by : (Value → Option ℕ) → List ℕ → List Row → Option VoteCounts
+counts_by read key rows =
+    if nat_le 2 (length rows) then option_and_then (λ blank. option_and_then (λ spoiled. option_map (λ votes. record { votes = votes; blank = blank; spoiled = spoiled }) (items_from read key 1 (slice_range rows 1 (length rows - 1)))) (item_for read (slice_index_or rows (length rows - 1) []) key spoiled_item)) (item_for read (slice_index_or rows 0 []) key 0) else None
+
+-- numbers of 32 bits
+abbrev pub number_for : Row → List ℕ → ℕ → Option ℕ
+number_for = item_for number_of
+
 abbrev pub numbers_from : List ℕ → ℕ → List Row → Option (List ℕ)
-numbers_from key = read_all (λ item row. number_for row key item)
+numbers_from = items_from number_of
 
 -- the counts whose rows these are
 abbrev pub counts_of : List ℕ → List Row → Option VoteCounts
-counts_of key rows =
-    if nat_le 2 (length rows) then option_and_then (λ blank. option_and_then (λ spoiled. option_map (λ votes. record { votes = votes; blank = blank; spoiled = spoiled }) (numbers_from key 1 (slice_range rows 1 (length rows - 1)))) (number_for (slice_index_or rows (length rows - 1) []) key spoiled_item)) (number_for (slice_index_or rows 0 []) key 0) else None
+counts_of = counts_by number_of
+
+-- the sums of counts whose rows these are: numbers of any size
+abbrev pub sums_of : List ℕ → List Row → Option VoteCounts
+sums_of = counts_by wide_number_of
 
 -- ---- rows of returns
 
@@ -61,8 +78,8 @@ return_of station con counts row =
     if length row == 6 then with_text row 0 station (with_text row 1 con (option_and_then (λ rev. option_and_then (λ slip. option_and_then (λ status. option_map (λ note. record { rev = rev; slip = slip; status = status; note = note; counts = counts }) (option_and_then utf8_of (text_of (column row 5)))) (option_and_then status_of (number_of (column row 4)))) (option_and_then code_of (text_of (column row 3)))) (number_of (column row 2)))) else None
 
 -- the station that a row of `returns` names, with its constituency
-abbrev pub place_of : List Constituency → Row → Option (Constituency × Station)
-place_of setup row = option_and_then (λ code. station_with code setup) (option_and_then code_of (text_of (column row 0)))
+abbrev pub station_of_row : List Constituency → Row → Option (Constituency × Station)
+station_of_row setup row = option_and_then (λ code. station_with code setup) (option_and_then code_of (text_of (column row 0)))
 
 -- the return of a station of a constituency whose rows these are
 abbrev pub entry_of : List ℕ → List ℕ → Row → List Row → Option (List ℕ × StationReturn)
@@ -73,11 +90,11 @@ abbrev pub next_entry : (List Row → Option (List (List ℕ × StationReturn)))
 next_entry others items place row counts =
     if nat_le items (length counts) then option_and_then (λ e. option_map (λ es. e ∷ es) (others (drop items counts))) (entry_of place.0.code place.1.code row (take items counts)) else None
 
--- the returns whose rows the two tables hold, in the order of their keys: for each row of `returns` a row of `counts` for each list and two more
+-- the returns whose rows the two tables hold, one after the other: for each row of `returns` a row of `counts` for each list and two more
 abbrev pub entries_in : List Constituency → List Row → List Row → Option (List (List ℕ × StationReturn))
 entries_in setup [] [] = Some []
 entries_in setup [] (count ∷ counts) = None
-entries_in setup (row ∷ rows) counts = option_and_then (λ place. next_entry (entries_in setup rows) (length place.0.lists + 2) place row counts) (place_of setup row)
+entries_in setup (row ∷ rows) counts = option_and_then (λ place. next_entry (entries_in setup rows) (length place.0.lists + 2) place row counts) (station_of_row setup row)
 
 -- ---- rows of constituencies
 
@@ -109,3 +126,20 @@ past_for con edition place row =
 
 abbrev pub past_from : List ℕ → ℕ → ℕ → List Row → Option (List ℕ)
 past_from con edition = read_all (λ place row. past_for con edition place row)
+
+-- the certificate whose rows these are, one for each list
+abbrev pub record_of : List ℕ → List Row → Option PastSeats
+record_of con rows = option_and_then (λ edition. option_map (λ seats. record { edition = edition; seats = seats }) (past_from con edition 1 rows)) (number_of (column (slice_index_or rows 0 []) 1))
+
+-- the first certificate, by so many rows, and those that the other rows read as
+abbrev pub next_record : (List Row → Option (List PastSeats)) → List ℕ → ℕ → List Row → Option (List PastSeats)
+next_record others con lists rows = if nat_le lists (length rows) then option_and_then (λ r. option_map (λ rs. r ∷ rs) (others (drop lists rows))) (record_of con (take lists rows)) else None
+
+-- the certificates whose rows these are, at most so many: of each a row for each list
+abbrev pub records_of : List ℕ → ℕ → ℕ → List Row → Option (List PastSeats)
+records_of con lists most [] = Some []
+records_of con lists zero (row ∷ rows) = None
+records_of con lists (suc most) (row ∷ rows) = next_record (records_of con lists most) con lists (row ∷ rows)
+
+abbrev pub past_of : List ℕ → ℕ → List Row → Option (List PastSeats)
+past_of con lists rows = records_of con lists (length rows) rows

@@ -10,7 +10,7 @@ use tally_returns::Counts;
 use tally_rows::{number_at, wide_number_at};
 
 /// The item of the spoiled votes.
-const SPOILED_ITEM: u64 = 61;
+pub(crate) const SPOILED_ITEM: u64 = 61;
 
 /// The number that a row has for this item of a key, where it is such a row.
 fn number_for(row: &Row, key: &[u8], item: u64) -> Option<u32>

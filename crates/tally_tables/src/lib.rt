@@ -3,13 +3,21 @@
 
 mod columns;
 mod constituencies;
+mod found;
 mod items;
-mod judge;
+mod parts;
+mod past;
 mod returns;
 mod statuses;
+mod sums;
+mod views;
 
 pub use constituencies::{Standing, all_gone_in, standing_in};
+pub use found::{ConFound, views_from};
 pub use items::{counts_in, numbers_in};
-pub use judge::{are_lawful, stations_rise};
+pub use parts::ConTables;
+pub use past::past_in;
 pub use returns::{Entry, entries_in};
 pub use statuses::{status_number, status_of};
+pub use sums::{Sums, sums_in};
+pub use views::{Statuses, view_in};

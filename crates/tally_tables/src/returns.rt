@@ -2,7 +2,7 @@
 
 ghost use Rattle.std.specs.Prelude.{◌≡◌, IfOk, option_map};
 ghost use Rattle.tally_returns.specs.Counts.{VoteCounts};
-ghost use Rattle.tally_tables.specs.Reading.{entries_in, entry_of, place_of, return_of};
+ghost use Rattle.tally_tables.specs.Reading.{entries_in, entry_of, station_of_row, return_of};
 
 use crate::columns::{has_text, note_in};
 use crate::items::counts_in;
@@ -80,8 +80,8 @@ impl Model for Entry {
 }
 
 /// The station that a row of `returns` names, with its constituency.
-fn place_of<'a>(setup: &'a Setup, row: &Row) -> Option<(&'a Constituency, &'a Station)>
-    ensures { option_map (λ place. (place.0.now, place.1.now)) result ≡ place_of setup.now row.now }
+fn station_of_row<'a>(setup: &'a Setup, row: &Row) -> Option<(&'a Constituency, &'a Station)>
+    ensures { option_map (λ place. (place.0.now, place.1.now)) result ≡ station_of_row setup.now row.now }
 {
     setup.station(Code::new(text_at(row, 0)?)?)
 }
@@ -103,7 +103,7 @@ fn entry_of(
     Ok(found.map(|standing| Entry { station, standing }))
 }
 
-/// The returns whose rows the two tables hold, in the order of their keys, if they hold such rows.
+/// The returns whose rows the two tables hold, one after the other, if they hold such rows.
 pub fn entries_in(
     alloc: Global,
     setup: &Setup,
@@ -115,7 +115,7 @@ pub fn entries_in(
     let mut entries = Vec::new(alloc);
     let mut left = counts;
     for row in rows {
-        let Some((con, station)) = place_of(setup, row) else {
+        let Some((con, station)) = station_of_row(setup, row) else {
             return Ok(None);
         };
         let items = con.lists.len() + 2;

@@ -1,14 +1,14 @@
 //! The numbers of statuses.
 
-ghost use Rattle.std.specs.Prelude.{◌≡◌, pos};
+ghost use Rattle.std.specs.Prelude.{◌≡◌};
 ghost use Rattle.tally_tables.specs.Cells.{status_number};
 ghost use Rattle.tally_tables.specs.Reading.{status_of};
 
 use tally_returns::Status;
 
 /// The number of a status in a table.
-pub fn status_number(status: Status) -> i64
-    ensures { result ≡ pos (status_number status) }
+pub fn status_number(status: Status) -> u32
+    ensures { result ≡ status_number status }
 {
     match status {
         Status::Received => 1,

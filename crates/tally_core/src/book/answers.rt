@@ -1,13 +1,11 @@
 //! What a keeper in memory answers.
 
 ghost use Rattle.std.specs.Prelude.{◌≡◌, ◌⊎◌, true, false, Some, Err, IsSome};
-ghost use Rattle.tally_core.specs.Held.{IsAnsweredInMemory, IsHeld, IsLodged, IsMoved, is_query};
+ghost use Rattle.tally_core.specs.Held.{IsAnsweredInMemory, IsHeld, IsLodged, IsMoved, is_query, lodge_answer_in, moves_return};
 ghost use Rattle.tally_ledger.specs.Kept.{state_in, with_no_lot};
-ghost use Rattle.tally_returns.specs.Lodge.{lodge_answer};
 ghost use Rattle.tally_returns.specs.Named.{con_named, station_named};
 ghost use Rattle.tally_machine.specs.Step.{answer, seen};
 ghost use Rattle.tally_rules.specs.Setup.{constituency_with};
-ghost use Rattle.tally_returns.specs.State.{stations_of};
 ghost use Rattle.tally_returns.specs.declared.ask.Ask.TheVariants.{ShowReturn};
 ghost use Rattle.tally_returns.specs.declared.refusal.Refusal.TheVariants.{Memory};
 
@@ -71,7 +69,7 @@ pub(super) fn decide_first(
     slip: Code,
     counts: &Counts,
 ) -> Result<LodgeReply, Refusal>
-    ensures { result ≡ lodge_answer (stations_of ledger.now.setup) ledger.now.returns station slip counts.now }
+    ensures { result ≡ lodge_answer_in ledger.now station slip counts.now }
 {
     let Some((con, place)) = ledger.setup().station(station) else {
         return Err(Refusal::NoStation);
@@ -83,6 +81,7 @@ pub(super) fn decide_first(
 /// Query, Correct and Close.
 fn move_on(alloc: Global, ledger: &mut Ledger, station: Code, ask: &Ask) -> Result<Reply, Refusal>
     requires named { station_named ask.now ≡ Some station }
+    requires moves { moves_return ask.now ≡ true }
     requires held { IsHeld ledger.old }
     ensures { IsMoved ledger.old ask.now result ledger.new }
 {
@@ -96,7 +95,7 @@ fn move_on(alloc: Global, ledger: &mut Ledger, station: Code, ask: &Ask) -> Resu
     let found = ledger.return_at(station);
     let next = match decide_at(alloc, con, place, view.certified, found, ask)? {
         Change::PutReturn(next) => next,
-        _ => return Err(Refusal::NoReturn),
+        _ => unreachable!(),
     };
     let rev = next.rev;
     ledger.put(station, next)?;

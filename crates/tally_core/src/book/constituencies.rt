@@ -1,9 +1,7 @@
 //! What a keeper in memory answers to a command on a constituency.
 
-ghost use Rattle.std.specs.Prelude.{◌≡◌, ◌+◌, ◌<◌, ◌^◌, Some, IsSome, IfErr, IfOk, IfSome, OnErr, OnOk};
-ghost use Rattle.tally_core.specs.Held.{CanCarryOut, IsAnsweredOn, IsHeld, carried_reply};
-ghost use Rattle.tally_ledger.specs.Kept.{with_change};
-ghost use Rattle.tally_machine.specs.Step.{con_change, answer_seen};
+ghost use Rattle.std.specs.Prelude.{◌≡◌, ◌+◌, ◌<◌, ◌^◌, Some, IsSome, IfErr, IfOk, OnErr, OnOk};
+ghost use Rattle.tally_core.specs.Held.{CanCarryOut, IsAfterChange, IsAnsweredOn, IsHeld, TellsChange};
 ghost use Rattle.tally_returns.specs.Named.{con_named};
 ghost use Rattle.tally_returns.specs.declared.refusal.Refusal.TheVariants.{Memory};
 
@@ -38,7 +36,7 @@ pub(super) fn answer_on(
     }
 }
 
-/// Carries out a change of the constituency of a code, which stands at this edition.
+/// Carries out a change of the constituency of a code, which is at this edition.
 fn carry_out(
     ledger: &mut Ledger,
     code: Code,
@@ -46,8 +44,8 @@ fn carry_out(
     change: Change,
 ) -> Result<Reply, Refusal>
     requires { CanCarryOut ledger.old code edition change }
-    ensures reply { IfOk result (λ reply. IfSome (con_change change) (λ decided. answer_seen reply ≡ carried_reply edition decided)) }
-    ensures carried_out { OnOk result (IfSome (con_change change) (λ decided. ledger.new ≡ with_change ledger.old code decided)) }
+    ensures reply { IfOk result (TellsChange edition change) }
+    ensures carried_out { OnOk result (IsAfterChange ledger.old code change ledger.new) }
     ensures refused { IfErr result (λ refusal. refusal ≡ Memory) }
     ensures stays { OnErr result (ledger.new ≡ ledger.old) }
 {

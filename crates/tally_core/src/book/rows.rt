@@ -1,15 +1,13 @@
 //! An import into a keeper in memory.
 
 ghost use Rattle.std.specs.Prelude.{◌≡◌, ◌≢◌, Some, None, true, IfErr, IfOk, OnErr, OnOk};
-ghost use Rattle.tally_core.specs.Held.{without};
-ghost use Rattle.tally_core.specs.Import.{IsCodedRow, after_row, row_answer};
+ghost use Rattle.tally_core.specs.Held.{after_row_in, lodge_answer_in, lodge_in, row_answer_in, without};
+ghost use Rattle.tally_core.specs.Import.{IsCodedRow};
 ghost use Rattle.tally_core.specs.Keeper.{IsFault, IsImportOf};
 ghost use Rattle.tally_core.specs.declared.import.Row.{Row};
 ghost use Rattle.tally_core.specs.declared.source.ImportFault.TheVariants.{Store};
 ghost use Rattle.tally_ledger.specs.Kept.{state_in};
 ghost use Rattle.tally_rules.specs.Code.{is_code};
-ghost use Rattle.tally_returns.specs.Lodge.{lodge, lodge_answer};
-ghost use Rattle.tally_returns.specs.State.{stations_of};
 
 use super::answers::decide_first;
 use crate::import::{ImportCount, Row};
@@ -54,8 +52,8 @@ fn take_row(
     row: Row,
 ) -> Result<Option<Result<LodgeReply, Refusal>>, AllocError>
     ensures codes { IsCodedRow row }
-    ensures answer { IfOk result (λ answer. row_answer (stations_of ledger.old.setup) ledger.old.returns row ≡ answer) }
-    ensures returns { OnOk result (ledger.new.returns ≡ after_row (stations_of ledger.old.setup) ledger.old.returns row) }
+    ensures answer { IfOk result (λ answer. row_answer_in ledger.old row ≡ answer) }
+    ensures returns { OnOk result (ledger.new.returns ≡ after_row_in ledger.old row) }
     ensures kept { ledger.new ≡ record ledger.old { returns = ledger.new.returns } }
     ensures undone { without lodged.new.items ledger.new.returns ≡ without lodged.old.items ledger.old.returns }
 {
@@ -72,8 +70,8 @@ fn take_ask(
     ask: Ask,
 ) -> Result<Option<Result<LodgeReply, Refusal>>, AllocError>
     ensures codes { IsCodedRow (Row.Lodge ask) }
-    ensures answer { IfOk result (λ answer. row_answer (stations_of ledger.old.setup) ledger.old.returns (Row.Lodge ask) ≡ answer) }
-    ensures returns { OnOk result (ledger.new.returns ≡ after_row (stations_of ledger.old.setup) ledger.old.returns (Row.Lodge ask)) }
+    ensures answer { IfOk result (λ answer. row_answer_in ledger.old (Row.Lodge ask) ≡ answer) }
+    ensures returns { OnOk result (ledger.new.returns ≡ after_row_in ledger.old (Row.Lodge ask)) }
     ensures kept { ledger.new ≡ record ledger.old { returns = ledger.new.returns } }
     ensures undone { without lodged.new.items ledger.new.returns ≡ without lodged.old.items ledger.old.returns }
 {
@@ -100,8 +98,8 @@ fn take_return(
     counts: Counts,
 ) -> Result<Result<LodgeReply, Refusal>, AllocError>
     ensures codes { is_code slip ≡ true }
-    ensures answer { IfOk result (λ answer. answer ≡ lodge_answer (stations_of ledger.old.setup) ledger.old.returns station slip counts) }
-    ensures returns { OnOk result (ledger.new.returns ≡ lodge (stations_of ledger.old.setup) ledger.old.returns station slip counts) }
+    ensures answer { IfOk result (λ answer. answer ≡ lodge_answer_in ledger.old station slip counts) }
+    ensures returns { OnOk result (ledger.new.returns ≡ lodge_in ledger.old station slip counts) }
     ensures kept { ledger.new ≡ record ledger.old { returns = ledger.new.returns } }
     ensures undone { without lodged.new.items ledger.new.returns ≡ without lodged.old.items ledger.old.returns }
 {

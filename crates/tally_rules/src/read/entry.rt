@@ -46,7 +46,8 @@ pub(super) fn array_at(
     kind: Kind,
     limit: usize,
 ) -> Result<&[Value], KeyFault>
-    ensures array { IfOk result (λ items. array_at (is_kind kind) (key_name key) limit (view entry.now) ≡ Ok (map view items.now)) }
+    ensures array { IfOk result (λ items.
+        array_at (is_kind kind) (key_name key) limit (view entry.now) ≡ Ok (map view items.now)) }
     ensures some { IfOk result (λ items. 1 ≤ length items.now) }
     ensures limit { IfOk result (λ items. length items.now ≤ limit) }
     ensures fault { IfErr result (IsFoundIn (array_at (is_kind kind) (key_name key) limit (view entry.now))) }
@@ -169,7 +170,8 @@ pub(super) fn constituency_entry(
     stations: &mut Codes,
 ) -> Result<Constituency, KeyFault>
     requires distinct { AreDistinct stations.old }
-    ensures constituency { IfOk result (λ con. constituency_entry profiles.now taken.old stations.old (view entry.now) ≡ Ok con) }
+    ensures constituency { IfOk result (λ con.
+        constituency_entry profiles.now taken.old stations.old (view entry.now) ≡ Ok con) }
     ensures taken { IfOk result (λ con. taken.new ≡ taken.old ++ con.code ∷ []) }
     ensures stations { IfOk result (λ con. stations.new ≡ stations.old ++ station_codes con.stations) }
     ensures distinct { OnOk result (AreDistinct taken.new) }

@@ -1,10 +1,7 @@
 use Rattle.std.proofs.Common.{◌≡◌, Ok, Err, IfErr, List, ℕ, refl, sym, ap, subst, string_bytes, rules}
-use Rattle.tally_machine.specs.Certification.{Certifies, Draws, IsDrawRefusal, reopened, vacates}
+use Rattle.tally_machine.specs.Certification.{Draws, IsDrawRefusal, reopened, vacates}
 use Rattle.tally_machine.specs.Step.{Decides, IsConRefusal, certified_with, changed_by, gone_for_good, lot_set, open_again}
 use Rattle.tally_returns.specs.declared.ask.Ask.{Ask}
-use Rattle.tally_returns.specs.declared.ask.Ask.TheVariants.{Certify, Draw}
-use Rattle.tally_returns.specs.declared.refusal.Refusal.TheVariants.{LotStands, Store}
-use Rattle.tally_machine.proofs.CertificationLemmas.{con-refusal}
 use Rattle.tally_machine.proofs.con_commands.decide_con.Goals as goal
 
 pub returns-in_ok-draw-in-Draw-clause-decided : goal.returns-in_ok-draw-in-Draw-clause-decided
@@ -55,8 +52,7 @@ returns-in_err-draw-in-Draw-clause-refused c =
     let refused : IsDrawRefusal con view c.in-Draw.edition c.in-Draw.order.items e =
     subst (λ (order : List (List ℕ)). IsDrawRefusal con view c.in-Draw.edition order e) c.deref.ensures.value c.in_err-draw-in-Draw.ensures.refused in
     subst (λ r. IfErr r (IsConRefusal con view c.args.ask.now)) (sym is)
-    (subst (λ (ask : Ask). IsConRefusal con view ask e) (sym c.in-Draw.is)
-    (con-refusal con view (Draw c.in-Draw.con c.in-Draw.edition c.in-Draw.order) e LotStands (Draws con view c.in-Draw.edition c.in-Draw.order.items (Err e)) refl (λ draws. (Err e, draws, refl)) refused))
+    (subst (λ (ask : Ask). IsConRefusal con view ask e) (sym c.in-Draw.is) refused)
 
 pub returns-in_err-certify-in-Certify-clause-refused :
     goal.returns-in_err-certify-in-Certify-clause-refused
@@ -66,5 +62,4 @@ returns-in_err-certify-in-Certify-clause-refused c =
     let e = c.in_err-certify-in-Certify.field-0.0 in
     let is : c.from_residual-in_err-certify-in-Certify.result ≡ Err e = search rules in
     subst (λ r. IfErr r (IsConRefusal con view c.args.ask.now)) (sym is)
-    (subst (λ (ask : Ask). IsConRefusal con view ask e) (sym c.in-Certify.is)
-    (con-refusal con view (Certify c.in-Certify.con c.in-Certify.edition) e Store (Certifies con view c.in-Certify.edition (Err e)) refl (λ certifies. (Err e, certifies, refl)) c.in_err-certify-in-Certify.ensures.refused))
+    (subst (λ (ask : Ask). IsConRefusal con view ask e) (sym c.in-Certify.is) c.in_err-certify-in-Certify.ensures.refused)

@@ -7,9 +7,9 @@ some_value : {X Y : Type 0} (f : X → Y) (o : Option X) → is_some o ≡ true 
 some_value f None is = absurd (true≢false (sym is))
 some_value f (Some x) is = (f x, refl)
 
-pub returns-then-is_some : goal.returns-then-is_some
-returns-then-is_some c =
+pub returns-in-Err : goal.returns-in-Err
+returns-in-Err c =
     let named : str_eq_ignore_ascii_case c.of.result.now c.args.name.now ≡ true = sym c.is_same_name.ensures ∙ c.if-is_same_name.true in
-    let first = some_value (λ v. v.now) c.loop-header.found (sym c.is_some.ensures ∙ c.if-is_some.true) in
+    let first = some_value (λ v. v.now) c.loop-header.found c.in-Err.ensures.again.0 in
     twice_at c.args.name.now c.args.bytes.now c.args.headers.now c.loop-header.header-index _ first.0 (omega (arith, c.loop-header-test.true))
-    (ap (λ (x : List ℕ). str_eq_ignore_ascii_case x c.args.name.now) (sym c.of.ensures) ∙ named) (c.loop-header.invariant ∙ ap Ok first.1)
+    (ap (λ (x : List ℕ). str_eq_ignore_ascii_case x c.args.name.now) (sym c.of.ensures) ∙ named) (c.loop-header.invariant ∙ ap Ok first.1) ∙ ap Err (sym c.in-Err.ensures.again.1)

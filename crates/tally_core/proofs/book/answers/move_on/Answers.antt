@@ -7,7 +7,7 @@ use Rattle.tally_core.specs.Held.{IsMoved, is_query}
 use Rattle.tally_returns.specs.Return.{StationReturn}
 use Rattle.tally_returns.specs.declared.reply.Reply.TheVariants.{Moved}
 use Rattle.tally_ledger.specs.Kept.{with_no_lot}
-use Rattle.tally_core.proofs.StepLemmas.{IsLookedUp, looked-up, looked_up-lawful, moved-on, moved-other, moved-refused, station-known, station-own, view-none, with_put}
+use Rattle.tally_core.proofs.StepLemmas.{IsLookedUp, looked-up, looked_up-lawful, moved-on, moved-refused, moves-put, station-known, station-own, view-none, with_put}
 use Rattle.tally_core.proofs.book.answers.move_on.Goals as goal
 
 pub unreachable-requires : goal.unreachable-requires
@@ -45,8 +45,8 @@ returns-in_err-next c =
     let is : c.from_residual.result ≡ Err e = search rules in
     subst (λ r. IsMoved k ask r k) (sym is) (moved-refused k ask c.args.station con place certified found e looked c.requires.named c.in_err-next.ensures.decided)
 
-pub returns-in_default-2 : goal.returns-in_default-2
-returns-in_default-2 c =
+pub unreachable-requires-in_default-2 : goal.unreachable-requires-in_default-2
+unreachable-requires-in_default-2 c =
     let k = c.args.ledger.now in
     let ask = c.args.ask.now in
     let con = c.in-Some.con.now in
@@ -58,7 +58,7 @@ returns-in_default-2 c =
     let looked : IsLookedUp k c.args.station con place certified found =
     looked-up k c.args.station con place c.con.inside.code c.view.result c.in-Some-view.view certified found c.requires.held known (ap (λ (x : Constituency). x.code) c.con.view_is) c.view.ensures
     c.in-Some-view.is (ap (λ (v : View). v.certified) c.view-2.view_is) c.return_at-found.ensures in
-    moved-other k ask c.args.station con place certified found c.in_ok-next.field-0 looked c.requires.named c.in_ok-next.ensures.decided c.in_default-2.not-PutReturn
+    moves-put k ask c.args.station con place certified found c.in_ok-next.field-0 looked c.requires.named c.requires.moves c.in_ok-next.ensures.decided c.in_default-2.not-PutReturn
 
 pub returns : goal.returns
 returns c =

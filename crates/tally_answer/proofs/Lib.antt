@@ -1,0 +1,3 @@
+pub mod AppendLemmas
+pub mod GroupLemmas
+pub mod ShownLemmas

@@ -1,0 +1,45 @@
+-- What is shown: the code of the list at a place, and that no number is a float.
+use Rattle.std.proofs.Common.{◌≡◌, ℕ, suc, List, [], ◌∷◌, map, Bool, false, ◌||◌, Option, Some, Result, Ok, Err, IfOk, String, Global, string_bytes, refl, ap, ◌∙◌, option_map, unwrap_or}
+use Rattle.std.specs.List.{slice_get}
+use Rattle.std.specs.declared.alloc.AllocError.{AllocError}
+use Rattle.serde_json.specs.Data.{Data, string}
+use Rattle.serde_json.specs.View.{items_of}
+use Rattle.serde_json.specs.Written.{has_float, items_have_float, compact_text}
+use Rattle.tally_rules.specs.Constituency.{Constituency, ListEntry}
+use Rattle.tally_returns.specs.GoneCandidate.{GoneCandidate}
+use Rattle.tally_returns.specs.Return.{StationReturn}
+use Rattle.tally_returns.specs.View.{View}
+use Rattle.tally_answer.specs.Shown.{whole, code_at, shown_return, shown_gone, shown_con}
+
+pub code_at-some : (lists : List ListEntry) (place l : ℕ) (list : ListEntry) → place ≡ suc l → slice_get lists l ≡ Some list → code_at lists place ≡ list.code
+code_at-some lists place l list at found =
+    ap (code_at lists) at ∙ ap (λ (f : Option ListEntry). unwrap_or (option_map (λ (e : ListEntry). e.code) f) []) found
+
+wholes_free : (ns : List ℕ) → items_have_float (items_of (map whole ns)) ≡ false
+wholes_free [] = refl
+wholes_free (n ∷ ns) = wholes_free ns
+
+codes_free : (lists : List ListEntry) (places : List ℕ) → items_have_float (items_of (map (λ place. string (code_at lists place)) places)) ≡ false
+codes_free lists [] = refl
+codes_free lists (place ∷ places) = codes_free lists places
+
+gone_free : (lists : List ListEntry) (all : List GoneCandidate) → items_have_float (items_of (map (shown_gone lists) all)) ≡ false
+gone_free lists [] = refl
+gone_free lists (gone ∷ all) = gone_free lists all
+
+pub return_free : (station : List ℕ) (kept : StationReturn) → has_float (shown_return station kept) ≡ false
+return_free station kept = ap (λ (b : Bool). b || false) (wholes_free kept.counts.votes)
+
+four : (a b c d : Bool) → a ≡ false → b ≡ false → c ≡ false → d ≡ false → (a || (b || (c || (d || false)))) ≡ false
+four a b c d p q r s =
+    ap (λ (x : Bool). x || (b || (c || (d || false)))) p ∙ ap (λ (x : Bool). x || (c || (d || false))) q ∙ ap (λ (x : Bool). x || (d || false)) r
+    ∙ ap (λ (x : Bool). x || false) s
+
+pub con_free : (con : Constituency) (v : View) → has_float (shown_con con v) ≡ false
+con_free con v = four _ _ _ _ (gone_free con.lists v.gone) (codes_free con.lists v.lot) (wholes_free v.seats) (wholes_free v.votes)
+
+-- the text of a value that is what is shown
+pub text_of : (written : Result (String Global) AllocError) (d shown : Data) → d ≡ shown → has_float shown ≡ false
+    → IfOk written (λ text. has_float d ≡ false → string_bytes text ≡ compact_text d) → IfOk written (λ text. string_bytes text ≡ compact_text shown)
+text_of (Ok text) d shown is free of_value = of_value (ap has_float is ∙ free) ∙ ap compact_text is
+text_of (Err fault) d shown is free of_value = tt

@@ -1,0 +1,56 @@
+-- What is shown of a return and of a constituency, as JSON objects whose keys are in the order of their bytes.
+use Rattle.std.specs.Prelude.{ℕ, zero, suc, List, [], map, codes, option_map, unwrap_or}
+use Rattle.std.specs.List.{slice_get}
+use Rattle.serde_json.specs.Data.{Data, boolean, number, unsigned, string, array, object, Members, member, no_members}
+use Rattle.serde_json.specs.View.{items_of}
+use Rattle.tally_rules.specs.Constituency.{Constituency, ListEntry}
+use Rattle.tally_returns.specs.GoneCandidate.{GoneCandidate}
+use Rattle.tally_returns.specs.Return.{StationReturn}
+use Rattle.tally_returns.specs.View.{View}
+use Rattle.tally_answer.specs.Outcome.{status_word}
+
+abbrev pub whole : ℕ → Data
+whole n = number (unsigned n)
+
+abbrev pub wholes : List ℕ → Data
+wholes ns = array (items_of (map whole ns))
+
+abbrev pub shown_return : List ℕ → StationReturn → Data
+shown_return station kept =
+    object (member (codes "blank") (whole kept.counts.blank) (member (codes "note") (string kept.note)
+    (member (codes "rev") (whole kept.rev) (member (codes "slip") (string kept.slip)
+    (member (codes "spoiled") (whole kept.counts.spoiled) (member (codes "station") (string station)
+    (member (codes "status") (string (status_word kept.status))
+    (member (codes "votes") (wholes kept.counts.votes) no_members))))))))
+
+-- the code of the list at a place, from 1; a place without a list has none, and no lawful state has such a place
+abbrev pub code_at : List ListEntry → ℕ → List ℕ
+code_at lists zero = []
+code_at lists (suc l) = unwrap_or (option_map (λ (list : ListEntry). list.code) (slice_get lists l)) []
+
+-- the codes of the lists at some places
+abbrev pub list_codes : List ListEntry → List ℕ → Data
+list_codes lists places = array (items_of (map (λ place. string (code_at lists place)) places))
+
+abbrev pub shown_gone : List ListEntry → GoneCandidate → Data
+shown_gone lists gone =
+    object (member (codes "list") (string (code_at lists gone.list)) (member (codes "note") (string gone.note)
+    (member (codes "place") (whole gone.place) no_members)))
+
+abbrev pub all_gone : List ListEntry → List GoneCandidate → Data
+all_gone lists all = array (items_of (map (shown_gone lists) all))
+
+-- the members of a constituency behind those who are gone
+abbrev pub members_behind_gone : Constituency → View → Members
+members_behind_gone con v =
+    member (codes "lot") (list_codes con.lists v.lot)
+    (member (codes "note") (string v.note) (member (codes "seats") (wholes v.seats)
+    (member (codes "spoiled") (whole v.spoiled) (member (codes "stations") (whole v.stations)
+    (member (codes "votes") (wholes v.votes) no_members)))))
+
+abbrev pub shown_con : Constituency → View → Data
+shown_con con v =
+    object (member (codes "blank") (whole v.blank) (member (codes "certified") (boolean v.certified)
+    (member (codes "closed") (whole v.closed) (member (codes "con") (string con.code)
+    (member (codes "edition") (whole v.edition) (member (codes "gone") (all_gone con.lists v.gone)
+    (members_behind_gone con v)))))))

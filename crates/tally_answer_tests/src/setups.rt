@@ -1,0 +1,40 @@
+//! Setups of one constituency.
+
+use std::alloc::{AllocError, Global};
+use std::test::Fail;
+use tally_rules::{Setup, read_setup};
+
+const WITHOUT_LISTS: &str = r#"[[profile]]
+code = "d0"
+method = "dhondt"
+threshold = 0
+base = "valid"
+
+[[constituency]]
+code = "c1"
+name = "Twin Town"
+seats = 3
+profile = "d0"
+
+[[constituency.station]]
+code = "s1"
+electors = 300
+"#;
+
+fn text_of(alloc: Global, lists: &str) -> Result<String, AllocError> {
+    let mut text = String::from_str(alloc, WITHOUT_LISTS)?;
+    for list in lists.split(" ") {
+        write!(text, "\n[[constituency.list]]\ncode = \"{list}\"\n")?;
+        text.push_str("name = \"List\"\ncandidates = [\"a\", \"b\"]\n")?;
+    }
+    Ok(text)
+}
+
+/// The constituency `c1`, with lists of the codes of a text such as `A B`.
+pub(crate) fn setup(alloc: Global, lists: &str) -> Result<Setup, Fail> {
+    let text = text_of(alloc, lists)?;
+    match read_setup(alloc, text.as_bytes()) {
+        Ok(setup) => Ok(setup),
+        Err(_) => Err(Fail::from("no setup")),
+    }
+}

@@ -1,0 +1,134 @@
+-- Which command a JSON body is (RFC 8259, as `serde_json` reads it).
+use Rattle.std.specs.Prelude.{◌≡◌, ℕ, List, [], ◌∷◌, codes, nat_le, if◌then◌else◌, Option, Some, None, IsUtf8}
+use Rattle.std.specs.Option.{option_and_then}
+use Rattle.serde_json.specs.Data.{Data, Items, no_items, item}
+use Rattle.serde_json.specs.Read.{read}
+use Rattle.serde_json.specs.Find.{get, as_array, as_number, as_str, as_u64}
+use Rattle.tally_rules.specs.Code.{code_of}
+use Rattle.tally_returns.specs.AskSeen.{AskSeen, lodge, query, correct, close, draw, certify, reopen, vacate}
+use Rattle.tally_returns.specs.Counts.{VoteCounts}
+use Rattle.tally_asks.specs.declared.routes.Route.{Route}
+use Rattle.tally_asks.specs.declared.routes.Route.TheVariants as route
+
+-- the value that a body is, or none
+abbrev pub IsBody : List ℕ → Option Data → Type 0
+IsBody body (Some value) = IsUtf8 body × (read body ≡ Some value)
+IsBody body None = IsUtf8 body → read body ≡ None
+
+-- one step after another, as far as something is missing
+infixl 10 ◌>>=◌
+abbrev pub ◌>>=◌ : {A B : Type 0} → Option A → (A → Option B) → Option B
+Some a >>= step = step a
+None >>= step = None
+
+abbrev pub within_u32 : ℕ → Option ℕ
+within_u32 n = if nat_le n 4294967295 then Some n else None
+
+-- a whole number from 0 to 4,294,967,295
+abbrev pub whole : Data → Option ℕ
+whole value = option_and_then within_u32 (option_and_then as_u64 (as_number value))
+
+abbrev pub number_at : List ℕ → Data → Option ℕ
+number_at key body = option_and_then whole (get key body)
+
+abbrev pub text_at : List ℕ → Data → Option (List ℕ)
+text_at key body = option_and_then as_str (get key body)
+
+abbrev pub code : Data → Option (List ℕ)
+code value = option_and_then code_of (as_str value)
+
+abbrev pub code_at : List ℕ → Data → Option (List ℕ)
+code_at key body = option_and_then code (get key body)
+
+-- what each member of an array is, where each is one
+abbrev pub all_items : {A : Type 0} → (Data → Option A) → Items → Option (List A)
+all_items member no_items = Some []
+all_items member (item value values) = do
+  first ← member value
+  others ← all_items member values
+  Some (first ∷ others)
+
+abbrev pub numbers_at : List ℕ → Data → Option (List ℕ)
+numbers_at key body = option_and_then (all_items whole) (option_and_then as_array (get key body))
+
+abbrev pub codes_at : List ℕ → Data → Option (List (List ℕ))
+codes_at key body = option_and_then (all_items code) (option_and_then as_array (get key body))
+
+unfoldable pub counts_in : Data → Option VoteCounts
+counts_in body = do
+  blank ← number_at (codes "blank") body
+  spoiled ← number_at (codes "spoiled") body
+  votes ← numbers_at (codes "votes") body
+  Some (record { votes = votes; blank = blank; spoiled = spoiled })
+
+unfoldable pub lodge_in : List ℕ → Data → Option AskSeen
+lodge_in station body = do
+  slip ← code_at (codes "slip") body
+  counts ← counts_in body
+  Some (lodge station slip counts)
+
+unfoldable pub query_in : List ℕ → Data → Option AskSeen
+query_in station body = do
+  rev ← number_at (codes "rev") body
+  note ← text_at (codes "note") body
+  Some (query station rev note)
+
+unfoldable pub correct_in : List ℕ → Data → Option AskSeen
+correct_in station body = do
+  rev ← number_at (codes "rev") body
+  slip ← code_at (codes "slip") body
+  counts ← counts_in body
+  Some (correct station rev slip counts)
+
+unfoldable pub close_in : List ℕ → Data → Option AskSeen
+close_in station body = do
+  rev ← number_at (codes "rev") body
+  Some (close station rev)
+
+unfoldable pub draw_in : List ℕ → Data → Option AskSeen
+draw_in con body = do
+  edition ← number_at (codes "edition") body
+  order ← codes_at (codes "order") body
+  Some (draw con edition order)
+
+unfoldable pub certify_in : List ℕ → Data → Option AskSeen
+certify_in con body = do
+  edition ← number_at (codes "edition") body
+  Some (certify con edition)
+
+unfoldable pub reopen_in : List ℕ → Data → Option AskSeen
+reopen_in con body = do
+  edition ← number_at (codes "edition") body
+  note ← text_at (codes "note") body
+  Some (reopen con edition note)
+
+unfoldable pub vacate_in : List ℕ → Data → Option AskSeen
+vacate_in con body = do
+  list ← code_at (codes "list") body
+  place ← number_at (codes "place") body
+  note ← text_at (codes "note") body
+  Some (vacate con list place note)
+
+-- The command of a route on the station or the constituency of this code. The other routes have none in their bodies.
+abbrev pub command_in : Route → List ℕ → Data → Option AskSeen
+command_in route.Progress of body = None
+command_in route.Station of body = None
+command_in route.Con of body = None
+command_in route.Tally of body = None
+command_in route.Seats of body = None
+command_in route.Quotients of body = None
+command_in route.Awards of body = None
+command_in route.Quota of body = None
+command_in route.Short of body = None
+command_in route.Holders of body = None
+command_in route.Past of body = None
+command_in route.Lodge of body = lodge_in of body
+command_in route.Query of body = query_in of body
+command_in route.Correct of body = correct_in of body
+command_in route.Close of body = close_in of body
+command_in route.Draw of body = draw_in of body
+command_in route.Certify of body = certify_in of body
+command_in route.Reopen of body = reopen_in of body
+command_in route.Vacate of body = vacate_in of body
+command_in route.Import of body = None
+command_in route.ImportSemicolon of body = None

@@ -1,0 +1,11 @@
+//! What a message asks for: its route, the code in its target, and the command in its body.
+#![tactic(auto)]
+
+mod asks;
+mod fields;
+mod routes;
+mod target;
+
+pub use asks::ask_in;
+pub use routes::{Route, desk_router, route_of, takes, takes_get};
+pub use target::{con_in, station_in};

@@ -1,0 +1,154 @@
+//! Routes.
+
+ghost use Rattle.std.specs.Prelude.{◌≡◌, Option, option_map, IfOk, OnOk, map, bytes_eq};
+ghost use Rattle.matchit.specs.Router.{RouteOf};
+ghost use Rattle.tally_asks.specs.Routes.{desk_rows, with_route, with_routes, station_routes, con_routes, command_routes, takes_get, method_of, IsRouted};
+
+use http::Method;
+use matchit::{InsertError, Router};
+use std::alloc::Global;
+use std::str;
+
+/// What a target names.
+#[derive(Clone, Copy, Debug, PartialEq, Eq)]
+pub enum Route {
+    Progress,
+    Station,
+    Lodge,
+    Query,
+    Correct,
+    Close,
+    Con,
+    Tally,
+    Seats,
+    Quotients,
+    Awards,
+    Quota,
+    Short,
+    Holders,
+    Past,
+    Draw,
+    Certify,
+    Reopen,
+    Vacate,
+    Import,
+    ImportSemicolon,
+}
+
+// The routes of the whole office and of a station.
+const STATION_ROUTES: [(&str, Route); 6] = [
+    ("/progress", Route::Progress),
+    ("/station/{s}", Route::Station),
+    ("/station/{s}/lodge", Route::Lodge),
+    ("/station/{s}/query", Route::Query),
+    ("/station/{s}/correct", Route::Correct),
+    ("/station/{s}/close", Route::Close),
+];
+
+// What is shown of a constituency.
+const CON_ROUTES: [(&str, Route); 9] = [
+    ("/con/{c}", Route::Con),
+    ("/con/{c}/tally", Route::Tally),
+    ("/con/{c}/seats", Route::Seats),
+    ("/con/{c}/quotients", Route::Quotients),
+    ("/con/{c}/awards", Route::Awards),
+    ("/con/{c}/quota", Route::Quota),
+    ("/con/{c}/short", Route::Short),
+    ("/con/{c}/holders", Route::Holders),
+    ("/con/{c}/past", Route::Past),
+];
+
+// The commands on a constituency and the imports into it.
+const COMMAND_ROUTES: [(&str, Route); 6] = [
+    ("/con/{c}/draw", Route::Draw),
+    ("/con/{c}/certify", Route::Certify),
+    ("/con/{c}/reopen", Route::Reopen),
+    ("/con/{c}/vacate", Route::Vacate),
+    ("/con/{c}/import", Route::Import),
+    ("/con/{c}/import/semicolon", Route::ImportSemicolon),
+];
+
+/// Adds a route.
+#[tactic(auto, unfolding(crate::specs::Routes::with_route))]
+fn add(router: &mut Router<Route>, text: &str, route: Route) -> Result<(), InsertError>
+    ensures { OnOk result (router.new ≡ with_route router.old (text.now, route)) }
+{
+    router.insert(text, route)
+}
+
+/// Adds the routes of a table.
+fn add_all(router: &mut Router<Route>, table: &[(&str, Route)]) -> Result<(), InsertError>
+    ensures { OnOk result (router.new ≡ with_routes router.old (map (λ row. (row.0.now, row.1)) table.now)) }
+{
+    for (text, route) in table {
+        add(router, text, *route)?;
+    }
+    Ok(())
+}
+
+fn add_station_routes(router: &mut Router<Route>) -> Result<(), InsertError>
+    ensures { OnOk result (router.new ≡ with_routes router.old station_routes) }
+{
+    add_all(router, &STATION_ROUTES)
+}
+
+fn add_con_routes(router: &mut Router<Route>) -> Result<(), InsertError>
+    ensures { OnOk result (router.new ≡ with_routes router.old con_routes) }
+{
+    add_all(router, &CON_ROUTES)
+}
+
+fn add_command_routes(router: &mut Router<Route>) -> Result<(), InsertError>
+    ensures { OnOk result (router.new ≡ with_routes router.old command_routes) }
+{
+    add_all(router, &COMMAND_ROUTES)
+}
+
+/// The desk's routes.
+pub fn desk_router(alloc: Global) -> Result<Router<Route>, InsertError>
+    ensures { IfOk result (λ router. router ≡ desk_rows) }
+{
+    let mut router = Router::new(alloc);
+    add_station_routes(&mut router)?;
+    add_con_routes(&mut router)?;
+    add_command_routes(&mut router)?;
+    Ok(router)
+}
+
+/// The route of a target, as `matchit` finds it.
+pub fn route_of(router: &Router<Route>, target: &[u8]) -> Option<Route>
+    requires { router.now ≡ desk_rows }
+    ensures { (row : Option (RouteOf Route)) × IsRouted target.now row × (result ≡ option_map (λ e. e.value) row) }
+{
+    let Ok(text) = str::from_utf8(target) else {
+        return None;
+    };
+    match router.at(text) {
+        Ok(found) => Some(*found.value),
+        Err(_) => None,
+    }
+}
+
+/// Whether a route takes GET; the others take POST.
+pub fn takes_get(route: Route) -> bool
+    ensures { result ≡ takes_get route }
+{
+    match route {
+        Route::Progress | Route::Station | Route::Con => true,
+        Route::Tally | Route::Seats | Route::Quotients | Route::Awards => true,
+        Route::Quota | Route::Short | Route::Holders | Route::Past => true,
+        Route::Lodge | Route::Query | Route::Correct | Route::Close => false,
+        Route::Draw | Route::Certify | Route::Reopen | Route::Vacate => false,
+        Route::Import | Route::ImportSemicolon => false,
+    }
+}
+
+/// Whether a route takes a method.
+pub fn takes(route: Route, method: &Method) -> bool
+    ensures { result ≡ bytes_eq method.now (method_of route) }
+{
+    if takes_get(route) {
+        return *method == Method::GET;
+    }
+    *method == Method::POST
+}

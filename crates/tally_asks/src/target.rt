@@ -1,0 +1,43 @@
+//! The code in a target.
+
+ghost use Rattle.std.specs.Prelude.{◌≡◌, ◌≤◌, ◌==◌, IfSome, length, position};
+ghost use Rattle.tally_asks.specs.Routes.{before_slash, code_behind, station_in, con_in};
+
+use tally_rules::Code;
+
+fn slash_in(text: &[u8]) -> Option<usize>
+    ensures value { result ≡ position (λ b. b == 47) text.now }
+    ensures within { IfSome result (λ end. end ≤ length text.now) }
+{
+    text.iter().position(|b| *b == b'/')
+}
+
+fn before_slash(text: &[u8]) -> &[u8]
+    ensures { result.now ≡ before_slash text.now }
+{
+    match slash_in(text) {
+        Some(end) => &text[..end],
+        None => text,
+    }
+}
+
+fn code_behind(target: &[u8], prefix: &[u8]) -> Option<Code>
+    ensures { result ≡ code_behind prefix.now target.now }
+{
+    let rest = target.strip_prefix(prefix)?;
+    Code::new(before_slash(rest))
+}
+
+/// The station that a target names: what stands between `/station/` and the next slash, if it is a code.
+pub fn station_in(target: &[u8]) -> Option<Code>
+    ensures { result ≡ station_in target.now }
+{
+    code_behind(target, b"/station/")
+}
+
+/// The constituency that a target names: what stands between `/con/` and the next slash, if it is a code.
+pub fn con_in(target: &[u8]) -> Option<Code>
+    ensures { result ≡ con_in target.now }
+{
+    code_behind(target, b"/con/")
+}

@@ -1,0 +1,172 @@
+-- What the steps of an answer leave is an answer.
+use Rattle.std.proofs.Common.{◌≡◌, ◌⊎◌, ◌∙◌, ℕ, List, [], Option, Some, None, Result, Ok, Err, IfSome, option_map, option_and_then, refl, sym, ap, subst, inl, inr}
+use Rattle.std.specs.Option.{option_map_or}
+use Rattle.serde_json.specs.Data.{Data}
+use Rattle.tally_rules.specs.Constituency.{Constituency, ListEntry}
+use Rattle.tally_rules.specs.Limits.{IsSetup}
+use Rattle.tally_rules.specs.Setup.{constituency_with, station_with}
+use Rattle.tally_rules.specs.declared.constituency.Station.{Station}
+use Rattle.tally_returns.specs.AskSeen.{ask_seen}
+use Rattle.tally_returns.specs.State.{State}
+use Rattle.tally_returns.specs.View.{View}
+use Rattle.tally_returns.specs.declared.ask.Ask.{Ask}
+use Rattle.tally_returns.specs.declared.ask.Ask.TheVariants.{ShowCon}
+use Rattle.tally_returns.specs.declared.reply.Reply.TheVariants as reply
+use Rattle.tally_returns.specs.declared.refusal.Refusal.TheVariants.{NoConstituency, NoStation}
+use Rattle.tally_machine.specs.LawStatements.{ViewsAreLawful}
+use Rattle.tally_machine.specs.LawfulState.{IsLawfulState}
+use Rattle.tally_machine.specs.Outcome.{IsLawfulView}
+use Rattle.tally_machine.specs.Step.{IsConStepSeen, con_shown}
+use Rattle.tally_core.specs.Keeper.{Happens, request}
+use Rattle.tally_message.specs.declared.message.Message.{Message}
+use Rattle.tally_asks.specs.declared.routes.Route.{Route}
+use Rattle.tally_asks.specs.Routes.{con_in, station_in}
+use Rattle.tally_asks.specs.Bodies.{IsBody, command_in}
+use Rattle.tally_answer.specs.Outcome.{outcome_text}
+use Rattle.tally_answer.specs.Words.{word_text}
+use Rattle.tally_answer.specs.declared.word.Word.TheVariants.{BadBody}
+use Rattle.std.proofs.Common.{Vec, Global}
+use Rattle.tally_records.specs.declared.separator.Sep.{Sep}
+use Rattle.tally_desk.specs.Gives.{Gives}
+use Rattle.tally_desk.specs.Named.{lists_of_con, lists_of_station}
+use Rattle.tally_desk.specs.Requests.{Asks, Commands, Imports, ImportsText, Named, OnCon, OnNamed, OnStation, Orders, OrdersOf, con_named, station_named}
+
+-- ---- what is shown
+
+shown-at : ViewsAreLawful → (setup : List Constituency) (s t : State) (code : List ℕ) (view : View) (found : Constituency) → IsSetup setup → IsLawfulState setup s
+    → constituency_with code setup ≡ Some found → IsConStepSeen (Some found) s (ShowCon code) (Ok (con_shown view)) t → IsLawfulView found view
+shown-at law setup s t code view found limits lawful is (v, decided, seen, decides, answered, after) =
+    let same : v ≡ view = cc in
+    subst (λ w. IsLawfulView found w) same (law setup s code found v limits lawful is seen)
+
+-- the view that is shown in a lawful state is lawful
+pub shown-lawful : ViewsAreLawful → (setup : List Constituency) (old new : Option State) (code : List ℕ) (view : View) (found : Constituency) → IsSetup setup
+    → IfSome old (IsLawfulState setup) → constituency_with code setup ≡ Some found → Happens setup old (request (ShowCon code) (Ok (reply.Con view))) new → IsLawfulView found view
+shown-lawful law setup (Some s) (Some t) code view found limits lawful is (inl step) =
+    shown-at law setup s t code view found limits lawful is (subst (λ o. IsConStepSeen o s (ShowCon code) (Ok (con_shown view)) t) is step)
+shown-lawful law setup (Some s) (Some t) code view found limits lawful is (inr (inl none, kept)) = cc
+shown-lawful law setup (Some s) (Some t) code view found limits lawful is (inr (inr none, kept)) = cc
+shown-lawful law setup (Some s) None code view found limits lawful is (inl none) = cc
+shown-lawful law setup (Some s) None code view found limits lawful is (inr none) = cc
+shown-lawful law setup None (Some t) code view found limits lawful is h = absurd h
+shown-lawful law setup None None code view found limits lawful is (inl none) = cc
+shown-lawful law setup None None code view found limits lawful is (inr none) = cc
+
+-- ---- what a path names
+
+abbrev code_in : Option Named → Option (List ℕ)
+code_in named = option_map (λ (n : Named). n.0) named
+
+found-con : (setup : List Constituency) (c code : List ℕ) (o : Option Constituency) → constituency_with c setup ≡ o → code_in (option_map (λ (con : Constituency). (c, con)) o) ≡ Some code
+    → (con : Constituency) × (constituency_with c setup ≡ Some con) × (c ≡ code)
+found-con setup c code None e h = cc
+found-con setup c code (Some con) e h = (con, e, cc)
+
+found-station : (setup : List Constituency) (c code : List ℕ) (o : Option (Constituency × Station)) → station_with c setup ≡ o → code_in (option_map (λ (place : Constituency × Station). (c, place.0)) o) ≡ Some code
+    → (place : Constituency × Station) × (station_with c setup ≡ Some place) × (c ≡ code)
+found-station setup c code None e h = cc
+found-station setup c code (Some place) e h = (place, e, cc)
+
+abbrev con_at : List Constituency → List ℕ → Option Named
+con_at setup code = option_map (λ (con : Constituency). (code, con)) (constituency_with code setup)
+
+abbrev station_at : List Constituency → List ℕ → Option Named
+station_at setup code = option_map (λ (place : Constituency × Station). (code, place.0)) (station_with code setup)
+
+con-named : (setup : List Constituency) (target code : List ℕ) → code_in (con_named setup target) ≡ Some code
+    → (con : Constituency) × (con_named setup target ≡ Some (code, con)) × (constituency_with code setup ≡ Some con)
+con-named setup target code is = go (con_in target) refl is
+  where
+    go : (o : Option (List ℕ)) → con_in target ≡ o → code_in (option_and_then (con_at setup) o) ≡ Some code
+        → (con : Constituency) × (con_named setup target ≡ Some (code, con)) × (constituency_with code setup ≡ Some con)
+    go None e h = cc
+    go (Some c) e h =
+        let f = found-con setup c code (constituency_with c setup) refl h in (
+          f.0,
+          ap (option_and_then (con_at setup)) e ∙ ap (option_map (λ (con : Constituency). (c, con))) f.1 ∙ ap (λ (q : List ℕ). Some (q, f.0)) f.2,
+          subst (λ (q : List ℕ). constituency_with q setup ≡ Some f.0) f.2 f.1,
+        )
+
+station-named : (setup : List Constituency) (target code : List ℕ) → code_in (station_named setup target) ≡ Some code
+    → (place : Constituency × Station) × (station_named setup target ≡ Some (code, place.0)) × (station_with code setup ≡ Some place)
+station-named setup target code is = go (station_in target) refl is
+  where
+    go : (o : Option (List ℕ)) → station_in target ≡ o → code_in (option_and_then (station_at setup) o) ≡ Some code
+        → (place : Constituency × Station) × (station_named setup target ≡ Some (code, place.0)) × (station_with code setup ≡ Some place)
+    go None e h = cc
+    go (Some c) e h =
+        let f = found-station setup c code (station_with c setup) refl h in (
+          f.0,
+          ap (option_and_then (station_at setup)) e ∙ ap (option_map (λ (place : Constituency × Station). (c, place.0))) f.1 ∙ ap (λ (q : List ℕ). Some (q, f.0.0)) f.2,
+          subst (λ (q : List ℕ). station_with q setup ≡ Some f.0) f.2 f.1,
+        )
+
+abbrev Answering : Type 1
+Answering = List ℕ → Constituency → List ℕ → Option State → Type 0
+
+-- an answer on the constituency that was found
+pub con-answer : (s setup : List Constituency) (old new : Option State) (m : Message) (t code : List ℕ) (r : Option (List ℕ)) (F : Answering) (text : List ℕ)
+    → r ≡ code_in (con_named s t) → s ≡ setup → t ≡ m.target.items → r ≡ Some code
+    → ((con : Constituency) → constituency_with code setup ≡ Some con → F code con text new) → OnCon setup old m F text new
+con-answer s setup old new m t code r F text named setup_is target_is found answer =
+    let is : code_in (con_named setup m.target.items) ≡ Some code =
+    sym (ap (λ x. code_in (con_named x t)) setup_is ∙ ap (λ x. code_in (con_named setup x)) target_is) ∙ sym named ∙ found in
+    let n = con-named setup m.target.items code is in
+    subst (λ (o : Option Named). OnNamed NoConstituency old o F text new) (sym n.1) (answer n.0 n.2)
+
+-- an answer on the station that was found
+pub station-answer : (s setup : List Constituency) (old new : Option State) (m : Message) (t code : List ℕ) (r : Option (List ℕ)) (F : Answering) (text : List ℕ)
+    → r ≡ code_in (station_named s t) → s ≡ setup → t ≡ m.target.items → r ≡ Some code
+    → ((place : Constituency × Station) → station_with code setup ≡ Some place → F code place.0 text new) → OnStation setup old m F text new
+station-answer s setup old new m t code r F text named setup_is target_is found answer =
+    let is : code_in (station_named setup m.target.items) ≡ Some code =
+    sym (ap (λ x. code_in (station_named x t)) setup_is ∙ ap (λ x. code_in (station_named setup x)) target_is) ∙ sym named ∙ found in
+    let n = station-named setup m.target.items code is in
+    subst (λ (o : Option Named). OnNamed NoStation old o F text new) (sym n.1) (answer n.0 n.2)
+
+-- ---- commands
+
+order-done : (setup : List Constituency) (old new : Option State) (m : Message) (con : Constituency) (route : Route) (code body text : List ℕ) (value : Option Data) (a : Ask)
+    (lists : List ListEntry) → body ≡ m.body.items → IsBody body value → Some (ask_seen a) ≡ option_and_then (command_in route code) value → lists ≡ con.lists
+    → Asks setup old a (λ r t. t ≡ outcome_text lists r) text new → Orders setup old con route code m text new
+order-done setup old new m con route code body text value a lists body_is is seen lists_are asks =
+    let commands : Commands setup old con a text new = subst (λ (l : List ListEntry). Asks setup old a (λ r t. t ≡ outcome_text l r) text new) lists_are asks in
+    (value, subst (λ (b : List ℕ). IsBody b value) body_is is, subst (λ o. OrdersOf setup old con o text new) seen (a, refl, commands))
+
+pub con-ordered : (setup : List Constituency) (old new : Option State) (m : Message) (con : Constituency) (route : Route) (code body text : List ℕ) (value : Option Data) (a : Ask)
+    → body ≡ m.body.items → IsBody body value → Some (ask_seen a) ≡ option_and_then (command_in route code) value → constituency_with code setup ≡ Some con
+    → Asks setup old a (λ r t. t ≡ outcome_text (lists_of_con setup code) r) text new → Orders setup old con route code m text new
+con-ordered setup old new m con route code body text value a body_is is seen found asks =
+    order-done setup old new m con route code body text value a (lists_of_con setup code) body_is is seen
+    (ap (λ o. option_map_or (λ (c : Constituency). c.lists) o []) found) asks
+
+pub station-ordered : (setup : List Constituency) (old new : Option State) (m : Message) (place : Constituency × Station) (route : Route) (code body text : List ℕ) (value : Option Data) (a : Ask)
+    → body ≡ m.body.items → IsBody body value → Some (ask_seen a) ≡ option_and_then (command_in route code) value → station_with code setup ≡ Some place
+    → Asks setup old a (λ r t. t ≡ outcome_text (lists_of_station setup code) r) text new → Orders setup old place.0 route code m text new
+station-ordered setup old new m place route code body text value a body_is is seen found asks =
+    order-done setup old new m place.0 route code body text value a (lists_of_station setup code) body_is is seen
+    (ap (λ o. option_map_or (λ (p : Constituency × Station). p.0.lists) o []) found) asks
+
+-- a body that is no command of its route
+pub order-bad : (setup : List Constituency) (old : Option State) (m : Message) (con : Constituency) (route : Route) (code body text : List ℕ) (value : Option Data)
+    → body ≡ m.body.items → IsBody body value → None ≡ option_and_then (command_in route code) value → text ≡ word_text BadBody → Orders setup old con route code m text old
+order-bad setup old m con route code body text value body_is is none said =
+    (value, subst (λ (b : List ℕ). IsBody b value) body_is is, subst (λ o. OrdersOf setup old con o text old) none (said, refl))
+
+-- ---- imports
+
+pub con-imported : (s setup : List Constituency) (old new : Option State) (m : Message) (con found : Constituency) (sep : Sep) (code body text : List ℕ) → s ≡ setup
+    → constituency_with code s ≡ Some found → body ≡ m.body.items → constituency_with code setup ≡ Some con → ImportsText setup old found sep body text new
+    → Imports setup old con sep m text new
+con-imported s setup old new m con found sep code body text setup_is found_is body_is is imports =
+    let both : Some found ≡ Some con = sym (subst (λ x. constituency_with code x ≡ Some found) setup_is found_is) ∙ is in
+    let same : found ≡ con = cc in
+    subst (λ (c : Constituency). ImportsText setup old c sep m.body.items text new) same
+    (subst (λ (b : List ℕ). ImportsText setup old found sep b text new) body_is imports)
+
+-- ---- what a function gives
+
+pub gives : (P : List ℕ → Option State → Type 0) (Q : List ℕ → Type 0) (old new : Option State) (r : Option (Vec ℕ Global)) → IfSome r (λ text. Q text.items)
+    → ((text : List ℕ) → Q text → P text new) → new ≡ old → Gives P old r new
+gives P Q old new None has answer kept = kept
+gives P Q old new (Some text) has answer kept = answer text.items has

@@ -1,0 +1,102 @@
+-- The answer to a message: its bytes, and the office's state then.
+--
+-- A message is answered in this order: a fault of the message itself; a target that is on no route (404); another
+-- method than the route's (405); a station or a constituency of the path that the setup does not have (404); a body
+-- that is not the route's (400); and then what the route asks of the office.
+use Rattle.std.specs.Prelude.{◌≡◌, ◌⊎◌, Bool, true, false, List, ℕ, Option, Some, None, option_map, Result, Ok, Err, bytes_eq}
+use Rattle.matchit.specs.Router.{RouteOf}
+use Rattle.tally_rules.specs.Constituency.{Constituency}
+use Rattle.tally_returns.specs.State.{State}
+use Rattle.tally_records.specs.declared.separator.Sep.TheVariants.{Comma, Semicolon}
+use Rattle.tally_message.specs.declared.message.Message.{Message}
+use Rattle.tally_message.specs.declared.message.MessageFault.{MessageFault}
+use Rattle.tally_message.specs.declared.message.MessageFault.TheVariants as fault
+use Rattle.tally_asks.specs.declared.routes.Route.{Route}
+use Rattle.tally_asks.specs.declared.routes.Route.TheVariants as route
+use Rattle.tally_asks.specs.Routes.{IsRouted, method_of, takes_get}
+use Rattle.tally_answer.specs.declared.word.Word.{Word}
+use Rattle.tally_answer.specs.declared.word.Word.TheVariants as word
+use Rattle.tally_desk.specs.Requests.{Imports, OnCon, OnStation, Orders, Reports, Says, ShowsCon, ShowsProgress, ShowsReturn}
+use Rattle.tally_desk.specs.declared.report.Report.TheVariants as report
+
+-- What is answered to a message that has this fault; nothing where a read failed.
+abbrev pub fault_word : MessageFault → Option Word
+fault_word fault.BadHead = Some word.BadHead
+fault_word fault.HeadTooLong = Some word.HeadTooLong
+fault_word fault.LengthRequired = Some word.LengthRequired
+fault_word fault.BadLength = Some word.BadLength
+fault_word fault.BodyTooLong = Some word.BodyTooLong
+fault_word fault.EndedEarly = Some word.EndedEarly
+fault_word fault.Read = None
+fault_word fault.Memory = Some word.Unavailable
+
+-- an answer that is this word, if there is one
+abbrev pub SaysAny : Option State → Option Word → List ℕ → Option State → Type 0
+SaysAny old None text new = ⊥
+SaysAny old (Some w) text new = Says old w text new
+
+-- Which answer a setup and a state have to a message, and which state is left: `Answer` is a statement on the two.
+abbrev pub Answer : Type 1
+Answer = List ℕ → Option State → Type 0
+
+-- The table of routes: what each asks of the office, by the target and the body of the message.
+abbrev pub IsAnswerOn : List Constituency → Option State → Route → Message → Answer
+IsAnswerOn setup old route.Progress m = ShowsProgress setup old
+IsAnswerOn setup old route.Station m = OnStation setup old m (λ code con. ShowsReturn setup old code)
+IsAnswerOn setup old route.Lodge m = OnStation setup old m (λ code con. Orders setup old con route.Lodge code m)
+IsAnswerOn setup old route.Query m = OnStation setup old m (λ code con. Orders setup old con route.Query code m)
+IsAnswerOn setup old route.Correct m = OnStation setup old m (λ code con. Orders setup old con route.Correct code m)
+IsAnswerOn setup old route.Close m = OnStation setup old m (λ code con. Orders setup old con route.Close code m)
+IsAnswerOn setup old route.Con m = OnCon setup old m (λ code con. ShowsCon setup old con code)
+IsAnswerOn setup old route.Tally m = OnCon setup old m (λ code con. Reports setup old con code report.Tally)
+IsAnswerOn setup old route.Seats m = OnCon setup old m (λ code con. Reports setup old con code report.Seats)
+IsAnswerOn setup old route.Quotients m = OnCon setup old m (λ code con. Reports setup old con code report.Quotients)
+IsAnswerOn setup old route.Awards m = OnCon setup old m (λ code con. Reports setup old con code report.Awards)
+IsAnswerOn setup old route.Quota m = OnCon setup old m (λ code con. Reports setup old con code report.Quota)
+IsAnswerOn setup old route.Short m = OnCon setup old m (λ code con. Reports setup old con code report.Short)
+IsAnswerOn setup old route.Holders m = OnCon setup old m (λ code con. Reports setup old con code report.Holders)
+IsAnswerOn setup old route.Past m = OnCon setup old m (λ code con. Reports setup old con code report.Past)
+IsAnswerOn setup old route.Draw m = OnCon setup old m (λ code con. Orders setup old con route.Draw code m)
+IsAnswerOn setup old route.Certify m = OnCon setup old m (λ code con. Orders setup old con route.Certify code m)
+IsAnswerOn setup old route.Reopen m = OnCon setup old m (λ code con. Orders setup old con route.Reopen code m)
+IsAnswerOn setup old route.Vacate m = OnCon setup old m (λ code con. Orders setup old con route.Vacate code m)
+IsAnswerOn setup old route.Import m = OnCon setup old m (λ code con. Imports setup old con Comma m)
+IsAnswerOn setup old route.ImportSemicolon m = OnCon setup old m (λ code con. Imports setup old con Semicolon m)
+
+-- the 405 that allows GET, or the one that allows POST
+abbrev pub other_method : Bool → Word
+other_method true = word.GetOnly
+other_method false = word.PostOnly
+
+-- by whether the method is the route's
+abbrev pub ByMethod : List Constituency → Option State → Route → Message → Bool → Answer
+ByMethod setup old route m true = IsAnswerOn setup old route m
+ByMethod setup old route m false = Says old (other_method (takes_get route))
+
+-- by the route of the target
+abbrev pub ByRoute : List Constituency → Option State → Message → Option Route → Answer
+ByRoute setup old m None = Says old word.NoRoute
+ByRoute setup old m (Some route) = ByMethod setup old route m (bytes_eq m.method (method_of route))
+
+-- The answer to a message or to a fault of one.
+abbrev pub IsAnswer : List Constituency → Option State → Result Message MessageFault → Answer
+IsAnswer setup old (Err fault) text new = SaysAny old (fault_word fault) text new
+IsAnswer setup old (Ok m) text new =
+    (row : Option (RouteOf Route)) × IsRouted m.target.items row
+    × ByRoute setup old m (option_map (λ e. e.value) row) text new
+
+-- ---- an office
+
+-- the setup of an office and its state; none where a disk that failed has shut it
+pub record Office : Type 0 where
+  pub setup : List Constituency
+  pub state : Option State
+
+abbrev pub office : List Constituency → Option State → Office
+office setup state = record { setup = setup; state = state }
+
+-- A message is answered, or nothing was accepted and nothing has changed. The setup stays.
+abbrev pub Answers : Office → Result Message MessageFault → List ℕ → Office → Type 0
+Answers old message text new =
+    (new.setup ≡ old.setup)
+    × (IsAnswer old.setup old.state message text new.state ⊎ Says old.state word.Unavailable text new.state)

@@ -1,0 +1,90 @@
+//! Serving connections from a keeper.
+
+ghost use Rattle.std.specs.Prelude.{◌≡◌, ◌+◌, ◌++◌, List, Some, IfSome, option_to_list, take, drop};
+ghost use Rattle.tally_asks.specs.Routes.{desk_rows};
+ghost use Rattle.tally_answer.specs.Words.{word_text};
+ghost use Rattle.tally_answer.specs.declared.word.Word.TheVariants.{Unavailable};
+ghost use Rattle.tally_door.specs.Connection.{Connection, Connections};
+ghost use Rattle.tally_serve.specs.Serving.{Serves};
+ghost use Rattle.tally_desk.specs.Respond.{Answers, Office, office};
+
+use crate::respond::respond;
+use matchit::Router;
+use std::alloc::Global;
+use std::marker::Model;
+use tally_answer::unavailable_text;
+use tally_asks::{Route, desk_router};
+use tally_core::Keeper;
+use tally_door::Door;
+use tally_message::{Message, MessageFault};
+use tally_serve::{Responder, Served};
+
+/// The routes of a desk.
+#[derive(Drop)]
+pub(crate) struct Desk {
+    router: Option<Router<Route>>,
+}
+
+impl Model for Desk {
+    ghost Value = { Unit {0} };
+
+    ghost view = { λ _. tt };
+
+    ghost invariant = { λ d. IfSome d.router (λ r. r ≡ desk_rows) };
+}
+
+impl Desk {
+    /// A desk. Where there was no memory for its routes, they are made for each message.
+    pub(crate) fn new(alloc: Global) -> Desk {
+        Desk {
+            router: desk_router(alloc).ok(),
+        }
+    }
+}
+
+impl<K: Keeper> Responder<K> for Desk {
+    ghost Content = { Office };
+
+    ghost content = { λ k. office (K.constituencies k) (K.content k) };
+
+    ghost IsTrusted = { K.IsTrusted };
+
+    ghost Answers = { Answers };
+
+    ghost unavailable = { word_text Unavailable };
+
+    fn respond(
+        &self,
+        alloc: Global,
+        keeper: &mut K,
+        message: &Result<Message, MessageFault>,
+    ) -> Option<Vec<u8>> {
+        match &self.router {
+            Some(router) => respond(alloc, router, keeper, message),
+            None => respond(alloc, &desk_router(alloc).ok()?, keeper, message),
+        }
+    }
+
+    fn unavailable(&self) -> &'static [u8] {
+        unavailable_text()
+    }
+}
+
+/// Serves so many connections of a door, one after the other: each message is answered from the keeper. A connection
+/// counts as failed where the door had none, where a read of its message failed, and where its answer was not written
+/// whole.
+pub fn serve<K: Keeper, D: Door>(alloc: Global, keeper: &mut K, door: &mut D, count: u32) -> Served
+    ensures count { result.answered + result.failed ≡ count }
+    ensures trusted { K.IsTrusted keeper.new → K.IsTrusted keeper.old }
+    ensures serves { (before : Connections) → D.known door.old ≡ Some before
+        → (after : Connections) × (D.known door.new ≡ Some after) × (ended : List Connection)
+        × (after.ended ++ option_to_list after.current
+        ≡ before.ended ++ option_to_list before.current ++ ended)
+        × (after.coming ≡ drop count before.coming)
+        × (K.IsTrusted keeper.new → Serves Answers (office (K.constituencies keeper.old) (K.content keeper.old))
+        (take count before.coming) ended result.answered
+        (office (K.constituencies keeper.new) (K.content keeper.new))) }
+{
+    let desk = Desk::new(alloc);
+    tally_serve::serve(alloc, &desk, keeper, door, count)
+}

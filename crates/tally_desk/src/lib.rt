@@ -1,0 +1,17 @@
+//! The desk of an electoral office: messages of HTTP/1.1 that are answered from a keeper.
+#![tactic(auto)]
+
+mod command;
+mod desk;
+mod named;
+mod report;
+mod respond;
+mod room;
+mod show;
+mod shown;
+
+pub use desk::serve;
+pub use report::Report;
+pub use tally_door::{Door, DoorFault, MemoryConn, MemoryDoor, NoClock, TcpDoor};
+pub use tally_message::{Message, MessageFault, read_message};
+pub use tally_serve::Served;

@@ -1,0 +1,50 @@
+//! What the path of a message names.
+
+ghost use Rattle.std.specs.Prelude.{◌≡◌, ◌≤◌, length, option_map, option_copied, []};
+ghost use Rattle.tally_rules.specs.Constituency as value;
+ghost use Rattle.tally_rules.specs.Setup.{constituency_with, station_with};
+ghost use Rattle.tally_desk.specs.Requests.{con_named, station_named};
+ghost use Rattle.tally_desk.specs.Named.{lists_of_con, lists_of_station};
+
+use tally_asks::{con_in, station_in};
+use tally_rules::{Code, ListEntry, Setup};
+
+/// The station of the setup that a target names.
+pub(crate) fn station_named(setup: &Setup, target: &[u8]) -> Option<Code>
+    ensures { result ≡ option_map (λ named. named.0) (station_named setup.now target.now) }
+{
+    let code = station_in(target)?;
+    let _place = setup.station(code)?;
+    Some(code)
+}
+
+/// The constituency of the setup that a target names.
+pub(crate) fn con_named(setup: &Setup, target: &[u8]) -> Option<Code>
+    ensures { result ≡ option_map (λ named. named.0) (con_named setup.now target.now) }
+{
+    let code = con_in(target)?;
+    let _con = setup.con(code)?;
+    Some(code)
+}
+
+/// The lists of the constituency that a station is in.
+pub(crate) fn lists_of_station(setup: &Setup, code: Code) -> &[ListEntry]
+    ensures lists { result.now ≡ lists_of_station setup.now code }
+    ensures few { length result.now ≤ 60 }
+{
+    match setup.station(code) {
+        Some((con, _)) => &con.lists,
+        None => &[],
+    }
+}
+
+/// The lists of a constituency.
+pub(crate) fn lists_of_con(setup: &Setup, code: Code) -> &[ListEntry]
+    ensures lists { result.now ≡ lists_of_con setup.now code }
+    ensures few { length result.now ≤ 60 }
+{
+    match setup.con(code) {
+        Some(con) => &con.lists,
+        None => &[],
+    }
+}

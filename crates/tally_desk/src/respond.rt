@@ -1,0 +1,130 @@
+//! Which answer a message gets.
+
+ghost use Rattle.std.specs.Prelude.{◌≡◌, IfSome, Ok};
+ghost use Rattle.tally_asks.specs.Routes.{desk_rows, takes_get};
+ghost use Rattle.tally_answer.specs.Words.{word_text};
+ghost use Rattle.tally_desk.specs.Gives.{Gives};
+ghost use Rattle.tally_desk.specs.Respond.{ByRoute, IsAnswer, IsAnswerOn, fault_word, other_method};
+
+use crate::command::{import, order_on_con, order_on_station};
+use crate::report::Report;
+use crate::room::Room;
+use crate::show::{show_con, show_progress, show_report, show_return};
+use matchit::Router;
+use std::alloc::Global;
+use tally_answer::Word;
+use tally_asks::{Route, route_of, takes, takes_get};
+use tally_core::Keeper;
+use tally_import::Sep;
+use tally_message::{Message, MessageFault};
+
+/// An answer that is a word alone.
+fn say(alloc: Global, word: Word) -> Option<Vec<u8>>
+    ensures { IfSome result (λ text. text.items ≡ word_text word) }
+{
+    Some(Room::reserve(alloc)?.word(word))
+}
+
+/// The word that answers a fault. A failed read has none: nothing is written then.
+fn fault_word(fault: MessageFault) -> Option<Word>
+    ensures { result ≡ fault_word fault }
+{
+    match fault {
+        MessageFault::BadHead => Some(Word::BadHead),
+        MessageFault::HeadTooLong => Some(Word::HeadTooLong),
+        MessageFault::LengthRequired => Some(Word::LengthRequired),
+        MessageFault::BadLength => Some(Word::BadLength),
+        MessageFault::BodyTooLong => Some(Word::BodyTooLong),
+        MessageFault::EndedEarly => Some(Word::EndedEarly),
+        MessageFault::Read => None,
+        MessageFault::Memory => Some(Word::Unavailable),
+    }
+}
+
+fn other_method(route: Route) -> Word
+    ensures { result ≡ other_method (takes_get route) }
+{
+    if takes_get(route) {
+        return Word::GetOnly;
+    }
+    Word::PostOnly
+}
+
+/// Answers a message on its route.
+fn answer_on<K: Keeper>(
+    alloc: Global,
+    keeper: &mut K,
+    route: Route,
+    message: &Message,
+) -> Option<Vec<u8>>
+    ensures setup { K.constituencies keeper.new ≡ K.constituencies keeper.old }
+    ensures trusted { K.IsTrusted keeper.new → K.IsTrusted keeper.old }
+    ensures gives { K.IsTrusted keeper.new → Gives (IsAnswerOn (K.constituencies keeper.old) (K.content keeper.old) route message.now)
+        (K.content keeper.old) result (K.content keeper.new) }
+{
+    match route {
+        Route::Progress => show_progress(alloc, keeper),
+        Route::Station => show_return(alloc, keeper, message),
+        Route::Lodge => order_on_station(alloc, keeper, Route::Lodge, message),
+        Route::Query => order_on_station(alloc, keeper, Route::Query, message),
+        Route::Correct => order_on_station(alloc, keeper, Route::Correct, message),
+        Route::Close => order_on_station(alloc, keeper, Route::Close, message),
+        Route::Con => show_con(alloc, keeper, message),
+        Route::Tally => show_report(alloc, keeper, message, Report::Tally),
+        Route::Seats => show_report(alloc, keeper, message, Report::Seats),
+        Route::Quotients => show_report(alloc, keeper, message, Report::Quotients),
+        Route::Awards => show_report(alloc, keeper, message, Report::Awards),
+        Route::Quota => show_report(alloc, keeper, message, Report::Quota),
+        Route::Short => show_report(alloc, keeper, message, Report::Short),
+        Route::Holders => show_report(alloc, keeper, message, Report::Holders),
+        Route::Past => show_report(alloc, keeper, message, Report::Past),
+        Route::Draw => order_on_con(alloc, keeper, Route::Draw, message),
+        Route::Certify => order_on_con(alloc, keeper, Route::Certify, message),
+        Route::Reopen => order_on_con(alloc, keeper, Route::Reopen, message),
+        Route::Vacate => order_on_con(alloc, keeper, Route::Vacate, message),
+        Route::Import => import(alloc, keeper, Sep::Comma, message),
+        Route::ImportSemicolon => import(alloc, keeper, Sep::Semicolon, message),
+    }
+}
+
+/// Answers a message.
+fn answer<K: Keeper>(
+    alloc: Global,
+    router: &Router<Route>,
+    keeper: &mut K,
+    message: &Message,
+) -> Option<Vec<u8>>
+    requires { router.now ≡ desk_rows }
+    ensures setup { K.constituencies keeper.new ≡ K.constituencies keeper.old }
+    ensures trusted { K.IsTrusted keeper.new → K.IsTrusted keeper.old }
+    ensures gives { K.IsTrusted keeper.new → Gives (IsAnswer (K.constituencies keeper.old) (K.content keeper.old) (Ok message.now))
+        (K.content keeper.old) result (K.content keeper.new) }
+{
+    let Some(route) = route_of(router, &message.target) else {
+        return say(alloc, Word::NoRoute);
+    };
+    if !takes(route, &message.method) {
+        return say(alloc, other_method(route));
+    }
+    answer_on(alloc, keeper, route, message)
+}
+
+/// Answers a message or a fault of one. There is no answer to a failed read, and none where there was no memory for
+/// one: then nothing was accepted.
+pub(crate) fn respond<K: Keeper>(
+    alloc: Global,
+    router: &Router<Route>,
+    keeper: &mut K,
+    message: &Result<Message, MessageFault>,
+) -> Option<Vec<u8>>
+    requires { router.now ≡ desk_rows }
+    ensures setup { K.constituencies keeper.new ≡ K.constituencies keeper.old }
+    ensures trusted { K.IsTrusted keeper.new → K.IsTrusted keeper.old }
+    ensures gives { K.IsTrusted keeper.new → Gives (IsAnswer (K.constituencies keeper.old) (K.content keeper.old) message.now)
+        (K.content keeper.old) result (K.content keeper.new) }
+{
+    match message {
+        Ok(message) => answer(alloc, router, keeper, message),
+        Err(fault) => say(alloc, fault_word(*fault)?),
+    }
+}

@@ -1,0 +1,86 @@
+//! Room for answers.
+
+ghost use Rattle.std.specs.Prelude.{◌≡◌, ◌≤◌, [], Err, IfSome, length, vec_capacity};
+ghost use Rattle.tally_answer.specs.Answer.{answer_text};
+ghost use Rattle.tally_answer.specs.Import.{import_text};
+ghost use Rattle.tally_answer.specs.Outcome.{outcome_text};
+ghost use Rattle.tally_answer.specs.Words.{word_text};
+ghost use Rattle.tally_answer.specs.declared.status.AnswerStatus.TheVariants as status;
+ghost use Rattle.tally_answer.specs.declared.status.BodyType.TheVariants as body;
+ghost use Rattle.tally_desk.specs.Requests.{refusal_text};
+
+use std::alloc::Global;
+use tally_answer::{
+    ANSWER_ROOM, AnswerStatus, BODY_ROOM, BodyType, Imported, Word, answer_of, write_import,
+    write_outcome, write_word,
+};
+use tally_core::{Refusal, Reply};
+use tally_rules::ListEntry;
+
+/// Room for an answer, which is reserved before the office is asked: what is written into it takes no memory.
+#[derive(Drop)]
+pub(crate) struct Room {
+    out: Vec<u8>,
+    body: Vec<u8>,
+    ghost no_answer: { out.items ≡ [] },
+    ghost no_body: { body.items ≡ [] },
+    ghost room: { 2048 ≤ vec_capacity out },
+    ghost body_room: { 1280 ≤ vec_capacity body },
+}
+
+impl Room {
+    pub(crate) fn reserve(alloc: Global) -> Option<Room> {
+        let out = Vec::with_capacity(alloc, ANSWER_ROOM).ok()?;
+        let body = Vec::with_capacity(alloc, BODY_ROOM).ok()?;
+        Some(Room { out, body })
+    }
+
+    /// The answer to a command on a constituency with these lists, or on a station of one.
+    pub(crate) fn outcome(self, lists: &[ListEntry], outcome: &Result<Reply, Refusal>) -> Vec<u8>
+        requires { length lists.now ≤ 60 }
+        ensures { result.items ≡ outcome_text lists.now outcome.now }
+    {
+        let Room { mut out, mut body } = self;
+        write_outcome(&mut out, &mut body, lists, outcome);
+        out
+    }
+
+    /// The answer that a refusal has, of what the setup does not have.
+    pub(crate) fn refusal(self, refusal: Refusal) -> Vec<u8>
+        ensures { result.items ≡ refusal_text refusal }
+    {
+        self.outcome(&[], &Err(refusal))
+    }
+
+    /// The answer to an import.
+    pub(crate) fn import(self, imported: &Imported) -> Vec<u8>
+        ensures { result.items ≡ import_text imported.now }
+    {
+        let Room { mut out, mut body } = self;
+        write_import(&mut out, &mut body, imported);
+        out
+    }
+
+    /// An answer that is a word alone.
+    pub(crate) fn word(self, word: Word) -> Vec<u8>
+        ensures { result.items ≡ word_text word }
+    {
+        let Room { mut out, body: _ } = self;
+        write_word(&mut out, word);
+        out
+    }
+}
+
+/// An answer that is plain text.
+pub(crate) fn text_answer(alloc: Global, text: &[u8]) -> Option<Vec<u8>>
+    ensures { IfSome result (λ out. out.items ≡ answer_text status.Done body.Text text.now) }
+{
+    answer_of(alloc, AnswerStatus::Done, BodyType::Text, text).ok()
+}
+
+/// An answer that is JSON.
+pub(crate) fn json_answer(alloc: Global, text: &[u8]) -> Option<Vec<u8>>
+    ensures { IfSome result (λ out. out.items ≡ answer_text status.Done body.Json text.now) }
+{
+    answer_of(alloc, AnswerStatus::Done, BodyType::Json, text).ok()
+}

@@ -1,0 +1,64 @@
+//! What the office shows.
+
+ghost use Rattle.std.specs.Prelude.{◌≡◌, Some, IfOk};
+ghost use Rattle.tally_core.specs.Keeper.{Happens, request};
+ghost use Rattle.tally_machine.specs.Outcome.{IsLawfulView};
+ghost use Rattle.tally_returns.specs.View.{FitsView};
+ghost use Rattle.tally_returns.specs.declared.ask.Ask.TheVariants.{ShowCon, ShowProgress, ShowReturn};
+ghost use Rattle.tally_rules.specs.Constituency as value;
+ghost use Rattle.tally_rules.specs.Setup.{constituency_with};
+ghost use Rattle.tally_desk.specs.Gives.{as_con, as_progress, as_return};
+
+use tally_core::{Ask, ConView, Keeper, ProgressRow, Refusal, Reply, Return};
+use tally_machine::laws::a_constituency_has_a_view;
+use tally_rules::Code;
+
+/// The return of a station. It is shown, and nothing changes.
+pub(crate) fn return_of<K: Keeper>(keeper: &mut K, station: Code) -> Result<Return, Refusal>
+    ensures setup { K.constituencies keeper.new ≡ K.constituencies keeper.old }
+    ensures trusted { K.IsTrusted keeper.new → K.IsTrusted keeper.old }
+    ensures shows { K.IsTrusted keeper.new → Happens (K.constituencies keeper.old) (K.content keeper.old)
+        (request (ShowReturn station) (as_return result)) (K.content keeper.new) }
+    ensures kept { K.IsTrusted keeper.new → IfOk result (λ _. K.content keeper.new ≡ K.content keeper.old) }
+{
+    match keeper.answer(&Ask::ShowReturn { station }) {
+        Ok(Reply::Return(kept)) => Ok(kept),
+        Ok(_) => unreachable!(),
+        Err(refusal) => Err(refusal),
+    }
+}
+
+/// What a constituency has come to. It is shown, and nothing changes.
+pub(crate) fn view_of<K: Keeper>(keeper: &mut K, con: Code) -> Result<ConView, Refusal>
+    ensures setup { K.constituencies keeper.new ≡ K.constituencies keeper.old }
+    ensures trusted { K.IsTrusted keeper.new → K.IsTrusted keeper.old }
+    ensures fits { IfOk result (λ view. (found : value.Constituency) → constituency_with con (K.constituencies keeper.old) ≡ Some found → FitsView found view) }
+    ensures lawful { K.IsTrusted keeper.new → IfOk result (λ view. (found : value.Constituency)
+        → constituency_with con (K.constituencies keeper.old) ≡ Some found → IsLawfulView found view) }
+    ensures shows { K.IsTrusted keeper.new → Happens (K.constituencies keeper.old) (K.content keeper.old)
+        (request (ShowCon con) (as_con result)) (K.content keeper.new) }
+    ensures kept { K.IsTrusted keeper.new → IfOk result (λ _. K.content keeper.new ≡ K.content keeper.old) }
+{
+    a_constituency_has_a_view();
+    let _cons = keeper.setup().cons();
+    match keeper.answer(&Ask::ShowCon { con }) {
+        Ok(Reply::Con(view)) => Ok(view),
+        Ok(_) => unreachable!(),
+        Err(refusal) => Err(refusal),
+    }
+}
+
+/// How far each constituency has come. It is shown, and nothing changes.
+pub(crate) fn progress_of<K: Keeper>(keeper: &mut K) -> Result<Vec<ProgressRow>, Refusal>
+    ensures setup { K.constituencies keeper.new ≡ K.constituencies keeper.old }
+    ensures trusted { K.IsTrusted keeper.new → K.IsTrusted keeper.old }
+    ensures shows { K.IsTrusted keeper.new → Happens (K.constituencies keeper.old) (K.content keeper.old)
+        (request ShowProgress (as_progress result)) (K.content keeper.new) }
+    ensures kept { K.IsTrusted keeper.new → IfOk result (λ _. K.content keeper.new ≡ K.content keeper.old) }
+{
+    match keeper.answer(&Ask::ShowProgress) {
+        Ok(Reply::Progress(rows)) => Ok(rows),
+        Ok(_) => unreachable!(),
+        Err(refusal) => Err(refusal),
+    }
+}

@@ -1,0 +1,102 @@
+-- What writing all rows of an entry does to the tables.
+use Rattle.std.specs.Prelude.{◌≡◌, ◌≢◌, ◌≤◌, ◌++◌, ℕ, List, [], length, map, filter, IsPermutation, Option, None, Some, IfSome, Result, OnOk}
+use Rattle.std.specs.FinMap.{FinMap, get, insert}
+use Rattle.sqlite_value.specs.Order.{Row}
+use Rattle.sqlite.specs.declared.error.Error.{Error}
+use Rattle.sqlite.specs.State.{State as Seen, HasCleanDisk}
+use Rattle.tally_rows.specs.Rows.{AreRowsOf, has_key, others}
+use Rattle.tally_rules.specs.Code.{code_cmp}
+use Rattle.tally_rules.specs.Constituency.{Constituency}
+use Rattle.tally_returns.specs.Counts.{VoteCounts}
+use Rattle.tally_returns.specs.Return.{StationReturn, Returns}
+use Rattle.tally_returns.specs.State.{ConState}
+use Rattle.tally_schema.specs.Tables.{setup_tree}
+use Rattle.tally_statements.specs.declared.table.KeyedTable.{KeyedTable}
+use Rattle.tally_statements.specs.declared.table.KeyedTable.TheVariants.{Returns as Heads, Counts, Lots, Seats}
+use Rattle.tally_statements.specs.Office.{tree_of, rows_in, IsInside, HasRows}
+use Rattle.tally_tables.specs.Cells.{constituency_of, item_row, items_of, numbered, lot_rows, return_rows, count_rows}
+use Rattle.tally_returns.specs.Lawful.{IsLawfulAt}
+use Rattle.tally_entries.specs.declared.items.ItemTable.{ItemTable}
+use Rattle.tally_entries.specs.declared.items.ItemTable.TheVariants as items
+
+abbrev pub keyed_table : ItemTable → KeyedTable
+keyed_table items.Counts = Counts
+keyed_table items.Lots = Lots
+keyed_table items.Seats = Seats
+
+-- the rows of a table, with their rowids
+abbrev pub stored_in : KeyedTable → Seen → List Row
+stored_in t s = s.now.trees (tree_of t)
+
+-- the table has these rows more
+abbrev pub Adds : KeyedTable → List Row → Seen → Seen → Type 0
+Adds t rows old new = HasRows t (rows ++ rows_in t old) old new
+
+-- What a call that added rows says, of a disk that returned what was written.
+abbrev pub AddsRows : KeyedTable → List Row → Seen → Seen → Result Unit Error → Type 0
+AddsRows t rows old new result = HasCleanDisk new → IsInside old → OnOk result (Adds t rows old new)
+
+-- ---- returns
+
+-- the rows of `returns` and of `counts` are those of these returns
+pub record AreReturnsIn (setup : List Constituency) (returns : Returns) (s : Seen) : Type 0 where
+  pub heads : AreRowsOf (return_rows setup) returns (stored_in Heads s)
+  pub counts : AreRowsOf count_rows returns (stored_in Counts s)
+
+-- The tables of returns have this return at the station now, all other returns as they were, and every other table is as it was.
+pub record PutsReturn (setup : List Constituency) (returns : Returns) (station : List ℕ) (standing : StationReturn) (old new : Seen) : Type 0 where
+  pub inside : IsInside new
+  pub returns_are : AreReturnsIn setup (insert returns station standing) new
+  pub others : (u : KeyedTable) → tree_of u ≢ tree_of Heads → tree_of u ≢ tree_of Counts → stored_in u new ≡ stored_in u old
+  pub setup_is : new.now.trees setup_tree ≡ old.now.trees setup_tree
+
+-- the return stands at a station that had none
+abbrev pub AddsReturn : List ℕ → List ℕ → StationReturn → Seen → Seen → Result Unit Error → Type 0
+AddsReturn con station standing old new result =
+    HasCleanDisk new → IsInside old → (setup : List Constituency) (returns : Returns) → constituency_of setup station ≡ con → get returns station ≡ None → AreReturnsIn setup returns old → OnOk result (PutsReturn setup returns station standing old new)
+
+-- the return stands in place of one that had the same counts
+abbrev pub ChangesReturn : List ℕ → StationReturn → Seen → Seen → Result Unit Error → Type 0
+ChangesReturn station standing old new result =
+    HasCleanDisk new → IsInside old → (setup : List Constituency) (returns : Returns) (before : StationReturn) → get returns station ≡ Some before → before.counts ≡ standing.counts → AreReturnsIn setup returns old
+    → OnOk result (PutsReturn setup returns station standing old new)
+
+-- the return stands in place of one for as many lists
+abbrev pub CorrectsReturn : List ℕ → StationReturn → Seen → Seen → Result Unit Error → Type 0
+CorrectsReturn station standing old new result =
+    HasCleanDisk new → IsInside old → (setup : List Constituency) (returns : Returns) (before : StationReturn) → get returns station ≡ Some before → length before.counts.votes ≡ length standing.counts.votes → AreReturnsIn setup returns old
+    → OnOk result (PutsReturn setup returns station standing old new)
+
+-- ---- counts
+
+-- `counts` has the rows of these counts of a station, beside these rows
+abbrev pub HasCounts : List ℕ → VoteCounts → List Row → Seen → Seen → Type 0
+HasCounts station c rest old new = HasRows Counts (map (item_row station) (items_of c) ++ rest) old new
+
+-- the numbers of the lists of a station are these, where it had rows for as many lists
+abbrev pub SetsVotes : List ℕ → List ℕ → Seen → Seen → Result Unit Error → Type 0
+SetsVotes station votes old new result =
+    HasCleanDisk new → IsInside old → (c : VoteCounts) (rest : List Row) → length c.votes ≡ length votes → filter (has_key station) rest ≡ [] → IsPermutation (map (item_row station) (items_of c) ++ rest) (rows_in Counts old)
+    → OnOk result (HasCounts station (record c { votes = votes }) rest old new)
+
+-- and so are the blank and the spoiled ones
+abbrev pub SetsCounts : List ℕ → VoteCounts → Seen → Seen → Result Unit Error → Type 0
+SetsCounts station counts old new result =
+    HasCleanDisk new → IsInside old → (c : VoteCounts) (rest : List Row) → length c.votes ≡ length counts.votes → filter (has_key station) rest ≡ [] → IsPermutation (map (item_row station) (items_of c) ++ rest) (rows_in Counts old)
+    → OnOk result (HasCounts station counts rest old new)
+
+-- What is found at a station is its return, where that is lawful there and for at most 60 lists.
+abbrev pub FindsReturn : List Constituency → List ℕ → Seen → Option StationReturn → Type 0
+FindsReturn setup station s found =
+    (returns : Returns) → AreReturnsIn setup returns s → IfSome (get returns station) (λ standing. IsLawfulAt setup station standing × (length standing.counts.votes ≤ 60)) → found ≡ get returns station
+
+-- ---- lots and seats
+
+-- The table has these numbers of a constituency, each with its place from 1, and the rows of the others as they were.
+abbrev pub PutsNumbers : KeyedTable → List ℕ → List ℕ → Seen → Seen → Result Unit Error → Type 0
+PutsNumbers t con ns old new result = HasCleanDisk new → IsInside old → OnOk result (HasRows t (map (item_row con) (numbered 1 ns) ++ others con (rows_in t old)) old new)
+
+-- Where `lots` had the lots of these constituencies, this one has this lot now.
+abbrev pub PutsLot : List ℕ → List ℕ → Seen → Seen → Result Unit Error → Type 0
+PutsLot con lot old new result =
+    HasCleanDisk new → IsInside old → (cons : FinMap code_cmp ConState) (standing : ConState) → standing.lot ≡ lot → AreRowsOf lot_rows cons (stored_in Lots old) → OnOk result (AreRowsOf lot_rows (insert cons con standing) (stored_in Lots new))

@@ -1,0 +1,124 @@
+//! Rows of a key, an item and a number, in the tables that have them.
+
+ghost use Rattle.std.specs.Prelude.{◌≡◌, ◌≤◌, ◌∷◌, [], map, length};
+ghost use Rattle.sqlite.specs.State.{Survives};
+ghost use Rattle.sqlite.specs.Held.{state};
+ghost use Rattle.tally_statements.specs.Office.{KeepsCommitIfClean, Inserts, item_cells};
+ghost use Rattle.tally_tables.specs.Cells.{item_row, items_of, numbered};
+ghost use Rattle.tally_entries.specs.Entries.{AddsRows, SetsCounts, SetsVotes, keyed_table};
+ghost use Rattle.tally_statements.specs.declared.table.KeyedTable.TheVariants.{Counts};
+
+use sqlite::{Alter, Error, Transaction};
+use tally_returns::Counts as VoteCounts;
+use tally_statements::{insert_count, insert_lot, insert_seats, update_count};
+
+/// The item of the spoiled votes.
+const SPOILED_ITEM: u32 = 61;
+
+/// The tables whose rows are a key, an item and a number of 32 bits.
+#[derive(Clone, Copy)]
+pub enum ItemTable {
+    Counts,
+    Lots,
+    Seats,
+}
+
+/// Adds the number of an item.
+fn insert_item<S: Alter>(
+    tx: &mut Transaction<'_, S>,
+    table: ItemTable,
+    key: &str,
+    item: u32,
+    n: u32,
+) -> Result<(), Error>
+    ensures same_reference { tx.new.conn.ghost_name ≡ tx.old.conn.ghost_name }
+    ensures kept { KeepsCommitIfClean (state S.Store tx.old.conn.now) (state S.Store tx.new.conn.now) }
+    ensures inserted { Inserts (keyed_table table) (item_cells key.now item n)
+        (state S.Store tx.old.conn.now) (state S.Store tx.new.conn.now) result }
+    ensures survives { Survives (state S.Store tx.old.conn.now) (state S.Store tx.new.conn.now) (λ _. ⊥) }
+{
+    match table {
+        ItemTable::Counts => insert_count(tx, key, item, n),
+        ItemTable::Lots => insert_lot(tx, key, item, n),
+        ItemTable::Seats => insert_seats(tx, key, item, n),
+    }
+}
+
+/// Adds these numbers, each with its place for the item, counted from 1.
+pub(crate) fn insert_numbers<S: Alter>(
+    tx: &mut Transaction<'_, S>,
+    table: ItemTable,
+    key: &str,
+    numbers: &[u32],
+) -> Result<(), Error>
+    requires few { length numbers.now ≤ 60 }
+    ensures same_reference { tx.new.conn.ghost_name ≡ tx.old.conn.ghost_name }
+    ensures kept { KeepsCommitIfClean (state S.Store tx.old.conn.now) (state S.Store tx.new.conn.now) }
+    ensures added { AddsRows (keyed_table table) (map (item_row key.now) (numbered 1 numbers.now))
+        (state S.Store tx.old.conn.now) (state S.Store tx.new.conn.now) result }
+    ensures survives { Survives (state S.Store tx.old.conn.now) (state S.Store tx.new.conn.now) (λ _. ⊥) }
+{
+    let mut item = 1u32;
+    for n in numbers {
+        insert_item(tx, table, key, item, *n)?;
+        item += 1;
+    }
+    Ok(())
+}
+
+/// Adds the counts of a station.
+pub(crate) fn insert_counts<S: Alter>(
+    tx: &mut Transaction<'_, S>,
+    station: &str,
+    counts: &VoteCounts,
+) -> Result<(), Error>
+    requires few { length counts.now.votes ≤ 60 }
+    ensures same_reference { tx.new.conn.ghost_name ≡ tx.old.conn.ghost_name }
+    ensures kept { KeepsCommitIfClean (state S.Store tx.old.conn.now) (state S.Store tx.new.conn.now) }
+    ensures added { AddsRows Counts (map (item_row station.now) (items_of counts.now))
+        (state S.Store tx.old.conn.now) (state S.Store tx.new.conn.now) result }
+    ensures survives { Survives (state S.Store tx.old.conn.now) (state S.Store tx.new.conn.now) (λ _. ⊥) }
+{
+    insert_item(tx, ItemTable::Counts, station, 0, counts.blank)?;
+    insert_numbers(tx, ItemTable::Counts, station, counts.votes.as_slice())?;
+    insert_item(tx, ItemTable::Counts, station, SPOILED_ITEM, counts.spoiled)
+}
+
+/// Sets the numbers of the lists of a station, one by one.
+fn update_votes<S: Alter>(
+    tx: &mut Transaction<'_, S>,
+    station: &str,
+    votes: &[u32],
+) -> Result<(), Error>
+    requires few { length votes.now ≤ 60 }
+    ensures same_reference { tx.new.conn.ghost_name ≡ tx.old.conn.ghost_name }
+    ensures kept { KeepsCommitIfClean (state S.Store tx.old.conn.now) (state S.Store tx.new.conn.now) }
+    ensures set { SetsVotes station.now votes.now
+        (state S.Store tx.old.conn.now) (state S.Store tx.new.conn.now) result }
+    ensures survives { Survives (state S.Store tx.old.conn.now) (state S.Store tx.new.conn.now) (λ _. ⊥) }
+{
+    let mut item = 1u32;
+    for n in votes {
+        update_count(tx, station, item, *n)?;
+        item += 1;
+    }
+    Ok(())
+}
+
+/// Sets the counts of a station, number by number.
+pub(crate) fn update_counts<S: Alter>(
+    tx: &mut Transaction<'_, S>,
+    station: &str,
+    counts: &VoteCounts,
+) -> Result<(), Error>
+    requires few { length counts.now.votes ≤ 60 }
+    ensures same_reference { tx.new.conn.ghost_name ≡ tx.old.conn.ghost_name }
+    ensures kept { KeepsCommitIfClean (state S.Store tx.old.conn.now) (state S.Store tx.new.conn.now) }
+    ensures set { SetsCounts station.now counts.now
+        (state S.Store tx.old.conn.now) (state S.Store tx.new.conn.now) result }
+    ensures survives { Survives (state S.Store tx.old.conn.now) (state S.Store tx.new.conn.now) (λ _. ⊥) }
+{
+    update_count(tx, station, 0, counts.blank)?;
+    update_votes(tx, station, counts.votes.as_slice())?;
+    update_count(tx, station, SPOILED_ITEM, counts.spoiled)
+}

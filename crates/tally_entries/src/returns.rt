@@ -1,0 +1,115 @@
+//! The return of a station in the tables `returns` and `counts`.
+
+ghost use Rattle.std.specs.Prelude.{◌≡◌, ◌≤◌, length, List, ℕ};
+ghost use Rattle.sqlite.specs.State.{Survives};
+ghost use Rattle.sqlite.specs.Held.{state};
+ghost use Rattle.tally_statements.specs.Office.{KeepsCommitIfClean, Inserts, Replaces};
+ghost use Rattle.tally_statements.specs.declared.table.KeyedTable.TheVariants.{Returns};
+ghost use Rattle.tally_returns.specs.Return.{StationReturn};
+ghost use Rattle.tally_tables.specs.Cells.{return_row};
+ghost use Rattle.tally_entries.specs.Entries.{AddsReturn, ChangesReturn, CorrectsReturn};
+
+use crate::items::{insert_counts, update_counts};
+use sqlite::{Alter, Error, Transaction};
+use tally_returns::Return;
+use tally_statements::{insert_return, update_return};
+use tally_tables::status_number;
+
+/// Adds the row of `returns` of a return.
+fn insert_head<S: Alter>(
+    tx: &mut Transaction<'_, S>,
+    con: &str,
+    station: &str,
+    standing: &Return,
+) -> Result<(), Error>
+    ensures same_reference { tx.new.conn.ghost_name ≡ tx.old.conn.ghost_name }
+    ensures kept { KeepsCommitIfClean (state S.Store tx.old.conn.now) (state S.Store tx.new.conn.now) }
+    ensures inserted { Inserts Returns (return_row con.now (station.now, standing.now))
+        (state S.Store tx.old.conn.now) (state S.Store tx.new.conn.now) result }
+    ensures survives { Survives (state S.Store tx.old.conn.now) (state S.Store tx.new.conn.now) (λ _. ⊥) }
+{
+    insert_return(
+        tx,
+        station,
+        con,
+        standing.rev,
+        standing.slip.as_str(),
+        status_number(standing.status),
+        standing.note.as_str(),
+    )
+}
+
+/// Writes the return of a station of a constituency, where the station has none: its row of `returns`,
+/// and a row of `counts` for each of its numbers.
+pub fn add_return<S: Alter>(
+    tx: &mut Transaction<'_, S>,
+    con: &str,
+    station: &str,
+    standing: &Return,
+) -> Result<(), Error>
+    requires few { length standing.now.counts.votes ≤ 60 }
+    ensures same_reference { tx.new.conn.ghost_name ≡ tx.old.conn.ghost_name }
+    ensures kept { KeepsCommitIfClean (state S.Store tx.old.conn.now) (state S.Store tx.new.conn.now) }
+    ensures added { AddsReturn con.now station.now standing.now
+        (state S.Store tx.old.conn.now) (state S.Store tx.new.conn.now) result }
+    ensures survives { Survives (state S.Store tx.old.conn.now) (state S.Store tx.new.conn.now) (λ _. ⊥) }
+{
+    insert_head(tx, con, station, standing)?;
+    insert_counts(tx, station, &standing.counts)
+}
+
+/// Changes the row of `returns` of a station. Its constituency stays.
+fn update_head<S: Alter>(
+    tx: &mut Transaction<'_, S>,
+    station: &str,
+    standing: &Return,
+) -> Result<(), Error>
+    ensures same_reference { tx.new.conn.ghost_name ≡ tx.old.conn.ghost_name }
+    ensures kept { KeepsCommitIfClean (state S.Store tx.old.conn.now) (state S.Store tx.new.conn.now) }
+    ensures updated { (con : List ℕ) (before : StationReturn) →
+        Replaces Returns station.now (return_row con (station.now, before)) (return_row con (station.now, standing.now))
+        (state S.Store tx.old.conn.now) (state S.Store tx.new.conn.now) result }
+    ensures survives { Survives (state S.Store tx.old.conn.now) (state S.Store tx.new.conn.now) (λ _. ⊥) }
+{
+    update_return(
+        tx,
+        station,
+        standing.rev,
+        standing.slip.as_str(),
+        status_number(standing.status),
+        standing.note.as_str(),
+    )
+}
+
+/// Writes the return of a station in place of one that has the same counts: its row of `returns`.
+pub fn change_return<S: Alter>(
+    tx: &mut Transaction<'_, S>,
+    station: &str,
+    standing: &Return,
+) -> Result<(), Error>
+    ensures same_reference { tx.new.conn.ghost_name ≡ tx.old.conn.ghost_name }
+    ensures kept { KeepsCommitIfClean (state S.Store tx.old.conn.now) (state S.Store tx.new.conn.now) }
+    ensures changed { ChangesReturn station.now standing.now
+        (state S.Store tx.old.conn.now) (state S.Store tx.new.conn.now) result }
+    ensures survives { Survives (state S.Store tx.old.conn.now) (state S.Store tx.new.conn.now) (λ _. ⊥) }
+{
+    update_head(tx, station, standing)
+}
+
+/// Writes the return of a station in place of one for as many lists: its row of `returns`, and the row
+/// of `counts` of each of its numbers.
+pub fn correct_return<S: Alter>(
+    tx: &mut Transaction<'_, S>,
+    station: &str,
+    standing: &Return,
+) -> Result<(), Error>
+    requires few { length standing.now.counts.votes ≤ 60 }
+    ensures same_reference { tx.new.conn.ghost_name ≡ tx.old.conn.ghost_name }
+    ensures kept { KeepsCommitIfClean (state S.Store tx.old.conn.now) (state S.Store tx.new.conn.now) }
+    ensures corrected { CorrectsReturn station.now standing.now
+        (state S.Store tx.old.conn.now) (state S.Store tx.new.conn.now) result }
+    ensures survives { Survives (state S.Store tx.old.conn.now) (state S.Store tx.new.conn.now) (λ _. ⊥) }
+{
+    update_head(tx, station, standing)?;
+    update_counts(tx, station, &standing.counts)
+}

@@ -1,0 +1,11 @@
+pub mod AllLemmas
+pub mod OrderLemmas
+pub mod EntriesLemmas
+pub mod CountLemmas
+pub mod LedgerLemmas
+pub mod SeenLemmas
+pub mod OfficeLemmas
+pub mod MustPassLemmas
+pub mod StateLemmas
+pub mod VerdictLemmas
+pub mod OneStateLemmas

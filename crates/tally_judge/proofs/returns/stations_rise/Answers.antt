@@ -1,0 +1,8 @@
+use Rattle.std.proofs.Common.{sym, ◌∙◌}
+use Rattle.tally_rows.specs.Rows.{text_cmp}
+use Rattle.tally_judge.specs.Entries.{key_of}
+use Rattle.tally_judge.proofs.OrderLemmas.{rises_end}
+use Rattle.tally_judge.proofs.returns.stations_rise.Goals as goal
+
+pub returns : goal.returns
+returns c = sym (rises_end text_cmp key_of c.args.entries.now c.loop-i.i c.loop-i-test.false) ∙ c.loop-i.invariant

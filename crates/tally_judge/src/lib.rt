@@ -1,0 +1,10 @@
+//! Whether the rows of an office's tables are those of a lawful state.
+#![tactic(auto)]
+
+mod codes;
+mod cons;
+mod office;
+mod returns;
+mod view;
+
+pub use office::{OfficeRows, accept_rows};

@@ -1,0 +1,76 @@
+//! Whether the rows of whole tables are those of a lawful state.
+
+ghost use Rattle.std.specs.Prelude.{◌≡◌, All, IfOk, IfSome, IsSome, OnOk, OnSome, true};
+ghost use Rattle.std.specs.FinMap.{from_entries, insert};
+ghost use Rattle.tally_judge.specs.Entries.{IsLawfulEntry, rises};
+ghost use Rattle.tally_judge.specs.OfficeRows.{AreLawfulRows, AreRowsOfOneState, rows_in};
+ghost use Rattle.tally_ledger.specs.Kept.{opening_kept};
+
+use crate::codes::have_codes;
+use crate::cons::are_lawful_cons;
+use crate::returns::{are_lawful, stations_rise};
+use sqlite::Row;
+use std::alloc::{AllocError, Global};
+use tally_ledger::Ledger;
+use tally_machine::laws;
+use tally_rules::Setup;
+use tally_tables::{ConTables, Entry, entries_in};
+
+/// The rows of all tables but `setup`, without their rowids, those of each table in the order of its
+/// key.
+#[derive(Clone, Copy)]
+pub struct OfficeRows<'a> {
+    pub returns: &'a [Row],
+    pub counts: &'a [Row],
+    pub cons: &'a [Row],
+    pub tables: ConTables<'a>,
+}
+
+/// The setup again, where these are the rows of the tables of a lawful state over it, and `None`
+/// where they are those of no lawful state. It costs n log n in the rows.
+pub fn accept_rows(
+    alloc: Global,
+    setup: Setup,
+    rows: OfficeRows<'_>,
+) -> Result<Option<Setup>, AllocError>
+    ensures passed { IfOk result (λ found. OnSome found (AreRowsOfOneState setup (rows_in rows.entry))) }
+    ensures must_pass { IfOk result (λ found. AreLawfulRows setup (rows_in rows.entry) → IsSome found) }
+    ensures setup { IfOk result (λ found. IfSome found (λ again. again ≡ setup)) }
+{
+    have_codes(&setup);
+    laws::a_constituency_has_a_view();
+    let Some(entries) = entries_in(alloc, &setup, rows.returns, rows.counts)? else {
+        return Ok(None);
+    };
+    if !stations_rise(&entries) {
+        return Ok(None);
+    }
+    if !are_lawful(&setup, &entries) {
+        return Ok(None);
+    }
+    let ledger = ledger_of(alloc, setup, entries)?;
+    if !are_lawful_cons(alloc, &ledger, rows.cons, rows.tables)? {
+        return Ok(None);
+    }
+    Ok(Some(ledger.into_setup()))
+}
+
+/// A ledger with these returns.
+fn ledger_of(alloc: Global, setup: Setup, entries: Vec<Entry>) -> Result<Ledger, AllocError>
+    requires rise { rises entries.items ≡ true }
+    requires lawful { All (IsLawfulEntry setup) entries.items }
+    ensures { IfOk result (λ ledger. ledger ≡ record (opening_kept setup) { returns = from_entries entries.items }) }
+{
+    let mut ledger = Ledger::new(alloc, setup)?;
+    for entry in entries {
+        put_entry(&mut ledger, entry)?;
+    }
+    Ok(ledger)
+}
+
+fn put_entry(ledger: &mut Ledger, entry: Entry) -> Result<(), AllocError>
+    requires { IsLawfulEntry ledger.now.setup entry }
+    ensures { OnOk result (ledger.new ≡ record ledger.old { returns = insert ledger.old.returns entry.0 entry.1 }) }
+{
+    ledger.put(entry.station, entry.standing)
+}

@@ -1,0 +1,8 @@
+//! Tests of `tally_judge`, which over its finished proofs are checked once. Nothing here is public,
+//! so there are no must-fail edits.
+#![tactic(auto)]
+
+#[cfg(test)]
+mod offices;
+#[cfg(test)]
+mod rows;

@@ -1,0 +1,9 @@
+pub mod AddLemmas
+pub mod EmptyLemmas
+pub mod OpeningLemmas
+pub mod ReturnLemmas
+pub mod TextLemmas
+pub mod OrderLemmas
+pub mod ShownLemmas
+pub mod TableLemmas
+pub mod JudgedLemmas

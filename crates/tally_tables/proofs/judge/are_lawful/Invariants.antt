@@ -1,6 +1,0 @@
-use Rattle.std.proofs.Common.{All, take}
-use Rattle.tally_tables.specs.Judge.{IsLawfulEntry}
-use Rattle.tally_tables.proofs.judge.are_lawful.Given as goal
-
-abbrev pub invariant-loop-entry : goal.invariant-loop-entry
-invariant-loop-entry l = All (IsLawfulEntry l.setup) (take l.entry-index l.entries)
