@@ -59,7 +59,7 @@ impl<'a> Poll<'a> {
     }
 
     /// The votes of the eligible lists together.
-    pub(crate) fn eligible_votes(&self) -> u64
+    pub fn eligible_votes(&self) -> u64
         ensures { result ≡ eligible_votes (kept_poll self.now) }
     {
         let mut total = 0;

@@ -2,7 +2,7 @@
 
 ghost use Rattle.std.specs.Prelude.{◌≡◌, ◌<◌, ◌++◌, IfOk, OnOk, length, string_bytes};
 ghost use Rattle.tally_contest.specs.internal.KeptPoll.{kept_poll};
-ghost use Rattle.tally_contest.specs.Poll.{IsEligible, eligible_votes};
+ghost use Rattle.tally_contest.specs.Poll.{IsEligible};
 ghost use Rattle.tally_returns.specs.View.{FitsView};
 ghost use Rattle.tally_report.specs.Fault.{IsRefused, quotas_fault};
 ghost use Rattle.tally_report.specs.Columns.{list_lines};
@@ -32,23 +32,9 @@ pub fn quota_text(alloc: Global, con: &Constituency, view: &ConView) -> Result<S
     let contest = HareContest::new(&poll, &[], con.seats);
     let mut text = String::new(alloc);
     push_heading(&mut text, "QUOTA", con)?;
-    let votes = eligible_votes(&poll);
-    writeln!(text, "votes {votes} seats {}", con.seats)?;
+    writeln!(text, "votes {} seats {}", poll.eligible_votes(), con.seats)?;
     push_lists(&mut text, con, view, &contest)?;
     Ok(text)
-}
-
-/// The votes of the eligible lists together.
-fn eligible_votes(poll: &Poll) -> u64
-    ensures { result ≡ eligible_votes (kept_poll poll.now) }
-{
-    let mut total = 0;
-    for list in 0..poll.votes.len() {
-        if poll.is_eligible(list) {
-            total += poll.votes[list];
-        }
-    }
-    total
 }
 
 fn push_lists(
