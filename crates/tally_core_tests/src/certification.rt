@@ -3,13 +3,11 @@
 ghost use Rattle.std.specs.Prelude.{◌≡◌, Some, IsTrue};
 ghost use Rattle.tally_returns.specs.Named.{con_named};
 
-use crate::answers::told_refusal;
-use crate::commands::command;
-use crate::setups::{code, number, setup, twin_town};
 use std::alloc::Global;
 use std::test::*;
 use tally_core::{Ask, Change, ConView, Gone, Past, Refusal, decide_con};
 use tally_rules::Constituency;
+use tally_scripts::{code, command, number, setup, told_refusal, twin_town};
 
 /// What is seen of a text such as `1 1: 100,100: 2,1: 1,2: 2.1`: the edition, how many of its one station are
 /// closed, the votes, the lot; the seats, where it is certified; the list and place of one who is gone.

@@ -5,13 +5,11 @@ ghost use Rattle.std.specs.Option.{ForSome, option_copied};
 ghost use Rattle.tally_returns.specs.Decide.{limits_named, station_in};
 ghost use Rattle.tally_returns.specs.Lawful.{IsLawful};
 
-use crate::answers::told_refusal;
-use crate::commands::command;
-use crate::setups::{TWIN_TOWN, code, setup};
 use std::alloc::Global;
 use std::test::*;
 use tally_core::{Ask, Change, Refusal, Return, decide_return};
 use tally_rules::{Code, Constituency, Station};
+use tally_scripts::{TWIN_TOWN, code, command, setup, told_refusal};
 
 /// Whether a command may be decided: its station is one of the constituency, and the return that
 /// stands is lawful there.

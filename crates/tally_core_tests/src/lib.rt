@@ -4,13 +4,9 @@
 #![tactic(auto)]
 
 #[cfg(test)]
-mod answers;
-#[cfg(test)]
 mod book;
 #[cfg(test)]
 mod certification;
-#[cfg(test)]
-mod commands;
 #[cfg(test)]
 mod decide;
 pub mod frail;

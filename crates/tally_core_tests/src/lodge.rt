@@ -1,11 +1,10 @@
 //! What the return of a station is answered, and who holds seats.
 
-use crate::commands::counts;
-use crate::setups::{code, number};
 use std::alloc::Global;
 use std::test::*;
 use tally_core::{Counts, LodgeReply, Refusal, Return, decide_lodge, holders};
 use tally_rules::Code;
+use tally_scripts::{code, counts, number};
 
 /// The return that stands: slip p1, revision 3, votes 50 and 40, 2 blank and 1 spoiled.
 fn standing(alloc: Global) -> Result<Return, Fail> {

@@ -2,12 +2,11 @@
 
 ghost use Rattle.tally_core.specs.Source.{IsLodgeOrBad};
 
-use crate::answers::first_wrong;
-use crate::commands::command;
-use crate::setups::{TWIN_TOWN, fresh};
+use crate::setups::fresh;
 use std::alloc::Global;
 use std::test::*;
 use tally_core::{Ask, Book, ImportCount, ImportFault, Keeper, Row, RowSource};
+use tally_scripts::{TWIN_TOWN, command, first_wrong};
 
 /// Gives these rows, the last first; then it ends, or its reads fail.
 #[derive(Drop)]

@@ -8,7 +8,7 @@ use tally_rules::Code;
 
 /// The counts of a text such as `100,50 3 1`: the votes of the lists, and blank and spoiled ones if there are
 /// any.
-pub(crate) fn counts(alloc: Global, text: &str) -> Result<Counts, Fail> {
+pub fn counts(alloc: Global, text: &str) -> Result<Counts, Fail> {
     let (lists, others) = text.split_once(" ").unwrap_or((text, "0"));
     let (blank, spoiled) = others.split_once(" ").unwrap_or((others, "0"));
     let mut votes = Vec::new(alloc);
@@ -23,7 +23,7 @@ pub(crate) fn counts(alloc: Global, text: &str) -> Result<Counts, Fail> {
 }
 
 /// `lodge STATION SLIP COUNTS`, or another command.
-pub(crate) fn command(alloc: Global, line: &str) -> Result<Ask, Fail> {
+pub fn command(alloc: Global, line: &str) -> Result<Ask, Fail> {
     let (verb, rest) = line.split_once(" ").ok_or("no name")?;
     let (named, rest) = rest.split_once(" ").unwrap_or((rest, ""));
     let named = code(named)?;

@@ -1,13 +1,12 @@
 //! Answers as text.
 
 use crate::commands::command;
-use crate::setups::fresh;
 use std::alloc::Global;
 use std::test::Fail;
-use tally_core::{Book, ConView, Keeper, ListSet, ProgressRow, Refusal, Reply, Return};
+use tally_core::{ConView, Keeper, ListSet, ProgressRow, Refusal, Reply, Return};
 
 /// What is answered, as text: a word for it, and its numbers.
-pub(crate) fn told(alloc: Global, answer: &Result<Reply, Refusal>) -> Result<String, Fail> {
+pub fn told(alloc: Global, answer: &Result<Reply, Refusal>) -> Result<String, Fail> {
     match answer {
         Ok(reply) => told_reply(alloc, reply),
         Err(refusal) => told_refusal(alloc, refusal),
@@ -80,7 +79,7 @@ fn push_row(text: &mut String, row: ProgressRow) -> Result<(), Fail> {
 }
 
 /// What a refusal says, or its number.
-pub(crate) fn told_refusal(alloc: Global, refusal: &Refusal) -> Result<String, Fail> {
+pub fn told_refusal(alloc: Global, refusal: &Refusal) -> Result<String, Fail> {
     match refusal {
         Refusal::WrongStatus { status } => Ok(format!(in alloc; "status {status:?}")?),
         Refusal::Stale { now } => Ok(format!(in alloc; "stale {now}")?),
@@ -108,25 +107,19 @@ fn told_group(alloc: Global, front: &str, group: &ListSet) -> Result<String, Fai
 }
 
 /// What a keeper answers to the command of a line, as text.
-fn answered(alloc: Global, book: &mut Book, line: &str) -> Result<String, Fail> {
-    let answer = book.answer(&command(alloc, line)?);
+fn answered<K: Keeper>(alloc: Global, keeper: &mut K, line: &str) -> Result<String, Fail> {
+    let answer = keeper.answer(&command(alloc, line)?);
     told(alloc, &answer)
 }
 
 /// The first of these lines, `COMMAND = ANSWER`, whose answer is another, with that answer.
-pub(crate) fn first_wrong(alloc: Global, book: &mut Book, script: &str) -> Result<String, Fail> {
+pub fn first_wrong<K: Keeper>(alloc: Global, keeper: &mut K, script: &str) -> Result<String, Fail> {
     for line in script.lines() {
         let (ask, wanted) = line.split_once(" = ").ok_or("no answer")?;
-        let told = answered(alloc, book, ask)?;
+        let told = answered(alloc, keeper, ask)?;
         if told.as_str() != wanted {
             return Ok(format!(in alloc; "{line}, and not {told}")?);
         }
     }
     Ok(String::new(alloc))
-}
-
-/// The same of a keeper of the setup of a text, in which no return stands.
-pub(crate) fn first_wrong_in(alloc: Global, setup: &str, script: &str) -> Result<String, Fail> {
-    let mut book = fresh(alloc, setup)?;
-    first_wrong(alloc, &mut book, script)
 }

@@ -1,0 +1,62 @@
+//! Setups, and the codes and numbers of a text.
+
+use std::alloc::Global;
+use std::test::Fail;
+use tally_rules::{Code, Setup, read_setup};
+
+/// One constituency of two lists, and one station.
+pub const TWIN_TOWN: &str = r#"[[profile]]
+code = "d0"
+method = "dhondt"
+threshold = 0
+base = "valid"
+
+[[constituency]]
+code = "c1"
+name = "Twin Town"
+seats = 3
+profile = "d0"
+
+[[constituency.list]]
+code = "A"
+name = "Alpha"
+candidates = ["Ana", "Abel"]
+
+[[constituency.list]]
+code = "B"
+name = "Beta"
+candidates = ["Bea"]
+
+[[constituency.station]]
+code = "s1"
+electors = 300
+"#;
+
+/// The setup of a text.
+pub fn setup(alloc: Global, text: &str) -> Result<Setup, Fail> {
+    let setup = read_setup(alloc, text.as_bytes());
+    Ok(setup.ok().ok_or("a setup")?)
+}
+
+/// The setup above by another rule, and with another number of seats.
+pub fn twin_town(alloc: Global, method: &str, seats: u32) -> Result<String, Fail> {
+    let setup = with(alloc, TWIN_TOWN, "dhondt", method)?;
+    let seats = format!(in alloc; "seats = {seats}")?;
+    with(alloc, setup.as_str(), "seats = 3", seats.as_str())
+}
+
+/// A text with another piece in the place of this one.
+pub fn with(alloc: Global, text: &str, piece: &str, other: &str) -> Result<String, Fail> {
+    let (front, back) = text.split_once(piece).ok_or("the piece stands there")?;
+    Ok(format!(in alloc; "{front}{other}{back}")?)
+}
+
+/// The code of a text.
+pub fn code(text: &str) -> Result<Code, Fail> {
+    Ok(Code::new(text.as_bytes()).ok_or("no code")?)
+}
+
+/// The number of a text.
+pub fn number(text: &str) -> Result<u32, Fail> {
+    Ok(text.parse::<u32>().ok().ok_or("no number")?)
+}
