@@ -67,7 +67,7 @@ impl ImportCount {
     }
 
     /// The same, for a caller who does not know the answers so far.
-    pub(crate) fn add_row(&mut self, row: u32, answer: Option<Result<LodgeReply, Refusal>>)
+    pub fn add_row(&mut self, row: u32, answer: Option<Result<LodgeReply, Refusal>>)
         requires below { IsBelow self.old row }
         ensures { self.new ≡ counted self.old row answer }
     {

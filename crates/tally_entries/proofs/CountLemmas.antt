@@ -20,10 +20,11 @@ use Rattle.tally_rows.proofs.RowsLemmas.{partitioned_rows, put_rows}
 use Rattle.tally_rules.specs.Constituency.{Constituency}
 use Rattle.tally_returns.specs.Counts.{VoteCounts}
 use Rattle.tally_returns.specs.Return.{StationReturn, Returns as Office}
+use Rattle.tally_statements.specs.declared.table.KeyedTable.{KeyedTable}
 use Rattle.tally_statements.specs.declared.table.KeyedTable.TheVariants.{Returns, Counts}
 use Rattle.tally_statements.specs.Office.{rows_in, IsInside, HasRows, item_cells, is_item}
 use Rattle.tally_tables.specs.Cells.{item_row, items_of, numbered, spoiled_item, return_row, return_rows, count_rows, constituency_of}
-use Rattle.tally_entries.specs.Entries.{AreReturnsIn, HasCounts, PutsReturn, stored_in}
+use Rattle.tally_entries.specs.Entries.{AreReturnsIn, HasCounts, HasItems, PutsReturn, stored_in}
 use Rattle.tally_entries.proofs.FindLemmas.{above, below}
 use Rattle.tally_entries.proofs.ReturnLemmas.{heads_keyed, counts_keyed, counts_apart, heads_apart}
 use Rattle.tally_entries.proofs.RowLemmas.{numbered_then}
@@ -69,10 +70,10 @@ none_left p (x ∷ xs) = go (p x) refl (none_left p xs)
 -- ---- one item of a key among the others
 
 -- what a statement that sets an item does, whatever number it had
-abbrev Sets : List ℕ → ℕ → ℕ → State → State → Type 0
-Sets key item n mid new = (before : ℕ) (more : List Row) → filter (is_item key item) more ≡ [] → IsPermutation (item_cells key item before ∷ more) (rows_in Counts mid) → HasRows Counts (item_cells key item n ∷ more) mid new
+abbrev Sets : KeyedTable → List ℕ → ℕ → ℕ → State → State → Type 0
+Sets t key item n mid new = (before : ℕ) (more : List Row) → filter (is_item key item) more ≡ [] → IsPermutation (item_cells key item before ∷ more) (rows_in t mid) → HasRows t (item_cells key item n ∷ more) mid new
 
-module _ (key : List ℕ) (front back : List (ℕ × ℕ)) (item : ℕ) (rest : List Row) where
+module _ (t : KeyedTable) (key : List ℕ) (front back : List (ℕ × ℕ)) (item : ℕ) (rest : List Row) where
   abbrev pub more : List Row
   more = (map (item_row key) front ++ map (item_row key) back) ++ rest
 
@@ -87,10 +88,10 @@ module _ (key : List ℕ) (front back : List (ℕ × ℕ)) (item : ℕ) (rest : 
       filter-append (is_item key item) (map (item_row key) front ++ map (item_row key) back) rest
       ∙ ap₂ ◌++◌ (filter-append (is_item key item) (map (item_row key) front) (map (item_row key) back) ∙ ap₂ ◌++◌ (none_at key item front low) (none_at key item back high)) (none_of_others key item rest none)
 
-  pub at_first : (o : ℕ) (s : State) → IsPermutation (map (item_row key) (front ++ (item, o) ∷ back) ++ rest) (rows_in Counts s) → IsPermutation (item_cells key item o ∷ more) (rows_in Counts s)
+  pub at_first : (o : ℕ) (s : State) → IsPermutation (map (item_row key) (front ++ (item, o) ∷ back) ++ rest) (rows_in t s) → IsPermutation (item_cells key item o ∷ more) (rows_in t s)
   at_first o s held = IsPermutation-trans _ _ _ (IsPermutation-sym _ _ (moved o)) held
 
-  pub back_again : (n : ℕ) (rows : List Row) (old mid new : State) → HasRows Counts rows old mid → HasRows Counts (item_cells key item n ∷ more) mid new → HasRows Counts (map (item_row key) (front ++ (item, n) ∷ back) ++ rest) old new
+  pub back_again : (n : ℕ) (rows : List Row) (old mid new : State) → HasRows t rows old mid → HasRows t (item_cells key item n ∷ more) mid new → HasRows t (map (item_row key) (front ++ (item, n) ∷ back) ++ rest) old new
   back_again n rows old mid new was now = record {
     inside = now.inside;
     rows = IsPermutation-trans _ _ _ (moved n) now.rows;
@@ -107,25 +108,25 @@ items_at blank spoiled xs n ys =
     (numbered_then 1 xs (n ∷ ys) ∙ ap (λ m. numbered 1 xs ++ (m, n) ∷ numbered (m + 1) ys) (omega arith) ∙ ap (λ m. numbered 1 xs ++ (length xs + 1, n) ∷ numbered m ys) (omega arith))
     ∙ ap (λ l. (0, blank) ∷ l) (append_assoc (numbered 1 xs) ((length xs + 1, n) ∷ numbered (length xs + 2) ys) ((spoiled_item, spoiled) ∷ []))
 
-vote_at : (key : List ℕ) (c : VoteCounts) (xs : List ℕ) (o n : ℕ) (ys : List ℕ) (rest : List Row) (old mid new : State) → length xs + 1 ≤ 60 → filter (has_key key) rest ≡ []
-    → HasCounts key (record c { votes = xs ++ o ∷ ys }) rest old mid → Sets key (length xs + 1) n mid new → HasCounts key (record c { votes = xs ++ n ∷ ys }) rest old new
-vote_at key c xs o n ys rest old mid new few none was sets =
+vote_at : (t : KeyedTable) (key : List ℕ) (c : VoteCounts) (xs : List ℕ) (o n : ℕ) (ys : List ℕ) (rest : List Row) (old mid new : State) → length xs + 1 ≤ 60 → filter (has_key key) rest ≡ []
+    → HasItems t key (record c { votes = xs ++ o ∷ ys }) rest old mid → Sets t key (length xs + 1) n mid new → HasItems t key (record c { votes = xs ++ n ∷ ys }) rest old new
+vote_at t key c xs o n ys rest old mid new few none was sets =
     let item : ℕ = length xs + 1 in
     let front : List (ℕ × ℕ) = (0, c.blank) ∷ numbered 1 xs in
     let back : List (ℕ × ℕ) = numbered (length xs + 2) ys ++ (spoiled_item, c.spoiled) ∷ [] in
     let low : AllByRecursion (IsApart item) front = (lower item (0, c.blank) (omega arith), all_weaker _ (IsApart item) (lower item) (numbered 1 xs) (below item 1 xs (omega arith))) in
     let high : AllByRecursion (IsApart item) back =
     all-append (IsApart item) (numbered (length xs + 2) ys) ((spoiled_item, c.spoiled) ∷ []) (all_weaker _ (IsApart item) (higher item) (numbered (length xs + 2) ys) (above item (length xs + 2) ys (omega arith))) (higher item (spoiled_item, c.spoiled) (omega (arith, few)), tt) in
-    let held : IsPermutation (map (item_row key) (front ++ (item, o) ∷ back) ++ rest) (rows_in Counts mid) = subst (λ l. IsPermutation (map (item_row key) l ++ rest) (rows_in Counts mid)) (items_at c.blank c.spoiled xs o ys) was.rows in
-    subst (λ l. HasRows Counts (map (item_row key) l ++ rest) old new) (sym (items_at c.blank c.spoiled xs n ys))
-    (back_again key front back item rest n _ old mid new was (sets o (more key front back item rest) (lacks key front back item rest low high none) (at_first key front back item rest o mid held)))
+    let held : IsPermutation (map (item_row key) (front ++ (item, o) ∷ back) ++ rest) (rows_in t mid) = subst (λ l. IsPermutation (map (item_row key) l ++ rest) (rows_in t mid)) (items_at c.blank c.spoiled xs o ys) was.rows in
+    subst (λ l. HasRows t (map (item_row key) l ++ rest) old new) (sym (items_at c.blank c.spoiled xs n ys))
+    (back_again t key front back item rest n _ old mid new was (sets o (more t key front back item rest) (lacks t key front back item rest low high none) (at_first t key front back item rest o mid held)))
 
-pub votes_none : (key : List ℕ) (c : VoteCounts) (votes : List ℕ) (rest : List Row) (old : State) → IsInside old → IsPermutation (map (item_row key) (items_of c) ++ rest) (rows_in Counts old) → HasCounts key (record c { votes = take 0 votes ++ drop 0 c.votes }) rest old old
-votes_none key c votes rest old inside held = record { inside = inside; rows = held; others = λ u apart. refl; setup = refl }
+pub votes_none : (t : KeyedTable) (key : List ℕ) (c : VoteCounts) (votes : List ℕ) (rest : List Row) (old : State) → IsInside old → IsPermutation (map (item_row key) (items_of c) ++ rest) (rows_in t old) → HasItems t key (record c { votes = take 0 votes ++ drop 0 c.votes }) rest old old
+votes_none t key c votes rest old inside held = record { inside = inside; rows = held; others = λ u apart. refl; setup = refl }
 
-pub votes_more : (key : List ℕ) (c : VoteCounts) (votes : List ℕ) (i item n d : ℕ) (rest : List Row) (old mid new : State) → i < length votes → length votes ≤ 60 → length c.votes ≡ length votes → item ≡ i + 1 → n ≡ get_or votes i d → filter (has_key key) rest ≡ []
-    → HasCounts key (record c { votes = take i votes ++ drop i c.votes }) rest old mid → Sets key item n mid new → HasCounts key (record c { votes = take (i + 1) votes ++ drop (i + 1) c.votes }) rest old new
-votes_more key c votes i item n d rest old mid new low few same place is none was sets =
+pub votes_more : (t : KeyedTable) (key : List ℕ) (c : VoteCounts) (votes : List ℕ) (i item n d : ℕ) (rest : List Row) (old mid new : State) → i < length votes → length votes ≤ 60 → length c.votes ≡ length votes → item ≡ i + 1 → n ≡ get_or votes i d → filter (has_key key) rest ≡ []
+    → HasItems t key (record c { votes = take i votes ++ drop i c.votes }) rest old mid → Sets t key item n mid new → HasItems t key (record c { votes = take (i + 1) votes ++ drop (i + 1) c.votes }) rest old new
+votes_more t key c votes i item n d rest old mid new low few same place is none was sets =
     let xs = take i votes in
     let ys = drop (i + 1) c.votes in
     let o = get_or c.votes i 0 in
@@ -133,38 +134,38 @@ votes_more key c votes i item n d rest old mid new low few same place is none wa
     let here : length xs + 1 ≡ item = omega (arith, long, place) in
     let before : take i votes ++ drop i c.votes ≡ xs ++ o ∷ ys = ap (λ l. take i votes ++ l) (drop_more c.votes i 0 (omega (arith, low, same))) in
     let after : take (i + 1) votes ++ drop (i + 1) c.votes ≡ xs ++ n ∷ ys = ap (λ l. l ++ ys) (take_more votes i d low ∙ ap (λ x. take i votes ++ x ∷ []) (sym is)) ∙ append_assoc (take i votes) (n ∷ []) ys in
-    subst (λ l. HasCounts key (record c { votes = l }) rest old new) (sym after)
-    (vote_at key c xs o n ys rest old mid new (omega (arith, long, low, few)) none (subst (λ l. HasCounts key (record c { votes = l }) rest old mid) before was) (subst (λ m. Sets key m n mid new) (sym here) sets))
+    subst (λ l. HasItems t key (record c { votes = l }) rest old new) (sym after)
+    (vote_at t key c xs o n ys rest old mid new (omega (arith, long, low, few)) none (subst (λ l. HasItems t key (record c { votes = l }) rest old mid) before was) (subst (λ m. Sets t key m n mid new) (sym here) sets))
 
-pub votes_all : (key : List ℕ) (c : VoteCounts) (votes : List ℕ) (i : ℕ) (rest : List Row) (old new : State) → length votes ≤ i → length c.votes ≡ length votes → HasCounts key (record c { votes = take i votes ++ drop i c.votes }) rest old new
-    → HasCounts key (record c { votes = votes }) rest old new
-votes_all key c votes i rest old new all same has =
-    subst (λ l. HasCounts key (record c { votes = l }) rest old new) (ap (λ l. take i votes ++ l) (drop_all i c.votes (omega (arith, all, same))) ∙ append-nil (take i votes) ∙ take_all i votes all) has
+pub votes_all : (t : KeyedTable) (key : List ℕ) (c : VoteCounts) (votes : List ℕ) (i : ℕ) (rest : List Row) (old new : State) → length votes ≤ i → length c.votes ≡ length votes → HasItems t key (record c { votes = take i votes ++ drop i c.votes }) rest old new
+    → HasItems t key (record c { votes = votes }) rest old new
+votes_all t key c votes i rest old new all same has =
+    subst (λ l. HasItems t key (record c { votes = l }) rest old new) (ap (λ l. take i votes ++ l) (drop_all i c.votes (omega (arith, all, same))) ∙ append-nil (take i votes) ∙ take_all i votes all) has
 
 -- ---- the blank and the spoiled votes
 
-pub blank_set : (key : List ℕ) (c : VoteCounts) (n : ℕ) (rest : List Row) (old new : State) → IsInside old → filter (has_key key) rest ≡ [] → IsPermutation (map (item_row key) (items_of c) ++ rest) (rows_in Counts old) → Sets key 0 n old new
-    → HasCounts key (record c { blank = n }) rest old new
-blank_set key c n rest old new inside none held sets =
+pub blank_set : (t : KeyedTable) (key : List ℕ) (c : VoteCounts) (n : ℕ) (rest : List Row) (old new : State) → IsInside old → filter (has_key key) rest ≡ [] → IsPermutation (map (item_row key) (items_of c) ++ rest) (rows_in t old) → Sets t key 0 n old new
+    → HasItems t key (record c { blank = n }) rest old new
+blank_set t key c n rest old new inside none held sets =
     let back : List (ℕ × ℕ) = numbered 1 c.votes ++ (spoiled_item, c.spoiled) ∷ [] in
     let high : AllByRecursion (IsApart 0) back = all-append (IsApart 0) (numbered 1 c.votes) ((spoiled_item, c.spoiled) ∷ []) (all_weaker _ (IsApart 0) (higher 0) (numbered 1 c.votes) (above 0 1 c.votes (omega arith))) (higher 0 (spoiled_item, c.spoiled) (omega arith), tt) in
-    back_again key [] back 0 rest n (rows_in Counts old) old old new (record { inside = inside; rows = IsPermutation-refl _; others = λ u apart. refl; setup = refl })
-    (sets c.blank (more key [] back 0 rest) (lacks key [] back 0 rest tt high none) (at_first key [] back 0 rest c.blank old held))
+    back_again t key [] back 0 rest n (rows_in t old) old old new (record { inside = inside; rows = IsPermutation-refl _; others = λ u apart. refl; setup = refl })
+    (sets c.blank (more t key [] back 0 rest) (lacks t key [] back 0 rest tt high none) (at_first t key [] back 0 rest c.blank old held))
 
-pub spoiled_set : (key : List ℕ) (c : VoteCounts) (n : ℕ) (rest : List Row) (old mid new : State) → length c.votes ≤ 60 → filter (has_key key) rest ≡ [] → HasCounts key c rest old mid → Sets key spoiled_item n mid new → HasCounts key (record c { spoiled = n }) rest old new
-spoiled_set key c n rest old mid new few none was sets =
+pub spoiled_set : (t : KeyedTable) (key : List ℕ) (c : VoteCounts) (n : ℕ) (rest : List Row) (old mid new : State) → length c.votes ≤ 60 → filter (has_key key) rest ≡ [] → HasItems t key c rest old mid → Sets t key spoiled_item n mid new → HasItems t key (record c { spoiled = n }) rest old new
+spoiled_set t key c n rest old mid new few none was sets =
     let front : List (ℕ × ℕ) = (0, c.blank) ∷ numbered 1 c.votes in
     let low : AllByRecursion (IsApart spoiled_item) front = (lower spoiled_item (0, c.blank) (omega arith), all_weaker _ (IsApart spoiled_item) (lower spoiled_item) (numbered 1 c.votes) (below spoiled_item 1 c.votes (omega (arith, few)))) in
-    back_again key front [] spoiled_item rest n _ old mid new was (sets c.spoiled (more key front [] spoiled_item rest) (lacks key front [] spoiled_item rest low tt none) (at_first key front [] spoiled_item rest c.spoiled mid was.rows))
+    back_again t key front [] spoiled_item rest n _ old mid new was (sets c.spoiled (more t key front [] spoiled_item rest) (lacks t key front [] spoiled_item rest low tt none) (at_first t key front [] spoiled_item rest c.spoiled mid was.rows))
 
-pub spoiled_after : (key : List ℕ) (c : VoteCounts) (n : ℕ) (rest : List Row) (old mid new : State) (r : Result Unit Error) → length c.votes ≤ 60 → filter (has_key key) rest ≡ [] → HasCounts key c rest old mid
-    → ((before : ℕ) (more : List Row) → filter (is_item key spoiled_item) more ≡ [] → IsPermutation (item_cells key spoiled_item before ∷ more) (rows_in Counts mid) → OnOk r (HasRows Counts (item_cells key spoiled_item n ∷ more) mid new))
-    → OnOk r (HasCounts key (record c { spoiled = n }) rest old new)
-spoiled_after key c n rest old mid new (Ok done) few none was sets = spoiled_set key c n rest old mid new few none was sets
-spoiled_after key c n rest old mid new (Err e) few none was sets = tt
+pub spoiled_after : (t : KeyedTable) (key : List ℕ) (c : VoteCounts) (n : ℕ) (rest : List Row) (old mid new : State) (r : Result Unit Error) → length c.votes ≤ 60 → filter (has_key key) rest ≡ [] → HasItems t key c rest old mid
+    → ((before : ℕ) (more : List Row) → filter (is_item key spoiled_item) more ≡ [] → IsPermutation (item_cells key spoiled_item before ∷ more) (rows_in t mid) → OnOk r (HasRows t (item_cells key spoiled_item n ∷ more) mid new))
+    → OnOk r (HasItems t key (record c { spoiled = n }) rest old new)
+spoiled_after t key c n rest old mid new (Ok done) few none was sets = spoiled_set t key c n rest old mid new few none was sets
+spoiled_after t key c n rest old mid new (Err e) few none was sets = tt
 
-pub counts_then : (key : List ℕ) (c d : VoteCounts) (rest : List Row) (old mid new : State) → HasCounts key c rest old mid → HasCounts key d rest mid new → HasCounts key d rest old new
-counts_then key c d rest old mid new was now = record { inside = now.inside; rows = now.rows; others = λ u apart. now.others u apart ∙ was.others u apart; setup = now.setup ∙ was.setup }
+pub counts_then : (t : KeyedTable) (key : List ℕ) (c d : VoteCounts) (rest : List Row) (old mid new : State) → HasItems t key c rest old mid → HasItems t key d rest mid new → HasItems t key d rest old new
+counts_then t key c d rest old mid new was now = record { inside = now.inside; rows = now.rows; others = λ u apart. now.others u apart ∙ was.others u apart; setup = now.setup ∙ was.setup }
 
 -- ---- the whole return
 

@@ -42,11 +42,11 @@ pub below : (m first : ℕ) (ns : List ℕ) → first + length ns ≤ m → AllB
 below m first [] h = tt
 below m first (n ∷ ns) h = (omega (arith, h), below m (first + 1) ns (omega (arith, h)))
 
-numbered_rise : (first : ℕ) (ns : List ℕ) → IsAscending (λ (a b : ℕ × ℕ). a.0 < b.0) (numbered first ns)
+pub numbered_rise : (first : ℕ) (ns : List ℕ) → IsAscending (λ (a b : ℕ × ℕ). a.0 < b.0) (numbered first ns)
 numbered_rise first [] = tt
 numbered_rise first (n ∷ ns) = (above first (first + 1) ns (omega arith), numbered_rise (first + 1) ns)
 
-items_rise : (c : VoteCounts) → length c.votes ≤ 60 → IsAscending (λ (a b : ℕ × ℕ). a.0 < b.0) (items_of c)
+pub items_rise : (c : VoteCounts) → length c.votes ≤ 60 → IsAscending (λ (a b : ℕ × ℕ). a.0 < b.0) (items_of c)
 items_rise c few =
     let last : List (ℕ × ℕ) = (spoiled_item, c.spoiled) ∷ [] in
     let low = below spoiled_item 1 c.votes (omega (arith, few)) in (

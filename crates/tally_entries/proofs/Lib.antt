@@ -3,3 +3,8 @@ pub mod ReturnLemmas
 pub mod FindLemmas
 pub mod CountLemmas
 pub mod LotLemmas
+pub mod ConLemmas
+pub mod OrderLemmas
+pub mod ViewLemmas
+pub mod StatusLemmas
+pub mod WholeViewLemmas

@@ -1,20 +1,18 @@
 -- What writing all rows of an entry does to the tables.
 use Rattle.std.specs.Prelude.{◌≡◌, ◌≢◌, ◌≤◌, ◌++◌, ℕ, List, [], length, map, filter, IsPermutation, Option, None, Some, IfSome, Result, OnOk}
-use Rattle.std.specs.FinMap.{FinMap, get, insert}
+use Rattle.std.specs.FinMap.{get, insert}
 use Rattle.sqlite_value.specs.Order.{Row}
 use Rattle.sqlite.specs.declared.error.Error.{Error}
 use Rattle.sqlite.specs.State.{State as Seen, HasCleanDisk}
 use Rattle.tally_rows.specs.Rows.{AreRowsOf, has_key, others}
-use Rattle.tally_rules.specs.Code.{code_cmp}
 use Rattle.tally_rules.specs.Constituency.{Constituency}
 use Rattle.tally_returns.specs.Counts.{VoteCounts}
 use Rattle.tally_returns.specs.Return.{StationReturn, Returns}
-use Rattle.tally_returns.specs.State.{ConState}
 use Rattle.tally_schema.specs.Tables.{setup_tree}
 use Rattle.tally_statements.specs.declared.table.KeyedTable.{KeyedTable}
 use Rattle.tally_statements.specs.declared.table.KeyedTable.TheVariants.{Returns as Heads, Counts, Lots, Seats}
 use Rattle.tally_statements.specs.Office.{tree_of, rows_in, IsInside, HasRows}
-use Rattle.tally_tables.specs.Cells.{constituency_of, item_row, items_of, numbered, lot_rows, return_rows, count_rows}
+use Rattle.tally_tables.specs.Cells.{constituency_of, item_row, items_of, numbered, return_rows, count_rows}
 use Rattle.tally_returns.specs.Lawful.{IsLawfulAt}
 use Rattle.tally_entries.specs.declared.items.ItemTable.{ItemTable}
 use Rattle.tally_entries.specs.declared.items.ItemTable.TheVariants as items
@@ -69,21 +67,30 @@ CorrectsReturn station standing old new result =
 
 -- ---- counts
 
--- `counts` has the rows of these counts of a station, beside these rows
-abbrev pub HasCounts : List ℕ → VoteCounts → List Row → Seen → Seen → Type 0
-HasCounts station c rest old new = HasRows Counts (map (item_row station) (items_of c) ++ rest) old new
+-- the table has the rows of these numbers of a key, beside these rows
+abbrev pub HasItems : KeyedTable → List ℕ → VoteCounts → List Row → Seen → Seen → Type 0
+HasItems t key c rest old new = HasRows t (map (item_row key) (items_of c) ++ rest) old new
 
--- the numbers of the lists of a station are these, where it had rows for as many lists
-abbrev pub SetsVotes : List ℕ → List ℕ → Seen → Seen → Result Unit Error → Type 0
-SetsVotes station votes old new result =
-    HasCleanDisk new → IsInside old → (c : VoteCounts) (rest : List Row) → length c.votes ≡ length votes → filter (has_key station) rest ≡ [] → IsPermutation (map (item_row station) (items_of c) ++ rest) (rows_in Counts old)
-    → OnOk result (HasCounts station (record c { votes = votes }) rest old new)
+-- the numbers of the lists of a key are these, where it had rows for as many lists
+abbrev pub SetsNumbers : KeyedTable → List ℕ → List ℕ → Seen → Seen → Result Unit Error → Type 0
+SetsNumbers t key votes old new result =
+    HasCleanDisk new → IsInside old → (c : VoteCounts) (rest : List Row) → length c.votes ≡ length votes → filter (has_key key) rest ≡ [] → IsPermutation (map (item_row key) (items_of c) ++ rest) (rows_in t old)
+    → OnOk result (HasItems t key (record c { votes = votes }) rest old new)
 
 -- and so are the blank and the spoiled ones
+abbrev pub SetsItems : KeyedTable → List ℕ → VoteCounts → Seen → Seen → Result Unit Error → Type 0
+SetsItems t key counts old new result =
+    HasCleanDisk new → IsInside old → (c : VoteCounts) (rest : List Row) → length c.votes ≡ length counts.votes → filter (has_key key) rest ≡ [] → IsPermutation (map (item_row key) (items_of c) ++ rest) (rows_in t old)
+    → OnOk result (HasItems t key counts rest old new)
+
+abbrev pub HasCounts : List ℕ → VoteCounts → List Row → Seen → Seen → Type 0
+HasCounts = HasItems Counts
+
+abbrev pub SetsVotes : List ℕ → List ℕ → Seen → Seen → Result Unit Error → Type 0
+SetsVotes = SetsNumbers Counts
+
 abbrev pub SetsCounts : List ℕ → VoteCounts → Seen → Seen → Result Unit Error → Type 0
-SetsCounts station counts old new result =
-    HasCleanDisk new → IsInside old → (c : VoteCounts) (rest : List Row) → length c.votes ≡ length counts.votes → filter (has_key station) rest ≡ [] → IsPermutation (map (item_row station) (items_of c) ++ rest) (rows_in Counts old)
-    → OnOk result (HasCounts station counts rest old new)
+SetsCounts = SetsItems Counts
 
 -- What is found at a station is its return, where that is lawful there and for at most 60 lists.
 abbrev pub FindsReturn : List Constituency → List ℕ → Seen → Option StationReturn → Type 0
@@ -95,8 +102,3 @@ FindsReturn setup station s found =
 -- The table has these numbers of a constituency, each with its place from 1, and the rows of the others as they were.
 abbrev pub PutsNumbers : KeyedTable → List ℕ → List ℕ → Seen → Seen → Result Unit Error → Type 0
 PutsNumbers t con ns old new result = HasCleanDisk new → IsInside old → OnOk result (HasRows t (map (item_row con) (numbered 1 ns) ++ others con (rows_in t old)) old new)
-
--- Where `lots` had the lots of these constituencies, this one has this lot now.
-abbrev pub PutsLot : List ℕ → List ℕ → Seen → Seen → Result Unit Error → Type 0
-PutsLot con lot old new result =
-    HasCleanDisk new → IsInside old → (cons : FinMap code_cmp ConState) (standing : ConState) → standing.lot ≡ lot → AreRowsOf lot_rows cons (stored_in Lots old) → OnOk result (AreRowsOf lot_rows (insert cons con standing) (stored_in Lots new))

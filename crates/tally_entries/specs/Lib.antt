@@ -1,1 +1,3 @@
 pub mod Entries
+pub mod Constituencies
+pub mod Found

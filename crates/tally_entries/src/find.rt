@@ -1,6 +1,6 @@
 //! Looking up the return of a station.
 
-ghost use Rattle.std.specs.Prelude.{◌≡◌, ◌∷◌, [], None, Some, IsTrue, IfOk, OnOk, List, ℕ};
+ghost use Rattle.std.specs.Prelude.{◌≡◌, ◌∷◌, [], None, Some, IsErr, IsTrue, IfOk, OnOk, List, ℕ};
 ghost use Rattle.sqlite.specs.State.{HasCleanDisk, KeepsCommit, IsUnchanged, Survives};
 ghost use Rattle.sqlite.specs.Held.{state};
 ghost use Rattle.tally_returns.specs.Return.{StationReturn};
@@ -24,7 +24,7 @@ fn only_return(mut entries: Vec<Entry>) -> Option<Return>
     Some(standing)
 }
 
-/// The return whose rows these are, if there are any.
+/// The return whose rows these are, if there are any. Rows that read as nothing are an error.
 fn return_in(
     alloc: Global,
     setup: &Setup,
@@ -34,6 +34,7 @@ fn return_in(
     ensures none { entries_in setup.now heads.now counts.now ≡ Some [] → IfOk result (λ found. found ≡ None) }
     ensures one { (e : List ℕ × StationReturn) → entries_in setup.now heads.now counts.now ≡ Some (e ∷ []) →
         IfOk result (λ found. found ≡ Some e.1) }
+    ensures bad { entries_in setup.now heads.now counts.now ≡ None → IsErr result }
 {
     match entries_in(alloc, setup, heads, counts) {
         Ok(Some(entries)) => Ok(only_return(entries)),

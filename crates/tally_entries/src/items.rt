@@ -13,7 +13,7 @@ use tally_returns::Counts as VoteCounts;
 use tally_statements::{insert_count, insert_lot, insert_seats, update_count};
 
 /// The item of the spoiled votes.
-const SPOILED_ITEM: u32 = 61;
+pub(crate) const SPOILED_ITEM: u32 = 61;
 
 /// The tables whose rows are a key, an item and a number of 32 bits.
 #[derive(Clone, Copy)]

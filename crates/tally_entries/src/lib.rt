@@ -6,7 +6,9 @@ mod constituencies;
 mod find;
 mod items;
 mod returns;
+mod views;
 
-pub use constituencies::{put_lot, put_seats};
+pub use constituencies::{put_con, put_gone, put_lot, put_record, put_seats, put_sums};
 pub use find::find_return;
 pub use returns::{add_return, change_return, correct_return};
+pub use views::{find_certified, find_sums, find_view};

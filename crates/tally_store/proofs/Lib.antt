@@ -1,5 +1,9 @@
 pub mod AddLemmas
 pub mod EmptyLemmas
+pub mod SortedLemmas
+pub mod CodeLemmas
+pub mod ContentLemmas
+pub mod RequestLemmas
 pub mod OpeningLemmas
 pub mod ReturnLemmas
 pub mod TextLemmas
@@ -7,3 +11,8 @@ pub mod OrderLemmas
 pub mod ShownLemmas
 pub mod TableLemmas
 pub mod JudgedLemmas
+pub mod JudgingLemmas
+pub mod StoredLemmas
+pub mod CertifiedLemmas
+pub mod OpenedLemmas
+pub mod TakeoverLemmas

@@ -19,7 +19,7 @@ rolled_back old last new began undone now =
     let shown = undone.undone now in
     record { now = shown.0 ∙ same ∙ sym (began.settled (began.was_open open_last)); committed = shown.1 ∙ same }
 
-failed : (old last new : Seen) (e : Error) → Began old last → IsTrue last.in_transaction → FailsToCommit last new e → IsTrue new.is_open → IsAsBefore old new
+pub failed : (old last new : Seen) (e : Error) → Began old last → IsTrue last.in_transaction → FailsToCommit last new e → IsTrue new.is_open → IsAsBefore old new
 failed old last new e began inside (inl fails) now = rolled_back old last new began fails.3 now
 failed old last new e began inside (inr late) now = absurd (true≢false (sym inside ∙ late.1))
 

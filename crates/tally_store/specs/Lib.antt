@@ -4,3 +4,6 @@ pub mod Crash
 pub mod Making
 pub mod Opening
 pub mod Open
+pub mod Content
+pub mod Certified
+pub mod Requests

@@ -13,7 +13,9 @@ use Rattle.tally_schema.specs.Cells.{setup_row}
 use Rattle.tally_schema.specs.Made.{has_former_tables, has_table}
 use Rattle.tally_schema.specs.Tables.{former_schema, office_schema, past_tree, setup_tree}
 use Rattle.tally_tables.specs.TablesOfState.{AreTables, version}
-use Rattle.tally_store.specs.Store.{IsOffice}
+use Rattle.tally_statements.specs.declared.table.KeyedTable.{KeyedTable}
+use Rattle.tally_statements.specs.Office.{tree_of}
+use Rattle.tally_store.specs.Store.{HasState}
 use Rattle.tally_store.specs.declared.fault.OpenFault.{OpenFault}
 use Rattle.tally_store.specs.declared.fault.OpenFault.TheVariants.{NoTables, BadTables, Setup, Memory, Store}
 
@@ -29,6 +31,11 @@ HasSetup number text db = db setup_tree ≡ setup_row number text ∷ []
 abbrev pub taken_over : List ℕ → Trees → Trees
 taken_over text db tree = if tree == setup_tree then setup_row version text ∷ [] else (if tree == past_tree then [] else db tree)
 
+-- each table is that of version 1 once it is taken over
+pub record IsTakenOver (text : List ℕ) (found db : Trees) : Type 0 where
+  pub setup : db setup_tree ≡ taken_over text found setup_tree
+  pub tables : (t : KeyedTable) → db (tree_of t) ≡ taken_over text found (tree_of t)
+
 -- the tables of version 1 of a state, which has no records
 abbrev pub AreFormerTables : List Constituency → List ℕ → State → Trees → Type 0
 AreFormerTables setup text s db = HasSetup former_version text db × AreTables setup text s (taken_over text db)
@@ -39,9 +46,8 @@ AreFound setup text s db =
     (setup_of_text text ≡ Ok setup)
     × (((db.schema ≡ office_schema) × AreTables setup text s db.trees) ⊎ ((db.schema ≡ former_schema) × AreFormerTables setup text s db.trees))
 
--- The tables that were found are those of a lawful state over this setup, and of no other one.
-pub record AreOfOneState (setup : List Constituency) (s : State) (db : Database) : Type 0 where
-  pub text : List ℕ
+-- The tables that were found are those of a lawful state over this setup with this text, and of no other one.
+pub record AreOfOneState (setup : List Constituency) (text : List ℕ) (s : State) (db : Database) : Type 0 where
   pub lawful : IsLawfulState setup s
   pub found : AreFound setup text s db
   pub alone : (other : State) → IsLawfulState setup other → AreFound setup text other db → other ≡ s
@@ -61,21 +67,36 @@ abbrev pub IsOfKnownVersion : List ℕ → Database → Type 0
 IsOfKnownVersion text db =
     ((db.schema ≡ office_schema) × HasSetup version text db.trees) ⊎ ((db.schema ≡ former_schema) × HasSetup former_version text db.trees)
 
+-- the setup that is stored there, in a version that goes with the tables
+abbrev pub IsSetupOf : Database → List Constituency → Type 0
+IsSetupOf db setup = (text : List ℕ) × IsOfKnownVersion text db × (setup_of_text text ≡ Ok setup)
+
 -- no fault of the text comes before the others: where the version is known, the text is a setup
 abbrev pub HasNoTextFault : Database → Type 0
 HasNoTextFault db = (text : List ℕ) → IsOfKnownVersion text db → IsOk (setup_of_text text)
 
--- Why a database is not opened: a table is missing; the rows are those of no state, and the text is not at fault; the text of a known
--- version is no setup. The database, and want of memory, may be the reason at any place.
+-- the tables of an office, in the version of today or in version 1, and no others
+abbrev pub HasOfficeTables : Database → Type 0
+HasOfficeTables db = (db.schema ≡ office_schema) ⊎ (db.schema ≡ former_schema)
+
+-- Why a database is not opened: a table is missing; none is, and the rows are those of no state, and the text is not at fault; the text of
+-- a known version is no setup. The database, and want of memory, may be the reason at any place.
 abbrev pub IsOpenFault : Database → OpenFault → Type 0
 IsOpenFault db NoTables = LacksTable db
-IsOpenFault db BadTables = AreOfNoState db × HasNoTextFault db
+IsOpenFault db BadTables = AreOfNoState db × HasNoTextFault db × HasOfficeTables db × (LacksTable db → ⊥)
 IsOpenFault db (Setup fault) = (text : List ℕ) × IsOfKnownVersion text db × IsFaultIn (setup_of_text text) fault × (fault ≢ setup_fault.Memory)
 IsOpenFault db Memory = Unit {0}
 IsOpenFault db Store = Unit {0}
 
--- What an opening leaves: the tables that were found are those of one lawful state, and the database is that of this state.
+-- the tables hold what was found, in the version of today
+abbrev pub AreLeft : List ℕ → Database → Trees → Type 0
+AreLeft text found db = ((found.schema ≡ office_schema) × (db ≡ found.trees)) ⊎ ((found.schema ≡ former_schema) × IsTakenOver text found.trees db)
+
+-- What an opening leaves: the tables that were found are those of one lawful state; they were left as they are, or taken over; and the
+-- database is that of this state, with the same text.
 pub record IsOpened (setup : List Constituency) (old new : Seen) : Type 0 where
   pub state : State
-  pub found : AreOfOneState setup state old.now
-  pub office : IsTrue new.is_open → IsOffice setup state new
+  pub text : List ℕ
+  pub found : AreOfOneState setup text state old.now
+  pub left : IsTrue new.is_open → AreLeft text old.now new.now.trees
+  pub has : IsTrue new.is_open → HasState setup text state new

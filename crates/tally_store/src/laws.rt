@@ -3,10 +3,12 @@
 ghost use Rattle.std.specs.Prelude.{IsTrue};
 ghost use Rattle.sqlite.specs.State.{HasCleanDisk};
 ghost use Rattle.sqlite.specs.Held.{state};
+ghost use Rattle.tally_store.specs.Certified.{HasCertificates};
 ghost use Rattle.tally_store.specs.Crash.{IsKept};
 
 use crate::store::Store;
 use sqlite::Alter;
+use tally_machine::laws as machine;
 
 /// Between calls, as long as the disk has returned what was written and has not failed, a crash leaves the
 /// tables of the store's state, and so all that was acknowledged.
@@ -14,5 +16,15 @@ pub fn a_crash_between_calls_leaves_the_last_commit<S: Alter>(store: &Store<S>)
     ensures { HasCleanDisk (state S.Store store.now.conn) → IsTrue (state S.Store store.now.conn).is_open →
         IsKept store.now.setup (state S.Store store.now.conn) }
 {
+    store.setup();
+}
+
+/// As long as the disk has returned what was written and has not failed: of each constituency that is
+/// certified, the rows of `seats` are those of the one allotment of its closed votes, exactly its seats.
+pub fn certified_seats_are_the_allotment<S: Alter>(store: &Store<S>)
+    ensures { HasCleanDisk (state S.Store store.now.conn) → IsTrue (state S.Store store.now.conn).is_open →
+        HasCertificates store.now.setup (state S.Store store.now.conn) }
+{
+    machine::a_certificate_stands_on_closed_votes();
     store.setup();
 }

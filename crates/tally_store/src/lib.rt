@@ -2,8 +2,14 @@
 #![tactic(auto)]
 
 mod fault;
+mod former;
+mod judging;
+mod keeper;
 pub mod laws;
 mod making;
+mod open;
+mod opening;
+mod requests;
 mod store;
 
 pub use fault::{CreateFault, OpenFault};

@@ -18,7 +18,7 @@ use tally_schema::create_tables;
 use tally_statements::{insert_con, insert_setup, insert_total};
 
 /// The version of the tables.
-const VERSION: u32 = 2;
+pub(crate) const VERSION: u32 = 2;
 
 /// The item of the spoiled votes, behind those of 60 lists.
 const SPOILED: u32 = 61;

@@ -5,12 +5,16 @@ ghost use Rattle.sqlite.specs.State.{HasCleanDisk, Survives};
 ghost use Rattle.sqlite.specs.Held.{state};
 ghost use Rattle.tally_rules.specs.Fault.{IsFaultIn};
 ghost use Rattle.tally_rules.specs.Reading.{setup_of_text};
-ghost use Rattle.tally_store.specs.Crash.{LeavesOpening};
-ghost use Rattle.tally_store.specs.Store.{IsStored};
+ghost use Rattle.tally_machine.specs.LawfulState.{IsLawfulState};
+ghost use Rattle.tally_returns.specs.State.{State};
+ghost use Rattle.tally_store.specs.Crash.{LeavesOpening, LeavesTakenOver};
+ghost use Rattle.tally_store.specs.Open.{IsOpenFault, IsOpened, IsSetupOf};
+ghost use Rattle.tally_store.specs.Store.{IsOffice, IsStored};
 ghost use Rattle.tally_store.specs.Create.{no_schema, HasOpeningTables, IsCreateFault, IsGivenBack};
 
-use crate::fault::CreateFault;
+use crate::fault::{CreateFault, OpenFault};
 use crate::making::create_in;
+use crate::open::open_in;
 use sqlite::{Alter, Connection, Error, ErrorCode};
 use sqlite_schema::schema::Schema;
 use std::alloc::Global;
@@ -23,8 +27,9 @@ use tally_schema::takes_office_name;
 /// whose text the database has.
 #[derive(Drop)]
 pub struct Store<S: Alter> {
-    conn: Connection<S>,
-    setup: Setup,
+    pub(crate) conn: Connection<S>,
+    pub(crate) setup: Setup,
+    pub(crate) alloc: Global,
 }
 
 impl<S: Alter> Model for Store<S> {
@@ -80,6 +85,17 @@ fn is_unset(schema: &Schema) -> bool
         && schema.views.as_slice().is_empty()
 }
 
+/// The store of a connection to the tables of an office.
+fn store_over<S: Alter>(alloc: Global, conn: Connection<S>, setup: Setup) -> Store<S>
+    requires autocommit { conn.in_transaction ≡ false }
+    requires office { HasCleanDisk (state S.Store conn) → IsTrue (state S.Store conn).is_open →
+        (s : State) × IsLawfulState setup s × IsOffice setup s (state S.Store conn) }
+    ensures conn { result.conn ≡ conn }
+    ensures setup { result.setup ≡ setup }
+{
+    Store { conn, setup, alloc }
+}
+
 impl<S: Alter> Store<S> {
     /// Makes the tables of an office that opens, of the setup that the text is, in a database without
     /// tables, in one transaction. Otherwise the connection comes back with its tables as they were.
@@ -112,8 +128,33 @@ impl<S: Alter> Store<S> {
             return Err((conn, CreateFault::Store));
         }
         match create_in(&mut conn, &setup, text) {
-            Ok(()) => Ok(Store { conn, setup }),
+            Ok(()) => Ok(Store { conn, setup, alloc }),
             Err(error) => Err((conn, create_fault_of(&error))),
+        }
+    }
+
+    /// Takes a database whose tables are those of a lawful state. Tables of version 1 are taken over, in
+    /// one transaction. Otherwise the connection comes back with its tables as they were.
+    pub fn open(
+        alloc: Global,
+        mut conn: Connection<S>,
+    ) -> Result<Store<S>, (Connection<S>, OpenFault)>
+        requires autocommit { conn.in_transaction ≡ false }
+        ensures setup { IfOk result (λ store. HasCleanDisk (state S.Store store.conn) →
+            IsSetupOf (state S.Store conn).now store.setup) }
+        ensures opened { IfOk result (λ store. HasCleanDisk (state S.Store store.conn) →
+            IsOpened store.setup (state S.Store conn) (state S.Store store.conn)) }
+        ensures fault { IfErr result (λ e. HasCleanDisk (state S.Store e.0) →
+            IsOpenFault (state S.Store conn).now e.1) }
+        ensures same { IfErr result (λ e. IsGivenBack (state S.Store conn) (state S.Store e.0)) }
+        ensures crash { IfOk result (λ store.
+            Survives (state S.Store conn) (state S.Store store.conn) (LeavesTakenOver (state S.Store conn).now)) }
+        ensures crash_fault { IfErr result (λ e.
+            Survives (state S.Store conn) (state S.Store e.0) (LeavesTakenOver (state S.Store conn).now)) }
+    {
+        match open_in(alloc, &mut conn) {
+            Ok(setup) => Ok(store_over(alloc, conn, setup)),
+            Err(fault) => Err((conn, fault)),
         }
     }
 

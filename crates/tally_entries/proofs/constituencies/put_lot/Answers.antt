@@ -6,7 +6,8 @@ use Rattle.tally_rows.specs.Rows.{others}
 use Rattle.tally_statements.specs.declared.table.KeyedTable.TheVariants.{Lots}
 use Rattle.tally_statements.specs.Office.{rows_in}
 use Rattle.tally_tables.specs.Cells.{item_row, numbered}
-use Rattle.tally_entries.proofs.LotLemmas.{added_beside, lot_put}
+use Rattle.tally_entries.proofs.ConLemmas.{lot_written}
+use Rattle.tally_entries.proofs.LotLemmas.{added_beside}
 use Rattle.tally_entries.proofs.constituencies.put_lot.Goals as goal
 
 pub returns-clause-put : goal.returns-clause-put
@@ -20,7 +21,7 @@ returns-clause-put g c clean inside =
     IfOk-weaker c.insert_numbers.result _ _ (λ _ more. added_beside Lots (map (item_row con) (numbered 1 c.args.lot.now)) (others con (rows_in Lots old)) old mid new gone more) (c.insert_numbers.ensures.added clean gone.inside)
 
 pub returns-clause-lots : goal.returns-clause-lots
-returns-clause-lots g c clean inside cons standing is held =
+returns-clause-lots g c clean inside =
     let old = state g.S.Store c.args.tx.now.conn.now in
     let new = state g.S.Store c.insert_numbers.new.tx.conn.now in
-    IfOk-weaker c.insert_numbers.result _ _ (λ _ put. lot_put c.args.con.now c.args.lot.now cons standing old new is held put) (returns-clause-put g c clean inside)
+    IfOk-weaker c.insert_numbers.result _ _ (λ _ put. lot_written c.args.con.now c.args.lot.now old new put) (returns-clause-put g c clean inside)

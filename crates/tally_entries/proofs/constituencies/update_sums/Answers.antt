@@ -1,0 +1,26 @@
+use Rattle.std.proofs.Common.{◌≡◌, length, subst, arith, ap, sym, ◌∙◌}
+use Rattle.std.proofs.lemmas.Result.{IfOk-weaker}
+use Rattle.sqlite.specs.State.{HasCleanDisk}
+use Rattle.sqlite.specs.Held.{state}
+use Rattle.tally_returns.specs.Counts.{VoteCounts}
+use Rattle.tally_statements.specs.declared.table.KeyedTable.TheVariants.{Totals}
+use Rattle.tally_entries.specs.Entries.{HasItems}
+use Rattle.tally_entries.proofs.CountLemmas.{blank_set, spoiled_after, counts_then}
+use Rattle.tally_entries.proofs.constituencies.update_sums.Goals as goal
+
+pub returns-clause-set : goal.returns-clause-set
+returns-clause-set g c clean inside v rest same none held =
+    let old = state g.S.Store c.args.tx.now.conn.now in
+    let a = state g.S.Store c.update_sum.new.tx.conn.now in
+    let b = state g.S.Store c.update_list_sums.new.tx.conn.now in
+    let new = state g.S.Store c.update_sum-2.new.tx.conn.now in
+    let station = c.args.con.now in
+    let clean_b : HasCleanDisk b = omega (arith, c.update_sum-2.ensures.survives.clean) in
+    let clean_a : HasCleanDisk a = omega (arith, clean_b, c.update_list_sums.ensures.survives.clean) in
+    let shown : VoteCounts = record { votes = c.sums.inside.votes.items; blank = c.sums.inside.blank; spoiled = c.sums.inside.spoiled } in
+    let as_many : length v.votes ≡ length shown.votes = same ∙ ap (λ (w : VoteCounts). length w.votes) (sym c.sums.view_is) in
+    let blank : HasItems Totals station (record v { blank = shown.blank }) rest old a = blank_set Totals station v shown.blank rest old a inside none held (c.in_ok-update_sum.ensures.updated clean_a inside) in
+    let votes : HasItems Totals station (record { votes = shown.votes; blank = shown.blank; spoiled = v.spoiled }) rest a b =
+    (rw c.as_slice.ensures.value at c.in_ok-update_list_sums.ensures.set) clean_b blank.inside (record v { blank = shown.blank }) rest as_many none blank.rows in
+    IfOk-weaker c.update_sum-2.result _ _ (λ _ done. subst (λ w. HasItems Totals station w rest old new) c.sums.view_is done)
+    (spoiled_after Totals station (record { votes = shown.votes; blank = shown.blank; spoiled = v.spoiled }) shown.spoiled rest old b new c.update_sum-2.result (omega (arith, as_many, same, c.requires)) none (counts_then Totals station _ _ rest old a b blank votes) (c.update_sum-2.ensures.updated clean votes.inside))

@@ -1,0 +1,105 @@
+-- What writing and looking up a constituency does to its tables.
+use Rattle.std.specs.Prelude.{◌≡◌, ◌≢◌, ◌≤◌, ℕ, Bool, List, [], ◌∷◌, length, map, Some, None, IsSome, Result, OnOk}
+use Rattle.std.specs.FinMap.{FinMap, get, insert}
+use Rattle.sqlite_value.specs.Order.{Row}
+use Rattle.sqlite.specs.declared.error.Error.{Error}
+use Rattle.sqlite.specs.State.{State as Seen, HasCleanDisk}
+use Rattle.tally_rows.specs.Rows.{AreRowsOf}
+use Rattle.tally_rules.specs.Code.{code_cmp}
+use Rattle.tally_rules.specs.Constituency.{Constituency}
+use Rattle.tally_rules.specs.Setup.{constituency_with}
+use Rattle.tally_returns.specs.Counts.{VoteCounts}
+use Rattle.tally_returns.specs.Return.{Returns}
+use Rattle.tally_returns.specs.State.{State, ConState}
+use Rattle.tally_returns.specs.View.{View}
+use Rattle.tally_machine.specs.LawfulState.{IsLawfulState}
+use Rattle.tally_machine.specs.Step.{IsView}
+use Rattle.tally_schema.specs.Tables.{setup_tree}
+use Rattle.tally_statements.specs.declared.table.KeyedTable.{KeyedTable}
+use Rattle.tally_statements.specs.declared.table.KeyedTable.TheVariants.{Cons, Seats, Totals}
+use Rattle.tally_statements.specs.Office.{tree_of, IsInside}
+use Rattle.tally_tables.specs.Cells.{item_row, items_of, con_rows, seat_rows, total_rows, totals_of}
+use Rattle.tally_tables.specs.TablesOfState.{AreTables}
+use Rattle.tally_entries.specs.Entries.{stored_in}
+
+-- The office's tables are open in a transaction, and only this one may have changed.
+pub record ChangesOnly (t : KeyedTable) (old new : Seen) : Type 0 where
+  pub inside : IsInside new
+  pub others : (u : KeyedTable) → tree_of u ≢ tree_of t → stored_in u new ≡ stored_in u old
+  pub setup_is : new.now.trees setup_tree ≡ old.now.trees setup_tree
+
+-- Where the table had the rows of these constituencies, and the one of the code has come from what it was to this, the table has the
+-- rows of the constituencies so.
+abbrev pub MovesRows : KeyedTable → (List ℕ × ConState → List Row) → List ℕ → (ConState → ConState → Type 0) → Seen → Seen → Type 0
+MovesRows t rows_of code Becomes old new =
+    (cons : FinMap code_cmp ConState) (before standing : ConState) → get cons code ≡ Some before → Becomes before standing
+    → AreRowsOf rows_of cons (stored_in t old) → AreRowsOf rows_of (insert cons code standing) (stored_in t new)
+
+-- What a call that wrote the rows of a constituency in a table says, of a disk that returned what was written.
+abbrev pub Writes : KeyedTable → (List ℕ × ConState → List Row) → List ℕ → (ConState → ConState → Type 0) → Seen → Seen → Result Unit Error → Type 0
+Writes t rows_of code Becomes old new result =
+    HasCleanDisk new → IsInside old → OnOk result (ChangesOnly t old new × MovesRows t rows_of code Becomes old new)
+
+-- What a call that changed the rows of a constituency in a table says, where the table had those of these constituencies.
+abbrev pub Changes : KeyedTable → (List ℕ × ConState → List Row) → List ℕ → (ConState → ConState → Type 0) → Seen → Seen → Result Unit Error → Type 0
+Changes t rows_of code Becomes old new result =
+    HasCleanDisk new → IsInside old → (cons : FinMap code_cmp ConState) (before standing : ConState) → get cons code ≡ Some before → Becomes before standing
+    → AreRowsOf rows_of cons (stored_in t old) → OnOk result (ChangesOnly t old new × AreRowsOf rows_of (insert cons code standing) (stored_in t new))
+
+-- it has this edition and this note now, and is certified or not
+abbrev pub IsAt : ℕ → Bool → List ℕ → ConState → ConState → Type 0
+IsAt edition certified note before standing = (standing.edition ≡ edition) × (standing.certified ≡ certified) × (standing.note ≡ note)
+
+-- it has this lot now
+abbrev pub HasLot : List ℕ → ConState → ConState → Type 0
+HasLot lot before standing = standing.lot ≡ lot
+
+-- one candidate more is gone
+abbrev pub HasGone : ℕ → ℕ → List ℕ → ConState → ConState → Type 0
+HasGone list place note before standing =
+    (get before.gone (list ∷ place ∷ []) ≡ None) × (standing.gone ≡ insert before.gone (list ∷ place ∷ []) note)
+
+-- one certificate more is on record
+abbrev pub HasRecord : ℕ → List ℕ → ConState → ConState → Type 0
+HasRecord edition seats before standing =
+    (get before.past edition ≡ None) × (standing.past ≡ insert before.past edition seats)
+
+-- the rows of sums, by the code of the constituency
+abbrev pub sum_rows : (List ℕ → VoteCounts) → List ℕ × ConState → List Row
+sum_rows sums e = map (item_row e.0) (items_of (sums e.0))
+
+-- Where `totals` had sums of these constituencies, of this one for as many lists, it has these sums of it now.
+abbrev pub ChangesSums : List ℕ → VoteCounts → Seen → Seen → Result Unit Error → Type 0
+ChangesSums code sums old new result =
+    HasCleanDisk new → IsInside old → (cons : FinMap code_cmp ConState) (before standing : List ℕ → VoteCounts) → IsSome (get cons code)
+    → length (before code).votes ≡ length sums.votes → standing code ≡ sums → ((other : List ℕ) → other ≢ code → standing other ≡ before other)
+    → AreRowsOf (sum_rows before) cons (stored_in Totals old) → OnOk result (ChangesOnly Totals old new × AreRowsOf (sum_rows standing) cons (stored_in Totals new))
+
+-- Where `seats` had these seats of the constituencies, it has those of the one of the code now.
+abbrev pub MovesSeats : List ℕ → List ℕ → Seen → Seen → Type 0
+MovesSeats code seats old new =
+    (cons : FinMap code_cmp ConState) (before standing : List ℕ → List ℕ) → IsSome (get cons code)
+    → standing code ≡ seats → ((other : List ℕ) → other ≢ code → standing other ≡ before other)
+    → AreRowsOf (seat_rows before) cons (stored_in Seats old) → AreRowsOf (seat_rows standing) cons (stored_in Seats new)
+
+abbrev pub WritesSeats : List ℕ → List ℕ → Seen → Seen → Result Unit Error → Type 0
+WritesSeats code seats old new result = HasCleanDisk new → IsInside old → OnOk result (ChangesOnly Seats old new × MovesSeats code seats old new)
+
+-- ---- what is found
+
+-- What is found of a constituency is whether it is certified.
+abbrev pub FindsCertified : List ℕ → Seen → Bool → Type 0
+FindsCertified code s found =
+    (cons : FinMap code_cmp ConState) (standing : ConState) → get cons code ≡ Some standing → AreRowsOf con_rows cons (stored_in Cons s) → found ≡ standing.certified
+
+-- What is found of a constituency are the sums of its closed returns, for at most 60 lists.
+abbrev pub FindsSums : List ℕ → Seen → VoteCounts → Type 0
+FindsSums code s found =
+    (setup : List Constituency) (returns : Returns) (cons : FinMap code_cmp ConState) → IsSome (get cons code) → length (totals_of setup returns code).votes ≤ 60
+    → AreRowsOf (total_rows setup returns) cons (stored_in Totals s) → found ≡ totals_of setup returns code
+
+-- What is found of a constituency is its view.
+abbrev pub FindsView : List Constituency → Constituency → Seen → View → Type 0
+FindsView setup con s found =
+    (text : List ℕ) (of : State) → constituency_with con.code setup ≡ Some con → IsLawfulState setup of → AreTables setup text of s.now.trees
+    → IsView con of found

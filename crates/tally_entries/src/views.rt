@@ -1,0 +1,327 @@
+//! Looking up a constituency.
+
+ghost use Rattle.std.specs.Prelude.{◌≡◌, ◌≤◌, IsTrue, IfOk, OnOk, Some, length, option_and_then};
+ghost use Rattle.sqlite_value.specs.Order.{column};
+ghost use Rattle.sqlite.specs.State.{HasCleanDisk, KeepsCommit, IsUnchanged, Survives};
+ghost use Rattle.sqlite.specs.Held.{state};
+ghost use Rattle.tally_returns.specs.View.{FitsView};
+ghost use Rattle.tally_rows.specs.Cells.{number_of};
+ghost use Rattle.tally_statements.specs.Office.{IsFound, IsInside};
+ghost use Rattle.tally_tables.specs.Reading.{status_of, sums_of};
+ghost use Rattle.tally_entries.specs.Constituencies.{FindsCertified, FindsSums, FindsView};
+ghost use Rattle.tally_entries.specs.Found.{AreFound, AreWithin, FindsStatus, FindsStatuses, certified_in, status_in, view_of_rows, with_station};
+
+use sqlite::{Alter, Error, ErrorCode, Row, Transaction};
+use std::alloc::Global;
+use std::marker::Model;
+use tally_returns::{ConView, Status};
+use tally_rows::number_at;
+use tally_rules::{Constituency, Setup, Station};
+use tally_statements::{KeyedTable, rows_of_key};
+use tally_tables::{ConTables, Statuses, Sums, standing_in, status_of, sums_in, view_in};
+
+/// Whether the constituency whose row this is is certified. Other rows are an error.
+fn certified_in(rows: &[Row], con: &str) -> Result<bool, Error>
+    ensures { IfOk result (λ found. certified_in con.now rows.now ≡ Some found) }
+{
+    if rows.len() != 1 {
+        return Err(Error::SqliteFailure(ErrorCode::DatabaseCorrupt));
+    }
+    match standing_in(&rows[0], con.as_bytes()) {
+        Some(standing) => Ok(standing.certified),
+        None => Err(Error::SqliteFailure(ErrorCode::DatabaseCorrupt)),
+    }
+}
+
+/// The sums of the constituency whose rows these are. Other rows are an error.
+fn sums_of_rows(alloc: Global, rows: &[Row], con: &str) -> Result<Sums, Error>
+    ensures { IfOk result (λ found. sums_of con.now rows.now ≡ Some found) }
+{
+    match sums_in(alloc, rows, con.as_bytes()) {
+        Ok(Some(sums)) => Ok(sums),
+        Ok(None) => Err(Error::SqliteFailure(ErrorCode::DatabaseCorrupt)),
+        Err(_) => Err(Error::SqliteFailure(ErrorCode::OutOfMemory)),
+    }
+}
+
+/// Whether a constituency is certified.
+pub fn find_certified<S: Alter>(tx: &mut Transaction<'_, S>, con: &str) -> Result<bool, Error>
+    ensures same_reference { tx.new.conn.ghost_name ≡ tx.old.conn.ghost_name }
+    ensures kept { HasCleanDisk (state S.Store tx.new.conn.now) → IsInside (state S.Store tx.old.conn.now) →
+        KeepsCommit (state S.Store tx.old.conn.now) (state S.Store tx.new.conn.now) }
+    ensures found { HasCleanDisk (state S.Store tx.new.conn.now) → IsInside (state S.Store tx.old.conn.now) →
+        IfOk result (λ found. FindsCertified con.now (state S.Store tx.old.conn.now) found) }
+    ensures same { HasCleanDisk (state S.Store tx.new.conn.now) → IsInside (state S.Store tx.old.conn.now) →
+        OnOk result (IsUnchanged (state S.Store tx.old.conn.now) (state S.Store tx.new.conn.now)) }
+    ensures was_open { HasCleanDisk (state S.Store tx.new.conn.now) → IsTrue (state S.Store tx.new.conn.now).is_open →
+        IsTrue (state S.Store tx.old.conn.now).is_open }
+    ensures answered_open { HasCleanDisk (state S.Store tx.new.conn.now) →
+        OnOk result (IsTrue (state S.Store tx.old.conn.now).is_open) }
+    ensures survives { Survives (state S.Store tx.old.conn.now) (state S.Store tx.new.conn.now) (λ _. ⊥) }
+{
+    let rows = rows_of_key(tx, KeyedTable::Cons, con)?;
+    certified_in(&rows, con)
+}
+
+/// The sums of the closed returns of a constituency, by its rows of `totals`.
+pub fn find_sums<S: Alter>(
+    alloc: Global,
+    tx: &mut Transaction<'_, S>,
+    con: &str,
+) -> Result<Sums, Error>
+    ensures same_reference { tx.new.conn.ghost_name ≡ tx.old.conn.ghost_name }
+    ensures kept { HasCleanDisk (state S.Store tx.new.conn.now) → IsInside (state S.Store tx.old.conn.now) →
+        KeepsCommit (state S.Store tx.old.conn.now) (state S.Store tx.new.conn.now) }
+    ensures found { HasCleanDisk (state S.Store tx.new.conn.now) → IsInside (state S.Store tx.old.conn.now) →
+        IfOk result (λ found. FindsSums con.now (state S.Store tx.old.conn.now) found) }
+    ensures same { HasCleanDisk (state S.Store tx.new.conn.now) → IsInside (state S.Store tx.old.conn.now) →
+        OnOk result (IsUnchanged (state S.Store tx.old.conn.now) (state S.Store tx.new.conn.now)) }
+    ensures was_open { HasCleanDisk (state S.Store tx.new.conn.now) → IsTrue (state S.Store tx.new.conn.now).is_open →
+        IsTrue (state S.Store tx.old.conn.now).is_open }
+    ensures answered_open { HasCleanDisk (state S.Store tx.new.conn.now) →
+        OnOk result (IsTrue (state S.Store tx.old.conn.now).is_open) }
+    ensures survives { Survives (state S.Store tx.old.conn.now) (state S.Store tx.new.conn.now) (λ _. ⊥) }
+{
+    let rows = rows_of_key(tx, KeyedTable::Totals, con)?;
+    sums_of_rows(alloc, &rows, con)
+}
+
+/// The rows of a key in two tables.
+fn rows_of_two<S: Alter>(
+    tx: &mut Transaction<'_, S>,
+    first: KeyedTable,
+    second: KeyedTable,
+    key: &str,
+) -> Result<(Vec<Row>, Vec<Row>), Error>
+    ensures same_reference { tx.new.conn.ghost_name ≡ tx.old.conn.ghost_name }
+    ensures kept { HasCleanDisk (state S.Store tx.new.conn.now) → IsInside (state S.Store tx.old.conn.now) →
+        KeepsCommit (state S.Store tx.old.conn.now) (state S.Store tx.new.conn.now) }
+    ensures found { HasCleanDisk (state S.Store tx.new.conn.now) → IsInside (state S.Store tx.old.conn.now) →
+        IfOk result (λ rows. IsFound first key.now (state S.Store tx.old.conn.now) rows.0.items ×
+        IsFound second key.now (state S.Store tx.old.conn.now) rows.1.items) }
+    ensures same { HasCleanDisk (state S.Store tx.new.conn.now) → IsInside (state S.Store tx.old.conn.now) →
+        OnOk result (IsUnchanged (state S.Store tx.old.conn.now) (state S.Store tx.new.conn.now)) }
+    ensures was_open { HasCleanDisk (state S.Store tx.new.conn.now) → IsTrue (state S.Store tx.new.conn.now).is_open →
+        IsTrue (state S.Store tx.old.conn.now).is_open }
+    ensures answered_open { HasCleanDisk (state S.Store tx.new.conn.now) →
+        OnOk result (IsTrue (state S.Store tx.old.conn.now).is_open) }
+    ensures survives { Survives (state S.Store tx.old.conn.now) (state S.Store tx.new.conn.now) (λ _. ⊥) }
+{
+    let of_first = rows_of_key(tx, first, key)?;
+    let of_second = rows_of_key(tx, second, key)?;
+    Ok((of_first, of_second))
+}
+
+/// The rows of a constituency in the tables that have it for their key.
+#[derive(Drop)]
+struct ConRows {
+    cons: Vec<Row>,
+    lots: Vec<Row>,
+    seats: Vec<Row>,
+    gone: Vec<Row>,
+    totals: Vec<Row>,
+    past: Vec<Row>,
+}
+
+impl Model for ConRows {
+    ghost use Rattle.tally_entries.specs.Found.{Rows};
+
+    ghost Value = { Rows };
+
+    ghost view = { λ r. record { cons = r.cons.items; tables = record { lots = r.lots.items; seats = r.seats.items; gone = r.gone.items; totals = r.totals.items; past = r.past.items } } };
+}
+
+/// The rows of a constituency.
+fn rows_of_con<S: Alter>(tx: &mut Transaction<'_, S>, con: &str) -> Result<ConRows, Error>
+    ensures same_reference { tx.new.conn.ghost_name ≡ tx.old.conn.ghost_name }
+    ensures kept { HasCleanDisk (state S.Store tx.new.conn.now) → IsInside (state S.Store tx.old.conn.now) →
+        KeepsCommit (state S.Store tx.old.conn.now) (state S.Store tx.new.conn.now) }
+    ensures found { HasCleanDisk (state S.Store tx.new.conn.now) → IsInside (state S.Store tx.old.conn.now) →
+        IfOk result (λ rows. AreFound con.now (state S.Store tx.old.conn.now) rows) }
+    ensures same { HasCleanDisk (state S.Store tx.new.conn.now) → IsInside (state S.Store tx.old.conn.now) →
+        OnOk result (IsUnchanged (state S.Store tx.old.conn.now) (state S.Store tx.new.conn.now)) }
+    ensures was_open { HasCleanDisk (state S.Store tx.new.conn.now) → IsTrue (state S.Store tx.new.conn.now).is_open →
+        IsTrue (state S.Store tx.old.conn.now).is_open }
+    ensures answered_open { HasCleanDisk (state S.Store tx.new.conn.now) →
+        OnOk result (IsTrue (state S.Store tx.old.conn.now).is_open) }
+    ensures survives { Survives (state S.Store tx.old.conn.now) (state S.Store tx.new.conn.now) (λ _. ⊥) }
+{
+    let (cons, lots) = rows_of_two(tx, KeyedTable::Cons, KeyedTable::Lots, con)?;
+    let (seats, gone) = rows_of_two(tx, KeyedTable::Seats, KeyedTable::Gone, con)?;
+    let (totals, past) = rows_of_two(tx, KeyedTable::Totals, KeyedTable::Past, con)?;
+    Ok(ConRows {
+        cons,
+        lots,
+        seats,
+        gone,
+        totals,
+        past,
+    })
+}
+
+fn status_at(row: &Row) -> Option<Status>
+    ensures { result ≡ option_and_then status_of (number_of (column row.now 4)) }
+{
+    status_of(number_at(row, 4)?)
+}
+
+/// The status of the return whose row this is, if there is a row. Other rows are an error.
+fn status_in(rows: &[Row]) -> Result<Option<Status>, Error>
+    ensures { IfOk result (λ found. status_in rows.now ≡ Some found) }
+{
+    if rows.is_empty() {
+        return Ok(None);
+    }
+    if rows.len() != 1 {
+        return Err(Error::SqliteFailure(ErrorCode::DatabaseCorrupt));
+    }
+    match status_at(&rows[0]) {
+        Some(status) => Ok(Some(status)),
+        None => Err(Error::SqliteFailure(ErrorCode::DatabaseCorrupt)),
+    }
+}
+
+/// The status of the return of a station, if it has one.
+fn find_status<S: Alter>(
+    tx: &mut Transaction<'_, S>,
+    station: &str,
+) -> Result<Option<Status>, Error>
+    ensures same_reference { tx.new.conn.ghost_name ≡ tx.old.conn.ghost_name }
+    ensures kept { HasCleanDisk (state S.Store tx.new.conn.now) → IsInside (state S.Store tx.old.conn.now) →
+        KeepsCommit (state S.Store tx.old.conn.now) (state S.Store tx.new.conn.now) }
+    ensures found { HasCleanDisk (state S.Store tx.new.conn.now) → IsInside (state S.Store tx.old.conn.now) →
+        IfOk result (λ found. FindsStatus station.now (state S.Store tx.old.conn.now) found) }
+    ensures same { HasCleanDisk (state S.Store tx.new.conn.now) → IsInside (state S.Store tx.old.conn.now) →
+        OnOk result (IsUnchanged (state S.Store tx.old.conn.now) (state S.Store tx.new.conn.now)) }
+    ensures was_open { HasCleanDisk (state S.Store tx.new.conn.now) → IsTrue (state S.Store tx.new.conn.now).is_open →
+        IsTrue (state S.Store tx.old.conn.now).is_open }
+    ensures answered_open { HasCleanDisk (state S.Store tx.new.conn.now) →
+        OnOk result (IsTrue (state S.Store tx.old.conn.now).is_open) }
+    ensures survives { Survives (state S.Store tx.old.conn.now) (state S.Store tx.new.conn.now) (λ _. ⊥) }
+{
+    let rows = rows_of_key(tx, KeyedTable::Returns, station)?;
+    status_in(&rows)
+}
+
+/// These numbers with one station more, whose return has this status, if there is one.
+fn with_station(so_far: Statuses, status: Option<Status>) -> Statuses
+    requires room { AreWithin 5000 so_far }
+    ensures { result ≡ with_station so_far status }
+{
+    let mut now = so_far;
+    now.stations += 1;
+    match status {
+        Some(Status::Received) => now.received += 1,
+        Some(Status::Queried) => now.queried += 1,
+        Some(Status::Corrected) => now.corrected += 1,
+        Some(Status::Closed) => now.closed += 1,
+        None => {}
+    }
+    now
+}
+
+/// How many of these stations there are, and how many of their returns are in each status, each
+/// return looked up by its station.
+fn find_statuses<S: Alter>(
+    tx: &mut Transaction<'_, S>,
+    stations: &[Station],
+) -> Result<Statuses, Error>
+    requires few { length stations.now ≤ 5000 }
+    ensures same_reference { tx.new.conn.ghost_name ≡ tx.old.conn.ghost_name }
+    ensures kept { HasCleanDisk (state S.Store tx.new.conn.now) → IsInside (state S.Store tx.old.conn.now) →
+        IsTrue (state S.Store tx.old.conn.now).is_open →
+        KeepsCommit (state S.Store tx.old.conn.now) (state S.Store tx.new.conn.now) }
+    ensures found { HasCleanDisk (state S.Store tx.new.conn.now) → IsInside (state S.Store tx.old.conn.now) →
+        IsTrue (state S.Store tx.old.conn.now).is_open →
+        IfOk result (λ found. FindsStatuses stations.now (state S.Store tx.old.conn.now) found) }
+    ensures same { HasCleanDisk (state S.Store tx.new.conn.now) → IsInside (state S.Store tx.old.conn.now) →
+        IsTrue (state S.Store tx.old.conn.now).is_open →
+        OnOk result (IsUnchanged (state S.Store tx.old.conn.now) (state S.Store tx.new.conn.now)) }
+    ensures was_open { HasCleanDisk (state S.Store tx.new.conn.now) → IsTrue (state S.Store tx.new.conn.now).is_open →
+        IsTrue (state S.Store tx.old.conn.now).is_open }
+    ensures survives { Survives (state S.Store tx.old.conn.now) (state S.Store tx.new.conn.now) (λ _. ⊥) }
+{
+    let mut found = Statuses {
+        stations: 0,
+        received: 0,
+        queried: 0,
+        corrected: 0,
+        closed: 0,
+    };
+    for station in stations {
+        let status = find_status(tx, station.code.as_str())?;
+        found = with_station(found, status);
+    }
+    Ok(found)
+}
+
+/// What is seen of the constituency whose rows these are. Other rows are an error.
+fn view_of_rows(
+    alloc: Global,
+    con: &Constituency,
+    statuses: Statuses,
+    rows: &ConRows,
+) -> Result<ConView, Error>
+    ensures { IfOk result (λ view. view_of_rows con.now statuses rows.now ≡ Some view) }
+{
+    if rows.cons.len() != 1 {
+        return Err(Error::SqliteFailure(ErrorCode::DatabaseCorrupt));
+    }
+    let tables = ConTables {
+        lots: &rows.lots,
+        seats: &rows.seats,
+        gone: &rows.gone,
+        totals: &rows.totals,
+        past: &rows.past,
+    };
+    match view_in(alloc, con, statuses, &rows.cons[0], tables) {
+        Ok(Some(view)) => Ok(view),
+        Ok(None) => Err(Error::SqliteFailure(ErrorCode::DatabaseCorrupt)),
+        Err(_) => Err(Error::SqliteFailure(ErrorCode::OutOfMemory)),
+    }
+}
+
+/// The same, of the shape of a view of the constituency. Rows of another shape are an error.
+fn fitting_view(
+    alloc: Global,
+    con: &Constituency,
+    statuses: Statuses,
+    rows: &ConRows,
+) -> Result<ConView, Error>
+    ensures fits { IfOk result (λ view. FitsView con.now view) }
+    ensures read { IfOk result (λ view. view_of_rows con.now statuses rows.now ≡ Some view) }
+{
+    let view = view_of_rows(alloc, con, statuses, rows)?;
+    if view.fits(con) {
+        Ok(view)
+    } else {
+        Err(Error::SqliteFailure(ErrorCode::DatabaseCorrupt))
+    }
+}
+
+/// What is seen of a constituency: its rows, its sums, and the status of the return of each of its
+/// stations, each looked up by its key. Rows that are not of the shape of such a view are an error.
+pub fn find_view<S: Alter>(
+    alloc: Global,
+    tx: &mut Transaction<'_, S>,
+    setup: &Setup,
+    con: &Constituency,
+) -> Result<ConView, Error>
+    ensures same_reference { tx.new.conn.ghost_name ≡ tx.old.conn.ghost_name }
+    ensures kept { HasCleanDisk (state S.Store tx.new.conn.now) → IsInside (state S.Store tx.old.conn.now) →
+        KeepsCommit (state S.Store tx.old.conn.now) (state S.Store tx.new.conn.now) }
+    ensures fits { IfOk result (λ view. FitsView con.now view) }
+    ensures found { HasCleanDisk (state S.Store tx.new.conn.now) → IsInside (state S.Store tx.old.conn.now) →
+        IfOk result (λ view. FindsView setup.now con.now (state S.Store tx.old.conn.now) view) }
+    ensures same { HasCleanDisk (state S.Store tx.new.conn.now) → IsInside (state S.Store tx.old.conn.now) →
+        OnOk result (IsUnchanged (state S.Store tx.old.conn.now) (state S.Store tx.new.conn.now)) }
+    ensures was_open { HasCleanDisk (state S.Store tx.new.conn.now) → IsTrue (state S.Store tx.new.conn.now).is_open →
+        IsTrue (state S.Store tx.old.conn.now).is_open }
+    ensures answered_open { HasCleanDisk (state S.Store tx.new.conn.now) →
+        OnOk result (IsTrue (state S.Store tx.old.conn.now).is_open) }
+    ensures survives { Survives (state S.Store tx.old.conn.now) (state S.Store tx.new.conn.now) (λ _. ⊥) }
+{
+    let rows = rows_of_con(tx, con.code.as_str())?;
+    let statuses = find_statuses(tx, con.stations.as_slice())?;
+    fitting_view(alloc, con, statuses, &rows)
+}

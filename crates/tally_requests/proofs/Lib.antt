@@ -1,0 +1,10 @@
+pub mod AnswerLemmas
+pub mod ChangeLemmas
+pub mod DecidedLemmas
+pub mod FoundLemmas
+pub mod LodgeLemmas
+pub mod LodgedLemmas
+pub mod MovedLemmas
+pub mod RowLemmas
+pub mod TotalLemmas
+pub mod WriteLemmas

@@ -1,0 +1,101 @@
+-- An import in a transaction, so far.
+use Rattle.std.proofs.Common.{◌≡◌, ◌≤◌, ◌<◌, ◌+◌, ◌∙◌, ℕ, List, [], ◌++◌, ◌∷◌, None, Option, Some, Ok, Err, length, refl, sym, ap, subst, length-append}
+use Rattle.std.specs.FinMap.{empty}
+use Rattle.std.specs.Prelude.{IfSome}
+use Rattle.sqlite.specs.State.{State as Seen}
+use Rattle.tally_rules.specs.Constituency.{Constituency}
+use Rattle.tally_rules.specs.Limits.{IsSetup}
+use Rattle.tally_returns.specs.Lodge.{Stations}
+use Rattle.tally_returns.specs.Return.{Returns}
+use Rattle.tally_returns.specs.State.{State, stations_of}
+use Rattle.tally_machine.specs.LawfulState.{IsLawfulState}
+use Rattle.tally_ledger.specs.Kept.{Kept}
+use Rattle.tally_core.specs.Import.{IsBelow, IsCodedRow, RowAnswer, after_row, count_of, counted, row_answer}
+use Rattle.tally_core.specs.Keeper.{IsFault}
+use Rattle.tally_core.specs.Source.{Coming, Ending, GivesNext, IsWithin, row_limit}
+use Rattle.tally_core.specs.declared.import.ImportCount.{ImportCount}
+use Rattle.tally_core.specs.declared.import.Row.{Row}
+use Rattle.tally_core.specs.declared.source.ImportFault.{ImportFault}
+use Rattle.tally_core.specs.declared.source.ImportFault.TheVariants.{TooLong}
+use Rattle.tally_core.proofs.ImportLemmas.{count_of-below, push_is}
+use Rattle.tally_core.proofs.TakenLemmas.{SoFar, SoFar-end, SoFar-fault, SoFar-many, SoFar-next, SoFar-start}
+use Rattle.tally_requests.specs.Requests.{IsImported, IsInState, IsRowTaken}
+use Rattle.tally_requests.proofs.LodgeLemmas.{row-lawful}
+
+-- ---- what is known of any tables: the rows that came, and how many answers were counted
+
+pub no_stations : Stations
+no_stations station = None
+
+-- so many rows came
+abbrev pub Came : Option Coming → Option Coming → ℕ → Type 0
+Came all left many = (count : ImportCount) × (now : Returns) × SoFar no_stations empty now all left count many
+
+pub came-start : (all : Option Coming) → Came all all 0
+came-start all = (count_of [], empty, SoFar-start no_stations empty all (count_of []) refl)
+
+pub came-next : (all left next : Option Coming) (many : ℕ) (r : Row) → Came all left many → IsCodedRow r → GivesNext left (Ok (Some r)) next → Came all next (many + 1)
+came-next all left next many r was coded given = (
+  counted was.0 (many + 1) (row_answer no_stations was.1 r),
+  after_row no_stations was.1 r,
+  SoFar-next no_stations empty was.1 (after_row no_stations was.1 r) all left next was.0 (counted was.0 (many + 1) (row_answer no_stations was.1 r)) many r (row_answer no_stations was.1 r) was.2 coded given refl refl refl,
+)
+
+pub came-fault : (all left next : Option Coming) (ended : Ending) (many : ℕ) (fault : ImportFault) → Came all left many → GivesNext left (Err fault) next → ended ≡ Some (Some fault) → IsFault all ended fault
+came-fault all left next ended many fault was given ends = SoFar-fault no_stations empty was.1 all left next ended was.0 many fault was.2 given ends
+
+pub came-many : (all left : Option Coming) (ended : Ending) (many : ℕ) → Came all left many → row_limit < many → IfSome all IsWithin → IsFault all ended TooLong
+came-many all left ended many was over within = SoFar-many no_stations empty was.1 all left ended was.0 many was.2 over within
+
+-- so many answers were counted
+abbrev pub Counted : ImportCount → ℕ → Type 0
+Counted count many = (answered : List RowAnswer) × (count ≡ count_of answered) × (length answered ≡ many)
+
+pub counted-next : (count more : ImportCount) (many : ℕ) (answer : RowAnswer) → Counted count many → more ≡ counted count (many + 1) answer → Counted more (many + 1)
+counted-next count more many answer was is = (
+  was.0 ++ answer ∷ [],
+  push_is count more was.0 answer (many + 1) was.1 (ap (λ n. n + 1) (sym was.2)) is,
+  length-append was.0 (answer ∷ []) ∙ ap (λ n. n + 1) was.2,
+)
+
+pub counted-below : (count : ImportCount) (many : ℕ) → Counted count many → IsBelow count (many + 1)
+counted-below count many was = subst (λ c. IsBelow c (many + 1)) (sym was.1) (count_of-below was.0 (many + 1) (ap (λ n. n + 1) (sym was.2)))
+
+-- ---- what is known of the tables of a lawful state
+
+-- so many rows came, and were taken; the state that they left
+pub record RowsSoFar (setup : List Constituency) (text : List ℕ) (s : State) (all left : Option Coming) (count : ImportCount) (many : ℕ) (new : Seen) : Type 0 where
+  pub returns : Returns
+  pub so_far : SoFar (stations_of setup) s.returns returns all left count many
+  pub lawful : IsLawfulState setup (record s { returns = returns })
+  pub in_state : IsInState setup text (record s { returns = returns }) new
+
+pub rows-start : (setup : List Constituency) (text : List ℕ) (s : State) (all : Option Coming) (count : ImportCount) (old : Seen) → count ≡ count_of [] → IsLawfulState setup s → IsInState setup text s old
+    → RowsSoFar setup text s all all count 0 old
+rows-start setup text s all count old is lawful here = record {
+  returns = s.returns;
+  so_far = SoFar-start (stations_of setup) s.returns all count is;
+  lawful = lawful;
+  in_state = here;
+}
+
+pub rows-next : (setup : List Constituency) (text : List ℕ) (s : State) (all left next : Option Coming) (count more : ImportCount) (many : ℕ) (r : Row) (answer : RowAnswer) (mid new : Seen)
+    → IsSetup setup → (was : RowsSoFar setup text s all left count many mid) → IsCodedRow r → GivesNext left (Ok (Some r)) next
+    → IsRowTaken setup text (record s { returns = was.returns }) r answer new → more ≡ counted count (many + 1) answer → RowsSoFar setup text s all next more (many + 1) new
+rows-next setup text s all left next count more many r answer mid new limits was coded given taken counted_is = record {
+  returns = after_row (stations_of setup) was.returns r;
+  so_far = SoFar-next (stations_of setup) s.returns was.returns (after_row (stations_of setup) was.returns r) all left next count more many r answer was.so_far coded given taken.answered refl counted_is;
+  lawful = row-lawful setup (record s { returns = was.returns }) r coded limits was.lawful;
+  in_state = taken.in_state;
+}
+
+-- the import is done where its source ends
+pub rows-end : (setup : List Constituency) (text : List ℕ) (s : State) (all left next : Option Coming) (count : ImportCount) (many : ℕ) (new : Seen)
+    → RowsSoFar setup text s all left count many new → many ≤ row_limit → GivesNext left (Ok None) next → IsImported setup text s all count new
+rows-end setup text s all left next count many new was few given =
+    let old : Kept = record { setup = setup; returns = s.returns; cons = s.cons; seats = empty } in
+    record {
+      state = record s { returns = was.returns };
+      imported = SoFar-end old (record old { returns = was.returns }) all left next count many was.so_far refl few given;
+      in_state = was.in_state;
+    }

@@ -1,0 +1,33 @@
+use Rattle.std.proofs.Common.{◌≡◌, ◌∙◌, Some, ap, arith, sym}
+use Rattle.std.specs.Option.{option_copied}
+use Rattle.sqlite.specs.State.{HasCleanDisk}
+use Rattle.sqlite.specs.Held.{state}
+use Rattle.tally_rules.specs.Setup.{constituency_with}
+use Rattle.tally_returns.proofs.ClosedLemmas.{constituency_with-code, constituency_with-own}
+use Rattle.tally_requests.proofs.AnswerLemmas.{seen-carries, still-unchanged, unknown-carried}
+use Rattle.tally_requests.proofs.constituencies.answer_on.Goals as goal
+
+pub returns-in_default-clause-step : goal.returns-in_default-clause-step
+returns-in_default-clause-step g c clean inside text s lawful tables =
+    unknown-carried c.args.setup.now text s c.args.code c.args.ask.now (state g.S.Store c.args.tx.now.conn.now) c.requires.named (sym c.con.ensures.found ∙ ap option_copied c.in_default.is)
+    (record { inside = inside; tables = tables })
+
+pub answer_seen-requires-clause-found : goal.answer_seen-requires-clause-found
+answer_seen-requires-clause-found g c =
+    constituency_with-own c.args.setup.now c.args.code c.in-Some.con.now (sym c.con.ensures.found ∙ ap option_copied c.in-Some.is)
+
+pub answer_seen-requires-clause-named : goal.answer_seen-requires-clause-named
+answer_seen-requires-clause-named g c =
+    c.requires.named ∙ ap Some (sym (constituency_with-code c.args.setup.now c.args.code c.in-Some.con.now (sym c.con.ensures.found ∙ ap option_copied c.in-Some.is)))
+
+pub returns-clause-step : goal.returns-clause-step
+returns-clause-step g c clean inside =
+    let setup = c.args.setup.now in
+    let con = c.in-Some.con.now in
+    let old = state g.S.Store c.args.tx.now.conn.now in
+    let mid = state g.S.Store c.find_view.new.tx.conn.now in
+    let new = state g.S.Store c.answer_seen.new.tx.conn.now in
+    let early : HasCleanDisk mid = omega (arith, clean, c.answer_seen.ensures.survives.clean) in
+    let found : constituency_with c.args.code setup ≡ Some con = sym c.con.ensures.found ∙ ap option_copied c.in-Some.is in
+    seen-carries setup con c.in_ok-view.view c.args.ask.now old mid new c.answer_seen.result clean (still-unchanged old mid (c.in_ok-view.ensures.same early inside) inside)
+    (constituency_with-own setup c.args.code con found) (c.in_ok-view.ensures.found early inside) c.answer_seen.ensures.step

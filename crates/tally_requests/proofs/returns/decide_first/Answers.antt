@@ -1,0 +1,15 @@
+use Rattle.std.proofs.Common.{◌≡◌, length, ap, arith}
+use Rattle.std.specs.Option.{option_copied}
+use Rattle.sqlite.specs.Held.{state}
+use Rattle.tally_rules.specs.Constituency.{Constituency}
+use Rattle.tally_requests.proofs.LodgedLemmas.{decided-is}
+use Rattle.tally_requests.proofs.returns.decide_first.Goals as goal
+
+pub returns-clause-decided : goal.returns-clause-decided
+returns-clause-decided g c clean inside text s lawful tables =
+    let con = c.args.con.now in
+    let lists = c.len-lists.result in
+    let same : length c.con.inside.lists.items ≡ length con.lists = ap (λ (k : Constituency). length k.lists) c.con.view_is in
+    let many : lists ≡ length con.lists = omega (arith, same, c.len-lists.ensures, c.con.inside.lists.ok.0) in
+    decided-is c.args.setup.now text s c.args.station c.args.slip c.args.counts.now con c.args.place.now lists (state g.S.Store c.args.tx.now.conn.now) c.in_ok-found.found (option_copied c.as_ref.result) c.decide_lodge.result c.requires.limits lawful tables c.requires.known many
+    (c.in_ok-found.ensures.found clean inside) c.as_ref.ensures.value c.decide_lodge.ensures

@@ -1,0 +1,45 @@
+use Rattle.std.proofs.Common.{◌≡◌, ◌∙◌, Ok, Some, None, ap, sym, subst}
+use Rattle.sqlite.specs.Held.{state}
+use Rattle.tally_returns.specs.Return.{StationReturn}
+use Rattle.tally_returns.specs.declared.reply.Reply.TheVariants.{Moved}
+use Rattle.tally_requests.specs.Requests.{IsCarriedOut}
+use Rattle.tally_requests.proofs.FoundLemmas.{few-lists, move-carried, moved-kind, put-decided, put-only}
+use Rattle.tally_requests.proofs.returns.put_next.Goals as goal
+
+pub unreachable-requires : goal.unreachable-requires
+unreachable-requires g c =
+    let put = put-decided c.args.con.now c.args.place.now c.args.certified c.args.found c.args.ask.now c.args.change c.requires.moves c.requires.decided in
+    c.in_default.not-PutReturn put.standing put.change_is
+
+pub unreachable-requires-in_default-found : goal.unreachable-requires-in_default-found
+unreachable-requires-in_default-found g c =
+    let put = put-decided c.args.con.now c.args.place.now c.args.certified c.args.found c.args.ask.now c.args.change c.requires.moves c.requires.decided in
+    let e : None ≡ Some put.before = sym c.in_default-found.is ∙ put.found_is in cc
+
+pub put_moved-requires-clause-few : goal.put_moved-requires-clause-few
+put_moved-requires-clause-few g c = few-lists c.args.setup.now c.args.station c.args.con.now c.args.place.now c.requires.limits c.requires.known
+
+pub put_moved-requires-clause-moves : goal.put_moved-requires-clause-moves
+put_moved-requires-clause-moves g c =
+    let con = c.args.con.now in
+    let put = put-decided con c.args.place.now c.args.certified c.args.found c.args.ask.now c.args.change c.requires.moves c.requires.decided in
+    put-only con c.args.certified c.args.found c.args.ask.now c.args.change c.in-Some.before c.in-PutReturn.standing put c.in-Some.is c.in-PutReturn.is
+
+pub returns-clause-kind : goal.returns-clause-kind
+returns-clause-kind g c = moved-kind c.args.setup.now c.args.ask.now c.standing.inside.rev c.requires.moves
+
+pub returns-clause-step : goal.returns-clause-step
+returns-clause-step g c clean inside text s lawful flag found tables =
+    let setup = c.args.setup.now in
+    let con = c.args.con.now in
+    let place = c.args.place.now in
+    let ask = c.args.ask.now in
+    let station = c.args.station in
+    let certified = c.args.certified in
+    let new = state g.S.Store c.put_moved.new.tx.conn.now in
+    let standing = c.in-PutReturn.standing in
+    let put = put-decided con place certified c.args.found ask c.args.change c.requires.moves c.requires.decided in
+    subst (λ (r : StationReturn). IsCarriedOut setup text s ask (Ok (Moved r.rev)) new) (sym c.standing.view_is)
+    (move-carried setup text s ask station con place certified c.args.found standing new c.requires.named c.requires.moves (record { known = c.requires.known; certified_is = flag; found_is = found })
+    (c.requires.decided ∙ ap Ok c.in-PutReturn.is)
+    (c.in_ok-put_moved.ensures.put clean inside setup place text s c.requires.limits c.requires.known lawful (sym flag ∙ put.is_open) (sym found ∙ c.in-Some.is) tables))

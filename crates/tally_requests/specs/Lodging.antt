@@ -1,0 +1,27 @@
+-- What a Lodge is answered, by what is looked up.
+use Rattle.std.specs.Prelude.{◌≡◌, ◌≤◌, ℕ, List, length, Result, Ok, IfOk}
+use Rattle.sqlite.specs.declared.error.Error.{Error}
+use Rattle.sqlite.specs.State.{State as Seen, HasCleanDisk}
+use Rattle.tally_rules.specs.Constituency.{Constituency}
+use Rattle.tally_returns.specs.Counts.{VoteCounts}
+use Rattle.tally_returns.specs.Lodge.{lodge_answer}
+use Rattle.tally_returns.specs.State.{State, stations_of}
+use Rattle.tally_returns.specs.declared.refusal.Refusal.{Refusal}
+use Rattle.tally_returns.specs.declared.reply.LodgeReply.{LodgeReply}
+use Rattle.tally_returns.specs.declared.reply.LodgeReply.TheVariants.{Lodged}
+use Rattle.tally_machine.specs.LawfulState.{IsLawfulState}
+use Rattle.tally_statements.specs.Office.{IsInside}
+use Rattle.tally_tables.specs.TablesOfState.{AreTables}
+
+-- What a Lodge is answered, of every lawful state whose tables there are.
+abbrev pub IsLodgeAnswer : List Constituency → List ℕ → List ℕ → VoteCounts → Seen → Result LodgeReply Refusal → Type 0
+IsLodgeAnswer setup station slip counts seen r =
+    (text : List ℕ) (s : State) → IsLawfulState setup s → AreTables setup text s seen.now.trees → r ≡ lodge_answer (stations_of setup) s.returns station slip counts
+
+-- The same of a call that decides a Lodge, of a disk that returned what was written.
+abbrev pub DecidesLodge : List Constituency → List ℕ → List ℕ → VoteCounts → Seen → Seen → Result (Result LodgeReply Refusal) Error → Type 0
+DecidesLodge setup station slip counts old new result = HasCleanDisk new → IsInside old → IfOk result (IsLodgeAnswer setup station slip counts old)
+
+-- A return that is to be lodged is for at most 60 lists.
+abbrev pub IsFewIfLodged : VoteCounts → Result LodgeReply Refusal → Type 0
+IsFewIfLodged counts r = (rev : ℕ) → r ≡ Ok (Lodged rev) → length counts.votes ≤ 60

@@ -1,0 +1,97 @@
+-- What a request or an import does to the tables of an office, in a transaction.
+use Rattle.std.specs.Prelude.{◌≡◌, ℕ, List, Option, Some, Result, Ok, IfOk}
+use Rattle.sqlite.specs.declared.error.Error.{Error}
+use Rattle.sqlite.specs.State.{State as Seen, HasCleanDisk, KeepsCommit}
+use Rattle.tally_rules.specs.Constituency.{Constituency}
+use Rattle.tally_returns.specs.Counts.{VoteCounts}
+use Rattle.tally_returns.specs.Lodge.{lodge, lodge_answer}
+use Rattle.tally_returns.specs.State.{State, stations_of}
+use Rattle.tally_returns.specs.View.{View}
+use Rattle.tally_returns.specs.declared.ask.Ask.{Ask}
+use Rattle.tally_returns.specs.declared.change.Change.{Change}
+use Rattle.tally_returns.specs.declared.refusal.Refusal.{Refusal}
+use Rattle.tally_returns.specs.declared.reply.LodgeReply.{LodgeReply}
+use Rattle.tally_returns.specs.declared.reply.Reply.{Reply}
+use Rattle.tally_machine.specs.LawfulState.{IsLawfulState}
+use Rattle.tally_machine.specs.Step.{ConChange, IsAnswered, IsView, after_change, answer_seen, con_answer, con_change}
+use Rattle.tally_core.specs.Import.{RowAnswer, after_row, row_answer}
+use Rattle.tally_core.specs.Keeper.{IsImportOf}
+use Rattle.tally_core.specs.Source.{Coming}
+use Rattle.tally_core.specs.declared.import.ImportCount.{ImportCount}
+use Rattle.tally_core.specs.declared.import.Row.{Row}
+use Rattle.tally_core.specs.declared.source.ImportFault.{ImportFault}
+use Rattle.tally_statements.specs.Office.{IsInside}
+use Rattle.tally_tables.specs.TablesOfState.{AreTables}
+
+-- Nothing was committed, where the office's tables were open in a transaction.
+abbrev pub KeepsCommitInside : Seen → Seen → Type 0
+KeepsCommitInside old new = HasCleanDisk new → IsInside old → KeepsCommit old new
+
+-- Nothing was committed, where the tables were those of a lawful state.
+abbrev pub KeepsCommitInState : List Constituency → Seen → Seen → Type 0
+KeepsCommitInState setup old new =
+    HasCleanDisk new → IsInside old → (text : List ℕ) (s : State) → IsLawfulState setup s → AreTables setup text s old.now.trees → KeepsCommit old new
+
+-- In a transaction: the tables are those of this state.
+pub record IsInState (setup : List Constituency) (text : List ℕ) (s : State) (seen : Seen) : Type 0 where
+  pub inside : IsInside seen
+  pub tables : AreTables setup text s seen.now.trees
+
+-- A request was answered as in this state, and the tables are those of the state after it.
+pub record IsCarriedOut (setup : List Constituency) (text : List ℕ) (s : State) (ask : Ask) (r : Result Reply Refusal) (new : Seen) : Type 0 where
+  pub state : State
+  pub answered : IsAnswered setup s ask r state
+  pub in_state : IsInState setup text state new
+
+-- What a call says that answers a request, of a disk that returned what was written: of every lawful state whose tables there were.
+abbrev pub CarriesOut : List Constituency → Ask → Seen → Seen → Result (Result Reply Refusal) Error → Type 0
+CarriesOut setup ask old new result =
+    HasCleanDisk new → IsInside old → IfOk result (λ r. (text : List ℕ) (s : State) → IsLawfulState setup s → AreTables setup text s old.now.trees → IsCarriedOut setup text s ask r new)
+
+-- A return was lodged as in this state, or the Lodge refused, and the tables are those of the state after it.
+pub record IsLodged (setup : List Constituency) (text : List ℕ) (s : State) (station slip : List ℕ) (counts : VoteCounts) (r : Result LodgeReply Refusal) (new : Seen) : Type 0 where
+  pub answered : r ≡ lodge_answer (stations_of setup) s.returns station slip counts
+  pub in_state : IsInState setup text (record s { returns = lodge (stations_of setup) s.returns station slip counts }) new
+
+-- and so of every lawful state whose tables there were
+abbrev pub LodgesOf : List Constituency → List ℕ → List ℕ → VoteCounts → Seen → Seen → Result LodgeReply Refusal → Type 0
+LodgesOf setup station slip counts old new r =
+    (text : List ℕ) (s : State) → IsLawfulState setup s → AreTables setup text s old.now.trees → IsLodged setup text s station slip counts r new
+
+-- The same of a call that lodges a return.
+abbrev pub Lodges : List Constituency → List ℕ → List ℕ → VoteCounts → Seen → Seen → Result (Result LodgeReply Refusal) Error → Type 0
+Lodges setup station slip counts old new result =
+    HasCleanDisk new → IsInside old → IfOk result (LodgesOf setup station slip counts old new)
+
+-- A row was taken as in this state, and the tables are those of the state after it.
+pub record IsRowTaken (setup : List Constituency) (text : List ℕ) (s : State) (row : Row) (answer : RowAnswer) (new : Seen) : Type 0 where
+  pub answered : row_answer (stations_of setup) s.returns row ≡ answer
+  pub in_state : IsInState setup text (record s { returns = after_row (stations_of setup) s.returns row }) new
+
+-- and so of every lawful state whose tables there were
+abbrev pub TakesRow : List Constituency → Row → Seen → Seen → Result RowAnswer ImportFault → Type 0
+TakesRow setup row old new result =
+    HasCleanDisk new → IsInside old → IfOk result (λ answer. (text : List ℕ) (s : State) → IsLawfulState setup s → AreTables setup text s old.now.trees → IsRowTaken setup text s row answer new)
+
+-- All rows of a source were lodged as in this state, and the tables are those of the state after that.
+pub record IsImported (setup : List Constituency) (text : List ℕ) (s : State) (known : Option Coming) (count : ImportCount) (new : Seen) : Type 0 where
+  pub state : State
+  pub imported : IsImportOf setup (Some s) known count (Some state)
+  pub in_state : IsInState setup text state new
+
+-- What a call says that lodged the rows of a source, of a disk that returned what was written.
+abbrev pub ImportsRows : List Constituency → Option Coming → Seen → Seen → Result ImportCount ImportFault → Type 0
+ImportsRows setup known old new result =
+    HasCleanDisk new → IsInside old → IfOk result (λ count. (text : List ℕ) (s : State) → IsLawfulState setup s → AreTables setup text s old.now.trees → IsImported setup text s known count new)
+
+-- A change of a constituency was carried out as decided in this state: the reply is that of the step, and the tables are those of the state
+-- after it.
+pub record IsChangeCarriedOut (setup : List Constituency) (text : List ℕ) (s : State) (con : Constituency) (view : View) (decided : ConChange) (reply : Reply) (new : Seen) : Type 0 where
+  pub answered : Ok (answer_seen reply) ≡ con_answer view (Ok decided)
+  pub in_state : IsInState setup text (after_change s con.code (Ok decided)) new
+
+-- and so of every lawful state whose tables there were and of which this was seen
+abbrev pub CarriesChange : List Constituency → Constituency → View → Change → Seen → Seen → Result Reply Error → Type 0
+CarriesChange setup con view change old new result =
+    HasCleanDisk new → IsInside old → IfOk result (λ reply. (text : List ℕ) (s : State) (decided : ConChange) → con_change change ≡ Some decided → IsLawfulState setup s → IsView con s view → AreTables setup text s old.now.trees
+    → IsChangeCarriedOut setup text s con view decided reply new)

@@ -1,0 +1,74 @@
+//! A request, answered and carried out.
+
+ghost use Rattle.std.specs.Prelude.{◌≡◌, IfOk, IsTrue};
+ghost use Rattle.sqlite.specs.State.{HasCleanDisk, Survives};
+ghost use Rattle.sqlite.specs.Held.{state};
+ghost use Rattle.tally_machine.specs.Kinds.{IsReplyTo};
+ghost use Rattle.tally_returns.specs.declared.ask.Ask.TheVariants.{Lodge};
+ghost use Rattle.tally_requests.specs.Requests.{CarriesOut, KeepsCommitInside};
+
+use crate::constituencies::{answer_on, show_progress};
+use crate::returns::{lodge, move_on, show_return};
+use sqlite::{Alter, Error, Transaction};
+use std::alloc::Global;
+use tally_machine::{Ask, Counts, Refusal, Reply};
+use tally_rules::{Code, Setup};
+
+/// Answers a request by the tables and carries it out on them. An error is one of the database, or
+/// want of memory: the caller then undoes what was written.
+pub fn answer_in<S: Alter>(
+    alloc: Global,
+    tx: &mut Transaction<'_, S>,
+    setup: &Setup,
+    ask: &Ask,
+) -> Result<Result<Reply, Refusal>, Error>
+    ensures same_reference { tx.new.conn.ghost_name ≡ tx.old.conn.ghost_name }
+    ensures kept { KeepsCommitInside (state S.Store tx.old.conn.now) (state S.Store tx.new.conn.now) }
+    ensures kind { IfOk result (λ r. IfOk r (IsReplyTo setup.now ask.now)) }
+    ensures step { CarriesOut setup.now ask.now
+        (state S.Store tx.old.conn.now) (state S.Store tx.new.conn.now) result }
+    ensures was_open { HasCleanDisk (state S.Store tx.new.conn.now) → IsTrue (state S.Store tx.new.conn.now).is_open →
+        IsTrue (state S.Store tx.old.conn.now).is_open }
+    ensures survives { Survives (state S.Store tx.old.conn.now) (state S.Store tx.new.conn.now) (λ _. ⊥) }
+{
+    if let Some(con) = ask.con() {
+        return answer_on(alloc, tx, setup, con, ask);
+    }
+    match ask {
+        Ask::Lodge {
+            station,
+            slip,
+            counts,
+        } => lodge_at(alloc, tx, setup, *station, *slip, counts),
+        Ask::Query { station, .. } => move_on(alloc, tx, setup, *station, ask),
+        Ask::Correct { station, .. } => move_on(alloc, tx, setup, *station, ask),
+        Ask::Close { station, .. } => move_on(alloc, tx, setup, *station, ask),
+        Ask::ShowReturn { station } => show_return(alloc, tx, setup, *station),
+        Ask::ShowProgress => show_progress(alloc, tx, setup),
+        _ => unreachable!(),
+    }
+}
+
+/// Lodges the return of a station.
+fn lodge_at<S: Alter>(
+    alloc: Global,
+    tx: &mut Transaction<'_, S>,
+    setup: &Setup,
+    station: Code,
+    slip: Code,
+    counts: &Counts,
+) -> Result<Result<Reply, Refusal>, Error>
+    ensures same_reference { tx.new.conn.ghost_name ≡ tx.old.conn.ghost_name }
+    ensures kept { KeepsCommitInside (state S.Store tx.old.conn.now) (state S.Store tx.new.conn.now) }
+    ensures kind { IfOk result (λ r. IfOk r (IsReplyTo setup.now (Lodge station slip counts.now))) }
+    ensures step { CarriesOut setup.now (Lodge station slip counts.now)
+        (state S.Store tx.old.conn.now) (state S.Store tx.new.conn.now) result }
+    ensures was_open { HasCleanDisk (state S.Store tx.new.conn.now) → IsTrue (state S.Store tx.new.conn.now).is_open →
+        IsTrue (state S.Store tx.old.conn.now).is_open }
+    ensures survives { Survives (state S.Store tx.old.conn.now) (state S.Store tx.new.conn.now) (λ _. ⊥) }
+{
+    match lodge(alloc, tx, setup, station, slip, counts)? {
+        Ok(reply) => Ok(Ok(Reply::from(reply))),
+        Err(refusal) => Ok(Err(refusal)),
+    }
+}

@@ -1,0 +1,212 @@
+//! Changes of a constituency, carried out on its tables.
+
+ghost use Rattle.std.specs.Prelude.{◌≡◌, ◌≢◌, ◌≤◌, Ok, Some, IfOk, IsTrue, length};
+ghost use Rattle.sqlite.specs.State.{HasCleanDisk, Survives};
+ghost use Rattle.sqlite.specs.Held.{state};
+ghost use Rattle.tally_machine.specs.Kinds.{IsReplyTo};
+ghost use Rattle.tally_machine.specs.Step.{Decides, IsConDecision, certified_with, gone_for_good, lot_set, open_again};
+ghost use Rattle.tally_returns.specs.Named.{con_named};
+ghost use Rattle.tally_returns.specs.View.{FitsView};
+ghost use Rattle.tally_returns.specs.declared.change.Change.TheVariants.{Same};
+ghost use Rattle.tally_rules.specs.Setup.{constituency_with};
+ghost use Rattle.tally_statements.specs.Office.{KeepsCommitIfClean};
+ghost use Rattle.tally_requests.specs.Changes.{CarriesDecided, HasWrittenLot, HasWrittenRecord, HasWrittenSeats, WritesSo};
+ghost use Rattle.tally_requests.specs.Requests.{CarriesChange, KeepsCommitInside};
+
+use sqlite::{Alter, Error, Transaction};
+use tally_entries::{put_con, put_gone, put_lot, put_record, put_seats};
+use tally_machine::{Ask, Change, ConView, Gone, Past, Reply};
+use tally_rules::{Constituency, Setup};
+
+/// Carries out what was decided of a request on a constituency, of which this was seen.
+pub(crate) fn carry_out<S: Alter>(
+    tx: &mut Transaction<'_, S>,
+    setup: &Setup,
+    con: &Constituency,
+    view: &ConView,
+    ask: &Ask,
+    change: Change,
+) -> Result<Reply, Error>
+    requires found { constituency_with con.now.code setup.now ≡ Some con.now }
+    requires named { con_named ask.now ≡ Some con.now.code }
+    requires fits { FitsView con.now view.now }
+    requires decided { IsConDecision con.now view.now ask.now change }
+    requires changes { change ≢ Same }
+    ensures same_reference { tx.new.conn.ghost_name ≡ tx.old.conn.ghost_name }
+    ensures kept { KeepsCommitInside (state S.Store tx.old.conn.now) (state S.Store tx.new.conn.now) }
+    ensures kind { IfOk result (IsReplyTo setup.now ask.now) }
+    ensures carried_out { CarriesChange setup.now con.now view.now change
+        (state S.Store tx.old.conn.now) (state S.Store tx.new.conn.now) result }
+    ensures was_open { HasCleanDisk (state S.Store tx.new.conn.now) → IsTrue (state S.Store tx.new.conn.now).is_open →
+        IsTrue (state S.Store tx.old.conn.now).is_open }
+    ensures survives { Survives (state S.Store tx.old.conn.now) (state S.Store tx.new.conn.now) (λ _. ⊥) }
+{
+    match change {
+        Change::SetLot(lot) => set_lot(tx, setup, con, view, ask, &lot),
+        Change::SetCertified(seats) => set_certified(tx, setup, con, view, ask, &seats),
+        Change::SetReopened(note, past) => {
+            set_reopened(tx, setup, con, view, ask, note.as_str(), &past)
+        }
+        Change::SetGone(gone, next) => set_gone(tx, setup, con, view, ask, &gone, next),
+        _ => unreachable!(),
+    }
+}
+
+/// Records a lot: the places of the lists, in its order.
+fn set_lot<S: Alter>(
+    tx: &mut Transaction<'_, S>,
+    setup: &Setup,
+    con: &Constituency,
+    view: &ConView,
+    ask: &Ask,
+    lot: &[u32],
+) -> Result<Reply, Error>
+    requires found { constituency_with con.now.code setup.now ≡ Some con.now }
+    requires fits { FitsView con.now view.now }
+    requires decided { Decides con.now view.now ask.now (Ok (lot_set lot.now)) }
+    ensures same_reference { tx.new.conn.ghost_name ≡ tx.old.conn.ghost_name }
+    ensures kept { KeepsCommitIfClean (state S.Store tx.old.conn.now) (state S.Store tx.new.conn.now) }
+    ensures kind { IfOk result (IsReplyTo setup.now ask.now) }
+    ensures carried_out { CarriesDecided setup.now con.now view.now (lot_set lot.now)
+        (state S.Store tx.old.conn.now) (state S.Store tx.new.conn.now) result }
+    ensures survives { Survives (state S.Store tx.old.conn.now) (state S.Store tx.new.conn.now) (λ _. ⊥) }
+{
+    let edition = view.edition + 1;
+    let certified = view.certified;
+    let note = view.note.as_str();
+    write_lot(tx, con.code.as_str(), edition, certified, note, lot)?;
+    Ok(Reply::Edition { edition })
+}
+
+/// Writes what a constituency has in `cons` and in `lots`.
+fn write_lot<S: Alter>(
+    tx: &mut Transaction<'_, S>,
+    con: &str,
+    edition: u32,
+    certified: bool,
+    note: &str,
+    lot: &[u32],
+) -> Result<(), Error>
+    requires few { length lot.now ≤ 60 }
+    ensures same_reference { tx.new.conn.ghost_name ≡ tx.old.conn.ghost_name }
+    ensures kept { KeepsCommitIfClean (state S.Store tx.old.conn.now) (state S.Store tx.new.conn.now) }
+    ensures written { WritesSo con.now (HasWrittenLot con.now edition certified note.now lot.now)
+        (state S.Store tx.old.conn.now) (state S.Store tx.new.conn.now) result }
+    ensures survives { Survives (state S.Store tx.old.conn.now) (state S.Store tx.new.conn.now) (λ _. ⊥) }
+{
+    put_con(tx, con, edition, certified, note)?;
+    put_lot(tx, con, lot)
+}
+
+/// Certifies a constituency, with these seats of its lists.
+fn set_certified<S: Alter>(
+    tx: &mut Transaction<'_, S>,
+    setup: &Setup,
+    con: &Constituency,
+    view: &ConView,
+    ask: &Ask,
+    seats: &[u32],
+) -> Result<Reply, Error>
+    requires found { constituency_with con.now.code setup.now ≡ Some con.now }
+    requires fits { FitsView con.now view.now }
+    requires decided { Decides con.now view.now ask.now (Ok (certified_with seats.now)) }
+    ensures same_reference { tx.new.conn.ghost_name ≡ tx.old.conn.ghost_name }
+    ensures kept { KeepsCommitIfClean (state S.Store tx.old.conn.now) (state S.Store tx.new.conn.now) }
+    ensures kind { IfOk result (IsReplyTo setup.now ask.now) }
+    ensures carried_out { CarriesDecided setup.now con.now view.now (certified_with seats.now)
+        (state S.Store tx.old.conn.now) (state S.Store tx.new.conn.now) result }
+    ensures survives { Survives (state S.Store tx.old.conn.now) (state S.Store tx.new.conn.now) (λ _. ⊥) }
+{
+    let edition = view.edition + 1;
+    let note = view.note.as_str();
+    write_seats(tx, con.code.as_str(), edition, true, note, seats)?;
+    Ok(Reply::Edition { edition })
+}
+
+/// Opens a constituency again: this is the note, and the certificate goes on record.
+fn set_reopened<S: Alter>(
+    tx: &mut Transaction<'_, S>,
+    setup: &Setup,
+    con: &Constituency,
+    view: &ConView,
+    ask: &Ask,
+    note: &str,
+    past: &Past,
+) -> Result<Reply, Error>
+    requires found { constituency_with con.now.code setup.now ≡ Some con.now }
+    requires fits { FitsView con.now view.now }
+    requires decided { Decides con.now view.now ask.now (Ok (open_again note.now past.now)) }
+    ensures same_reference { tx.new.conn.ghost_name ≡ tx.old.conn.ghost_name }
+    ensures kept { KeepsCommitIfClean (state S.Store tx.old.conn.now) (state S.Store tx.new.conn.now) }
+    ensures kind { IfOk result (IsReplyTo setup.now ask.now) }
+    ensures carried_out { CarriesDecided setup.now con.now view.now (open_again note.now past.now)
+        (state S.Store tx.old.conn.now) (state S.Store tx.new.conn.now) result }
+    ensures survives { Survives (state S.Store tx.old.conn.now) (state S.Store tx.new.conn.now) (λ _. ⊥) }
+{
+    let edition = view.edition + 1;
+    write_record(tx, con.code.as_str(), edition, note, past)?;
+    Ok(Reply::Edition { edition })
+}
+
+/// Writes what a constituency has in `cons` and in `seats`.
+fn write_seats<S: Alter>(
+    tx: &mut Transaction<'_, S>,
+    con: &str,
+    edition: u32,
+    certified: bool,
+    note: &str,
+    seats: &[u32],
+) -> Result<(), Error>
+    requires few { length seats.now ≤ 60 }
+    ensures same_reference { tx.new.conn.ghost_name ≡ tx.old.conn.ghost_name }
+    ensures kept { KeepsCommitIfClean (state S.Store tx.old.conn.now) (state S.Store tx.new.conn.now) }
+    ensures written { WritesSo con.now (HasWrittenSeats con.now edition certified note.now seats.now)
+        (state S.Store tx.old.conn.now) (state S.Store tx.new.conn.now) result }
+    ensures survives { Survives (state S.Store tx.old.conn.now) (state S.Store tx.new.conn.now) (λ _. ⊥) }
+{
+    put_con(tx, con, edition, certified, note)?;
+    put_seats(tx, con, seats)
+}
+
+/// Writes that a constituency is open, and puts its certificate on record.
+fn write_record<S: Alter>(
+    tx: &mut Transaction<'_, S>,
+    con: &str,
+    edition: u32,
+    note: &str,
+    past: &Past,
+) -> Result<(), Error>
+    requires few { length past.now.seats ≤ 60 }
+    ensures same_reference { tx.new.conn.ghost_name ≡ tx.old.conn.ghost_name }
+    ensures kept { KeepsCommitIfClean (state S.Store tx.old.conn.now) (state S.Store tx.new.conn.now) }
+    ensures written { WritesSo con.now (HasWrittenRecord con.now edition note.now past.now)
+        (state S.Store tx.old.conn.now) (state S.Store tx.new.conn.now) result }
+    ensures survives { Survives (state S.Store tx.old.conn.now) (state S.Store tx.new.conn.now) (λ _. ⊥) }
+{
+    write_seats(tx, con, edition, false, note, &[])?;
+    put_record(tx, con, past)
+}
+
+/// Writes that a candidate is gone, and tells who moves in.
+fn set_gone<S: Alter>(
+    tx: &mut Transaction<'_, S>,
+    setup: &Setup,
+    con: &Constituency,
+    view: &ConView,
+    ask: &Ask,
+    gone: &Gone,
+    next: Option<u32>,
+) -> Result<Reply, Error>
+    requires found { constituency_with con.now.code setup.now ≡ Some con.now }
+    requires named { con_named ask.now ≡ Some con.now.code }
+    requires decided { Decides con.now view.now ask.now (Ok (gone_for_good gone.now next)) }
+    ensures same_reference { tx.new.conn.ghost_name ≡ tx.old.conn.ghost_name }
+    ensures kept { KeepsCommitIfClean (state S.Store tx.old.conn.now) (state S.Store tx.new.conn.now) }
+    ensures kind { IfOk result (IsReplyTo setup.now ask.now) }
+    ensures carried_out { CarriesDecided setup.now con.now view.now (gone_for_good gone.now next)
+        (state S.Store tx.old.conn.now) (state S.Store tx.new.conn.now) result }
+    ensures survives { Survives (state S.Store tx.old.conn.now) (state S.Store tx.new.conn.now) (λ _. ⊥) }
+{
+    put_gone(tx, con.code.as_str(), gone)?;
+    Ok(Reply::Vacated { next })
+}

@@ -1,0 +1,182 @@
+//! Requests on a constituency, and the one that shows how far constituencies have come.
+
+ghost use Rattle.std.specs.Prelude.{◌≡◌, Some, IfOk, IsTrue};
+ghost use Rattle.sqlite.specs.State.{HasCleanDisk, Survives};
+ghost use Rattle.sqlite.specs.Held.{state};
+ghost use Rattle.tally_machine.specs.Kinds.{IsReplyTo};
+ghost use Rattle.tally_machine.specs.Step.{IsConDecision};
+ghost use Rattle.tally_ledger.specs.Rows.{row_of};
+ghost use Rattle.tally_returns.specs.Named.{con_named};
+ghost use Rattle.tally_returns.specs.View.{FitsView};
+ghost use Rattle.tally_returns.specs.declared.ask.Ask.TheVariants.{ShowProgress};
+ghost use Rattle.tally_rules.specs.Limits.{IsSetup};
+ghost use Rattle.tally_rules.specs.Setup.{constituency_with};
+ghost use Rattle.tally_statements.specs.Office.{IsInside};
+ghost use Rattle.tally_requests.specs.Requests.{CarriesOut, KeepsCommitInside};
+ghost use Rattle.tally_requests.specs.Seen.{CarriesOutSeen, FindsProgress, FindsRow, LooksUp};
+
+use crate::changes::carry_out;
+use sqlite::{Alter, Error, Transaction};
+use std::alloc::Global;
+use tally_entries::find_view;
+use tally_machine::{Ask, Change, ConView, ProgressRow, Refusal, Reply, decide_con};
+use tally_rules::{Code, Constituency, Setup};
+
+/// Answers a request on the constituency of a code, and carries it out.
+pub(crate) fn answer_on<S: Alter>(
+    alloc: Global,
+    tx: &mut Transaction<'_, S>,
+    setup: &Setup,
+    code: Code,
+    ask: &Ask,
+) -> Result<Result<Reply, Refusal>, Error>
+    requires named { con_named ask.now ≡ Some code }
+    ensures same_reference { tx.new.conn.ghost_name ≡ tx.old.conn.ghost_name }
+    ensures kept { KeepsCommitInside (state S.Store tx.old.conn.now) (state S.Store tx.new.conn.now) }
+    ensures kind { IfOk result (λ r. IfOk r (IsReplyTo setup.now ask.now)) }
+    ensures step { CarriesOut setup.now ask.now
+        (state S.Store tx.old.conn.now) (state S.Store tx.new.conn.now) result }
+    ensures was_open { HasCleanDisk (state S.Store tx.new.conn.now) → IsTrue (state S.Store tx.new.conn.now).is_open →
+        IsTrue (state S.Store tx.old.conn.now).is_open }
+    ensures survives { Survives (state S.Store tx.old.conn.now) (state S.Store tx.new.conn.now) (λ _. ⊥) }
+{
+    let Some(con) = setup.con(code) else {
+        return Ok(Err(Refusal::NoConstituency));
+    };
+    let view = find_view(alloc, tx, setup, con)?;
+    answer_seen(alloc, tx, setup, con, view, ask)
+}
+
+/// Answers a request on a constituency of which this was seen, and carries it out.
+fn answer_seen<S: Alter>(
+    alloc: Global,
+    tx: &mut Transaction<'_, S>,
+    setup: &Setup,
+    con: &Constituency,
+    view: ConView,
+    ask: &Ask,
+) -> Result<Result<Reply, Refusal>, Error>
+    requires limits { IsSetup setup.now }
+    requires found { constituency_with con.now.code setup.now ≡ Some con.now }
+    requires named { con_named ask.now ≡ Some con.now.code }
+    requires fits { FitsView con.now view }
+    ensures same_reference { tx.new.conn.ghost_name ≡ tx.old.conn.ghost_name }
+    ensures kept { KeepsCommitInside (state S.Store tx.old.conn.now) (state S.Store tx.new.conn.now) }
+    ensures kind { IfOk result (λ r. IfOk r (IsReplyTo setup.now ask.now)) }
+    ensures step { CarriesOutSeen setup.now con.now view ask.now
+        (state S.Store tx.old.conn.now) (state S.Store tx.new.conn.now) result }
+    ensures was_open { HasCleanDisk (state S.Store tx.new.conn.now) → IsTrue (state S.Store tx.new.conn.now).is_open →
+        IsTrue (state S.Store tx.old.conn.now).is_open }
+    ensures survives { Survives (state S.Store tx.old.conn.now) (state S.Store tx.new.conn.now) (λ _. ⊥) }
+{
+    match decide_con(alloc, con, &view, ask) {
+        Ok(change) => carry_out_or_show(tx, setup, con, view, ask, change),
+        Err(refusal) => Ok(Err(refusal)),
+    }
+}
+
+/// Carries out what was decided of a request on a constituency; where nothing changes, what was seen
+/// is shown.
+fn carry_out_or_show<S: Alter>(
+    tx: &mut Transaction<'_, S>,
+    setup: &Setup,
+    con: &Constituency,
+    view: ConView,
+    ask: &Ask,
+    change: Change,
+) -> Result<Result<Reply, Refusal>, Error>
+    requires found { constituency_with con.now.code setup.now ≡ Some con.now }
+    requires named { con_named ask.now ≡ Some con.now.code }
+    requires fits { FitsView con.now view }
+    requires decided { IsConDecision con.now view ask.now change }
+    ensures same_reference { tx.new.conn.ghost_name ≡ tx.old.conn.ghost_name }
+    ensures kept { KeepsCommitInside (state S.Store tx.old.conn.now) (state S.Store tx.new.conn.now) }
+    ensures kind { IfOk result (λ r. IfOk r (IsReplyTo setup.now ask.now)) }
+    ensures step { CarriesOutSeen setup.now con.now view ask.now
+        (state S.Store tx.old.conn.now) (state S.Store tx.new.conn.now) result }
+    ensures was_open { HasCleanDisk (state S.Store tx.new.conn.now) → IsTrue (state S.Store tx.new.conn.now).is_open →
+        IsTrue (state S.Store tx.old.conn.now).is_open }
+    ensures survives { Survives (state S.Store tx.old.conn.now) (state S.Store tx.new.conn.now) (λ _. ⊥) }
+{
+    match change {
+        Change::Same => Ok(Ok(Reply::Con(view))),
+        change => Ok(Ok(carry_out(tx, setup, con, &view, ask, change)?)),
+    }
+}
+
+/// How far constituencies have come.
+pub(crate) fn show_progress<S: Alter>(
+    alloc: Global,
+    tx: &mut Transaction<'_, S>,
+    setup: &Setup,
+) -> Result<Result<Reply, Refusal>, Error>
+    ensures same_reference { tx.new.conn.ghost_name ≡ tx.old.conn.ghost_name }
+    ensures kept { KeepsCommitInside (state S.Store tx.old.conn.now) (state S.Store tx.new.conn.now) }
+    ensures kind { IfOk result (λ r. IfOk r (IsReplyTo setup.now ShowProgress)) }
+    ensures step { CarriesOut setup.now ShowProgress
+        (state S.Store tx.old.conn.now) (state S.Store tx.new.conn.now) result }
+    ensures was_open { HasCleanDisk (state S.Store tx.new.conn.now) → IsTrue (state S.Store tx.new.conn.now).is_open →
+        IsTrue (state S.Store tx.old.conn.now).is_open }
+    ensures survives { Survives (state S.Store tx.old.conn.now) (state S.Store tx.new.conn.now) (λ _. ⊥) }
+{
+    let rows = find_progress(alloc, tx, setup)?;
+    Ok(Ok(Reply::Progress(rows)))
+}
+
+/// How far each constituency has come, in the setup's order.
+fn find_progress<S: Alter>(
+    alloc: Global,
+    tx: &mut Transaction<'_, S>,
+    setup: &Setup,
+) -> Result<Vec<ProgressRow>, Error>
+    ensures same_reference { tx.new.conn.ghost_name ≡ tx.old.conn.ghost_name }
+    ensures kept { KeepsCommitInside (state S.Store tx.old.conn.now) (state S.Store tx.new.conn.now) }
+    ensures found { HasCleanDisk (state S.Store tx.new.conn.now) → IsInside (state S.Store tx.old.conn.now) →
+        IfOk result (λ rows. FindsProgress setup.now (state S.Store tx.old.conn.now) rows.items) }
+    ensures still { LooksUp (state S.Store tx.old.conn.now) (state S.Store tx.new.conn.now) result }
+    ensures was_open { HasCleanDisk (state S.Store tx.new.conn.now) → IsTrue (state S.Store tx.new.conn.now).is_open →
+        IsTrue (state S.Store tx.old.conn.now).is_open }
+    ensures survives { Survives (state S.Store tx.old.conn.now) (state S.Store tx.new.conn.now) (λ _. ⊥) }
+{
+    let cons = setup.cons();
+    let mut rows = Vec::with_capacity(alloc, cons.len())?;
+    for con in cons {
+        rows.push(find_row(alloc, tx, setup, con)?)?;
+    }
+    Ok(rows)
+}
+
+/// How far a constituency has come.
+fn find_row<S: Alter>(
+    alloc: Global,
+    tx: &mut Transaction<'_, S>,
+    setup: &Setup,
+    con: &Constituency,
+) -> Result<ProgressRow, Error>
+    ensures same_reference { tx.new.conn.ghost_name ≡ tx.old.conn.ghost_name }
+    ensures kept { KeepsCommitInside (state S.Store tx.old.conn.now) (state S.Store tx.new.conn.now) }
+    ensures found { HasCleanDisk (state S.Store tx.new.conn.now) → IsInside (state S.Store tx.old.conn.now) →
+        IfOk result (λ row. FindsRow setup.now con.now (state S.Store tx.old.conn.now) row) }
+    ensures still { LooksUp (state S.Store tx.old.conn.now) (state S.Store tx.new.conn.now) result }
+    ensures was_open { HasCleanDisk (state S.Store tx.new.conn.now) → IsTrue (state S.Store tx.new.conn.now).is_open →
+        IsTrue (state S.Store tx.old.conn.now).is_open }
+    ensures survives { Survives (state S.Store tx.old.conn.now) (state S.Store tx.new.conn.now) (λ _. ⊥) }
+{
+    let view = find_view(alloc, tx, setup, con)?;
+    Ok(progress_row(con.code, &view))
+}
+
+fn progress_row(con: Code, view: &ConView) -> ProgressRow
+    ensures { result ≡ row_of con view.now }
+{
+    ProgressRow {
+        con,
+        stations: view.stations,
+        received: view.received,
+        queried: view.queried,
+        corrected: view.corrected,
+        closed: view.closed,
+        edition: view.edition,
+        certified: view.certified,
+    }
+}

@@ -1,0 +1,14 @@
+//! Requests and imports carried out on the tables of an office, in a transaction that the caller begins
+//! and ends.
+#![tactic(auto)]
+
+mod answer;
+mod changes;
+mod constituencies;
+mod moves;
+mod returns;
+mod rows;
+mod sums;
+
+pub use answer::answer_in;
+pub use rows::take_rows;

@@ -1,0 +1,304 @@
+//! Requests on the return of a station.
+
+ghost use Rattle.std.specs.Prelude.{◌≡◌, ◌≤◌, length, Some, Ok, IfOk, OnOk, IsTrue, true};
+ghost use Rattle.std.specs.Option.{ForSome};
+ghost use Rattle.sqlite.specs.State.{HasCleanDisk, IsUnchanged, Survives};
+ghost use Rattle.sqlite.specs.Held.{state};
+ghost use Rattle.tally_core.specs.Held.{moves_return};
+ghost use Rattle.tally_machine.specs.Kinds.{IsReplyTo};
+ghost use Rattle.tally_returns.specs.Decide.{decided_there, limits_of};
+ghost use Rattle.tally_returns.specs.Lawful.{IsLawful};
+ghost use Rattle.tally_returns.specs.Named.{station_named};
+ghost use Rattle.tally_returns.specs.Return.{first_return};
+ghost use Rattle.tally_returns.specs.declared.ask.Ask.TheVariants.{ShowReturn};
+ghost use Rattle.tally_rules.specs.Limits.{IsSetup};
+ghost use Rattle.tally_rules.specs.Setup.{station_with};
+ghost use Rattle.tally_statements.specs.Office.{IsInside, KeepsCommitIfClean};
+ghost use Rattle.tally_entries.specs.Entries.{AddsReturn, FindsReturn};
+ghost use Rattle.tally_requests.specs.Found.{CarriesOutFound, MovesTo, after_move};
+ghost use Rattle.tally_requests.specs.Lodging.{DecidesLodge, IsFewIfLodged};
+ghost use Rattle.tally_requests.specs.Moves.{PutsMoved};
+ghost use Rattle.tally_requests.specs.Requests.{CarriesOut, KeepsCommitInside, Lodges};
+
+use crate::moves::{put_closed, put_corrected, put_queried};
+use sqlite::{Alter, Error, ErrorCode, Transaction};
+use std::alloc::Global;
+use tally_entries::{add_return, find_certified, find_return};
+use tally_machine::{
+    Ask, Change, Counts, LodgeReply, Refusal, Reply, Return, decide_at, decide_lodge,
+};
+use tally_rules::{Code, Constituency, Setup, Station};
+
+/// Lodges the return of a station.
+pub(crate) fn lodge<S: Alter>(
+    alloc: Global,
+    tx: &mut Transaction<'_, S>,
+    setup: &Setup,
+    station: Code,
+    slip: Code,
+    counts: &Counts,
+) -> Result<Result<LodgeReply, Refusal>, Error>
+    ensures same_reference { tx.new.conn.ghost_name ≡ tx.old.conn.ghost_name }
+    ensures kept { KeepsCommitInside (state S.Store tx.old.conn.now) (state S.Store tx.new.conn.now) }
+    ensures lodged { Lodges setup.now station slip counts.now
+        (state S.Store tx.old.conn.now) (state S.Store tx.new.conn.now) result }
+    ensures was_open { HasCleanDisk (state S.Store tx.new.conn.now) → IsTrue (state S.Store tx.new.conn.now).is_open →
+        IsTrue (state S.Store tx.old.conn.now).is_open }
+    ensures survives { Survives (state S.Store tx.old.conn.now) (state S.Store tx.new.conn.now) (λ _. ⊥) }
+{
+    let Some((con, place)) = setup.station(station) else {
+        return Ok(Err(Refusal::NoStation));
+    };
+    let answer = decide_first(alloc, tx, setup, con, place, station, slip, counts)?;
+    let Ok(reply) = answer else {
+        return Ok(answer);
+    };
+    let LodgeReply::Lodged { .. } = reply else {
+        return Ok(Ok(reply));
+    };
+    put_first(alloc, tx, con, station, slip, counts)?;
+    Ok(Ok(reply))
+}
+
+/// What a Lodge is answered at this station of this constituency.
+fn decide_first<S: Alter>(
+    alloc: Global,
+    tx: &mut Transaction<'_, S>,
+    setup: &Setup,
+    con: &Constituency,
+    place: &Station,
+    station: Code,
+    slip: Code,
+    counts: &Counts,
+) -> Result<Result<LodgeReply, Refusal>, Error>
+    requires known { station_with station setup.now ≡ Some (con.now, place.now) }
+    requires limits { IsSetup setup.now }
+    ensures same_reference { tx.new.conn.ghost_name ≡ tx.old.conn.ghost_name }
+    ensures kept { KeepsCommitInside (state S.Store tx.old.conn.now) (state S.Store tx.new.conn.now) }
+    ensures decided { DecidesLodge setup.now station slip counts.now
+        (state S.Store tx.old.conn.now) (state S.Store tx.new.conn.now) result }
+    ensures few { IfOk result (IsFewIfLodged counts.now) }
+    ensures same { HasCleanDisk (state S.Store tx.new.conn.now) → IsInside (state S.Store tx.old.conn.now) →
+        OnOk result (IsUnchanged (state S.Store tx.old.conn.now) (state S.Store tx.new.conn.now)) }
+    ensures was_open { HasCleanDisk (state S.Store tx.new.conn.now) → IsTrue (state S.Store tx.new.conn.now).is_open →
+        IsTrue (state S.Store tx.old.conn.now).is_open }
+    ensures survives { Survives (state S.Store tx.old.conn.now) (state S.Store tx.new.conn.now) (λ _. ⊥) }
+{
+    let found = find_return(alloc, tx, setup, station)?;
+    let lists = con.lists.len();
+    Ok(decide_lodge(lists, place.electors, found.as_ref(), slip, counts))
+}
+
+/// Puts the first return of a station of this constituency.
+fn put_first<S: Alter>(
+    alloc: Global,
+    tx: &mut Transaction<'_, S>,
+    con: &Constituency,
+    station: Code,
+    slip: Code,
+    counts: &Counts,
+) -> Result<(), Error>
+    requires few { length counts.now.votes ≤ 60 }
+    ensures same_reference { tx.new.conn.ghost_name ≡ tx.old.conn.ghost_name }
+    ensures kept { KeepsCommitIfClean (state S.Store tx.old.conn.now) (state S.Store tx.new.conn.now) }
+    ensures added { AddsReturn con.now.code station (first_return slip counts.now)
+        (state S.Store tx.old.conn.now) (state S.Store tx.new.conn.now) result }
+    ensures survives { Survives (state S.Store tx.old.conn.now) (state S.Store tx.new.conn.now) (λ _. ⊥) }
+{
+    let first = Return::lodged(alloc, slip, counts.try_copy(alloc)?);
+    add_return(tx, con.code.as_str(), station.as_str(), &first)
+}
+
+/// Query, Correct and Close.
+pub(crate) fn move_on<S: Alter>(
+    alloc: Global,
+    tx: &mut Transaction<'_, S>,
+    setup: &Setup,
+    station: Code,
+    ask: &Ask,
+) -> Result<Result<Reply, Refusal>, Error>
+    requires named { station_named ask.now ≡ Some station }
+    requires moves { moves_return ask.now ≡ true }
+    ensures same_reference { tx.new.conn.ghost_name ≡ tx.old.conn.ghost_name }
+    ensures kept { KeepsCommitInside (state S.Store tx.old.conn.now) (state S.Store tx.new.conn.now) }
+    ensures kind { IfOk result (λ r. IfOk r (IsReplyTo setup.now ask.now)) }
+    ensures step { CarriesOut setup.now ask.now
+        (state S.Store tx.old.conn.now) (state S.Store tx.new.conn.now) result }
+    ensures was_open { HasCleanDisk (state S.Store tx.new.conn.now) → IsTrue (state S.Store tx.new.conn.now).is_open →
+        IsTrue (state S.Store tx.old.conn.now).is_open }
+    ensures survives { Survives (state S.Store tx.old.conn.now) (state S.Store tx.new.conn.now) (λ _. ⊥) }
+{
+    let Some((con, place)) = setup.station(station) else {
+        return Ok(Err(Refusal::NoStation));
+    };
+    let found = find_lawful(alloc, tx, setup, con, place, station)?;
+    let certified = find_certified(tx, con.code.as_str())?;
+    move_found(alloc, tx, setup, con, place, station, ask, certified, found)
+}
+
+/// The return of a station of this constituency, if it has one. One that is not lawful there is an
+/// error.
+fn find_lawful<S: Alter>(
+    alloc: Global,
+    tx: &mut Transaction<'_, S>,
+    setup: &Setup,
+    con: &Constituency,
+    place: &Station,
+    station: Code,
+) -> Result<Option<Return>, Error>
+    requires few { length con.now.lists ≤ 60 }
+    ensures same_reference { tx.new.conn.ghost_name ≡ tx.old.conn.ghost_name }
+    ensures kept { KeepsCommitInside (state S.Store tx.old.conn.now) (state S.Store tx.new.conn.now) }
+    ensures found { HasCleanDisk (state S.Store tx.new.conn.now) → IsInside (state S.Store tx.old.conn.now) →
+        IfOk result (λ found. FindsReturn setup.now station (state S.Store tx.old.conn.now) found) }
+    ensures lawful { IfOk result (λ found. ForSome found (IsLawful (limits_of con.now place.now))) }
+    ensures same { HasCleanDisk (state S.Store tx.new.conn.now) → IsInside (state S.Store tx.old.conn.now) →
+        OnOk result (IsUnchanged (state S.Store tx.old.conn.now) (state S.Store tx.new.conn.now)) }
+    ensures was_open { HasCleanDisk (state S.Store tx.new.conn.now) → IsTrue (state S.Store tx.new.conn.now).is_open →
+        IsTrue (state S.Store tx.old.conn.now).is_open }
+    ensures survives { Survives (state S.Store tx.old.conn.now) (state S.Store tx.new.conn.now) (λ _. ⊥) }
+{
+    let found = find_return(alloc, tx, setup, station)?;
+    check_lawful(con, place, found)
+}
+
+/// The return that was found, where it is lawful at this station of this constituency.
+fn check_lawful(
+    con: &Constituency,
+    place: &Station,
+    found: Option<Return>,
+) -> Result<Option<Return>, Error>
+    requires few { length con.now.lists ≤ 60 }
+    ensures same { IfOk result (λ checked. checked ≡ found) }
+    ensures lawful { IfOk result (λ checked. ForSome checked (IsLawful (limits_of con.now place.now))) }
+{
+    let Some(standing) = found else {
+        return Ok(None);
+    };
+    if !standing.is_lawful(con.lists.len(), place.electors) {
+        return Err(Error::SqliteFailure(ErrorCode::DatabaseCorrupt));
+    }
+    Ok(Some(standing))
+}
+
+/// Answers a command that moves a return, by what was found of its station, and carries it out.
+fn move_found<S: Alter>(
+    alloc: Global,
+    tx: &mut Transaction<'_, S>,
+    setup: &Setup,
+    con: &Constituency,
+    place: &Station,
+    station: Code,
+    ask: &Ask,
+    certified: bool,
+    found: Option<Return>,
+) -> Result<Result<Reply, Refusal>, Error>
+    requires limits { IsSetup setup.now }
+    requires known { station_with station setup.now ≡ Some (con.now, place.now) }
+    requires named { station_named ask.now ≡ Some station }
+    requires moves { moves_return ask.now ≡ true }
+    requires lawful { ForSome found (IsLawful (limits_of con.now place.now)) }
+    ensures same_reference { tx.new.conn.ghost_name ≡ tx.old.conn.ghost_name }
+    ensures kept { KeepsCommitInside (state S.Store tx.old.conn.now) (state S.Store tx.new.conn.now) }
+    ensures kind { IfOk result (λ r. IfOk r (IsReplyTo setup.now ask.now)) }
+    ensures step { CarriesOutFound setup.now con.now station certified found ask.now
+        (state S.Store tx.old.conn.now) (state S.Store tx.new.conn.now) result }
+    ensures was_open { HasCleanDisk (state S.Store tx.new.conn.now) → IsTrue (state S.Store tx.new.conn.now).is_open →
+        IsTrue (state S.Store tx.old.conn.now).is_open }
+    ensures survives { Survives (state S.Store tx.old.conn.now) (state S.Store tx.new.conn.now) (λ _. ⊥) }
+{
+    match decide_at(alloc, con, place, certified, found.as_ref(), ask) {
+        Ok(change) => put_next(
+            alloc, tx, setup, con, place, station, ask, certified, found, change,
+        ),
+        Err(refusal) => Ok(Err(refusal)),
+    }
+}
+
+/// Writes the return that was decided on in place of the one that was found.
+fn put_next<S: Alter>(
+    alloc: Global,
+    tx: &mut Transaction<'_, S>,
+    setup: &Setup,
+    con: &Constituency,
+    place: &Station,
+    station: Code,
+    ask: &Ask,
+    certified: bool,
+    found: Option<Return>,
+    change: Change,
+) -> Result<Result<Reply, Refusal>, Error>
+    requires limits { IsSetup setup.now }
+    requires known { station_with station setup.now ≡ Some (con.now, place.now) }
+    requires named { station_named ask.now ≡ Some station }
+    requires moves { moves_return ask.now ≡ true }
+    requires decided { decided_there con.now place.now certified found ask.now ≡ Ok change }
+    ensures same_reference { tx.new.conn.ghost_name ≡ tx.old.conn.ghost_name }
+    ensures kept { KeepsCommitInside (state S.Store tx.old.conn.now) (state S.Store tx.new.conn.now) }
+    ensures kind { IfOk result (λ r. IfOk r (IsReplyTo setup.now ask.now)) }
+    ensures step { CarriesOutFound setup.now con.now station certified found ask.now
+        (state S.Store tx.old.conn.now) (state S.Store tx.new.conn.now) result }
+    ensures was_open { HasCleanDisk (state S.Store tx.new.conn.now) → IsTrue (state S.Store tx.new.conn.now).is_open →
+        IsTrue (state S.Store tx.old.conn.now).is_open }
+    ensures survives { Survives (state S.Store tx.old.conn.now) (state S.Store tx.new.conn.now) (λ _. ⊥) }
+{
+    let Change::PutReturn(standing) = change else {
+        unreachable!()
+    };
+    let Some(before) = found else { unreachable!() };
+    put_moved(alloc, tx, con, station, ask, &before, &standing)?;
+    Ok(Ok(Reply::Moved { rev: standing.rev }))
+}
+
+/// Writes the return that a command leaves, in place of the one that stood.
+fn put_moved<S: Alter>(
+    alloc: Global,
+    tx: &mut Transaction<'_, S>,
+    con: &Constituency,
+    station: Code,
+    ask: &Ask,
+    before: &Return,
+    standing: &Return,
+) -> Result<(), Error>
+    requires few { length con.now.lists ≤ 60 }
+    requires moves { MovesTo con.now ask.now before.now standing.now }
+    ensures same_reference { tx.new.conn.ghost_name ≡ tx.old.conn.ghost_name }
+    ensures kept { KeepsCommitInside (state S.Store tx.old.conn.now) (state S.Store tx.new.conn.now) }
+    ensures put { PutsMoved (λ s. after_move con.now station ask.now standing.now s) con.now station before.now
+        (state S.Store tx.old.conn.now) (state S.Store tx.new.conn.now) result }
+    ensures was_open { HasCleanDisk (state S.Store tx.new.conn.now) → IsTrue (state S.Store tx.new.conn.now).is_open →
+        IsTrue (state S.Store tx.old.conn.now).is_open }
+    ensures survives { Survives (state S.Store tx.old.conn.now) (state S.Store tx.new.conn.now) (λ _. ⊥) }
+{
+    match ask {
+        Ask::Query { .. } => put_queried(alloc, tx, con, station, before, standing),
+        Ask::Correct { .. } => put_corrected(tx, con, station, before, standing),
+        Ask::Close { .. } => put_closed(alloc, tx, con, station, before, standing),
+        _ => unreachable!(),
+    }
+}
+
+/// The return of a station, shown.
+pub(crate) fn show_return<S: Alter>(
+    alloc: Global,
+    tx: &mut Transaction<'_, S>,
+    setup: &Setup,
+    station: Code,
+) -> Result<Result<Reply, Refusal>, Error>
+    ensures same_reference { tx.new.conn.ghost_name ≡ tx.old.conn.ghost_name }
+    ensures kept { KeepsCommitInside (state S.Store tx.old.conn.now) (state S.Store tx.new.conn.now) }
+    ensures kind { IfOk result (λ r. IfOk r (IsReplyTo setup.now (ShowReturn station))) }
+    ensures step { CarriesOut setup.now (ShowReturn station)
+        (state S.Store tx.old.conn.now) (state S.Store tx.new.conn.now) result }
+    ensures was_open { HasCleanDisk (state S.Store tx.new.conn.now) → IsTrue (state S.Store tx.new.conn.now).is_open →
+        IsTrue (state S.Store tx.old.conn.now).is_open }
+    ensures survives { Survives (state S.Store tx.old.conn.now) (state S.Store tx.new.conn.now) (λ _. ⊥) }
+{
+    if setup.station(station).is_none() {
+        return Ok(Err(Refusal::NoStation));
+    }
+    let Some(standing) = find_return(alloc, tx, setup, station)? else {
+        return Ok(Err(Refusal::NoReturn));
+    };
+    Ok(Ok(Reply::Return(standing)))
+}

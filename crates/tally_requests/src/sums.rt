@@ -1,0 +1,86 @@
+//! The sums of closed votes of a constituency, moved by a return.
+
+ghost use Rattle.std.specs.Prelude.{◌≡◌, ◌≤◌, IsTrue, OnSome, SomeIff, length};
+ghost use Rattle.sqlite.specs.State.{HasCleanDisk, Survives};
+ghost use Rattle.sqlite.specs.Held.{state};
+ghost use Rattle.tally_requests.specs.Moves.{MovesSums};
+ghost use Rattle.tally_ledger.specs.Sums.{moved_sum, moved_sums};
+ghost use Rattle.tally_requests.specs.Requests.{KeepsCommitInside};
+ghost use Rattle.tally_requests.specs.Sums.{FitCounts, FitEach, FitsMoved, with_counts_moved};
+
+use sqlite::{Alter, Error, ErrorCode, Transaction};
+use std::alloc::Global;
+use tally_entries::{find_sums, put_sums};
+use tally_machine::Counts;
+use tally_rules::Constituency;
+use tally_tables::Sums;
+
+/// Adds the counts of a return that is closed now to the sums of its constituency, or takes out those
+/// of one that is closed no longer. Sums that are not those of its lists, or from which they cannot be
+/// taken out, are an error.
+pub(crate) fn move_sums<S: Alter>(
+    alloc: Global,
+    tx: &mut Transaction<'_, S>,
+    con: &Constituency,
+    counts: &Counts,
+    add: bool,
+) -> Result<(), Error>
+    requires few { length con.now.lists ≤ 60 }
+    ensures same_reference { tx.new.conn.ghost_name ≡ tx.old.conn.ghost_name }
+    ensures kept { KeepsCommitInside (state S.Store tx.old.conn.now) (state S.Store tx.new.conn.now) }
+    ensures moved { MovesSums con.now counts.now add
+        (state S.Store tx.old.conn.now) (state S.Store tx.new.conn.now) result }
+    ensures was_open { HasCleanDisk (state S.Store tx.new.conn.now) → IsTrue (state S.Store tx.new.conn.now).is_open →
+        IsTrue (state S.Store tx.old.conn.now).is_open }
+    ensures survives { Survives (state S.Store tx.old.conn.now) (state S.Store tx.new.conn.now) (λ _. ⊥) }
+{
+    let sums = find_sums(alloc, tx, con.code.as_str())?;
+    if sums.votes.len() != con.lists.len() {
+        return Err(Error::SqliteFailure(ErrorCode::DatabaseCorrupt));
+    }
+    let Some(sums) = moved_sums(sums, counts, add) else {
+        return Err(Error::SqliteFailure(ErrorCode::DatabaseCorrupt));
+    };
+    put_sums(tx, con.code.as_str(), &sums)
+}
+
+/// The sums with these counts added or taken out, if they are of the same lists and 64 bits hold what
+/// comes of it.
+fn moved_sums(sums: Sums, counts: &Counts, add: bool) -> Option<Sums>
+    ensures { SomeIff result (FitCounts sums counts.now add) (with_counts_moved sums counts.now add) }
+{
+    let blank = moved(sums.blank, counts.blank, add)?;
+    let spoiled = moved(sums.spoiled, counts.spoiled, add)?;
+    let mut votes = sums.votes;
+    move_votes(&mut votes, &counts.votes, add)?;
+    Some(Sums {
+        votes,
+        blank,
+        spoiled,
+    })
+}
+
+/// Adds numbers to the sums of the same lists or takes them out, if that can be done with each.
+fn move_votes(votes: &mut [u64], by: &[u32], add: bool) -> Option<()>
+    ensures fit { SomeIff result (FitEach votes.old by.now add) tt }
+    ensures moved { OnSome result (votes.new ≡ moved_sums votes.old by.now add) }
+{
+    if votes.len() != by.len() {
+        return None;
+    }
+    for place in 0..votes.len() {
+        votes[place] = moved(votes[place], by[place], add)?;
+    }
+    Some(())
+}
+
+/// The sum with a number added or taken out, if 64 bits hold it.
+fn moved(n: u64, by: u32, add: bool) -> Option<u64>
+    ensures { SomeIff result (FitsMoved n by add) (moved_sum n by add) }
+{
+    if add {
+        n.checked_add(u64::from(by))
+    } else {
+        n.checked_sub(u64::from(by))
+    }
+}

@@ -1,0 +1,205 @@
+-- What a request or an import leaves of a connection, and of a store.
+use Rattle.std.proofs.Common.{◌≡◌, ◌⊎◌, ◌∙◌, inl, inr, ℕ, Bool, true, false, IsTrue, IsErr, IfErr, IfSome, OnOk, Option, Some, None, List, [], ◌∷◌, Result, Ok, Err, refl, sym, ap, subst, subst₂, arith, true≢false}
+use Rattle.std.proofs.lemmas.List.Elements.{All-from_recursion}
+use Rattle.sqlite.proofs.StateLemmas.{survives_then}
+use Rattle.sqlite.specs.Effect.{Database}
+use Rattle.sqlite.specs.State.{State as Seen, HasCleanDisk, Shows, Survives}
+use Rattle.sqlite_trees.specs.Tree.{Trees}
+use Rattle.tally_rows.specs.Rows.{HaveDistinctRowids}
+use Rattle.tally_rules.specs.Constituency.{Constituency}
+use Rattle.tally_rules.specs.Limits.{IsSetup}
+use Rattle.tally_returns.specs.Named.{BringsCode}
+use Rattle.tally_returns.specs.State.{State}
+use Rattle.tally_returns.specs.declared.ask.Ask.{Ask}
+use Rattle.tally_returns.specs.declared.refusal.Refusal.{Refusal}
+use Rattle.tally_returns.specs.declared.refusal.Refusal.TheVariants as refusal
+use Rattle.tally_returns.specs.declared.reply.Reply.{Reply}
+use Rattle.tally_machine.specs.LawStatements.{ViewsAreLawful}
+use Rattle.tally_machine.specs.LawfulState.{IsLawfulState}
+use Rattle.tally_machine.specs.Step.{IsNotAccepted}
+use Rattle.tally_machine.proofs.LawLemmas.{answered-lawful}
+use Rattle.tally_core.specs.Events.{BringsCodes}
+use Rattle.tally_core.specs.Keeper.{Event, Happens, Imports, IsFault, IsImportOf, failed_import, request, whole_import}
+use Rattle.tally_core.specs.Source.{Coming, Ending}
+use Rattle.tally_core.specs.declared.import.ImportCount.{ImportCount}
+use Rattle.tally_core.specs.declared.source.ImportFault.{ImportFault}
+use Rattle.tally_core.proofs.EventLemmas.{happen-lawful}
+use Rattle.tally_requests.specs.Requests.{IsCarriedOut, IsImported, IsInState}
+use Rattle.tally_statements.specs.declared.table.KeyedTable.{KeyedTable}
+use Rattle.tally_statements.specs.Office.{tree_of}
+use Rattle.tally_tables.specs.TablesOfState.{AreTables}
+use Rattle.tally_store.specs.Content.{content_of}
+use Rattle.tally_store.specs.Crash.{AreTablesAfter, AreTablesImported}
+use Rattle.tally_store.specs.Create.{IsAsBefore}
+use Rattle.tally_store.specs.Requests.{Does, DoesImport, IsDone, IsAllDone, IsImportDone}
+use Rattle.tally_store.specs.Store.{HasState, IsOffice, IsStored}
+use Rattle.tally_store.proofs.ContentLemmas.{content_is, content_shut}
+
+-- ---- a transaction and its end
+
+-- a database that is as it was
+pub state_back : (setup : List Constituency) (text : List ℕ) (s : State) (old new : Seen) → HasState setup text s old → IsAsBefore old new → HasState setup text s new
+state_back setup text s old new h back = record {
+  tables = subst (λ (d : Database). AreTables setup text s d.trees) (sym back.now) h.tables;
+  schema = ap (λ (d : Database). d.schema) back.now ∙ h.schema;
+  distinct = subst (λ (d : Database). (t : KeyedTable) → HaveDistinctRowids (d.trees (tree_of t))) (sym back.now) h.distinct;
+  settled = back.committed ∙ h.settled ∙ sym back.now;
+}
+
+-- a database that was committed
+pub state_committed : (setup : List Constituency) (text : List ℕ) (s : State) (last new : Seen) → IsInState setup text s last → Shows last new last.now last.now false → HasState setup text s new
+state_committed setup text s last new h shown = record {
+  tables = subst (λ (d : Database). AreTables setup text s d.trees) (sym shown.now_is) h.tables;
+  schema = ap (λ (d : Database). d.schema) shown.now_is ∙ h.inside.schema;
+  distinct = subst (λ (d : Database). (t : KeyedTable) → HaveDistinctRowids (d.trees (tree_of t))) (sym shown.now_is) h.inside.distinct;
+  settled = shown.committed_is ∙ sym shown.now_is;
+}
+
+-- what a crash may leave of a transaction and its commit
+pub survives_commit : (old last new : Seen) (P : Trees → Type 0) → Survives old last (λ _. ⊥) → Survives last new (λ db. db ≡ last.now.trees) → (HasCleanDisk last → P last.now.trees) → Survives old new P
+survives_commit old last new P inside commit made =
+    survives_then old last new _ _ P (λ _ db none. absurd none) (λ clean db is. subst P (sym is) (made (omega (arith, clean, commit.clean)))) inside commit
+
+-- ---- a request
+
+pub done_committed : (setup : List Constituency) (text : List ℕ) (s : State) (ask : Ask) (r : Result Reply Refusal) (last new : Seen) → IsCarriedOut setup text s ask r last → Shows last new last.now last.now false
+    → IsDone setup text s ask r new
+done_committed setup text s ask r last new h shown = record { state = h.state; answered = h.answered; has = state_committed setup text h.state last new h.in_state shown }
+
+not_accepted : (e : Refusal) → (e ≡ refusal.Memory) ⊎ (e ≡ refusal.Store) → IsNotAccepted (Err e)
+not_accepted e (inl is) = inl (ap Err is)
+not_accepted e (inr is) = inr (ap Err is)
+
+pub done_failed : (setup : List Constituency) (text : List ℕ) (s : State) (ask : Ask) (e : Refusal) (old new : Seen) → (e ≡ refusal.Memory) ⊎ (e ≡ refusal.Store) → HasState setup text s old → IsAsBefore old new
+    → IsDone setup text s ask (Err e) new
+done_failed setup text s ask e old new own h back = record { state = s; answered = inr (not_accepted e own, refl); has = state_back setup text s old new h back }
+
+pub tables_after : (setup : List Constituency) (text : List ℕ) (s : State) (ask : Ask) (r : Result Reply Refusal) (last : Seen) → IsCarriedOut setup text s ask r last → AreTablesAfter setup text s ask last.now.trees
+tables_after setup text s ask r last h = record { answer = r; state = h.state; answered = h.answered; tables = h.in_state.tables }
+
+-- ---- an import
+
+pub all_committed : (setup : List Constituency) (text : List ℕ) (s : State) (known : Option Coming) (count : ImportCount) (last new : Seen) → IsImported setup text s known count last → Shows last new last.now last.now false
+    → IsAllDone setup text s known count new
+all_committed setup text s known count last new h shown = record { state = h.state; imported = h.imported; has = state_committed setup text h.state last new h.in_state shown }
+
+pub tables_imported : (setup : List Constituency) (text : List ℕ) (s : State) (known : Option Coming) (count : ImportCount) (last : Seen) → IsImported setup text s known count last → AreTablesImported setup text s known last.now.trees
+tables_imported setup text s known count last h = record { count = count; state = h.state; imported = h.imported; tables = h.in_state.tables }
+
+import-lawful : (setup : List Constituency) (s t : State) (known : Option Coming) (count : ImportCount) → IsSetup setup → IsLawfulState setup s → IsImportOf setup (Some s) known count (Some t) → IsLawfulState setup t
+import-lawful setup s t known count limits lawful is =
+    let event : Event = whole_import is.0 is.1 count in
+    happen-lawful setup s t (event ∷ []) (All-from_recursion BringsCodes (event ∷ []) (tt, tt)) limits lawful (Some t, is.3, refl)
+
+-- ---- what a store shows
+
+-- the office that it shows while it is open
+pub shows_office : (setup : List Constituency) (seen : Seen) → ViewsAreLawful → IsStored setup seen → HasCleanDisk seen → IfSome (content_of setup seen) (λ s. IsLawfulState setup s × IsOffice setup s seen)
+shows_office setup seen views was clean = go seen.is_open refl
+  where
+    go : (b : Bool) → seen.is_open ≡ b → IfSome (content_of setup seen) (λ s. IsLawfulState setup s × IsOffice setup s seen)
+    go true now =
+        let office = was.office clean now in
+        subst (λ o. IfSome o (λ s. IsLawfulState setup s × IsOffice setup s seen)) (sym (content_is setup office.0 seen views was.limits office.1 office.2 now)) (office.1, office.2)
+    go false shut = subst (λ o. IfSome o (λ s. IsLawfulState setup s × IsOffice setup s seen)) (sym (content_shut setup seen shut)) tt
+
+weaker : {X : Type 0} (P Q : X → Type 0) (o : Option X) → ((x : X) → P x → Q x) → IfSome o P → IfSome o Q
+weaker P Q (Some x) f h = f x h
+weaker P Q None f h = tt
+
+pub shows_lawful : (setup : List Constituency) (seen : Seen) → ViewsAreLawful → IsStored setup seen → HasCleanDisk seen → IfSome (content_of setup seen) (IsLawfulState setup)
+shows_lawful setup seen views was clean = weaker _ (IsLawfulState setup) (content_of setup seen) (λ s h. h.0) (shows_office setup seen views was clean)
+
+pub shows_tables : (setup : List Constituency) (seen : Seen) → ViewsAreLawful → IsStored setup seen → HasCleanDisk seen → IfSome (content_of setup seen) (λ s. IsOffice setup s seen)
+shows_tables setup seen views was clean = weaker _ (λ s. IsOffice setup s seen) (content_of setup seen) (λ s h. h.1) (shows_office setup seen views was clean)
+
+-- what is known of a request on the connection of a store
+pub record Served (setup : List Constituency) (old new : Seen) (ask : Ask) (r : Result Reply Refusal) : Type 0 where
+  pub ended : new.in_transaction ≡ false
+  pub codes : BringsCode ask
+  pub clean : HasCleanDisk new → HasCleanDisk old
+  pub done : Does setup ask old new r
+  pub shut : HasCleanDisk new → new.is_open ≡ false → IsNotAccepted r
+  pub was_open : HasCleanDisk new → IsTrue new.is_open → IsTrue old.is_open
+
+module _ (setup : List Constituency) (old new : Seen) (ask : Ask) (r : Result Reply Refusal) where
+  after : (s : State) → IsSetup setup → IsLawfulState setup s → (office : IsOffice setup s old) → Served setup old new ask r → IsDone setup office.text s ask r new → (t : State) × IsLawfulState setup t × IsOffice setup t new
+  after s limits lawful office h done =
+      (done.state, answered-lawful setup s done.state ask r h.codes limits lawful done.answered, record { text = office.text; reads = office.reads; has = done.has })
+
+  pub stored_after : IsStored setup old → Served setup old new ask r → IsStored setup new
+  stored_after was h = record {
+    limits = was.limits;
+    autocommit = h.ended;
+    office = λ clean now.
+        let before = was.office (h.clean clean) (h.was_open clean now) in
+        after before.0 was.limits before.1 before.2 h (h.done clean now before.2.text before.0 before.1 before.2.has);
+  }
+
+  pub happens_after : ViewsAreLawful → IsStored setup old → Served setup old new ask r → HasCleanDisk new → Happens setup (content_of setup old) (request ask r) (content_of setup new)
+  unfolding after
+  happens_after views was h clean = go old.is_open new.is_open refl refl
+    where
+      go : (b d : Bool) → old.is_open ≡ b → new.is_open ≡ d → Happens setup (content_of setup old) (request ask r) (content_of setup new)
+      go true true before now =
+          let office = was.office (h.clean clean) before in
+          let done = h.done clean now office.2.text office.0 office.1 office.2.has in
+          let next = after office.0 was.limits office.1 office.2 h done in
+          subst₂ (λ a b. Happens setup a (request ask r) b) (sym (content_is setup office.0 old views was.limits office.1 office.2 before)) (sym (content_is setup next.0 new views was.limits next.1 next.2 now)) done.answered
+      go true false before shut =
+          let office = was.office (h.clean clean) before in
+          subst₂ (λ a b. Happens setup a (request ask r) b) (sym (content_is setup office.0 old views was.limits office.1 office.2 before)) (sym (content_shut setup new shut)) (h.shut clean shut)
+      go false true before now = absurd (true≢false (sym (h.was_open clean now) ∙ before))
+      go false false before shut = subst₂ (λ a b. Happens setup a (request ask r) b) (sym (content_shut setup old before)) (sym (content_shut setup new shut)) (h.shut clean shut)
+
+-- what is known of an import on the connection of a store
+pub record Took (setup : List Constituency) (old new : Seen) (known : Option Coming) (ending : Ending) (r : Result ImportCount ImportFault) : Type 0 where
+  pub ended : new.in_transaction ≡ false
+  pub clean : HasCleanDisk new → HasCleanDisk old
+  pub done : DoesImport setup known old new r
+  pub came : OnOk r (ending ≡ Some None)
+  pub fault : IfErr r (IsFault known ending)
+  pub shut : HasCleanDisk new → new.is_open ≡ false → IsErr r
+  pub was_open : HasCleanDisk new → IsTrue new.is_open → IsTrue old.is_open
+
+module _ (setup : List Constituency) (old new : Seen) (known : Option Coming) (ending : Ending) where
+  after_all : (r : Result ImportCount ImportFault) (s : State) → IsSetup setup → IsLawfulState setup s → (office : IsOffice setup s old) → IsImportDone setup office.text s known r new → (t : State) × IsLawfulState setup t × IsOffice setup t new
+  after_all (Ok count) s limits lawful office done =
+      (done.state, import-lawful setup s done.state known count limits lawful done.imported, record { text = office.text; reads = office.reads; has = done.has })
+  after_all (Err fault) s limits lawful office done = (s, lawful, record { text = office.text; reads = office.reads; has = done })
+
+  pub stored_import : (r : Result ImportCount ImportFault) → IsStored setup old → Took setup old new known ending r → IsStored setup new
+  stored_import r was h = record {
+    limits = was.limits;
+    autocommit = h.ended;
+    office = λ clean now.
+        let before = was.office (h.clean clean) (h.was_open clean now) in
+        after_all r before.0 was.limits before.1 before.2 (h.done clean now before.2.text before.0 before.1 before.2.has);
+  }
+
+  pub imports_after : (r : Result ImportCount ImportFault) → ViewsAreLawful → IsStored setup old → Took setup old new known ending r → HasCleanDisk new → Imports setup (content_of setup old) known ending r (content_of setup new)
+  unfolding after_all
+  imports_after (Ok count) views was h clean = (h.came, go old.is_open new.is_open refl refl)
+    where
+      go : (b d : Bool) → old.is_open ≡ b → new.is_open ≡ d → IsImportOf setup (content_of setup old) known count (content_of setup new)
+      go true true before now =
+          let office = was.office (h.clean clean) before in
+          let done = h.done clean now office.2.text office.0 office.1 office.2.has in
+          let next = after_all (Ok count) office.0 was.limits office.1 office.2 done in
+          subst₂ (λ a b. IsImportOf setup a known count b) (sym (content_is setup office.0 old views was.limits office.1 office.2 before)) (sym (content_is setup next.0 new views was.limits next.1 next.2 now)) done.imported
+      go false true before now = absurd (true≢false (sym (h.was_open clean now) ∙ before))
+      go true false before shut = absurd (true≢false (sym (h.shut clean shut)))
+      go false false before shut = absurd (true≢false (sym (h.shut clean shut)))
+  imports_after (Err fault) views was h clean = (h.fault, go old.is_open new.is_open refl refl)
+    where
+      go : (b d : Bool) → old.is_open ≡ b → new.is_open ≡ d → Happens setup (content_of setup old) (failed_import fault) (content_of setup new)
+      go true true before now =
+          let office = was.office (h.clean clean) before in
+          let same = h.done clean now office.2.text office.0 office.1 office.2.has in
+          let next : IsOffice setup office.0 new = record { text = office.2.text; reads = office.2.reads; has = same } in
+          subst₂ (λ a b. Happens setup a (failed_import fault) b) (sym (content_is setup office.0 old views was.limits office.1 office.2 before)) (sym (content_is setup office.0 new views was.limits office.1 next now)) refl
+      go true false before shut =
+          let office = was.office (h.clean clean) before in
+          subst₂ (λ a b. Happens setup a (failed_import fault) b) (sym (content_is setup office.0 old views was.limits office.1 office.2 before)) (sym (content_shut setup new shut)) tt
+      go false true before now = absurd (true≢false (sym (h.was_open clean now) ∙ before))
+      go false false before shut = subst₂ (λ a b. Happens setup a (failed_import fault) b) (sym (content_shut setup old before)) (sym (content_shut setup new shut)) tt

@@ -1,0 +1,44 @@
+use Rattle.std.proofs.Common.{arith, subst}
+use Rattle.sqlite.specs.Held.{state}
+use Rattle.tally_core.specs.Keeper.{Imports}
+use Rattle.tally_store.specs.Content.{content_of}
+use Rattle.tally_store.specs.Store.{Stored}
+use Rattle.tally_store.proofs.RequestLemmas.{Took, imports_after, shows_tables, stored_import}
+use Rattle.tally_store.proofs.keeper.StoreKeeper.lodge_from.Goals as goal
+
+pub invariant_of-self : goal.invariant_of-self
+invariant_of-self g c =
+    let setup = c.self.inside.setup in
+    let old = state g.S.Store c.self.inside.conn in
+    let new = state g.S.Store c.import_rows.new.conn in
+    let known = g.R.RowSource.coming c.args.rows.now in
+    let ending = g.R.RowSource.ended c.import_rows.new.source in
+    let told = c.import_rows.ensures in
+    let r = c.import_rows.result in
+    let took : Took setup old new known ending r = record { ended = told.ended; clean = λ clean. omega (arith, clean, told.crash.clean); done = told.done; came = told.came; fault = told.fault; shut = told.shut; was_open = told.was_open } in
+    stored_import setup old new known ending r c.self.invariant took
+
+pub returns-clause-imported : goal.returns-clause-imported
+returns-clause-imported g c clean =
+    let setup = c.self.inside.setup in
+    let old = state g.S.Store c.self.inside.conn in
+    let new = state g.S.Store c.import_rows.new.conn in
+    let known = g.R.RowSource.coming c.args.rows.now in
+    let ending = g.R.RowSource.ended c.import_rows.new.source in
+    let told = c.import_rows.ensures in
+    let r = c.import_rows.result in
+    let took : Took setup old new known ending r = record { ended = told.ended; clean = λ clean. omega (arith, clean, told.crash.clean); done = told.done; came = told.came; fault = told.fault; shut = told.shut; was_open = told.was_open } in
+    subst (λ (h : Stored _). Imports h.setup (content_of h.setup (state g.S.Store h.conn)) known ending r (content_of setup new)) c.self.view_is
+    (imports_after setup old new known ending r c.a_constituency_has_a_view.ensures.lawful c.self.invariant took clean)
+
+pub returns-clause-tables : goal.returns-clause-tables
+returns-clause-tables g c clean =
+    let setup = c.self.inside.setup in
+    let old = state g.S.Store c.self.inside.conn in
+    let new = state g.S.Store c.import_rows.new.conn in
+    let known = g.R.RowSource.coming c.args.rows.now in
+    let ending = g.R.RowSource.ended c.import_rows.new.source in
+    let told = c.import_rows.ensures in
+    let r = c.import_rows.result in
+    let took : Took setup old new known ending r = record { ended = told.ended; clean = λ clean. omega (arith, clean, told.crash.clean); done = told.done; came = told.came; fault = told.fault; shut = told.shut; was_open = told.was_open } in
+    shows_tables setup new c.a_constituency_has_a_view.ensures.lawful (stored_import setup old new known ending r c.self.invariant took) clean

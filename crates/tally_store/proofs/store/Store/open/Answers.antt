@@ -1,0 +1,15 @@
+use Rattle.std.proofs.Common.{sym, subst, subst₂}
+use Rattle.sqlite.specs.State.{HasCleanDisk}
+use Rattle.sqlite.specs.Held.{state}
+use Rattle.tally_store.specs.Open.{IsOpened}
+use Rattle.tally_store.proofs.OpenedLemmas.{office_opened}
+use Rattle.tally_store.proofs.store.Store.open.Goals as goal
+
+pub store_over-requires-clause-office : goal.store_over-requires-clause-office
+store_over-requires-clause-office g c clean now = office_opened c.in-Ok.setup (state g.S.Store c.args.conn) (state g.S.Store c.open_in.new.conn) (c.in-Ok.ensures.opened clean) now
+
+pub returns-in-Ok-clause-opened : goal.returns-in-Ok-clause-opened
+returns-in-Ok-clause-opened g c clean =
+    let told = c.store_over.ensures in
+    let early : HasCleanDisk (state g.S.Store c.open_in.new.conn) = subst (λ (h : _). HasCleanDisk (state g.S.Store h)) told.conn clean in
+    subst₂ (λ s (h : _). IsOpened s (state g.S.Store c.args.conn) (state g.S.Store h)) (sym told.setup) (sym told.conn) (c.in-Ok.ensures.opened early)

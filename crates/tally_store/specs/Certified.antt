@@ -1,0 +1,30 @@
+-- What the database of an office has of a certified constituency.
+use Rattle.std.specs.Prelude.{◌≡◌, ℕ, true, List, map, filter, Some, IsPermutation}
+use Rattle.sqlite.specs.State.{State as Seen}
+use Rattle.tally_rows.specs.Rows.{has_key}
+use Rattle.tally_rules.specs.Constituency.{Constituency}
+use Rattle.tally_rules.specs.Setup.{constituency_with}
+use Rattle.tally_returns.specs.State.{State, con_state}
+use Rattle.tally_returns.specs.View.{View}
+use Rattle.tally_machine.specs.LawfulState.{IsLawfulState}
+use Rattle.tally_machine.specs.Outcome.{IsCertificate}
+use Rattle.tally_machine.specs.Step.{IsView}
+use Rattle.tally_statements.specs.declared.table.KeyedTable.TheVariants.{Seats}
+use Rattle.tally_statements.specs.Office.{rows_in}
+use Rattle.tally_tables.specs.Cells.{item_row, numbered}
+use Rattle.tally_store.specs.Store.{IsOffice}
+
+-- The rows of `seats` of this constituency, in any order: one for each list, with the seats of a certificate that stands on the closed votes
+-- of this state.
+pub record HasSeatRows (con : Constituency) (s : State) (seen : Seen) : Type 0 where
+  pub view : View
+  pub is_view : IsView con s view
+  pub certificate : IsCertificate con view
+  pub rows : IsPermutation (map (item_row con.code) (numbered 1 view.seats)) (filter (has_key con.code) (rows_in Seats seen))
+
+-- The database is that of a lawful state, and has such rows of each constituency that is certified in it.
+pub record HasCertificates (setup : List Constituency) (seen : Seen) : Type 0 where
+  pub state : State
+  pub lawful : IsLawfulState setup state
+  pub office : IsOffice setup state seen
+  pub each : (code : List ℕ) (con : Constituency) → constituency_with code setup ≡ Some con → (con_state state con.code).certified ≡ true → HasSeatRows con state seen

@@ -1,0 +1,42 @@
+-- What a request or an import leaves of a connection. No public contract speaks of this.
+use Rattle.std.specs.Prelude.{List, ℕ, IsTrue, Option, Some, Result, Ok, Err}
+use Rattle.sqlite.specs.State.{State as Seen, HasCleanDisk}
+use Rattle.tally_rules.specs.Constituency.{Constituency}
+use Rattle.tally_machine.specs.LawfulState.{IsLawfulState}
+use Rattle.tally_machine.specs.Step.{IsAnswered}
+use Rattle.tally_returns.specs.State.{State}
+use Rattle.tally_returns.specs.declared.ask.Ask.{Ask}
+use Rattle.tally_returns.specs.declared.refusal.Refusal.{Refusal}
+use Rattle.tally_returns.specs.declared.reply.Reply.{Reply}
+use Rattle.tally_core.specs.Keeper.{IsImportOf}
+use Rattle.tally_core.specs.Source.{Coming}
+use Rattle.tally_core.specs.declared.import.ImportCount.{ImportCount}
+use Rattle.tally_core.specs.declared.source.ImportFault.{ImportFault}
+use Rattle.tally_store.specs.Store.{HasState}
+
+-- A request was answered as in this state, and the database is that of the state after it.
+pub record IsDone (setup : List Constituency) (text : List ℕ) (s : State) (ask : Ask) (r : Result Reply Refusal) (new : Seen) : Type 0 where
+  pub state : State
+  pub answered : IsAnswered setup s ask r state
+  pub has : HasState setup text state new
+
+-- and so of every lawful state that the database was of, of a disk that returned what was written and has not failed
+abbrev pub Does : List Constituency → Ask → Seen → Seen → Result Reply Refusal → Type 0
+Does setup ask old new r =
+    HasCleanDisk new → IsTrue new.is_open → (text : List ℕ) (s : State) → IsLawfulState setup s → HasState setup text s old → IsDone setup text s ask r new
+
+-- All rows of a source were lodged as in this state, and the database is that of the state after that.
+pub record IsAllDone (setup : List Constituency) (text : List ℕ) (s : State) (known : Option Coming) (count : ImportCount) (new : Seen) : Type 0 where
+  pub state : State
+  pub imported : IsImportOf setup (Some s) known count (Some state)
+  pub has : HasState setup text state new
+
+-- that, or with a fault the database is that of the same state
+abbrev pub IsImportDone : List Constituency → List ℕ → State → Option Coming → Result ImportCount ImportFault → Seen → Type 0
+IsImportDone setup text s known (Ok count) new = IsAllDone setup text s known count new
+IsImportDone setup text s known (Err fault) new = HasState setup text s new
+
+-- and so of every lawful state that the database was of
+abbrev pub DoesImport : List Constituency → Option Coming → Seen → Seen → Result ImportCount ImportFault → Type 0
+DoesImport setup known old new r =
+    HasCleanDisk new → IsTrue new.is_open → (text : List ℕ) (s : State) → IsLawfulState setup s → HasState setup text s old → IsImportDone setup text s known r new
