@@ -29,7 +29,8 @@ pub enum Report {
     Past,
 }
 
-fn report_text(
+/// The text of a report of a constituency, whose view fits it, or why there is none.
+pub fn report_text(
     alloc: Global,
     con: &Constituency,
     view: &ConView,

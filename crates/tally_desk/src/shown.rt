@@ -29,7 +29,7 @@ pub(crate) fn return_of<K: Keeper>(keeper: &mut K, station: Code) -> Result<Retu
 }
 
 /// What a constituency has come to. It is shown, and nothing changes.
-pub(crate) fn view_of<K: Keeper>(keeper: &mut K, con: Code) -> Result<ConView, Refusal>
+pub fn view_of<K: Keeper>(keeper: &mut K, con: Code) -> Result<ConView, Refusal>
     ensures setup { K.constituencies keeper.new ≡ K.constituencies keeper.old }
     ensures trusted { K.IsTrusted keeper.new → K.IsTrusted keeper.old }
     ensures fits { IfOk result (λ view. (found : value.Constituency) → constituency_with con (K.constituencies keeper.old) ≡ Some found → FitsView found view) }
@@ -49,7 +49,7 @@ pub(crate) fn view_of<K: Keeper>(keeper: &mut K, con: Code) -> Result<ConView, R
 }
 
 /// How far each constituency has come. It is shown, and nothing changes.
-pub(crate) fn progress_of<K: Keeper>(keeper: &mut K) -> Result<Vec<ProgressRow>, Refusal>
+pub fn progress_of<K: Keeper>(keeper: &mut K) -> Result<Vec<ProgressRow>, Refusal>
     ensures setup { K.constituencies keeper.new ≡ K.constituencies keeper.old }
     ensures trusted { K.IsTrusted keeper.new → K.IsTrusted keeper.old }
     ensures shows { K.IsTrusted keeper.new → Happens (K.constituencies keeper.old) (K.content keeper.old)

@@ -1,0 +1,4 @@
+pub mod ToldLemmas
+pub mod ShowLemmas
+pub mod ImportLemmas
+pub mod NamedLemmas

@@ -1,0 +1,36 @@
+use Rattle.std.proofs.Common.{◌≡◌, ◌∙◌, ◌++◌, ℕ, List, None, refl, ap}
+use Rattle.tally_core.specs.declared.source.ImportFault.TheVariants as lodging
+use Rattle.tally_import.specs.Check.{count_text}
+use Rattle.tally_commands.proofs.ImportLemmas.{import-of, memory-import}
+use Rattle.tally_commands.proofs.import.import_rows.Goals as goal
+
+pub returns-in_default-clause-trouble : goal.returns-in_default-clause-trouble
+returns-in_default-clause-trouble g c sure =
+    let k = g.K.Keeper in
+    (None, lodging.Memory, memory-import (k.constituencies c.args.keeper.now) (k.content c.args.keeper.now) _, refl)
+
+pub returns-in-Ok-lodge_from-clause-imported : goal.returns-in-Ok-lodge_from-clause-imported
+returns-in-Ok-lodge_from-clause-imported g c sure =
+    let k = g.K.Keeper in
+    let setup = k.constituencies c.args.keeper.now in
+    let old = k.content c.args.keeper.now in
+    let new = k.content c.lodge_from.new.self in
+    let ended = c.lodge_from.new.rows.ended in (
+      ended,
+      c.in-Ok-lodge_from.count,
+      import-of setup old new ended c.args.con c.args.sep _ _ _ _ c.new-rows.ensures c.in-Ok-lodge_from.is (c.lodge_from.ensures.imported sure),
+      c.push_count.ensures ∙ ap (λ (l : List ℕ). l ++ count_text c.in-Ok-lodge_from.count) c.in-Ok.ensures.bytes,
+    )
+
+pub returns-in-Err-clause-trouble : goal.returns-in-Err-clause-trouble
+returns-in-Err-clause-trouble g c sure =
+    let k = g.K.Keeper in
+    let setup = k.constituencies c.args.keeper.now in
+    let old = k.content c.args.keeper.now in
+    let new = k.content c.lodge_from.new.self in
+    let ended = c.lodge_from.new.rows.ended in (
+      ended,
+      c.in-Err.fault,
+      import-of setup old new ended c.args.con c.args.sep _ _ _ _ c.new-rows.ensures c.in-Err.is (c.lodge_from.ensures.imported sure),
+      c.from_import.ensures,
+    )

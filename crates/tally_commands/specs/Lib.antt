@@ -1,0 +1,5 @@
+pub mod Told
+pub mod Trouble
+pub mod Show
+pub mod Imported
+pub mod Made

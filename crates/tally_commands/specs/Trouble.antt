@@ -1,0 +1,100 @@
+-- Why a command was not done: the line on the standard error, the exit status, and the faults that it comes of.
+use Rattle.std.specs.Prelude.{◌++◌, ℕ, List, codes}
+use Rattle.tally_rules.specs.declared.fault.SetupFault.{SetupFault}
+use Rattle.tally_rules.specs.declared.fault.SetupFault.TheVariants as setup
+use Rattle.tally_core.specs.declared.source.ImportFault.{ImportFault}
+use Rattle.tally_core.specs.declared.source.ImportFault.TheVariants as lodging
+use Rattle.tally_report.specs.declared.fault.ReportFault.{ReportFault}
+use Rattle.tally_report.specs.declared.fault.ReportFault.TheVariants as report
+use Rattle.tally_store.specs.declared.fault.CreateFault.{CreateFault}
+use Rattle.tally_store.specs.declared.fault.CreateFault.TheVariants as create
+use Rattle.tally_store.specs.declared.fault.OpenFault.{OpenFault}
+use Rattle.tally_store.specs.declared.fault.OpenFault.TheVariants as opening
+use Rattle.tally_commands.specs.declared.trouble.Trouble.{Trouble}
+use Rattle.tally_commands.specs.declared.trouble.Trouble.TheVariants.{Setup, NotEmpty, NoTables, BadTables, BadSetup, NoConstituency, BadHeader, TooLong, NotCertified, OtherMethod, Memory, Store, File, Read, Write, Port}
+
+-- ---- the line
+
+-- of a text that is no setup
+abbrev pub setup_line : SetupFault → List ℕ
+setup_line setup.NotToml = codes "refused: not_toml\n"
+setup_line (setup.Missing key) = codes "refused: missing " ++ key.now ++ codes "\n"
+setup_line (setup.BadValue key) = codes "refused: bad_value " ++ key.now ++ codes "\n"
+setup_line (setup.OverLimit key) = codes "refused: over_limit " ++ key.now ++ codes "\n"
+setup_line (setup.Duplicate code) = codes "refused: duplicate " ++ code ++ codes "\n"
+setup_line setup.UnknownProfile = codes "refused: unknown_profile\n"
+setup_line setup.Memory = codes "failed: memory\n"
+
+abbrev pub trouble_line : Trouble → List ℕ
+trouble_line (Setup fault) = setup_line fault
+trouble_line NotEmpty = codes "refused: not_empty\n"
+trouble_line NoTables = codes "refused: no_tables\n"
+trouble_line BadTables = codes "refused: bad_tables\n"
+trouble_line BadSetup = codes "refused: bad_setup\n"
+trouble_line NoConstituency = codes "refused: no_constituency\n"
+trouble_line BadHeader = codes "refused: bad_header\n"
+trouble_line TooLong = codes "refused: too_long\n"
+trouble_line NotCertified = codes "refused: not_certified\n"
+trouble_line OtherMethod = codes "refused: other_method\n"
+trouble_line Memory = codes "failed: memory\n"
+trouble_line Store = codes "failed: store\n"
+trouble_line File = codes "failed: file\n"
+trouble_line Read = codes "failed: read\n"
+trouble_line Write = codes "failed: write\n"
+trouble_line Port = codes "failed: port\n"
+
+-- ---- the exit status: 1 where the line says `refused`, 3 where it says `failed`
+
+abbrev pub setup_status : SetupFault → ℕ
+setup_status setup.NotToml = 1
+setup_status (setup.Missing key) = 1
+setup_status (setup.BadValue key) = 1
+setup_status (setup.OverLimit key) = 1
+setup_status (setup.Duplicate code) = 1
+setup_status setup.UnknownProfile = 1
+setup_status setup.Memory = 3
+
+abbrev pub trouble_status : Trouble → ℕ
+trouble_status (Setup fault) = setup_status fault
+trouble_status NotEmpty = 1
+trouble_status NoTables = 1
+trouble_status BadTables = 1
+trouble_status BadSetup = 1
+trouble_status NoConstituency = 1
+trouble_status BadHeader = 1
+trouble_status TooLong = 1
+trouble_status NotCertified = 1
+trouble_status OtherMethod = 1
+trouble_status Memory = 3
+trouble_status Store = 3
+trouble_status File = 3
+trouble_status Read = 3
+trouble_status Write = 3
+trouble_status Port = 3
+
+-- ---- faults
+
+abbrev pub create_trouble : CreateFault → Trouble
+create_trouble (create.Setup fault) = Setup fault
+create_trouble create.NotEmpty = NotEmpty
+create_trouble create.Memory = Memory
+create_trouble create.Store = Store
+
+abbrev pub open_trouble : OpenFault → Trouble
+open_trouble opening.NoTables = NoTables
+open_trouble opening.BadTables = BadTables
+open_trouble (opening.Setup fault) = BadSetup
+open_trouble opening.Memory = Memory
+open_trouble opening.Store = Store
+
+abbrev pub import_trouble : ImportFault → Trouble
+import_trouble lodging.BadHeader = BadHeader
+import_trouble lodging.TooLong = TooLong
+import_trouble lodging.Read = Read
+import_trouble lodging.Memory = Memory
+import_trouble lodging.Store = Store
+
+abbrev pub report_trouble : ReportFault → Trouble
+report_trouble report.NotCertified = NotCertified
+report_trouble report.OtherMethod = OtherMethod
+report_trouble report.Memory = Memory

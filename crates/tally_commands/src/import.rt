@@ -1,0 +1,63 @@
+//! Imports of returns.
+
+ghost use Rattle.std.specs.Prelude.{◌≡◌, IfErr, IfOk, Some, option_map, string_bytes};
+ghost use Rattle.tally_import.specs.ReturnRows.{text_coming};
+ghost use Rattle.tally_rules.specs.Setup.{constituency_with};
+ghost use Rattle.tally_commands.specs.Imported.{IsFindTrouble, IsImportTrouble, IsImported};
+
+use crate::named::con_named;
+use crate::room::push_count;
+use crate::trouble::Trouble;
+use std::alloc::Global;
+use std::io::Read;
+use tally_core::Keeper;
+use tally_import::{ReturnRows, Sep};
+use tally_rules::{Constituency, Setup};
+
+/// The most bytes that the counts of an import have as text.
+const COUNT_ROOM: usize = 128;
+
+/// A copy of the constituency of a code, which an import needs.
+pub fn find_con(alloc: Global, setup: &Setup, code: &str) -> Result<Constituency, Trouble>
+    ensures found { IfOk result (λ con. constituency_with code.now setup.now ≡ Some con) }
+    ensures trouble { IfErr result (IsFindTrouble (constituency_with code.now setup.now)) }
+{
+    let Some(con) = con_named(setup, code) else {
+        return Err(Trouble::NoConstituency);
+    };
+    match con.try_copy(alloc) {
+        Ok(con) => Ok(con),
+        Err(_) => Err(Trouble::Memory),
+    }
+}
+
+/// Imports the rows of a text into a constituency: all of them, or with a trouble none. Answers how
+/// many were lodged, as text, whose room is reserved before: nothing takes memory once they are.
+pub fn import_rows<K: Keeper, R: Read + Drop>(
+    alloc: Global,
+    keeper: &mut K,
+    con: Constituency,
+    sep: Sep,
+    reader: R,
+) -> Result<String, Trouble>
+    ensures setup { K.constituencies keeper.new ≡ K.constituencies keeper.old }
+    ensures trusted { K.IsTrusted keeper.new → K.IsTrusted keeper.old }
+    ensures imported { K.IsTrusted keeper.new → IfOk result (λ text.
+        IsImported (K.constituencies keeper.old) (K.content keeper.old) (option_map (text_coming con sep) (R.remaining reader))
+        (string_bytes text) (K.content keeper.new)) }
+    ensures trouble { K.IsTrusted keeper.new → IfErr result (λ trouble.
+        IsImportTrouble (K.constituencies keeper.old) (K.content keeper.old) (option_map (text_coming con sep) (R.remaining reader))
+        trouble (K.content keeper.new)) }
+{
+    let Ok(mut text) = String::with_capacity(alloc, COUNT_ROOM) else {
+        return Err(Trouble::Memory);
+    };
+    let mut rows = ReturnRows::new(alloc, reader, sep, con);
+    match keeper.lodge_from(&mut rows) {
+        Ok(count) => {
+            push_count(&mut text, &count);
+            Ok(text)
+        }
+        Err(fault) => Err(Trouble::from_import(fault)),
+    }
+}

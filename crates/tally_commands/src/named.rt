@@ -1,0 +1,24 @@
+//! What a text names.
+
+ghost use Rattle.std.specs.Prelude.{◌≡◌, option_copied, option_map};
+ghost use Rattle.tally_rules.specs.Setup.{constituency_with};
+
+use tally_rules::{Code, Constituency, Setup};
+
+/// The constituency whose code a text is.
+pub(crate) fn con_named<'a>(setup: &'a Setup, text: &str) -> Option<&'a Constituency>
+    ensures { option_copied result ≡ constituency_with text.now setup.now }
+{
+    setup
+        .cons()
+        .iter()
+        .find(|con| text.as_bytes() == con.code.as_bytes())
+}
+
+/// The code of the constituency whose code a text is.
+pub(crate) fn code_named(setup: &Setup, text: &str) -> Option<Code>
+    ensures { result ≡ option_map (λ con. text.now) (constituency_with text.now setup.now) }
+{
+    let con = con_named(setup, text)?;
+    Some(con.code)
+}

@@ -1,0 +1,101 @@
+//! What the office shows, as text.
+
+ghost use Rattle.std.specs.Prelude.{◌≡◌, Err, IfErr, IfOk, None, Some, string_bytes};
+ghost use Rattle.tally_machine.specs.Outcome.{IsLawfulView};
+ghost use Rattle.tally_report.specs.ProgressText.{progress_text};
+ghost use Rattle.tally_returns.specs.View.{FitsView};
+ghost use Rattle.tally_rules.specs.Constituency as value;
+ghost use Rattle.tally_rules.specs.Setup.{constituency_with};
+ghost use Rattle.tally_desk.specs.Reports.{IsReport, report_fault};
+ghost use Rattle.tally_commands.specs.Show.{IsGiven, IsProgressShown, IsProgressTrouble, IsReportShown, IsReportTrouble, IsWithheld, refusal_trouble};
+
+use crate::named::code_named;
+use crate::trouble::Trouble;
+use std::alloc::Global;
+use tally_core::{ConView, Keeper, ProgressRow, Refusal};
+use tally_desk::{Report, progress_of, report_text, view_of};
+use tally_report::progress_text;
+use tally_rules::{Code, Setup};
+
+/// A report of the constituency of a code. It is shown, and nothing changes.
+pub fn show_report<K: Keeper>(
+    alloc: Global,
+    keeper: &mut K,
+    con: &str,
+    which: Report,
+) -> Result<String, Trouble>
+    ensures setup { K.constituencies keeper.new ≡ K.constituencies keeper.old }
+    ensures trusted { K.IsTrusted keeper.new → K.IsTrusted keeper.old }
+    ensures unknown { constituency_with con.now (K.constituencies keeper.old) ≡ None
+        → (result ≡ Err Trouble.NoConstituency) × (keeper.new ≡ keeper.old) }
+    ensures shown { K.IsTrusted keeper.new → IfOk result (λ text.
+        IsReportShown (K.constituencies keeper.old) (K.content keeper.old) con.now which (string_bytes text) (K.content keeper.new)) }
+    ensures trouble { K.IsTrusted keeper.new → IfErr result (λ trouble.
+        IsReportTrouble (K.constituencies keeper.old) (K.content keeper.old) con.now which trouble (K.content keeper.new)) }
+{
+    let Some(code) = code_named(keeper.setup(), con) else {
+        return Err(Trouble::NoConstituency);
+    };
+    match view_of(keeper, code) {
+        Ok(view) => text_of(alloc, keeper.setup(), code, &view, which),
+        Err(refusal) => Err(trouble_of(refusal)),
+    }
+}
+
+/// How far each constituency has come. It is shown, and nothing changes.
+pub fn show_progress<K: Keeper>(alloc: Global, keeper: &mut K) -> Result<String, Trouble>
+    ensures setup { K.constituencies keeper.new ≡ K.constituencies keeper.old }
+    ensures trusted { K.IsTrusted keeper.new → K.IsTrusted keeper.old }
+    ensures shown { K.IsTrusted keeper.new → IfOk result (λ text.
+        IsProgressShown (K.constituencies keeper.old) (K.content keeper.old) (string_bytes text) (K.content keeper.new)) }
+    ensures trouble { K.IsTrusted keeper.new → IfErr result (λ trouble.
+        IsProgressTrouble (K.constituencies keeper.old) (K.content keeper.old) trouble (K.content keeper.new)) }
+{
+    match progress_of(keeper) {
+        Ok(rows) => text_of_rows(alloc, &rows),
+        Err(refusal) => Err(trouble_of(refusal)),
+    }
+}
+
+/// The text of a report of the constituency of a code.
+fn text_of(
+    alloc: Global,
+    setup: &Setup,
+    code: Code,
+    view: &ConView,
+    which: Report,
+) -> Result<String, Trouble>
+    requires { (con : value.Constituency) → constituency_with code setup.now ≡ Some con → FitsView con view.now }
+    ensures text { IfOk result (λ text. (con : value.Constituency) → constituency_with code setup.now ≡ Some con
+        → IsLawfulView con view.now → IsGiven con view.now which (string_bytes text)) }
+    ensures trouble { IfErr result (λ trouble. (con : value.Constituency) → constituency_with code setup.now ≡ Some con
+        → IsWithheld (report_fault con view.now which) trouble) }
+{
+    let Some(con) = setup.con(code) else {
+        return Err(Trouble::NoConstituency);
+    };
+    match report_text(alloc, con, view, which) {
+        Ok(text) => Ok(text),
+        Err(fault) => Err(Trouble::from_report(fault)),
+    }
+}
+
+fn text_of_rows(alloc: Global, rows: &[ProgressRow]) -> Result<String, Trouble>
+    ensures text { IfOk result (λ text. string_bytes text ≡ progress_text rows.now) }
+    ensures trouble { IfErr result (λ trouble. trouble ≡ Trouble.Memory) }
+{
+    match progress_text(alloc, rows) {
+        Ok(text) => Ok(text),
+        Err(_) => Err(Trouble::Memory),
+    }
+}
+
+/// Why something that the office has is not shown.
+fn trouble_of(refusal: Refusal) -> Trouble
+    ensures { result ≡ refusal_trouble refusal }
+{
+    match refusal {
+        Refusal::Memory => Trouble::Memory,
+        _ => Trouble::Store,
+    }
+}

@@ -1,0 +1,201 @@
+//! Why a command was not done.
+
+ghost use Rattle.std.specs.Prelude.{◌≡◌};
+ghost use Rattle.tally_commands.specs.Told.{Told};
+ghost use Rattle.tally_commands.specs.Trouble.{create_trouble, import_trouble, open_trouble, report_trouble, setup_line, setup_status, trouble_line, trouble_status};
+
+use crate::tell::{tell, tell_named};
+use std::io::Write;
+use tally_core::ImportFault;
+use tally_report::ReportFault;
+use tally_rules::SetupFault;
+use tally_store::{CreateFault, OpenFault};
+
+/// The exit status where what was asked is refused.
+pub const REFUSED: u8 = 1;
+
+/// The exit status where memory, the database, a file, a read, a write or the port failed.
+pub const FAILED: u8 = 3;
+
+/// Why a command was not done.
+#[derive(Clone, Copy, Debug, PartialEq, Eq)]
+pub enum Trouble {
+    /// The text is no setup, or memory ran out over it.
+    Setup(SetupFault),
+    /// The database has tables of these names.
+    NotEmpty,
+    /// The database lacks a table of an office.
+    NoTables,
+    /// The tables are those of no state, or their version is unknown.
+    BadTables,
+    /// The text that the database has is no setup.
+    BadSetup,
+    /// No constituency has the code.
+    NoConstituency,
+    /// The header of a text of returns is not that of the constituency's lists.
+    BadHeader,
+    /// A text of returns is longer than the limit, in rows or bytes.
+    TooLong,
+    /// The report is of seats, and the constituency is not certified.
+    NotCertified,
+    /// The report is of a rule by which the seats are not allotted.
+    OtherMethod,
+    /// Want of memory.
+    Memory,
+    /// The database failed.
+    Store,
+    /// The file of the database cannot be opened.
+    File,
+    /// A read failed.
+    Read,
+    /// A write failed.
+    Write,
+    /// The port cannot be listened on.
+    Port,
+}
+
+impl Trouble {
+    /// Why no office was made in a database.
+    pub fn from_create(fault: &CreateFault) -> Trouble
+        ensures { result ≡ create_trouble fault.now }
+    {
+        match fault {
+            CreateFault::Setup(fault) => Trouble::Setup(copy_of(fault)),
+            CreateFault::NotEmpty => Trouble::NotEmpty,
+            CreateFault::Memory => Trouble::Memory,
+            CreateFault::Store => Trouble::Store,
+        }
+    }
+
+    /// Why a database was not opened.
+    pub fn from_open(fault: &OpenFault) -> Trouble
+        ensures { result ≡ open_trouble fault.now }
+    {
+        match fault {
+            OpenFault::NoTables => Trouble::NoTables,
+            OpenFault::BadTables => Trouble::BadTables,
+            OpenFault::Setup(_) => Trouble::BadSetup,
+            OpenFault::Memory => Trouble::Memory,
+            OpenFault::Store => Trouble::Store,
+        }
+    }
+
+    /// Why an import was not done.
+    pub fn from_import(fault: ImportFault) -> Trouble
+        ensures { result ≡ import_trouble fault }
+    {
+        match fault {
+            ImportFault::BadHeader => Trouble::BadHeader,
+            ImportFault::TooLong => Trouble::TooLong,
+            ImportFault::Read => Trouble::Read,
+            ImportFault::Memory => Trouble::Memory,
+            ImportFault::Store => Trouble::Store,
+        }
+    }
+
+    /// Why a report is not given.
+    pub fn from_report(fault: ReportFault) -> Trouble
+        ensures { result ≡ report_trouble fault }
+    {
+        match fault {
+            ReportFault::NotCertified => Trouble::NotCertified,
+            ReportFault::OtherMethod => Trouble::OtherMethod,
+            ReportFault::Memory => Trouble::Memory,
+        }
+    }
+
+    /// The exit status: 1 where what was asked is refused, 3 where something failed.
+    pub fn status(&self) -> u8
+        ensures { result ≡ trouble_status self.now }
+    {
+        match self {
+            Trouble::Setup(fault) => setup_status(fault),
+            Trouble::NotEmpty
+            | Trouble::NoTables
+            | Trouble::BadTables
+            | Trouble::BadSetup
+            | Trouble::NoConstituency
+            | Trouble::BadHeader
+            | Trouble::TooLong
+            | Trouble::NotCertified
+            | Trouble::OtherMethod => REFUSED,
+            Trouble::Memory
+            | Trouble::Store
+            | Trouble::File
+            | Trouble::Read
+            | Trouble::Write
+            | Trouble::Port => FAILED,
+        }
+    }
+
+    /// Writes its line on standard error, where a write that fails is passed over, and answers the
+    /// exit status. It takes no memory.
+    pub fn report<E: Write>(&self, errors: &mut E) -> u8
+        ensures told { Told (E.contents errors.old) (E.contents errors.new) (trouble_line self.now) }
+        ensures status { result ≡ trouble_status self.now }
+    {
+        self.tell(errors);
+        self.status()
+    }
+
+    fn tell<E: Write>(&self, errors: &mut E)
+        ensures { Told (E.contents errors.old) (E.contents errors.new) (trouble_line self.now) }
+    {
+        match self {
+            Trouble::Setup(fault) => tell_setup(fault, errors),
+            Trouble::NotEmpty => tell("refused: not_empty\n", errors),
+            Trouble::NoTables => tell("refused: no_tables\n", errors),
+            Trouble::BadTables => tell("refused: bad_tables\n", errors),
+            Trouble::BadSetup => tell("refused: bad_setup\n", errors),
+            Trouble::NoConstituency => tell("refused: no_constituency\n", errors),
+            Trouble::BadHeader => tell("refused: bad_header\n", errors),
+            Trouble::TooLong => tell("refused: too_long\n", errors),
+            Trouble::NotCertified => tell("refused: not_certified\n", errors),
+            Trouble::OtherMethod => tell("refused: other_method\n", errors),
+            Trouble::Memory => tell("failed: memory\n", errors),
+            Trouble::Store => tell("failed: store\n", errors),
+            Trouble::File => tell("failed: file\n", errors),
+            Trouble::Read => tell("failed: read\n", errors),
+            Trouble::Write => tell("failed: write\n", errors),
+            Trouble::Port => tell("failed: port\n", errors),
+        }
+    }
+}
+
+/// A copy, field by field: the borrow checker takes no other one from behind a reference.
+fn copy_of(fault: &SetupFault) -> SetupFault
+    ensures { result ≡ fault.now }
+{
+    match fault {
+        SetupFault::NotToml => SetupFault::NotToml,
+        SetupFault::Missing(key) => SetupFault::Missing(*key),
+        SetupFault::BadValue(key) => SetupFault::BadValue(*key),
+        SetupFault::OverLimit(key) => SetupFault::OverLimit(*key),
+        SetupFault::Duplicate(code) => SetupFault::Duplicate(*code),
+        SetupFault::UnknownProfile => SetupFault::UnknownProfile,
+        SetupFault::Memory => SetupFault::Memory,
+    }
+}
+
+fn setup_status(fault: &SetupFault) -> u8
+    ensures { result ≡ setup_status fault.now }
+{
+    match fault {
+        SetupFault::Memory => FAILED,
+        _ => REFUSED,
+    }
+}
+
+fn tell_setup<E: Write>(fault: &SetupFault, errors: &mut E)
+    ensures { Told (E.contents errors.old) (E.contents errors.new) (setup_line fault.now) }
+{
+    match fault {
+        SetupFault::NotToml => tell("refused: not_toml\n", errors),
+        SetupFault::Missing(key) => tell_named("refused: missing ", key, errors),
+        SetupFault::BadValue(key) => tell_named("refused: bad_value ", key, errors),
+        SetupFault::OverLimit(key) => tell_named("refused: over_limit ", key, errors),
+        SetupFault::Duplicate(code) => tell_named("refused: duplicate ", code.as_str(), errors),
+        SetupFault::UnknownProfile => tell("refused: unknown_profile\n", errors),
+        SetupFault::Memory => tell("failed: memory\n", errors),
+    }
+}

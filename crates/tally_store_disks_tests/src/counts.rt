@@ -1,0 +1,84 @@
+//! A file stops at its first call, at a later one, and so on, until a run meets no stop. After each run the
+//! files show what they showed before the step that was stopped, or what they show after it.
+
+use crate::deeds::{Deed, Done, carried_out};
+use crate::disks::{Contents, are_same, crossed, disks, have_stopped, synced, torn, written};
+use crate::looks::look;
+use std::alloc::Global;
+use std::test::Fail;
+
+/// A deed on files of these contents, and what they show before it and after each of its steps.
+#[derive(Drop)]
+pub(crate) struct Case<'a> {
+    pub(crate) contents: Contents,
+    pub(crate) deed: Deed<'a>,
+    pub(crate) shows: Vec<String>,
+}
+
+/// More runs than a count has.
+const MOST: u64 = 100_000;
+
+/// Whether files of these contents show what they may after so many acknowledged steps.
+fn check(alloc: Global, case: &Case<'_>, left: &Contents, steps: usize) -> Result<(), Fail> {
+    let shown = look(alloc, left)?;
+    let before = case.shows.get(steps).ok_or("no such step")?;
+    let after = case.shows.get(steps.saturating_add(1)).unwrap_or(before);
+    if shown.as_str() == before.as_str() || shown.as_str() == after.as_str() {
+        return Ok(());
+    }
+    Err(Fail::from(format!(in alloc; "after {steps} steps {shown}")?))
+}
+
+/// What a crash may leave: all that was written, what was synced, the one of the log and the other of the
+/// database file, or sectors of both in turn.
+fn check_left(alloc: Global, case: &Case<'_>, done: Done) -> Result<(), Fail> {
+    let Done { files, steps } = done;
+    let written = written(alloc, &files)?;
+    let synced = synced(alloc, files)?;
+    check(alloc, case, &written, steps)?;
+    if are_same(&written, &synced) {
+        return Ok(());
+    }
+    check(alloc, case, &synced, steps)?;
+    check(alloc, case, &crossed(alloc, &written, &synced)?, steps)?;
+    check(alloc, case, &crossed(alloc, &synced, &written)?, steps)?;
+    check(alloc, case, &torn(alloc, &written, &synced)?, steps)
+}
+
+/// Whether a file stops in a run where the files let these numbers of calls through.
+fn stops(alloc: Global, case: &Case<'_>, calls: (u64, u64)) -> Result<bool, Fail> {
+    let files = disks(alloc, &case.contents, calls)?;
+    let mut done = carried_out(alloc, files, case.deed)?;
+    let has_stopped = have_stopped(&mut done.files);
+    if !has_stopped && done.steps.saturating_add(1) != case.shows.len() {
+        return Err(Fail::from("a refusal without a stop"));
+    }
+    check_left(alloc, case, done)?;
+    Ok(has_stopped)
+}
+
+/// How many calls one file lets through in the first run that meets no stop: in each run that many more.
+fn counted(alloc: Global, case: &Case<'_>, of_log: bool, more: u64) -> Result<u64, Fail> {
+    for run in 0..MOST {
+        let calls = run.saturating_mul(more);
+        let both = if of_log {
+            (calls, u64::MAX)
+        } else {
+            (u64::MAX, calls)
+        };
+        if !stops(alloc, case, both)? {
+            return Ok(calls);
+        }
+    }
+    Err(Fail::from("no run without a stop"))
+}
+
+/// The same for the log.
+pub(crate) fn log_counted(alloc: Global, case: &Case<'_>, more: u64) -> Result<u64, Fail> {
+    counted(alloc, case, true, more)
+}
+
+/// For the database file.
+pub(crate) fn db_counted(alloc: Global, case: &Case<'_>, more: u64) -> Result<u64, Fail> {
+    counted(alloc, case, false, more)
+}

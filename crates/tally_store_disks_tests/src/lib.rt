@@ -1,0 +1,16 @@
+//! Tests of `tally_store` over two files in memory, of which one stops at some call. Nothing here is
+//! public, so there are no must-fail edits.
+#![tactic(auto)]
+
+#[cfg(test)]
+mod counts;
+#[cfg(test)]
+mod deeds;
+#[cfg(test)]
+mod disks;
+#[cfg(test)]
+mod looks;
+#[cfg(test)]
+mod stops;
+#[cfg(test)]
+mod texts;

@@ -1,0 +1,160 @@
+//! What a stop of a file leaves of an office that is made, opened, asked or imported into.
+
+use crate::counts::{Case, db_counted, log_counted};
+use crate::deeds::{Deed, contents_after, former_contents};
+use crate::disks::no_contents;
+use crate::looks::{FORMER_TABLES, NO_TABLES, TABLES, wanted};
+use std::alloc::Global;
+use std::test::*;
+use tally_scripts::{RECOUNT, TWIN_TOWN};
+
+/// By how many calls each run lets more through than the one before. With 1 each call of a file is stopped
+/// at in turn: 549 stops in all, in 8 seconds as `rt test` builds them. `rt try --test` is slower by far, and
+/// 10 does there.
+const MORE: u64 = 1;
+
+/// How many steps of the script are taken: up to the second closing, behind which is only what came before.
+const STEPS: usize = 20;
+
+const MORE_STATIONS: &str = r#"
+[[constituency.station]]
+code = "s2"
+electors = 300
+
+[[constituency.station]]
+code = "s3"
+electors = 300
+"#;
+
+const RETURNS: &str =
+    "station,slip,blank,spoiled,A,B\ns1,p1,0,0,10,20\ns2,p2,1,0,30,40\ns3,p3,0,2,50,60\n";
+
+// The same as requests.
+const LODGED: &str = "lodge s1 p1 10,20 = lodged 1
+lodge s2 p2 30,40 1 = lodged 1
+lodge s3 p3 50,60 0 2 = lodged 1";
+
+// What was done to the office that is taken over.
+const FORMER: &str = "lodge s1 p1 100,100 = lodged 1
+close s1 1 = moved 2
+draw c1 1 B,A = edition 2
+certify c1 2 = edition 3";
+
+/// What is shown before a deed of one step and after it.
+fn pair(alloc: Global, before: String, after: String) -> Result<Vec<String>, Fail> {
+    let mut shows = Vec::new(alloc);
+    shows.push(before)?;
+    shows.push(after)?;
+    Ok(shows)
+}
+
+fn making(alloc: Global) -> Result<Case<'static>, Fail> {
+    let before = String::from_str(alloc, NO_TABLES)?;
+    let after = wanted(alloc, TABLES, TWIN_TOWN, "")?;
+    Ok(Case {
+        contents: no_contents(alloc),
+        deed: Deed::Create(TWIN_TOWN),
+        shows: pair(alloc, before, after)?,
+    })
+}
+
+fn taking_over(alloc: Global) -> Result<Case<'static>, Fail> {
+    let before = wanted(alloc, FORMER_TABLES, TWIN_TOWN, FORMER)?;
+    let after = wanted(alloc, TABLES, TWIN_TOWN, FORMER)?;
+    Ok(Case {
+        contents: former_contents(alloc, TWIN_TOWN, FORMER)?,
+        deed: Deed::Open,
+        shows: pair(alloc, before, after)?,
+    })
+}
+
+fn importing(alloc: Global) -> Result<Case<'static>, Fail> {
+    let text = format!(in alloc; "{TWIN_TOWN}{MORE_STATIONS}")?;
+    let before = wanted(alloc, TABLES, text.as_str(), "")?;
+    let after = wanted(alloc, TABLES, text.as_str(), LODGED)?;
+    Ok(Case {
+        contents: contents_after(alloc, &no_contents(alloc), Deed::Create(text.as_str()))?,
+        deed: Deed::Import(RETURNS),
+        shows: pair(alloc, before, after)?,
+    })
+}
+
+/// The first steps of the script, without those that only show.
+fn steps(alloc: Global) -> Result<String, Fail> {
+    let mut lines = String::new(alloc);
+    for line in RECOUNT
+        .lines()
+        .filter(|line| !line.starts_with("show"))
+        .take(STEPS)
+    {
+        lines.push_str(line)?;
+        lines.push_str("\n")?;
+    }
+    Ok(lines)
+}
+
+/// What is shown before the first of these lines, and after each.
+fn shows_of(alloc: Global, lines: &str) -> Result<Vec<String>, Fail> {
+    let mut shows = Vec::new(alloc);
+    let mut done = String::new(alloc);
+    shows.push(wanted(alloc, TABLES, TWIN_TOWN, "")?)?;
+    for line in lines.lines() {
+        done.push_str(line)?;
+        done.push_str("\n")?;
+        shows.push(wanted(alloc, TABLES, TWIN_TOWN, done.as_str())?)?;
+    }
+    Ok(shows)
+}
+
+fn answering(alloc: Global, lines: &str) -> Result<Case<'_>, Fail> {
+    Ok(Case {
+        contents: contents_after(alloc, &no_contents(alloc), Deed::Create(TWIN_TOWN))?,
+        deed: Deed::Answer(lines),
+        shows: shows_of(alloc, lines)?,
+    })
+}
+
+#[test]
+fn an_office_is_made_whole_or_not_at_all(rt: HostRuntime) -> Result<(), Fail> {
+    let case = making(rt.alloc())?;
+    let log = log_counted(rt.alloc(), &case, MORE)?;
+    let db = db_counted(rt.alloc(), &case, MORE)?;
+    assert!(rt; log > 0 && db > 0);
+    Ok(())
+}
+
+#[test]
+fn an_office_is_taken_over_whole_or_not_at_all(rt: HostRuntime) -> Result<(), Fail> {
+    let case = taking_over(rt.alloc())?;
+    let log = log_counted(rt.alloc(), &case, MORE)?;
+    let db = db_counted(rt.alloc(), &case, MORE)?;
+    assert!(rt; log > 0 && db > 0);
+    Ok(())
+}
+
+#[test]
+fn all_rows_are_lodged_or_none(rt: HostRuntime) -> Result<(), Fail> {
+    let case = importing(rt.alloc())?;
+    let log = log_counted(rt.alloc(), &case, MORE)?;
+    let db = db_counted(rt.alloc(), &case, MORE)?;
+    assert!(rt; log > 0 && db > 0);
+    Ok(())
+}
+
+#[test]
+fn a_step_is_whole_where_the_log_stops(rt: HostRuntime) -> Result<(), Fail> {
+    let lines = steps(rt.alloc())?;
+    let case = answering(rt.alloc(), lines.as_str())?;
+    let log = log_counted(rt.alloc(), &case, MORE)?;
+    assert!(rt; log > 0);
+    Ok(())
+}
+
+#[test]
+fn a_step_is_whole_where_the_database_file_stops(rt: HostRuntime) -> Result<(), Fail> {
+    let lines = steps(rt.alloc())?;
+    let case = answering(rt.alloc(), lines.as_str())?;
+    let db = db_counted(rt.alloc(), &case, MORE)?;
+    assert!(rt; db > 0);
+    Ok(())
+}
