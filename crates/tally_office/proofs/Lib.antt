@@ -1,2 +1,4 @@
+pub mod LeafLemmas
 pub mod CommandLemmas
+pub mod NumberLemmas
 pub mod ToldLemmas

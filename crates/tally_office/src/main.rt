@@ -1,6 +1,8 @@
 //! The program `office`: an electoral office on the command line.
 #![tactic(auto)]
 
+mod commands;
+mod files;
 mod help;
 mod line;
 mod perform;

@@ -1,13 +1,16 @@
 //! What the program does for a command line, and the statuses and words that it answers with.
 
-ghost use Rattle.std.specs.Prelude.{◌≡◌, ◌≢◌, ◌⊎◌, Some, None, OnErr, codes, map, string_bytes};
+ghost use Rattle.std.specs.Prelude.{◌≡◌, ◌≢◌, ◌⊎◌, ℕ, List, Some, None, OnErr, codes, map, string_bytes};
 ghost use Rattle.std.specs.IoError.{error_kind};
 ghost use Rattle.tally_records.specs.declared.separator.Sep.{Sep};
-ghost use Rattle.tally_office.specs.Line.{line_of};
-ghost use Rattle.tally_office.specs.Perform.{ChecksInput, IsTold, Told, check_status, fault_status, fault_words};
+ghost use Rattle.tally_commands.specs.Told.{Told};
+ghost use Rattle.tally_office.specs.Line.{CheckSeen, LacksCon, ServeSeen, line_of};
+ghost use Rattle.tally_office.specs.Perform.{ChecksInput, IsCommandTold, IsTold, check_status, command_status, fault_status, fault_words};
 
+use crate::commands::{import, make, serve_office, show};
 use crate::line::{Line, LineFault, read_line};
 use std::io::{self, ErrorKind, Read, Write};
+use tally_commands::Trouble;
 use tally_import::{CheckFault, check_csv, write_text};
 
 /// The exit status where all was done.
@@ -24,27 +27,59 @@ pub const FAILED: u8 = 3;
 
 /// Does what a command line asks for, the program's name first, and answers the exit status. Help,
 /// refusals and failures go to `errors`, where a write that fails is passed over.
-pub fn perform<T: AllocGlobal, R: Read, W: Write, E: Write>(
-    rt: &T,
+pub fn perform<R: Read, W: Write, E: Write>(
+    rt: &HostRuntime,
     words: &[String],
     input: &mut R,
     output: &mut W,
     errors: &mut E,
 ) -> u8
-    ensures check { (sep : Sep) → line_of (map string_bytes words.now) ≡ Some (Line.Check sep)
+    ensures check { (sep : Sep) → line_of (map string_bytes words.now) ≡ Some (CheckSeen sep)
         → ((result ≡ FAILED) × (input.new ≡ input.old) × (output.new ≡ output.old) × Told (E.contents errors.old) (E.contents errors.new) (codes "failed: memory\n"))
         ⊎ ChecksInput sep (R.remaining input.old) (R.remaining input.new) (W.contents output.old) (W.contents output.new) (E.contents errors.old) (E.contents errors.new) result }
     ensures no_line { line_of (map string_bytes words.now) ≡ None
         → ((result ≡ USAGE) ⊎ ((result ≡ FAILED) × Told (E.contents errors.old) (E.contents errors.new) (codes "failed: memory\n")))
         × (input.new ≡ input.old) × (output.new ≡ output.old) }
-    ensures quiet { result ≡ DONE → errors.new ≡ errors.old }
+    ensures no_con { LacksCon (map string_bytes words.now)
+        → ((result ≡ USAGE) × Told (E.contents errors.old) (E.contents errors.new) (codes "missing --con\n"))
+        ⊎ ((result ≡ FAILED) × Told (E.contents errors.old) (E.contents errors.new) (codes "failed: memory\n")) }
+    ensures input { ((sep : Sep) → line_of (map string_bytes words.now) ≢ Some (CheckSeen sep)) → input.new ≡ input.old }
+    ensures quiet { ((db : List ℕ) (port count : ℕ) → line_of (map string_bytes words.now) ≢ Some (ServeSeen db port count))
+        → result ≡ DONE → errors.new ≡ errors.old }
 {
     match read_line(rt.alloc(), words) {
         Ok(Line::Check { sep }) => {
             let outcome = check_csv(rt.alloc(), input, output, sep);
             report_check(outcome, errors)
         }
+        Ok(Line::New { db, setup }) => {
+            let outcome = make(rt, &db, &setup, output);
+            report_command(&outcome, errors)
+        }
+        Ok(Line::Import { db, con, csv, sep }) => {
+            let outcome = import(rt, &db, &con, &csv, sep, output);
+            report_command(&outcome, errors)
+        }
+        Ok(Line::Show { db, report, con }) => {
+            let outcome = show(rt, &db, report, con.as_deref(), output);
+            report_command(&outcome, errors)
+        }
+        Ok(Line::Serve { db, port, count }) => {
+            let outcome = serve_office(rt, &db, port, count, output, errors);
+            report_command(&outcome, errors)
+        }
         Err(fault) => report_fault(fault, errors),
+    }
+}
+
+fn report_command<E: Write>(outcome: &Result<(), Trouble>, errors: &mut E) -> u8
+    ensures status { result ≡ command_status outcome.now }
+    ensures told { IsCommandTold (E.contents errors.old) (E.contents errors.new) outcome.now }
+    ensures quiet { result ≡ DONE → errors.new ≡ errors.old }
+{
+    match outcome {
+        Ok(()) => DONE,
+        Err(trouble) => trouble.report(errors),
     }
 }
 
@@ -86,10 +121,15 @@ fn status_of(fault: CheckFault) -> u8
 fn report_fault<E: Write>(fault: LineFault, errors: &mut E) -> u8
     ensures status { result ≡ fault_status fault }
     ensures told { result ≡ FAILED → Told (E.contents errors.old) (E.contents errors.new) (codes "failed: memory\n") }
+    ensures no_con { fault ≡ LineFault.NoCon → Told (E.contents errors.old) (E.contents errors.new) (codes "missing --con\n") }
 {
     match fault {
         LineFault::Usage(error) => {
             let _ = write!(errors, "{error}");
+            USAGE
+        }
+        LineFault::NoCon => {
+            tell("missing --con\n", errors);
             USAGE
         }
         LineFault::Memory => {

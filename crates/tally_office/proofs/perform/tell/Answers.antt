@@ -1,5 +1,5 @@
 use Rattle.std.proofs.Common.{subst}
-use Rattle.tally_office.specs.Perform.{Told}
+use Rattle.tally_commands.specs.Told.{Told}
 use Rattle.tally_office.proofs.ToldLemmas.{told-either}
 use Rattle.tally_office.proofs.perform.tell.Goals as goal
 

@@ -1,0 +1,1023 @@
+#!/usr/bin/env python3
+"""Tests the program `office` from outside, over databases in files and over TCP.
+
+    python3 tests/program.py [--program FILE] [TEST..]
+
+With no file it is the program that `./office` or `rt ci` built, `crates/tally_office/out/tally_office`. With names of tests, only those.
+The last line is `N passed, M failed, K skipped`. It needs Python 3.11 or later and nothing else.
+"""
+
+import contextlib
+import http.client
+import json
+import os
+import random
+import re
+import shutil
+import signal
+import socket
+import sqlite3
+import subprocess
+import sys
+import tempfile
+import threading
+import time
+import traceback
+from pathlib import Path
+
+ROOT = Path(__file__).resolve().parent.parent
+PROGRAM = ROOT / "crates/tally_office/out/tally_office"
+
+SETUP = """\
+[[profile]]
+code = "d0"
+method = "dhondt"
+threshold = 0
+base = "valid"
+
+[[constituency]]
+code = "c1"
+name = "Twin Town"
+seats = 3
+profile = "d0"
+
+[[constituency.list]]
+code = "A"
+name = "Alpha"
+candidates = ["Ana", "Abel"]
+
+[[constituency.list]]
+code = "B"
+name = "Beta"
+candidates = ["Bea"]
+
+[[constituency.station]]
+code = "s1"
+electors = 300
+"""
+
+THREE_STATIONS = SETUP + """
+[[constituency.station]]
+code = "s2"
+electors = 300
+
+[[constituency.station]]
+code = "s3"
+electors = 300
+"""
+
+RETURNS = "station,slip,blank,spoiled,A,B\ns1,p1,0,0,10,20\ns2,p2,1,0,30,40\ns3,p3,0,2,50,60\n"
+
+TABLES = ("setup", "returns", "counts", "cons", "lots", "seats", "gone", "totals", "past")
+
+
+# ---- running the program
+
+
+class Ran:
+    def __init__(self, status, out, err):
+        self.status, self.out, self.err = status, out, err
+
+    def __eq__(self, other):
+        return (self.status, self.out, self.err) == (other.status, other.out, other.err)
+
+    def __repr__(self):
+        return f"status {self.status}, output {self.out!r}, errors {self.err!r}"
+
+
+def office(*words, given=""):
+    ran = subprocess.run([PROGRAM, *words], input=given.encode(), capture_output=True, timeout=120)
+    return Ran(ran.returncode, ran.stdout.decode(), ran.stderr.decode())
+
+
+def same(found, wanted):
+    assert found == wanted, f"\n  found  {found!r}\n  wanted {wanted!r}"
+
+
+def done(text, *words):
+    same(office(*words), Ran(0, text, ""))
+
+
+def refused(word, *words):
+    same(office(*words), Ran(1, "", f"refused: {word}\n"))
+
+
+def failed(word, *words):
+    same(office(*words), Ran(3, "", f"failed: {word}\n"))
+
+
+def write(name, text):
+    Path(name).write_bytes(text if isinstance(text, bytes) else text.encode())
+    return name
+
+
+def new(setup=SETUP, db="office.db", constituencies=1):
+    write("setup.toml", setup)
+    done(f"constituencies {constituencies}\n", "new", "--db", db, "--setup", "setup.toml")
+    return db
+
+
+def show(report, con="c1", db="office.db"):
+    return office("show", "--db", db, "--report", report, *(["--con", con] if con else []))
+
+
+def shows(report, text, con="c1", db="office.db"):
+    same(show(report, con, db), Ran(0, text, ""))
+
+
+def imports(counts, csv, con="c1", db="office.db", flags=()):
+    write("returns.csv", csv)
+    lines = "".join(
+        f"{name} {counts.get(name, '-' if name == 'first' else 0)}\n"
+        for name in ("lodged", "same", "differs", "refused", "bad", "first")
+    )
+    done(lines, "import", "--db", db, "--con", con, "--csv", "returns.csv", *flags)
+
+
+# ---- databases
+
+
+@contextlib.contextmanager
+def database(db="office.db"):
+    connection = sqlite3.connect(db)
+    try:
+        yield connection
+        connection.commit()
+    finally:
+        connection.close()
+
+
+def rows(db="office.db"):
+    """All rows of the office's tables, in any order."""
+    with database(db) as it:
+        return {table: sorted(it.execute(f"SELECT * FROM {table}")) for table in TABLES}
+
+
+def put(table, *values, db="office.db"):
+    with database(db) as it:
+        for row in values:
+            it.execute(f"INSERT INTO {table} VALUES ({', '.join('?' * len(row))})", row)
+
+
+def close_return(station, con, votes, blank=0, spoiled=0, rev=2, slip="p1", note="", db="office.db"):
+    """A closed return, and its votes in the totals."""
+    items = {0: blank, **{place: n for place, n in enumerate(votes, 1)}, 61: spoiled}
+    with database(db) as it:
+        it.execute("INSERT INTO returns VALUES (?, ?, ?, ?, 4, ?)", (station, con, rev, slip, note))
+        for item, n in items.items():
+            it.execute("INSERT INTO counts VALUES (?, ?, ?)", (station, item, n))
+            it.execute("UPDATE totals SET n = n + ? WHERE con = ? AND item = ?", (n, con, item))
+
+
+def certify(con, edition, seats, lot=(), db="office.db"):
+    """A certificate with these seats, over the closed returns that are there."""
+    with database(db) as it:
+        it.execute("UPDATE cons SET edition = ?, certified = 1 WHERE con = ?", (edition, con))
+        for place, n in enumerate(seats, 1):
+            it.execute("INSERT INTO seats VALUES (?, ?, ?)", (con, place, n))
+        for place, of in enumerate(lot, 1):
+            it.execute("INSERT INTO lots VALUES (?, ?, ?)", (con, place, of))
+
+
+def twin_town(db="office.db"):
+    """Twin Town, certified: 100 votes each, and a lot that has B first."""
+    new(db=db)
+    close_return("s1", "c1", [100, 100], db=db)
+    certify("c1", 3, [1, 2], [2, 1], db=db)
+    return db
+
+
+def recount(db="office.db", text="c1 agrees\n", status=0):
+    ran = subprocess.run([sys.executable, ROOT / "examples/recount.py", db], capture_output=True, text=True, timeout=60)
+    same(Ran(ran.returncode, ran.stdout, ran.stderr), Ran(status, text, ""))
+
+
+def only(*names):
+    """The files of this folder, those that the tests themselves write left out."""
+    found = sorted(set(os.listdir(".")) - {"setup.toml", "returns.csv"})
+    same(found, sorted(names))
+
+
+# ---- the command line
+
+
+def test_command_lines_that_are_wrong():
+    for line in (
+        "", "--help", "help", "--version", "frobnicate", "new", "new --db a", "new --setup a", "import --db a --con c1",
+        "import --con c1 --csv a", "show --db a", "show --report tally", "show --db a --report nonesuch --con c1",
+        "serve --db a --port 8080", "serve --db a --count 1", "serve --port 8080 --count 1",
+        "serve --db a --port 0 --count 1", "serve --db a --port 65536 --count 1", "serve --db a --port x --count 1",
+        "serve --db a --port 8080 --count 0", "serve --db a --port 8080 --count 1000001", "new --help", "import --help",
+        "show --help", "serve --help", "check --help", "new --db a --setup b extra",
+    ):
+        ran = office(*line.split())
+        assert ran.status == 2 and not ran.out and ran.err, f"{line}: {ran}"
+    only()
+
+
+def test_codes_that_begin_with_a_dash():
+    new()
+    refused("no_constituency", "show", "--db", "office.db", "--report", "tally", "--con=-x")
+    same(show("tally", con="-x").status, 2)
+
+
+def test_arguments_that_are_no_text():
+    ran = subprocess.run([PROGRAM, "show", b"--db", b"\xff"], capture_output=True, timeout=60)
+    same((ran.returncode, ran.stdout, ran.stderr), (2, b"", b"error: the arguments are not all UTF-8 text\n"))
+
+
+def test_the_check_of_the_examples():
+    returns = (ROOT / "examples/returns.csv").read_text(encoding="utf-8")
+    wanted = (ROOT / "examples/returns.txt").read_text(encoding="utf-8")
+    same(office("check", given=returns), Ran(0, wanted, ""))
+    same(office("check", "--semicolon", given=returns.replace(",", ";")), Ran(0, wanted, ""))
+    only()
+
+
+def test_a_report_of_a_constituency_wants_one():
+    for report in ("tally", "seats", "quotients", "awards", "quota", "holders", "past", "short"):
+        same(show(report, con=None), Ran(2, "", "missing --con\n"))
+    only()
+
+
+def test_help_of_each_command_names_its_arguments():
+    for command, names in (
+        ("new", ("--db", "--setup")), ("import", ("--db", "--con", "--csv", "--semicolon")),
+        ("show", ("--db", "--report", "--con", "progress")), ("serve", ("--db", "--port", "--count")),
+    ):
+        text = office(command, "--help").err
+        assert all(name in text for name in names), text
+        assert max(map(len, text.splitlines())) <= 80, text
+
+
+# ---- new
+
+
+def test_a_new_database_is_read_by_others():
+    new(THREE_STATIONS)
+    only("office.db")
+    with database() as it:
+        same(it.execute("PRAGMA integrity_check").fetchall(), [("ok",)])
+        same({name: strict for _, name, kind, _, _, strict in it.execute("PRAGMA table_list")
+              if kind == "table" and not name.startswith("sqlite_")}, dict.fromkeys(TABLES, 1))
+    same(rows(), {
+        "setup": [(1, 2, THREE_STATIONS)], "returns": [], "counts": [], "cons": [("c1", 1, 0, "")], "lots": [], "seats": [],
+        "gone": [], "totals": [("c1", item, 0) for item in (0, 1, 2, 61)], "past": [],
+    })
+    recount()
+    only("office.db")
+
+
+def test_a_database_is_not_made_twice():
+    new()
+    before = Path("office.db").read_bytes()
+    refused("not_empty", "new", "--db", "office.db", "--setup", "setup.toml")
+    same(Path("office.db").read_bytes(), before)
+    only("office.db")
+
+
+def test_setups_that_are_refused_leave_no_file():
+    long = SETUP + "#" * (8388609 - len(SETUP))
+    for text, word in (
+        ("[[", "not_toml"), (b"a = \"\xff\"\n", "not_toml"), ("", "missing profile"), (SETUP.replace("seats = 3\n", ""), "missing seats"),
+        (SETUP.replace("seats = 3", "seats = 501"), "bad_value seats"), (SETUP.replace("seats = 3", "seats = \"3\""), "bad_value seats"),
+        (SETUP + "\n[[constituency.station]]\ncode = \"s1\"\nelectors = 1\n", "duplicate s1"),
+        (SETUP.replace("profile = \"d0\"", "profile = \"zz\""), "unknown_profile"),
+        (SETUP + "".join(f"\n[[constituency.list]]\ncode = \"L{n}\"\nname = \"L\"\ncandidates = [\"x\"]\n" for n in range(59)), "over_limit list"),
+        (SETUP.replace("method = \"dhondt\"", "method = \"coin\""), "bad_value method"), (long, "over_limit text"),
+    ):
+        write("setup.toml", text)
+        refused(word, "new", "--db", "office.db", "--setup", "setup.toml")
+        only()
+    new(long[:-1])
+
+
+def test_a_setup_that_is_no_file():
+    failed("file", "new", "--db", "office.db", "--setup", "nowhere.toml")
+    os.mkdir("folder")
+    failed("read", "new", "--db", "office.db", "--setup", "folder")
+    only("folder")
+
+
+def test_a_database_that_cannot_be_made():
+    write("setup.toml", SETUP)
+    failed("store", "new", "--db", "nowhere/office.db", "--setup", "setup.toml")
+    os.mkdir("folder")
+    failed("store", "new", "--db", "folder", "--setup", "setup.toml")
+    write("text.db", "this is no database, and it is long enough to be looked at as one " * 20)
+    before = Path("text.db").read_bytes()
+    failed("store", "new", "--db", "text.db", "--setup", "setup.toml")
+    same(Path("text.db").read_bytes(), before)
+    only("folder", "text.db")
+
+
+def test_an_empty_file_stays_where_no_office_is_made_in_it():
+    write("office.db", "")
+    write("setup.toml", "x")
+    refused("not_toml", "new", "--db", "office.db", "--setup", "setup.toml")
+    only("office.db")
+    new()
+    only("office.db")
+
+
+def test_offices_that_are_made_at_once():
+    """One is made, whichever it is, and the file is not taken from it."""
+    write("setup.toml", SETUP)
+    words = [PROGRAM, "new", "--db", "office.db", "--setup", "setup.toml"]
+    for _ in range(20):
+        running = [subprocess.Popen(words, stdout=subprocess.PIPE, stderr=subprocess.PIPE) for _ in range(4)]
+        found = sorted((*ran.communicate(timeout=60), ran.returncode) for ran in running)
+        same(found[-1], (b"constituencies 1\n", b"", 0))
+        for out, err, status in found[:-1]:
+            assert (out, err, status) in ((b"", b"failed: store\n", 3), (b"", b"refused: not_empty\n", 1)), found
+        shows("progress", "c1                    1      1      0      0      0      0      1 open\n", con=None)
+        only("office.db")
+        os.remove("office.db")
+
+
+def test_a_database_behind_a_link():
+    os.mkdir("kept")
+    new(db="kept/office.db")
+    os.symlink("kept/office.db", "link.db")
+    imports({"lodged": 1}, RETURNS.splitlines(keepends=True)[0] + "s1,p1,0,0,10,20\n", db="link.db")
+    same(os.listdir("kept"), ["office.db"])
+    only("kept", "link.db")
+    same(len(rows("kept/office.db")["returns"]), 1)
+
+
+def test_a_database_with_two_names():
+    new()
+    os.link("office.db", "other.db")
+    failed("store", "show", "--db", "office.db", "--report", "progress")
+    only("office.db", "other.db")
+
+
+# ---- opening
+
+
+def test_a_database_that_is_not_there_is_not_made():
+    write("returns.csv", RETURNS)
+    refused("no_tables", "show", "--db", "office.db", "--report", "progress")
+    refused("no_tables", "import", "--db", "office.db", "--con", "c1", "--csv", "returns.csv")
+    refused("no_tables", "serve", "--db", "office.db", "--port", "8080", "--count", "1")
+    only()
+
+
+def test_files_that_are_no_office():
+    write("text.db", "this is no database, and it is long enough to be looked at as one " * 20)
+    failed("store", "show", "--db", "text.db", "--report", "progress")
+    os.mkdir("folder")
+    failed("store", "show", "--db", "folder", "--report", "progress")
+    write("empty.db", "")
+    refused("no_tables", "show", "--db", "empty.db", "--report", "progress")
+    same(os.path.getsize("empty.db"), 0)
+    only("empty.db", "folder", "text.db")
+    with database("other.db") as it:
+        it.execute("CREATE TABLE other (a INTEGER)")
+    refused("no_tables", "show", "--db", "other.db", "--report", "progress")
+    new()
+    with database() as it:
+        it.execute("CREATE TABLE other (a INTEGER)")
+    failed("store", "show", "--db", "office.db", "--report", "progress")
+
+
+def test_tables_changed_by_hand_are_refused():
+    twin_town("good.db")
+    for change, word in (
+        ("UPDATE returns SET rev = 0", "bad_tables"), ("UPDATE returns SET rev = 10000", "bad_tables"),
+        ("UPDATE cons SET edition = 0", "bad_tables"), ("UPDATE cons SET certified = 2", "bad_tables"),
+        ("UPDATE returns SET station = 'zz'", "bad_tables"), ("DELETE FROM counts WHERE item = 61", "bad_tables"),
+        ("UPDATE counts SET item = 62 WHERE item = 61", "bad_tables"), ("UPDATE counts SET n = 101 WHERE item = 1", "bad_tables"),
+        ("DELETE FROM lots WHERE place = 2", "bad_tables"), ("UPDATE lots SET list = 2", "bad_tables"),
+        ("DELETE FROM seats WHERE list = 1", "bad_tables"), ("UPDATE seats SET n = 3 - n", "bad_tables"),
+        ("UPDATE cons SET certified = 0", "bad_tables"), ("UPDATE cons SET note = 'a' || char(10)", "bad_tables"),
+        ("INSERT INTO gone VALUES ('c1', 1, 9, 'x')", "bad_tables"), ("INSERT INTO setup VALUES (2, 2, 'x')", "bad_tables"),
+        ("UPDATE setup SET version = 7", "bad_tables"), ("UPDATE setup SET text = '[['", "bad_setup"),
+        ("UPDATE setup SET text = '[[', version = 7", "bad_tables"), ("DROP TABLE lots", "no_tables"),
+        ("UPDATE totals SET n = n + 1 WHERE item = 1", "bad_tables"), ("INSERT INTO past VALUES ('c1', 3, 1, 3), ('c1', 3, 2, 0)", "bad_tables"),
+    ):
+        shutil.copy("good.db", "office.db")
+        with database() as it:
+            it.execute(change)
+        before = rows() if word != "no_tables" else None
+        refused(word, "show", "--db", "office.db", "--report", "progress")
+        assert before is None or rows() == before, change
+    shutil.copy("good.db", "office.db")
+    shows("seats", SEATS)
+
+
+def test_version_1_is_taken_over():
+    new()
+    close_return("s1", "c1", [120, 120], rev=5, slip="p2", note="sum")
+    with database() as it:
+        it.execute("UPDATE cons SET edition = 4, note = 'recount'")
+        it.execute("DROP TABLE past")
+        it.execute("UPDATE setup SET version = 1")
+    shows("past", "PAST c1 Twin Town\n")
+    same(rows()["setup"], [(1, 2, SETUP)])
+    only("office.db")
+    with serving("office.db", 5) as desk:
+        for step in SCRIPT[20:]:
+            take(desk, step)
+    recount()
+
+
+# ---- import
+
+
+def test_an_import_is_counted():
+    new(THREE_STATIONS)
+    imports({"lodged": 3}, RETURNS)
+    only("office.db")
+    imports({"same": 3}, RETURNS)
+    before = rows()
+    imports({"same": 2, "differs": 1, "first": "2 7"}, RETURNS.replace("30,40", "31,40"))
+    same(rows(), before)
+    same(before["counts"], sorted((station, item, n) for station, counts in (
+        ("s1", (0, 10, 20, 0)), ("s2", (1, 30, 40, 0)), ("s3", (0, 50, 60, 2))) for item, n in zip((0, 1, 2, 61), counts)))
+    same(before["returns"], [(f"s{n}", "c1", 1, f"p{n}", 1, "") for n in (1, 2, 3)])
+    recount()
+
+
+def test_a_bad_row_is_passed_over():
+    new(THREE_STATIONS)
+    imports({"lodged": 2, "bad": 1, "first": "2 0"}, RETURNS.replace("30,40", "x,40"))
+    same([row[0] for row in rows()["returns"]], ["s1", "s3"])
+
+
+def test_a_text_as_a_spreadsheet_saves_it():
+    new(THREE_STATIONS)
+    lines = [";".join(f'"{field}"' for field in line.split(",")) for line in RETURNS.splitlines()]
+    imports({"lodged": 3}, b"\xef\xbb\xbf" + "".join(f"{line}\r\n" for line in lines).encode(), flags=("--semicolon",))
+
+
+def test_imports_that_change_nothing():
+    new(THREE_STATIONS)
+    before = rows()
+    import_into = ("import", "--db", "office.db", "--con")
+    write("returns.csv", RETURNS)
+    refused("no_constituency", *import_into, "zz", "--csv", "returns.csv")
+    refused("no_constituency", *import_into, "no code", "--csv", "nowhere.csv")
+    failed("file", *import_into, "c1", "--csv", "nowhere.csv")
+    os.mkdir("folder")
+    failed("read", *import_into, "c1", "--csv", "folder")
+    for text, word in (
+        ("", "bad_header"), (RETURNS.replace("A,B", "B,A"), "bad_header"), (RETURNS + "x\n" * 19998, "too_long"),
+        (RETURNS + "x" * 16777216, "too_long"),
+    ):
+        write("returns.csv", text)
+        refused(word, *import_into, "c1", "--csv", "returns.csv")
+    same(rows(), before)
+    only("folder", "office.db")
+
+
+def test_two_commands_at_once():
+    """One command has the database alone; another is told so, and nothing is lost."""
+    new(THREE_STATIONS)
+    os.mkfifo("pipe")
+    words = [PROGRAM, "import", "--db", "office.db", "--con", "c1", "--csv", "pipe"]
+    first = subprocess.Popen(words, stdout=subprocess.PIPE, stderr=subprocess.PIPE)
+    with open("pipe", "w", encoding="utf-8") as pipe:
+        pipe.write(RETURNS[:60])
+        pipe.flush()
+        failed("store", "show", "--db", "office.db", "--report", "progress")
+        failed("store", "new", "--db", "office.db", "--setup", "setup.toml")
+        pipe.write(RETURNS[60:])
+    out, err = first.communicate(timeout=60)
+    same((first.returncode, out, err), (0, b"lodged 3\nsame 0\ndiffers 0\nrefused 0\nbad 0\nfirst -\n", b""))
+    same(len(rows()["returns"]), 3)
+
+
+def test_an_import_that_is_killed():
+    """It lodges all of its rows or none, and the file opens again."""
+    stations = "".join(f'\n[[constituency.station]]\ncode = "t{n}"\nelectors = 300\n' for n in range(2000))
+    new(SETUP + stations)
+    shutil.copy("office.db", "good.db")
+    text = "station,slip,blank,spoiled,A,B\n" + "".join(f"t{n},p,0,0,1,2\n" for n in range(2000))
+    write("returns.csv", text)
+    words = [PROGRAM, "import", "--db", "office.db", "--con", "c1", "--csv", "returns.csv"]
+    began = time.monotonic()
+    subprocess.run(words, check=True, capture_output=True, timeout=120)
+    whole = time.monotonic() - began
+    found = set()
+    for turn in range(10):
+        shutil.copy("good.db", "office.db")
+        for log in Path(".").glob("office.db-*"):
+            log.unlink()
+        process = subprocess.Popen(words, stdout=subprocess.DEVNULL, stderr=subprocess.DEVNULL)
+        time.sleep(whole * (turn + 1) / 11)
+        process.kill()
+        process.wait()
+        ran = show("progress", con=None)
+        assert ran.status == 0, ran
+        found.add(len(rows()["returns"]))
+    assert found <= {0, 2000}, found
+
+
+# ---- show
+
+TALLY = """\
+TALLY c1 Twin Town
+stations 1 closed 1
+valid 200 blank 0 spoiled 0
+A                        100   50.00 in  Alpha
+B                        100   50.00 in  Beta
+"""
+
+SEATS = """\
+SEATS c1 Twin Town
+edition 3
+A                   1 Alpha
+B                   2 Beta
+total               3
+"""
+
+QUOTIENTS = """\
+QUOTIENTS c1 Twin Town
+A               *        100          50          33
+B               *        100*         50          33
+"""
+
+AWARDS = """\
+AWARDS c1 Twin Town
+   1 B                  1           100     1         100
+   2 A                  1           100     1         100
+   3 B                  2           100     2          50
+"""
+
+SHORT = """\
+SHORT c1 Twin Town
+A                   1           1
+B                   2         200
+"""
+
+HOLDERS = """\
+HOLDERS c1 Twin Town
+A                   1 Ana
+B                   - empty
+B                   - empty
+"""
+
+PAST = """\
+PAST c1 Twin Town
+edition 3
+A                   1 Alpha
+B                   2 Beta
+"""
+
+PROGRESS = "c1                    1      1      0      0      0      0      1 open\n"
+
+
+def test_an_office_that_opens():
+    new()
+    shows("progress", PROGRESS, con=None)
+    shows("progress", PROGRESS, con="zz")
+    shows("past", "PAST c1 Twin Town\n")
+    for report in ("seats", "quotients", "awards", "quota", "holders", "short"):
+        same(show(report), Ran(1, "", "refused: not_certified\n"))
+    for con in ("zz", "no code", ""):
+        same(show("tally", con=None), Ran(2, "", "missing --con\n"))
+        refused("no_constituency", "show", "--db", "office.db", "--report", "tally", f"--con={con}")
+    only("office.db")
+
+
+def test_the_reports_of_a_certified_constituency():
+    twin_town()
+    before = rows()
+    for report, text in (
+        ("tally", TALLY), ("seats", SEATS), ("quotients", QUOTIENTS), ("awards", AWARDS), ("short", SHORT),
+        ("past", "PAST c1 Twin Town\n"), ("progress", "c1                    1      0      0      0      0      1      3 certified\n"),
+    ):
+        shows(report, text)
+    same(show("quota"), Ran(1, "", "refused: other_method\n"))
+    same(rows(), before)
+    only("office.db")
+    recount()
+    put("gone", ("c1", 2, 1, "resigned"))
+    shows("holders", HOLDERS)
+
+
+def test_a_certificate_that_was_reopened():
+    new()
+    close_return("s1", "c1", [100, 100])
+    put("lots", ("c1", 1, 2), ("c1", 2, 1))
+    put("past", ("c1", 3, 1, 1), ("c1", 3, 2, 2))
+    with database() as it:
+        it.execute("UPDATE cons SET edition = 4, note = 'recount'")
+    shows("past", PAST)
+    same(show("seats"), Ran(1, "", "refused: not_certified\n"))
+    recount()
+
+
+def setup_of(method, seats, lists, more=""):
+    return f"""\
+[[profile]]
+code = "p"
+method = "{method}"
+threshold = 0
+base = "valid"
+{more}
+[[constituency]]
+code = "c1"
+name = "Village"
+seats = {seats}
+profile = "p"
+""" + "".join(f'\n[[constituency.list]]\ncode = "{code}"\nname = "List {code}"\ncandidates = ["x"]\n' for code in lists) + """
+[[constituency.station]]
+code = "s1"
+electors = 1000000
+"""
+
+
+def test_a_quota_by_hare():
+    new(setup_of("hare", 8, "ABCDEF"))
+    close_return("s1", "c1", [168000, 104000, 72000, 64000, 40000, 32000])
+    certify("c1", 2, [3, 2, 1, 1, 1, 0])
+    lines = show("quota").out.splitlines()
+    same(lines[:3], ["QUOTA c1 Village", "votes 480000 seats 8", "A                     168000    2          384000    3"])
+    same(lines[6], "E                      40000    0          320000    1")
+    for report in ("quotients", "awards", "short"):
+        same(show(report), Ran(1, "", "refused: other_method\n"))
+    recount()
+
+
+def test_the_quotients_of_modified_sainte_lague():
+    new(setup_of("modified-sainte-lague", 2, "ABC"))
+    close_return("s1", "c1", [53, 24, 23])
+    certify("c1", 2, [2, 0, 0])
+    shows("awards", """\
+AWARDS c1 Village
+   1 A                  1           265     7          37
+   2 A                  2           265    15          17
+""")
+    shows("quotients", """\
+QUOTIENTS c1 Village
+A               *         37*         17          10
+B                         17           8           4
+C                         16           7           4
+""")
+    shows("short", "SHORT c1 Village\nA                   2           -\nB                   0           1\nC                   0           2\n")
+    recount()
+
+
+def test_an_alternating_lot():
+    new(SETUP.replace('base = "valid"\n', 'base = "valid"\nlot = "alternating"\n'))
+    close_return("s1", "c1", [100, 100])
+    certify("c1", 3, [2, 1], [2, 1])
+    lines = show("seats").out.splitlines()
+    same(lines[2:], ["A                   2 Alpha", "B                   1 Beta", "total               3"])
+    recount()
+
+
+def test_a_recount_finds_what_differs():
+    twin_town()
+    with database() as it:
+        it.execute("UPDATE seats SET n = 3 - n")
+        it.execute("UPDATE totals SET n = n + 1 WHERE item = 0")
+    recount(text="c1 differs: totals, seats\n", status=1)
+
+
+def test_an_output_that_takes_nothing():
+    new(THREE_STATIONS)
+    write("returns.csv", RETURNS)
+    with open("/dev/full", "w", encoding="utf-8") as full:
+        words = [PROGRAM, "import", "--db", "office.db", "--con", "c1", "--csv", "returns.csv"]
+        ran = subprocess.run(words, stdout=full, stderr=subprocess.PIPE, timeout=60)
+    same((ran.returncode, ran.stderr), (3, b"failed: write\n"))
+    same(len(rows()["returns"]), 3)
+    only("office.db")
+
+
+# ---- serve
+
+# A step of a script: the path, the body, and the answer's status and body.
+SCRIPT = (
+    ("/station/s1/lodge", {"slip": "p1", "votes": [100, 100], "blank": 0, "spoiled": 0}, 200, '{"ok":"lodged","rev":1}'),
+    ("/con/c1/certify", {"edition": 1}, 409, '{"left":1,"refused":14,"word":"not_all_closed"}'),
+    ("/station/s1/close", {"rev": 1}, 200, '{"ok":"moved","rev":2}'),
+    ("/station/s1/close", {"rev": 1}, 409, '{"now":2,"refused":11,"word":"stale"}'),
+    ("/con/c1/certify", {"edition": 1}, 409, '{"group":["A","B"],"refused":19,"seats":1,"word":"lot_missing"}'),
+    ("/con/c1/draw", {"edition": 1, "order": ["A"]}, 409, '{"group":["A","B"],"refused":18,"word":"lot_wrong_group"}'),
+    ("/con/c1/draw", {"edition": 1, "order": ["B", "A"]}, 200, '{"edition":2,"ok":"edition"}'),
+    ("/con/c1/draw", {"edition": 1, "order": ["B", "A"]}, 409, '{"now":2,"refused":11,"word":"stale"}'),
+    ("/con/c1/draw", {"edition": 2, "order": ["A", "B"]}, 409, '{"refused":16,"word":"lot_stands"}'),
+    ("/con/c1/certify", {"edition": 2}, 200, '{"edition":3,"ok":"edition"}'),
+    ("/con/c1/certify", {"edition": 2}, 409, '{"refused":9,"word":"certified"}'),
+    ("/station/s1/query", {"rev": 2, "note": "sum"}, 409, '{"refused":9,"word":"certified"}'),
+    ("/con/c1/vacate", {"list": "B", "place": 1, "note": "resigned"}, 200, '{"next":null,"ok":"vacated"}'),
+    ("/con/c1/vacate", {"list": "B", "place": 1, "note": "resigned"}, 409, '{"refused":20,"word":"already_gone"}'),
+    ("/con/c1/vacate", {"list": "A", "place": 2, "note": "moved"}, 409, '{"refused":21,"word":"not_holder"}'),
+    ("/con/c1/reopen", {"edition": 3, "note": "recount"}, 200, '{"edition":4,"ok":"edition"}'),
+    ("/con/c1/vacate", {"list": "A", "place": 1, "note": "moved"}, 409, '{"refused":10,"word":"not_certified"}'),
+    ("/station/s1/query", {"rev": 2, "note": "sum"}, 200, '{"ok":"moved","rev":3}'),
+    ("/station/s1/correct", {"rev": 3, "slip": "p2", "votes": [120, 120], "blank": 0, "spoiled": 0}, 200, '{"ok":"moved","rev":4}'),
+    ("/station/s1/close", {"rev": 4}, 200, '{"ok":"moved","rev":5}'),
+    ("/con/c1/certify", {"edition": 4}, 409, '{"group":["A","B"],"refused":19,"seats":1,"word":"lot_missing"}'),
+    ("/con/c1/draw", {"edition": 4, "order": ["A", "B"]}, 200, '{"edition":5,"ok":"edition"}'),
+    ("/con/c1/certify", {"edition": 5}, 200, '{"edition":6,"ok":"edition"}'),
+    ("/station/s1/lodge", {"slip": "p1", "votes": [100, 100], "blank": 0, "spoiled": 0}, 409, '{"refused":7,"rev":5,"word":"differs"}'),
+    ("/station/s1/lodge", {"slip": "p2", "votes": [120, 120], "blank": 0, "spoiled": 0}, 200, '{"ok":"same","rev":5}'),
+)
+
+
+def free_port():
+    with socket.socket() as it:
+        it.bind(("127.0.0.1", 0))
+        return it.getsockname()[1]
+
+
+class Desk:
+    """The program as it serves."""
+
+    def __init__(self, db, count, port=None):
+        self.port, self.count = port or free_port(), count
+        words = [PROGRAM, "serve", "--db", db, "--port", str(self.port), "--count", str(count)]
+        self.process = subprocess.Popen(words, stdout=subprocess.PIPE, stderr=subprocess.PIPE)
+        same(self.process.stderr.readline().decode(), f"listening on 127.0.0.1:{self.port} for {count} connections\n")
+
+    def ask(self, method, path, body=None):
+        """The status, the fields and the body of an answer."""
+        connection = http.client.HTTPConnection("127.0.0.1", self.port, timeout=60)
+        connection.request(method, path, body)
+        answer = connection.getresponse()
+        found = answer.status, dict(answer.getheaders()), answer.read().decode()
+        connection.close()
+        return found
+
+    def get(self, path, text):
+        status, fields, body = self.ask("GET", path)
+        same((status, fields["Content-Type"], body), (200, "text/plain; charset=utf-8", text))
+
+    def send(self, message, hang_up=False):
+        """All bytes of what is answered to these bytes."""
+        with socket.create_connection(("127.0.0.1", self.port), timeout=60) as it:
+            it.sendall(message)
+            it.shutdown(socket.SHUT_WR)
+            if hang_up:
+                return b""
+            found = b""
+            while piece := it.recv(65536):
+                found += piece
+            return found
+
+    def end(self):
+        out, err = self.process.communicate(timeout=120)
+        return Ran(self.process.returncode, out.decode(), err.decode())
+
+
+@contextlib.contextmanager
+def serving(db, count, failed=0):
+    desk = Desk(db, count)
+    try:
+        yield desk
+        same(desk.end(), Ran(0, f"answered {count - failed} failed {failed}\n", ""))
+    finally:
+        desk.process.kill()
+        desk.process.wait()
+
+
+def take(desk, step):
+    path, body, status, text = step
+    found, fields, answer = desk.ask("POST", path, json.dumps(body))
+    same((found, answer), (status, text))
+    same((fields["Content-Type"], fields["Connection"]), ("application/json", "close"))
+
+
+def test_an_election_over_http():
+    new()
+    with serving("office.db", len(SCRIPT) + 13) as desk:
+        desk.get("/progress", PROGRESS)
+        for number, step in enumerate(SCRIPT, 1):
+            take(desk, step)
+            if number == 3:
+                desk.get("/con/c1/tally", TALLY)
+            if number == 10:
+                for report, text in (("seats", SEATS), ("quotients", QUOTIENTS), ("awards", AWARDS), ("short", SHORT)):
+                    desk.get(f"/con/c1/{report}", text)
+                same(desk.ask("GET", "/con/c1/quota")[::2], (409, '{"word":"other_method"}'))
+            if number == 13:
+                desk.get("/con/c1/holders", HOLDERS)
+            if number == 16:
+                desk.get("/con/c1/past", PAST)
+                same(desk.ask("GET", "/con/c1/seats")[::2], (409, '{"word":"not_certified"}'))
+        same(json.loads(desk.ask("GET", "/con/c1")[2])["seats"], [2, 1])
+        same(desk.ask("GET", "/station/s1")[2], '{"blank":0,"note":"sum","rev":5,"slip":"p2","spoiled":0,"station":"s1","status":"closed","votes":[120,120]}')
+        desk.get("/con/c1/holders", "HOLDERS c1 Twin Town\nA                   1 Ana\nA                   2 Abel\nB                   - empty\n")
+    only("office.db")
+    recount()
+    shows("past", PAST)
+
+
+def test_an_answer_byte_for_byte():
+    new()
+    body = b'{"slip":"p1","votes":[50,40],"blank":2,"spoiled":1}'
+    message = b"POST /station/s1/lodge HTTP/1.1\r\nContent-Length: 51\r\n\r\n" + body
+    with serving("office.db", 2) as desk:
+        for text in (b'{"ok":"lodged","rev":1}', b'{"ok":"same","rev":1}'):
+            head = f"HTTP/1.1 200 OK\r\nContent-Type: application/json\r\nContent-Length: {len(text)}\r\nConnection: close\r\n\r\n"
+            same(desk.send(message), head.encode() + text)
+
+
+def test_messages_that_are_refused():
+    new()
+    close = b"POST /station/s1/close HTTP/1.1\r\n"
+    cases = (
+        (b"", 400, "bad_head"), (b"GET /progress HTTP/1.1\r\n" + b"a: b\r\n" * 65 + b"\r\n", 400, "bad_head"),
+        (b"GET /progress HTTP/1.1\r\na: " + b"b" * 20000, 400, "head_too_long"), (close + b"\r\n", 411, "length_required"),
+        (close + b"Transfer-Encoding: chunked\r\nContent-Length: 1\r\n\r\nx", 411, "length_required"),
+        (close + b"Content-Length: x\r\n\r\n", 400, "bad_length"), (close + b"Content-Length: +1\r\n\r\nx", 400, "bad_length"),
+        (close + b"Content-Length: 1\r\nContent-Length: 1\r\n\r\nx", 400, "bad_length"),
+        (close + b"Content-Length: 1048577\r\n\r\n", 400, "body_too_long"), (close + b"Content-Length: 9\r\n\r\n{}", 400, "ended_early"),
+        (b"GET /nothing HTTP/1.1\r\n\r\n", 404, "no_route"), (b"PUT /progress HTTP/1.1\r\n\r\n", 405, "no_method"),
+        (b"GET /con/zz/tally HTTP/1.1\r\n\r\n", 404, "no_constituency"), (b"GET /station/zz HTTP/1.1\r\n\r\n", 404, "no_station"),
+        (b"GET /station/s1 HTTP/1.1\r\n\r\n", 404, "no_return"),
+        *((close + f"Content-Length: {len(body)}\r\n\r\n{body}".encode(), 400, "bad_body")
+          for body in ("", "[" * 128 + "]" * 128, '{"rev":1.0}', '{"rev":4294967296}', '{"rev":"1"}', '{"rev":1} x', "{}")),
+    )
+    with serving("office.db", len(cases)) as desk:
+        for message, status, word in cases:
+            head, _, body = desk.send(message).partition(b"\r\n\r\n")
+            same((int(head.split()[1]), json.loads(body)["word"]), (status, word))
+    same(rows()["returns"], [])
+
+
+def test_how_clients_send():
+    """Byte by byte, with an interim answer asked for, with bytes behind the body, and gone before the answer."""
+    new()
+    body = b'{"slip":"p1","votes":[50,40],"blank":2,"spoiled":1}'
+    head = b"POST /station/s1/lodge HTTP/1.1\r\nContent-Length: 51\r\n"
+    with serving("office.db", 4) as desk:
+        with socket.create_connection(("127.0.0.1", desk.port), timeout=60) as it:
+            it.setsockopt(socket.IPPROTO_TCP, socket.TCP_NODELAY, 1)
+            for byte in head + b"\r\n" + body:
+                it.sendall(bytes([byte]))
+            assert it.recv(65536).endswith(b'{"ok":"lodged","rev":1}')
+        assert desk.send(head + b"Expect: 100-continue\r\n\r\n" + body).startswith(b"HTTP/1.1 200 OK")
+        assert desk.send(head + b"\r\n" + body + b"GET /progress HTTP/1.1\r\n\r\n").endswith(b'{"ok":"same","rev":1}')
+        found = desk.send(b"GET /progress HTTP/1.0\r\n\r\n")
+        assert found.endswith(b"0      1      0      0      0      1 open\n"), found
+    with serving_any("office.db", 2) as desk:
+        desk.send(b"GET /progress HTTP/1.1\r\n\r\n", hang_up=True)
+        assert desk.send(b"GET /progress HTTP/1.1\r\n\r\n").startswith(b"HTTP/1.1 200 OK")
+
+
+@contextlib.contextmanager
+def serving_any(db, count):
+    """As serving, where it is not known how many connections fail."""
+    desk = Desk(db, count)
+    try:
+        yield desk
+        ran = desk.end()
+        words = ran.out.split()
+        assert ran.status == 0 and words[::2] == ["answered", "failed"] and int(words[1]) + int(words[3]) == count, ran
+    finally:
+        desk.process.kill()
+        desk.process.wait()
+
+
+def test_an_import_over_http():
+    stations = "".join(f'\n[[constituency.station]]\ncode = "t{n}"\nelectors = 300\n' for n in range(4999))
+    new(SETUP + stations)
+    text = "station,slip,blank,spoiled,A,B\ns1,p,0,0,1,2\n" + "".join(f"t{n},p,0,0,1,2\n" for n in range(4999))
+    with serving("office.db", 4) as desk:
+        counts = '{"bad":0,"differs":0,"first":null,"lodged":%d,"ok":"import","refused":0,"same":%d}'
+        same(desk.ask("POST", "/con/c1/import", text)[::2], (200, counts % (5000, 0)))
+        same(desk.ask("POST", "/con/c1/import/semicolon", text.replace(",", ";"))[::2], (200, counts % (0, 5000)))
+        same(desk.ask("POST", "/con/c1/import", "x")[::2], (400, '{"word":"bad_header"}'))
+        desk.get("/progress", "c1                 5000      0   5000      0      0      0      1 open\n")
+
+
+def test_a_port_that_is_taken():
+    new()
+    with socket.socket() as it:
+        it.bind(("127.0.0.1", 0))
+        it.listen()
+        failed("port", "serve", "--db", "office.db", "--port", str(it.getsockname()[1]), "--count", "1")
+
+
+def test_a_server_that_is_told_to_end():
+    """What it answered stands, and the same port can be had again at once."""
+    for number in (signal.SIGINT, signal.SIGTERM):
+        new(db="office.db")
+        desk = Desk("office.db", 5)
+        for words in (("show", "--report", "progress"), ("serve", "--port", str(free_port()), "--count", "1")):
+            failed("store", *words, "--db", "office.db")
+        body = json.dumps({"slip": "p1", "votes": [100, 100], "blank": 0, "spoiled": 0})
+        same(desk.ask("POST", "/station/s1/lodge", body)[0], 200)
+        desk.process.send_signal(number)
+        same(desk.end(), Ran(-number, "", ""))
+        again = Desk("office.db", 1, desk.port)
+        same(again.ask("GET", "/progress")[2], "c1                    1      0      1      0      0      0      1 open\n")
+        same(again.end(), Ran(0, "answered 1 failed 0\n", ""))
+        only("office.db")
+        os.remove("office.db")
+
+
+def test_names_in_other_scripts():
+    new(SETUP.replace("Twin Town", "Ciudad Ñandú").replace("Alpha", "Αλφα"))
+    with serving("office.db", 1) as desk:
+        status, fields, text = desk.ask("GET", "/con/c1/tally")
+        assert "TALLY c1 Ciudad Ñandú\n" in text and text.splitlines()[3].endswith("Αλφα"), text
+
+
+def test_a_server_that_is_killed():
+    """What was acknowledged stands at the next opening, and what was refused does not."""
+    stations = "".join(f'\n[[constituency.station]]\ncode = "t{n}"\nelectors = 300\n' for n in range(2000))
+    new(SETUP + stations)
+    chance = random.Random(26)
+    acknowledged, sent = set(), 0
+    for _ in range(50):
+        desk = Desk("office.db", 1000000)
+        stop = threading.Timer(chance.uniform(0.005, 0.1), desk.process.kill)
+        stop.start()
+        try:
+            while sent < 2000:
+                station = f"t{sent}"
+                sent += 1
+                body = json.dumps({"slip": "p", "votes": [1, 2], "blank": 0, "spoiled": 301 if sent % 7 == 0 else 0})
+                status, _, _ = desk.ask("POST", f"/station/{station}/lodge", body)
+                if status == 200:
+                    acknowledged.add(station)
+        except (OSError, http.client.HTTPException):
+            pass
+        stop.join()
+        desk.process.wait()
+        desk.process.stderr.close()
+        desk.process.stdout.close()
+        same(show("past").status, 0)
+        stand = {row[0] for row in rows()["returns"]}
+        refused_ones = {f"t{n}" for n in range(sent) if (n + 1) % 7 == 0}
+        assert acknowledged <= stand and not stand & refused_ones, (acknowledged - stand, stand & refused_ones)
+        assert len(stand - acknowledged) <= 50, stand - acknowledged
+    assert len(acknowledged) > 50, len(acknowledged)
+    recount()
+
+
+# ---- the first page
+
+
+def test_the_first_election_of_the_readme():
+    """Each command as it stands in README.md prints what stands there."""
+    text = (ROOT / "README.md").read_text(encoding="utf-8")
+    part = text[text.index("## A first election"):text.index("## Quick start")]
+    lines = [line[4:] for line in part.splitlines() if line.startswith("    ")]
+    port = str(free_port())
+    commands = [line[2:].replace("8080", port) for line in lines if line[:2] in ("$ ", "> ")]
+    wanted = [line for line in lines if line[:2] not in ("$ ", "> ")]
+    os.mkdir("bin")
+    Path("office").symlink_to(PROGRAM)
+    Path("examples").symlink_to(ROOT / "examples")
+    if not shutil.which("curl"):
+        Path("bin/curl").write_text(f"#!{sys.executable}\n{CURL}")
+        os.chmod("bin/curl", 0o755)
+    script = ""
+    for command in commands:
+        script += command + "\n"
+        if command.endswith("&"):
+            script += "while ! grep -q listening said; do sleep 0.05; done\n"
+    environment = {**os.environ, "PATH": f"{os.getcwd()}/bin:{os.environ['PATH']}"}
+    with open("said", "w", encoding="utf-8") as said:
+        ran = subprocess.run(["bash", "-c", script], stdout=subprocess.PIPE, stderr=said, env=environment, timeout=120)
+    same((ran.returncode, re.findall(r'\{.*?\}|[^{\n]+', ran.stdout.decode())), (0, wanted))
+    same(Path("closed").read_text(encoding="utf-8"), '{"ok":"moved","rev":2}' * 15)
+
+
+# A stand-in for `curl -s -d BODY URL`.
+CURL = """
+import sys, urllib.request
+_, _, _, body, url = sys.argv
+print(end=urllib.request.urlopen("http://" + url, body.encode()).read().decode())
+"""
+
+
+# ---- running the tests
+
+
+def main():
+    global PROGRAM
+    words = sys.argv[1:]
+    if words[:1] == ["--program"]:
+        PROGRAM, words = Path(words[1]).resolve(), words[2:]
+    tests = {name.removeprefix("test_"): test for name, test in globals().items() if name.startswith("test_")}
+    lost = set(words) - set(tests)
+    if lost or not os.access(PROGRAM, os.X_OK):
+        print(f"no such test: {' '.join(sorted(lost))}" if lost else f"no program at {PROGRAM}: ./office builds it")
+        print("0 passed, 1 failed, 0 skipped")
+        return 1
+    passed = failures = 0
+    for name in words or tests:
+        with tempfile.TemporaryDirectory(prefix="office-test-") as folder:
+            os.chdir(folder)
+            try:
+                tests[name]()
+                passed += 1
+            except Exception:
+                failures += 1
+                print(f"FAILED: {name}\n{traceback.format_exc(limit=-4)}", flush=True)
+            os.chdir("/")
+    print(f"{passed} passed, {failures} failed, 0 skipped")
+    return 1 if failures else 0
+
+
+if __name__ == "__main__":
+    sys.exit(main())
