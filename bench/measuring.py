@@ -1,9 +1,14 @@
 """What the benchmarks measure with."""
 
 import os
+import re
+import shutil
+import statistics
 import subprocess
 import sys
 import tempfile
+import time
+from dataclasses import dataclass
 
 
 class Numbers:
@@ -29,3 +34,86 @@ def run(command, path, status=0):
             sys.exit(f"{command[0]} answered the exit status {child.returncode}")
         output.seek(0)
         return (usage.ru_utime + usage.ru_stime) * 1000, output.read()
+
+
+@dataclass
+class Ran:
+    """What a run of a command took: milliseconds of the processor and of the clock, its peak memory in
+    MiB, or None where GNU time is not there, and what it wrote."""
+
+    spent: float
+    clock: float
+    peak: float
+    output: bytes
+
+
+def run_timed(command, status=0):
+    """Runs a command, which has to end with this status.
+
+    GNU time starts it where it is there, since a process that this script starts counts the script's own
+    memory at first. What GNU time takes itself, some tenths of a millisecond, is counted with it.
+    """
+    timer = shutil.which("time")
+    with tempfile.NamedTemporaryFile() as told_peak:
+        timed = [timer, "-f", "%M", "-o", told_peak.name] if timer else []
+        began = time.monotonic()
+        spent, output = run([*timed, *map(str, command)], os.devnull, status)
+        clock = (time.monotonic() - began) * 1000
+        peak = int(told_peak.read().split()[-1]) / 1024 if timer else None
+    return Ran(spent, clock, peak, output)
+
+
+@dataclass
+class Medians:
+    """Of several runs of a command the median and the least milliseconds of the processor, the median of
+    the clock's, and the peak memory in MiB."""
+
+    spent: float
+    least: float
+    clock: float
+    peak: float
+
+
+def in_turn(rounds, commands, before=lambda: None, refused=()):
+    """What each command took, by its name. In each round the commands run one after the other, each behind
+    `before`. Those that are refused end with status 1."""
+    runs = {name: [] for name in commands}
+    for _ in range(rounds):
+        for name, command in commands.items():
+            before()
+            runs[name].append(run_timed(command, int(name in refused)))
+    return {name: medians_of(found) for name, found in runs.items()}
+
+
+def medians_of(runs):
+    spent = [ran.spent for ran in runs]
+    peaks = [ran.peak for ran in runs if ran.peak is not None]
+    clock = statistics.median(ran.clock for ran in runs)
+    return Medians(statistics.median(spent), min(spent), clock, max(peaks, default=None))
+
+
+def counted(command, folder):
+    """The instructions of a command, and where they are spent: a line for each function."""
+    profile = folder / "profile"
+    counting = ["valgrind", "--tool=callgrind", f"--callgrind-out-file={profile}", *map(str, command)]
+    subprocess.run(counting, capture_output=True)
+    telling = ["callgrind_annotate", "--inclusive=yes", "--threshold=100", profile]
+    lines = subprocess.run(telling, capture_output=True, text=True, check=True).stdout
+    return number_before(lines, r"\(100\.0%\)  PROGRAM TOTALS"), lines
+
+
+def within(profile, function):
+    """The instructions of a function with all that it calls."""
+    return number_before(profile, rf".*:tally_\w+::{function}\b")
+
+
+def number_before(lines, what):
+    found = re.search(rf"^ *([\d,]+) +{what}", lines, re.MULTILINE)
+    if found is None:
+        sys.exit(f"the profile has no {what}")
+    return int(found[1].replace(",", ""))
+
+
+def told(number, places=1):
+    """A number as text, or `-` where there is none."""
+    return "-" if number is None else f"{number:,.{places}f}"

@@ -22,7 +22,8 @@ from pathlib import Path
 HERE = Path(__file__).resolve().parent
 PROGRAM = HERE.parent / "crates" / "tally_office" / "out" / "tally_office"
 
-# Counts the requests, and tells at the end how many there were.
+# Counts the requests, and tells how many there were when the program listens for connections, and at
+# the end.
 LIBRARY = r"""
 #define _GNU_SOURCE
 #include <dlfcn.h>
@@ -30,6 +31,11 @@ LIBRARY = r"""
 #include <stdlib.h>
 
 static long asked, first, last;
+
+static void tell(void)
+{
+    dprintf(atoi(getenv("REFUSE_TOLD")), "%ld\n", asked);
+}
 
 static int is_refused(void)
 {
@@ -46,7 +52,14 @@ __attribute__((constructor)) static void begin(void)
 
 __attribute__((destructor)) static void end(void)
 {
-    dprintf(atoi(getenv("REFUSE_TOLD")), "%ld", asked);
+    tell();
+}
+
+int listen(int socket, int waiting)
+{
+    int (*real)(int, int) = dlsym(RTLD_NEXT, "listen");
+    tell();
+    return real(socket, waiting);
 }
 
 void *malloc(size_t size)
@@ -97,15 +110,27 @@ class Runs:
     def __init__(self, library):
         self.library = library
 
-    def run(self, command, text, first, last):
-        """Refuses these requests: how many there were, and what the run wrote and answered."""
+    def begin(self, command, first, last, folder=None):
+        """Begins a run in which these requests are refused: the process, and where it is told how many there were."""
         reader, writer = os.pipe()
         names = {"LD_PRELOAD": self.library, "REFUSE_FIRST": str(first), "REFUSE_LAST": str(last), "REFUSE_TOLD": str(writer)}
-        done = subprocess.run(command, input=text, capture_output=True, env=names, pass_fds=[writer])
+        # Fresh memory by large pages, which else takes most of the time of a run over a database.
+        names["GLIBC_TUNABLES"] = "glibc.malloc.top_pad=16777216:glibc.malloc.hugetlb=1"
+        pipes = {"stdin": subprocess.PIPE, "stdout": subprocess.PIPE, "stderr": subprocess.PIPE}
+        process = subprocess.Popen(command, env=names, pass_fds=[writer], cwd=folder, **pipes)
         os.close(writer)
-        with os.fdopen(reader) as told:
-            asked = int(told.read())
-        return asked, (done.returncode, done.stdout, done.stderr)
+        return process, os.fdopen(reader)
+
+    def run(self, command, text, first, last, folder=None):
+        """Refuses these requests: how many there were, or nothing where the program was killed, and what the run wrote and
+        answered."""
+        process, told = self.begin(command, first, last, folder)
+        output, error = process.communicate(text, timeout=600)
+        with told:
+            counts = told.read().split()
+        if not counts:
+            return None, (process.returncode, output, error)
+        return int(counts[-1]), (process.returncode, output, error)
 
 
 class Checks:
@@ -127,6 +152,8 @@ class Checks:
             at = 1
             while True:
                 count, answer = self.run(text, at, at if one_alone else WHOLE)
+                if count is None:
+                    sys.exit(f"{name}: with request {at} refused the program was killed: {answer}")
                 if count < at:
                     break
                 if answer == ample:

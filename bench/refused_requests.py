@@ -1,7 +1,7 @@
 #!/usr/bin/env python3
 """Refuses a keeper in memory its memory, once at each place where it asks for some.
 
-A small proved program asks the requests of scripts that the tests of `tally_core` have, and imports a
+A small proved program asks the requests of scripts that the tests of keepers have, and imports a
 text of three returns twice. The library of `refused_memory.py` refuses it the first request for
 memory, then in another run the second, and so on through all that a run with ample memory makes. A
 request to the office is then refused with 22, or an import with fault 4, the keeper shows the same as
@@ -26,10 +26,10 @@ sys.dont_write_bytecode = True
 from building import build_office
 from refused_memory import WHOLE, Runs, library_in
 
-TESTS = Path(__file__).resolve().parent.parent / "crates" / "tally_core_tests" / "src"
+CRATES = Path(__file__).resolve().parent.parent / "crates"
 
-# The modules of the tests that the program has too.
-MODULES = [TESTS / f"{name}.rt" for name in ("answers", "commands", "setups")]
+# The module of the tests that the program has too.
+MODULES = [CRATES / "tally_core_tests" / "src" / "setups.rt"]
 
 # The answers of the program where it is refused memory itself.
 OWN_ERRORS = {
@@ -55,11 +55,11 @@ COUNTED = ["lodged", "same", "differs", "refused", "bad"]
 
 
 def constant(module, name):
-    """The text of a constant of a module of the tests, in which nothing is escaped."""
-    source = (TESTS / f"{module}.rt").read_text()
+    """The text of a constant of a module of `tally_scripts`, in which nothing is escaped."""
+    source = (CRATES / "tally_scripts" / "src" / f"{module}.rt").read_text()
     found = re.search(rf'\bconst {name}: &str = (?:r#"(.*?)"#|"([^"\\]*)");', source, re.DOTALL)
     if found is None:
-        sys.exit(f"no constant {name} in the module {module} of the tests")
+        sys.exit(f"no constant {name} in the module {module} of the scripts")
     return found[1] or found[2]
 
 
@@ -74,7 +74,7 @@ def counted(**counts):
 def tasks():
     """What is asked: its name, the word for the program, a setup, a script or texts of returns, and
     the counts of the imports."""
-    twin_town, rivers = constant("setups", "TWIN_TOWN"), constant("book", "RIVERS")
+    twin_town, rivers = constant("setups", "TWIN_TOWN"), constant("scripts", "RIVERS")
     alternating = twin_town.replace('base = "valid"', 'base = "valid"\nlot = "alternating"')
     three_stations = twin_town + STATION.format("s2") + STATION.format("s3")
     imports = [
@@ -84,9 +84,9 @@ def tasks():
     ]
     bad = [(BAD, counted(lodged=2, bad=1, first=(2, 0)))]
     return [
-        Requests("a tie, a lot, a vacancy, a recount", twin_town, constant("book", "RECOUNT")),
-        Requests("the same where lots alternate", alternating, constant("book", "ALTERNATING")),
-        Requests("Hare, a threshold, two recounts", rivers, constant("book", "HARE")),
+        Requests("a tie, a lot, a vacancy, a recount", twin_town, constant("scripts", "RECOUNT")),
+        Requests("the same where lots alternate", alternating, constant("scripts", "ALTERNATING")),
+        Requests("Hare, a threshold, two recounts", rivers, constant("scripts", "HARE")),
         Imports("three returns, again, one that differs", three_stations, imports),
         Imports("three returns, one of them bad", three_stations, bad),
     ]
@@ -132,8 +132,8 @@ def refuse_each(runs, task, command):
     came, places = Counter(), set()
     for at in range(1, asked + 1):
         count, answer = runs.run(command, b"", at, at)
-        if count < at:
-            sys.exit(f"{task.name}: request {at} for memory was not made")
+        if count is None or count < at:
+            sys.exit(f"{task.name}: request {at} for memory was not made, or the program was killed: {answer}")
         what, place = outcome(task, answer, ample)
         if what is None:
             sys.exit(f"{task.name}: with request {at} for memory refused the answer is {answer}")
@@ -163,7 +163,7 @@ def outcome(task, answer, ample):
 
 
 def main():
-    libraries = [f"//crates/{crate}" for crate in ("tally_core", "tally_import", "tally_rules")]
+    libraries = [f"//crates/{crate}" for crate in ("tally_core", "tally_import", "tally_rules", "tally_scripts")]
     with tempfile.TemporaryDirectory() as folder:
         folder = Path(folder)
         program = str(build_office(folder, "refused_office", libraries, MODULES))

@@ -1,174 +1,429 @@
 #!/usr/bin/env python3
-"""Measures an import into a database in a file, and the opening of that file.
+"""Measures an import into a database in a file, the opening of that file, and requests over HTTP to it.
 
-    bench/store.py [--program FILE] [--rounds N]
+A constituency has 60 lists and 5,000 stations, and the text has a return of each: 5,000 rows of `returns`
+and 310,000 of `counts`. `office import` is beside the kit's `sqlite` alone, by a program that writes just
+these rows into the same database, and beside C SQLite through Python. `office show` of a constituency
+that is not there opens the database, judges all its rows and closes it; it is beside programs that open
+it and read all rows. The kit's `sqlite` tests every page and row at an opening, C SQLite only where it is
+told to.
 
-A constituency has 60 lists and 5,000 stations, and the text has a return of each: 5,000 rows of `returns` and 310,000 of
-`counts`. `office import` is beside the kit's `sqlite` alone, by a program without contracts that writes just these rows,
-and beside C SQLite through Python; `office show --report progress`, which opens the database, judges all its rows and
-closes it, is beside a program that opens it and reads all rows. Times are those of the processor for whole processes, the
-medians of the rounds, and what counts is the ratio. Then requests over HTTP to `office serve` on that file.
+The programs run in turn, and the rows that they leave are compared. A time is the processor's for the
+whole process, and for the system on its behalf; what counts is the ratio of the medians.
 
-The program is the one that `./office` built, unless another is named.
+Where `valgrind` is installed, the instructions of an import of fewer returns and of an opening behind it
+are counted too, of the office and of the kit's `sqlite` alone: they do not depend on other work.
+
+Then `office serve` is asked over HTTP, by one client that opens a connection for each request, on the
+file and on a copy in memory (/dev/shm). Where `strace` is installed, a third run tells how long the
+server waited for the disk (fdatasync, fsync).
+
+With `--country` a country of 52 constituencies, 60,000 stations and 20 lists is measured once, and a
+tenth of it; with numbers behind it, countries of so many stations in place of these.
+
+With `--part` only the parts that are named are measured.
+
+    bench/store.py [--program PATH] [--alone PATH] [--rounds N] [--folder PATH] [--part NAME..]
+    bench/store.py [--program PATH] [--alone PATH] [--folder PATH] --country [STATIONS..]
 """
 
 import argparse
-import http.client
-import importlib
 import os
+import re
 import shutil
 import sqlite3
-import statistics
-import subprocess
 import sys
 import tempfile
-import time
+from contextlib import closing
 from pathlib import Path
 
 # What is imported from here is not to be left beside it in compiled form.
 sys.dont_write_bytecode = True
-sys.path.insert(0, str(Path(__file__).resolve().parent))
-from building import build_office, processor
-from check import LISTS, codes, distinct_rows, short_row, text_of
-
-setup_of = importlib.import_module("import").setup_of
+from building import HERE, build_office, processor
+from check import LISTS, codes
+from databases import (
+    MEMORY,
+    PROGRAM,
+    Con,
+    ask_in_memory,
+    certify,
+    closes_of,
+    import_command,
+    import_message,
+    import_returns,
+    make,
+    open_command,
+    reopen,
+    show_command,
+)
+from measuring import Ran, counted, in_turn, run_timed, told
+from serving import Server, free_port, get, office, post
 
 STATIONS = 5_000
+FEWER_ROWS = [1_250, 2_500]
+
+# How many requests of a kind are asked over HTTP.
+REQUESTS = 200
+
+# How many times as long as with the kit's `sqlite` alone an import and an opening may take.
 IMPORT_GOAL = 1.3
 OPENING_GOAL = 2
 
-IN_PYTHON = """
-import sqlite3, sys
-what, db, third = sys.argv[1:]
-conn = sqlite3.connect(db, isolation_level=None)
-conn.execute("PRAGMA journal_mode = wal")
-conn.execute("PRAGMA synchronous = full")
-if what == "write":
-    conn.executescript('''
-CREATE TABLE returns (station TEXT PRIMARY KEY NOT NULL, con TEXT NOT NULL, rev INTEGER NOT NULL, slip TEXT NOT NULL,
-  status INTEGER NOT NULL CHECK (status >= 1 AND status <= 4), note TEXT NOT NULL) STRICT;
-CREATE TABLE counts (station TEXT NOT NULL, item INTEGER NOT NULL, n INTEGER NOT NULL CHECK (n >= 0),
-  PRIMARY KEY (station, item)) STRICT;''')
-    conn.execute("BEGIN")
-    for line in open(third).read().splitlines()[1:]:
-        station, slip, blank, spoiled, *votes = line.split(",")
-        conn.execute("INSERT INTO returns VALUES (?, 'whole', 1, ?, 1, '')", (station, slip))
-        items = [(0, blank), *enumerate(votes, 1), (61, spoiled)]
-        conn.executemany("INSERT INTO counts VALUES (?, ?, ?)", [(station, item, int(n)) for item, n in items])
-    conn.execute("COMMIT")
-else:
-    found = sum(1 for table in ("returns", "counts") for _ in conn.execute(f"SELECT * FROM {table} ORDER BY 1, 2"))
-    assert found == int(third), found
-conn.close()
-"""
+# A country: its constituencies, its lists, and the stations of a tenth of it and of the whole.
+CONSTITUENCIES = 52
+COUNTRY_LISTS = 20
+COUNTRY_STATIONS = [6_000, 60_000]
+
+# What is measured of a constituency.
+PARTS = ["import", "opening", "instructions", "growth", "requests"]
+
+# How many returns are imported where instructions are counted.
+COUNTED_RETURNS = 400
+
+PLAIN = [sys.executable, HERE / "store_plain.py"]
+NAMES = ["office", "sqlite alone", "C SQLite"]
 
 
-def timed(command):
-    """The processor's milliseconds of a command that ends well, the clock's, and its greatest memory in MiB."""
-    began = time.monotonic()
-    child = subprocess.Popen(command, stdout=subprocess.DEVNULL)
-    _, ended, usage = os.wait4(child.pid, 0)
-    child.returncode = os.waitstatus_to_exitcode(ended)
-    if child.returncode:
-        sys.exit(f"{' '.join(map(str, command))}: status {child.returncode}")
-    return (usage.ru_utime + usage.ru_stime) * 1000, (time.monotonic() - began) * 1000, usage.ru_maxrss / 1024
+def rows_of(db):
+    """The rows of `returns` and of `counts`, in any order."""
+    with closing(sqlite3.connect(db)) as conn:
+        return [set(conn.execute(f"SELECT * FROM {table}")) for table in ("returns", "counts")]
 
 
-def in_turn(rounds, commands, before):
-    """The medians of each command's times and memory, the commands one after the other in each round."""
-    taken = {name: [] for name in commands}
-    for _ in range(rounds):
-        for name, command in commands.items():
-            before()
-            taken[name].append(timed(command))
-    return {name: [statistics.median(column) for column in zip(*found)] for name, found in taken.items()}
+def remove_logs(db):
+    """Removes what a program may have left beside a database that it closed."""
+    for end in ("-wal", "-shm"):
+        db.with_name(db.name + end).unlink(missing_ok=True)
 
 
-def table(title, found, goal):
-    print(f"\n{title:28}    ms  by the clock   MiB   ratio")
-    least = found["sqlite alone"][0]
-    for name, (spent, clock, memory) in found.items():
-        print(f"  {name:26} {spent:5.0f} {clock:13.0f} {memory:5.0f} {spent / least:7.2f}")
-    return found["office"][0] <= goal * least
+def table(title, found):
+    """Prints what each command took, and its ratio to the kit's `sqlite` alone: that of the office."""
+    print(f"\n{title:24}      ms   least   by the clock    MiB   ratio   of the least")
+    alone = found["sqlite alone"]
+    for name, took in found.items():
+        print(
+            f"  {name:22} {took.spent:7.0f} {took.least:7.0f} {took.clock:14.0f} {told(took.peak):>6}"
+            f" {took.spent / alone.spent:7.2f} {took.least / alone.least:14.2f}"
+        )
+    return found["office"].spent / alone.spent
 
 
-def requests(program, folder, stations):
-    """Requests a second over HTTP, one connection each, to the database after the import."""
-    asked = {
-        "close": [("POST", f"/station/{code}/close", '{"rev":1}') for code in stations[:500]],
-        "GET tally": [("GET", "/con/whole/tally", None)] * 500,
-        "GET con": [("GET", "/con/whole", None)] * 500,
+def imports(folder, program, alone, con, rounds):
+    """Prints what an import takes: its ratio to the kit's `sqlite` alone."""
+    text = folder / "returns.csv"
+    text.write_text(con.text_of(con.returns()))
+    copies = [folder / f"import-{place}.db" for place in range(3)]
+    commands = dict(zip(NAMES, [
+        import_command(program, copies[0], con, text),
+        [alone, "write", copies[1], con.code, text],
+        [*PLAIN, "write", copies[2], con.code, text],
+    ]))
+
+    def begin():
+        for copy in copies:
+            shutil.copy(folder / "new.db", copy)
+            remove_logs(copy)
+
+    found = in_turn(rounds, commands, begin_once(begin))
+    left = [rows_of(copy) for copy in copies]
+    if left[0] != left[1] or left[0] != left[2] or list(map(len, left[0])) != [STATIONS, STATIONS * (LISTS + 2)]:
+        sys.exit("the programs leave different rows")
+    return table("an import", found)
+
+
+def begin_once(begin):
+    """Begins anew before each third command, so that the copies of the last round are left."""
+    count = 0
+
+    def before():
+        nonlocal count
+        if count % 3 == 0:
+            begin()
+        count += 1
+
+    return before
+
+
+def openings(folder, program, alone, con, rounds):
+    """Prints what an opening takes: its ratio to the kit's `sqlite` alone."""
+    db = folder / "received.db"
+    wanted = con.rows() + len(con.lists) + 4
+    commands = {
+        "office": open_command(program, db),
+        "sqlite alone": [alone, "read", db],
+        "C SQLite": [*PLAIN, "read", db],
+        "C SQLite that checks": [*PLAIN, "check", db],
     }
-    port, count = 38080, sum(map(len, asked.values()))
-    words = [program, "serve", "--db", folder / "office.db", "--port", str(port), "--count", str(count)]
-    serving = subprocess.Popen(words, stdout=subprocess.DEVNULL, stderr=subprocess.PIPE)
-    serving.stderr.readline()
-    print("\nrequests              a second")
-    for name, messages in asked.items():
-        began = time.monotonic()
-        for method, path, body in messages:
-            connection = http.client.HTTPConnection("127.0.0.1", port)
-            connection.request(method, path, body)
-            answer = connection.getresponse()
-            if answer.status != 200:
-                sys.exit(f"{path}: {answer.status} {answer.read()}")
-            answer.read()
-            connection.close()
-        print(f"  {name:18} {len(messages) / (time.monotonic() - began):8.0f}")
-    serving.wait()
+    for name, command in list(commands.items())[1:]:
+        found = int(run_timed(command).output)
+        if found != wanted:
+            sys.exit(f"{name} reads {found} rows, not {wanted}")
+    return table("an opening", in_turn(rounds, commands, refused=["office"]))
+
+
+def instructions(folder, program, alone, con):
+    """Prints the instructions of an import and of an opening, of the office and of `sqlite` alone."""
+    if shutil.which("valgrind") is None:
+        return
+    text = folder / "counted.csv"
+    text.write_text(con.text_of(con.returns()[:COUNTED_RETURNS]))
+    dbs = [folder / "counted-office.db", folder / "counted-alone.db"]
+    for db in dbs:
+        shutil.copy(folder / "new.db", db)
+    pairs = {
+        "an import": [import_command(program, dbs[0], con, text), [alone, "write", dbs[1], con.code, text]],
+        "an opening": [open_command(program, dbs[0]), [alone, "read", dbs[0]]],
+    }
+    print(f"\n{COUNTED_RETURNS} returns, instructions         office     sqlite alone   ratio")
+    for name, pair in pairs.items():
+        found, least = (counted(command, folder)[0] for command in pair)
+        print(f"  {name:22} {found:16,} {least:16,} {found / least:7.2f}", flush=True)
+
+
+def grow(folder, program, con, rounds):
+    """Prints the time and the memory of imports of fewer returns into the same constituency, of one whose
+    text has each return four times, and of openings behind them."""
+    print("\ntext   returns     rows   import ms   us a row    MiB   opening ms   us a row    MiB   bytes a row")
+    db, text = folder / "growing.db", folder / "growing.csv"
+    empty = opening_of(folder / "new.db", program, rounds)
+    print(f"{'':33} {'':>10} {'':>6} {empty.spent:12.0f} {'':>10} {told(empty.peak):>6}")
+    for count, times in [*((count, 1) for count in FEWER_ROWS), (STATIONS, 1), (STATIONS, 4)]:
+        text.write_text(con.text_of(con.returns()[:count] * times))
+
+        def begin():
+            shutil.copy(folder / "new.db", db)
+
+        imported = in_turn(rounds, {"": import_command(program, db, con, text)}, begin)[""]
+        opened = opening_of(db, program, rounds)
+        rows = count * (LISTS + 3)
+        by_import, by_opening = ((took.spent - empty.spent) * 1e3 / rows for took in (imported, opened))
+        bytes_each = None if opened.peak is None else (opened.peak - empty.peak) * 2**20 / rows
+        print(
+            f"x {times} {count:9,} {rows:8,} {imported.spent:11.0f} {by_import:10.2f} {told(imported.peak):>6}"
+            f" {opened.spent:12.0f} {by_opening:10.2f} {told(opened.peak):>6} {told(bytes_each, 0):>13}"
+        )
+
+
+def opening_of(db, program, rounds):
+    """What an opening takes."""
+    return in_turn(rounds, {"": open_command(program, db)}, refused=[""])[""]
+
+
+def kinds_of(con):
+    """The requests by kind, in two lists: for a database that lacks the last returns, and for one whose
+    returns are closed. Of a kind whose name is empty the time does not count."""
+    stations = con.returns()
+    lodges = [
+        post(f"/station/{station}/lodge", {"slip": slip, "votes": votes, "blank": blank, "spoiled": spoiled})
+        for station, slip, (blank, spoiled, *votes) in stations[-REQUESTS:]
+    ]
+    reopened = []
+    for edition in range(1, 2 * REQUESTS, 2):
+        reopened += [("certify", certify(con, edition)), ("reopen", reopen(con, edition + 1))]
+    received = [
+        ("lodge", lodges),
+        ("close", closes_of(con)[:REQUESTS]),
+        ("GET tally", [get(f"/con/{con.code}/tally")] * REQUESTS),
+        ("GET con", [get(f"/con/{con.code}")] * REQUESTS),
+    ]
+    closed = [(name, [message]) for name, message in reopened]
+    return received, closed
+
+
+def ask_kinds(server, kinds):
+    """Asks the requests of each kind: the microseconds of the clock and of the processor, and the number
+    of requests, by the kind."""
+    found = {}
+    for name, messages in kinds:
+        taken = server.ask_all(messages)
+        clock, spent, count = found.get(name, (0, 0, 0))
+        more = len(messages)
+        found[name] = (clock + taken.clock * more, spent + taken.spent * more, count + more)
+    return {name: (clock / count, spent / count, count) for name, (clock, spent, count) in found.items()}
+
+
+def serve_on(place, folder, program, dbs, kinds):
+    """Asks all kinds of the office on copies of the databases in a place."""
+    found = {}
+    for db, some in zip(dbs, kinds):
+        copy = place / f"served-{os.getpid()}.db"
+        shutil.copy(folder / db, copy)
+        try:
+            with office(program, copy, sum(len(messages) for _, messages in some)) as server:
+                found |= ask_kinds(server, some)
+        finally:
+            copy.unlink()
+            remove_logs(copy)
+    return found
+
+
+def waits(folder, program, dbs, kinds):
+    """Of a request of each kind, where they can be traced: how many syncs it makes, the microseconds of
+    these, and their share in the clock's time of the request."""
+    if shutil.which("strace") is None:
+        return {}
+    found = {}
+    for db, some in zip(dbs, kinds):
+        copy, trace = folder / "traced.db", folder / "trace"
+        shutil.copy(folder / db, copy)
+        port, count = free_port(), sum(len(messages) for _, messages in some)
+        command = ["strace", "--seccomp-bpf", "-f", "-T", "-e", "trace=fdatasync,fsync", "-o", trace]
+        command += [program, "serve", "--db", copy, "--port", port, "--count", count]
+        with Traced(command, port) as server:
+            for name, messages in some:
+                before = synced(trace)
+                clock = server.ask_all(messages).clock * len(messages)
+                after = synced(trace)
+                parts = (after[0] - before[0], after[1] - before[1], clock, len(messages))
+                found[name] = [sum(pair) for pair in zip(found.get(name, (0, 0, 0, 0)), parts)]
+    return {name: (syncs / asked, time / asked, time / clock) for name, (time, syncs, clock, asked) in found.items()}
+
+
+class Traced(Server):
+    """A server under `strace`, whose own processor time does not count."""
+
+    def spent(self):
+        return 0
+
+
+def synced(trace):
+    """The microseconds of all syncs so far, and their number."""
+    times = re.findall(r"sync\(\d+\) += 0 <([0-9.]+)>", trace.read_text())
+    return sum(map(float, times)) * 1e6, len(times)
+
+
+def requests(folder, program, con):
+    """Prints what requests over HTTP take, on a file and in memory."""
+    dbs, kinds = ["lacking.db", "closed.db"], kinds_of(con)
+    prepare(folder, program, con)
+    on_file = serve_on(folder, folder, program, dbs, kinds)
+    in_memory = serve_on(MEMORY, folder, program, dbs, kinds) if MEMORY.is_dir() else {}
+    waited = waits(folder, program, dbs, kinds)
+    print("\nrequests        a second      us   of the processor   in memory us   syncs   us of them   share")
+    for name, (clock, spent, _) in on_file.items():
+        memory = in_memory[name][0] if name in in_memory else None
+        syncs, wait, share = waited.get(name, (None, None, None))
+        share = "-" if share is None else f"{share:.0%}"
+        print(
+            f"  {name:12} {1e6 / clock:9,.0f} {clock:7,.0f} {spent:18,.0f} {told(memory, 0):>14} {told(syncs):>7}"
+            f" {told(wait, 0):>12} {share:>7}"
+        )
+
+
+def prepare(folder, program, con):
+    """Makes the database that lacks the last returns, and the one whose returns are all closed."""
+    shutil.copy(folder / "new.db", folder / "lacking.db")
+    import_returns(program, folder / "lacking.db", con, con.returns()[:-REQUESTS])
+    shutil.copy(folder / "received.db", folder / "closed.db")
+    ask_in_memory(program, folder / "closed.db", closes_of(con))
+
+
+def country(folder, program, alone, stations):
+    """Measures a country of so many stations once: `new`, the imports, an opening and a certificate.
+
+    All constituencies but the last are imported by messages to one server, since each `office import`
+    opens the whole database.
+    """
+    made = cons_of(CONSTITUENCIES, stations, COUNTRY_LISTS)
+    rows = sum(con.rows() for con in made)
+    db = folder / "country.db"
+    title = f"{CONSTITUENCIES} constituencies, {stations:,} stations, {COUNTRY_LISTS} lists"
+    print(f"\n{title:60}      ms   by the clock     us a row   MiB")
+    line("new", make(program, folder, db.name, made))
+    imports_by_messages(program, db, made[:-1])
+    line("the last import, with an opening", import_returns(program, db, made[-1], made[-1].returns()))
+    line("an opening", run_timed(open_command(program, db), 1), rows)
+    line("sqlite alone opens and reads it", run_timed([alone, "read", db]), rows)
+    line("the progress, with an opening", run_timed(show_command(program, db, "progress")), rows)
+    certificate(program, db, made[-1])
+    print(f"  {rows:,} rows of returns and counts, {db.stat().st_size / 2**20:,.0f} MiB", flush=True)
+    db.unlink()
+
+
+def imports_by_messages(program, db, cons):
+    """Prints what imports by messages to one server take: all, the first five and the last five."""
+    with office(program, db, len(cons)) as server:
+        taken = [server.ask_all([import_message(con)]) for con in cons]
+        peak = peak_so_far(server)
+    for name, some in {"": slice(None), "the first 5 of ": slice(5), "the last 5 of ": slice(-5, None)}.items():
+        spent, clock = (sum(values) / 1e3 for values in zip(*((one.spent, one.clock) for one in taken[some])))
+        rows = sum(con.rows() for con in cons[some])
+        line(f"{name}{len(cons)} imports by messages", Ran(spent, clock, None if name else peak, b""), rows)
+
+
+def cons_of(cons, stations, lists):
+    """So many constituencies, among which the stations are shared."""
+    all_stations = codes("station", stations)
+    bounds = [stations * place // cons for place in range(cons + 1)]
+    return [
+        Con(all_stations[first:last], f"con-{place:02}", lists=codes("list", lists))
+        for place, (first, last) in enumerate(zip(bounds, bounds[1:]))
+    ]
+
+
+def certificate(program, db, con):
+    """Prints what the closing of all returns of a constituency takes, and its certificate."""
+    closes = closes_of(con)
+    with office(program, db, len(closes) + 1) as server:
+        closed = server.ask_all(closes)
+        certified = server.ask_all([certify(con)])
+        peak = peak_so_far(server)
+    line("a return is closed", Ran(closed.spent / 1e3, closed.clock / 1e3, None, b""))
+    line(f"a certificate of {len(closes):,} stations", Ran(certified.spent / 1e3, certified.clock / 1e3, peak, b""))
+
+
+def peak_so_far(server):
+    """The peak memory of a server in MiB."""
+    status = Path(f"/proc/{server.process.pid}/status").read_text()
+    return int(re.search(r"VmHWM:\s+(\d+)", status)[1]) / 1024
+
+
+def line(name, ran, rows=None):
+    """Prints what something took, and for each row where rows are given."""
+    places = 2 if ran.spent < 100 else 0
+    each = None if rows is None else ran.spent * 1e3 / rows
+    print(f"  {name:56} {ran.spent:11,.{places}f} {ran.clock:14,.{places}f} {told(each, 2):>12} {told(ran.peak, 0):>5}", flush=True)
 
 
 def main():
-    parser = argparse.ArgumentParser(description="Measures an import into a database in a file, and its opening.")
-    parser.add_argument("--program", type=Path, default=Path(__file__).resolve().parent.parent / "crates/tally_office/out/tally_office")
-    parser.add_argument("--rounds", type=int, default=5)
+    parser = argparse.ArgumentParser(description="Measures an import into a database in a file, its opening, and requests.")
+    parser.add_argument("--program", type=Path, default=PROGRAM, help="the built program")
+    parser.add_argument("--alone", type=Path, help="store_alone, where it is built already")
+    parser.add_argument("--rounds", type=int, default=5, help="how often each program runs on a file")
+    parser.add_argument("--folder", type=Path, help="where the files are made, on the disk that is measured")
+    parser.add_argument("--part", choices=PARTS, nargs="+", default=PARTS, help="what is measured")
+    parser.add_argument("--country", type=int, nargs="*", help="measures countries of so many stations, once")
     args = parser.parse_args()
+    if not args.program.is_file():
+        sys.exit(f"{args.program} is not built: run ./office check < examples/returns.csv first")
     program = args.program.resolve()
-    with tempfile.TemporaryDirectory() as folder:
+    with tempfile.TemporaryDirectory(dir=args.folder) as folder:
         folder = Path(folder)
-        alone = build_office(folder, "store_alone", ["@kit//sqlite"])
-        os.chdir(folder)
-        rows = distinct_rows(STATIONS, short_row)
-        Path("setup.toml").write_text(setup_of(STATIONS))
-        Path("returns.csv").write_text(text_of(rows))
-        Path("plain.py").write_text(IN_PYTHON)
-        print(f"{os.cpu_count()} processors, {processor()}, load {os.getloadavg()[0]:.1f}, {args.rounds} rounds; {STATIONS} stations, {LISTS} lists")
-        timed([program, "new", "--db", "new.db", "--setup", "setup.toml"])
-
-        def begin():
-            for name in ("office.db", "alone.db", "plain.db"):
-                for end in ("", "-wal", "-shm"):
-                    Path(name + end).unlink(missing_ok=True)
-            shutil.copy("new.db", "office.db")
-
-        import_words = [program, "import", "--db", "office.db", "--con", "whole", "--csv", "returns.csv"]
-        writing = {
-            "office": import_words,
-            "sqlite alone": [alone, "write", "alone.db", "returns.csv"],
-            "C SQLite in Python": [sys.executable, "plain.py", "write", "plain.db", "returns.csv"],
-        }
-        met = table("an import, without opening", less_opening(in_turn(args.rounds, writing, begin), program, args.rounds), IMPORT_GOAL)
-        begin()
-        for command in writing.values():
-            timed(command)
-        count = str(STATIONS * (LISTS + 3))
-        reading = {
-            "office": [program, "show", "--db", "office.db", "--report", "progress"],
-            "sqlite alone": [alone, "read", "alone.db", count],
-            "C SQLite in Python": [sys.executable, "plain.py", "read", "plain.db", count],
-        }
-        met = table("an opening", in_turn(args.rounds, reading, lambda: None), OPENING_GOAL) and met
-        requests(program, folder, codes("station", STATIONS))
-    if not met:
+        alone = args.alone.resolve() if args.alone else build_office(folder, "store_alone", ["@rattle//sqlite"])
+        print(f"{os.cpu_count()} processors, {processor()}, load {os.getloadavg()[0]:.1f}, {args.rounds} rounds;")
+        print(f"Python {sys.version.split()[0]}, C SQLite {sqlite3.sqlite_version}")
+        if args.country is not None:
+            for stations in args.country or COUNTRY_STATIONS:
+                country(folder, program, alone, stations)
+            return
+        con = Con(codes("station", STATIONS))
+        make(program, folder, "new.db", [con])
+        print(f"{LISTS} lists, {STATIONS:,} stations, a return of each: {con.rows():,} rows", flush=True)
+        imported = opened = 0
+        if "import" in args.part:
+            imported = imports(folder, program, alone, con, args.rounds)
+        shutil.copy(folder / "new.db", folder / "received.db")
+        import_returns(program, folder / "received.db", con, con.returns())
+        if "opening" in args.part:
+            opened = openings(folder, program, alone, con, args.rounds)
+        if "instructions" in args.part:
+            instructions(folder, program, alone, con)
+        if "growth" in args.part:
+            grow(folder, program, con, args.rounds)
+        if "requests" in args.part:
+            requests(folder, program, con)
+    if imported > IMPORT_GOAL or opened > OPENING_GOAL:
         sys.exit(f"\nan import takes more than {IMPORT_GOAL} times as long as sqlite alone, or an opening more than {OPENING_GOAL} times")
-
-
-def less_opening(found, program, rounds):
-    """The import without what it takes to open the database that it goes into."""
-    shutil.copy("new.db", "empty.db")
-    opening = in_turn(rounds, {"office": [program, "show", "--db", "empty.db", "--report", "progress"]}, lambda: None)["office"]
-    spent, clock, memory = found["office"]
-    return {**found, "office": [spent - opening[0], clock - opening[1], memory]}
 
 
 if __name__ == "__main__":

@@ -3,13 +3,15 @@
 
 The votes of each constituency are added up from its closed returns, and each certified constituency's seats are allotted
 again: by the table of quotients (D'Hondt, Sainte-Lague) or by quotas and largest remainders (Hare). It says for each
-constituency whether the recorded totals and seats agree, and ends with status 1 where one does not. Python 3.11 or later.
+constituency whether the recorded totals and seats agree. The status is 1 where something differs, and 2 where the file
+cannot be read; nothing is written to it. Python 3.11 or later.
 """
-import os
+import argparse
 import sqlite3
 import sys
 import tomllib
 from fractions import Fraction
+from pathlib import Path
 
 
 def divisor(method, k):
@@ -54,43 +56,44 @@ def allotted(con, profile, votes, blank, lot):
     return by_quotients(votes, taking_part, con["seats"], profile, lot)
 
 
-def recount(database, con, profile):
+def recount(select, con, profile):
     """What does not agree in one constituency, as a list of words."""
-    code, lists = con["code"], len(con["list"])
-
-    def column(query):
-        return [row[0] for row in database.execute(query, (code,))]
-
-    items = [0, *range(1, lists + 1), 61]
-    counted = dict.fromkeys(items, 0) | dict(database.execute(
-        "SELECT item, sum(n) FROM counts JOIN returns USING (station) WHERE con = ? AND status = 4 GROUP BY item", (code,)))
-    wrong = []
-    if counted != dict(database.execute("SELECT item, n FROM totals WHERE con = ?", (code,))):
-        wrong.append("totals")
-    edition, certified = database.execute("SELECT edition, certified FROM cons WHERE con = ?", (code,)).fetchone()
-    recorded = column("SELECT n FROM seats WHERE con = ? ORDER BY list")
-    lot = column("SELECT list FROM lots WHERE con = ? ORDER BY place")
-    votes = [counted[i] for i in range(1, lists + 1)]
-    if recorded != (allotted(con, profile, votes, counted[0], lot) if certified else []):
-        wrong.append("seats")
-    for past, rows, least, seats in database.execute(
-            "SELECT edition, count(*), min(n), sum(n) FROM past WHERE con = ? GROUP BY edition", (code,)):
-        if not (past < edition and rows == lists and least >= 0 and seats == con["seats"]):
-            wrong.append(f"past {past}")
+    code, numbers = [con["code"]], range(1, len(con["list"]) + 1)  # of the lists, in the setup's order
+    stations = {station["code"] for station in con["station"]}
+    closed = {row[0] for row in select("SELECT station FROM returns WHERE con = ? AND status = 4", code)}
+    counted = dict.fromkeys([0, *numbers, 61], 0) | dict(select(
+        "SELECT item, sum(n) FROM counts JOIN returns USING (station) WHERE con = ? AND status = 4 GROUP BY item", code))
+    lot = [row[0] for row in select("SELECT list FROM lots WHERE con = ? ORDER BY place", code)]
+    [(edition, certified)] = select("SELECT edition, certified FROM cons WHERE con = ?", code)
+    seats = allotted(con, profile, [counted[i] for i in numbers], counted[0], lot) if certified else []
+    wrong = [words for words, differs in (
+        ("totals", counted != dict(select("SELECT item, n FROM totals WHERE con = ?", code))),
+        ("seats", dict(zip(numbers, seats)) != dict(select("SELECT list, n FROM seats WHERE con = ?", code))),
+        (f"{len(stations - closed)} of {len(stations)} stations not closed", certified and stations - closed),
+        ("stations of no setup", closed - stations)) if differs]
+    if select("SELECT name FROM sqlite_master WHERE name = 'past'").fetchone():  # which version 1 of the tables lacks
+        for past, *found, least in select("SELECT edition, sum(n), count(*), min(list), max(list), min(n) FROM past "
+                                          "WHERE con = ? GROUP BY edition", code):
+            if past >= edition or least < 0 or found != [con["seats"], len(numbers), 1, len(numbers)]:
+                wrong.append(f"past {past}")
     return wrong
 
 
-def main(path):
-    # Where no log stands beside the file, nothing is to be made there either.
-    database = sqlite3.connect(f"file:{path}?{'mode=ro' if os.path.exists(path + '-wal') else 'immutable=1'}", uri=True)
+def main(file):
+    # Where no log is beside the file, nothing is made there either.
+    how = "mode=ro" if Path(f"{file}-wal").exists() else "mode=ro&immutable=1"
+    database = sqlite3.connect(f"{file.as_uri()}?{how}", uri=True)
     setup = tomllib.loads(database.execute("SELECT text FROM setup").fetchone()[0])
     profiles = {profile["code"]: profile for profile in setup["profile"]}
-    agree = True
-    for con in setup["constituency"]:
-        wrong = recount(database, con, profiles[con["profile"]])
-        agree = agree and not wrong
-        print(con["code"], "differs: " + ", ".join(wrong) if wrong else "agrees")
-    sys.exit(0 if agree else 1)
+    found = {con["code"]: recount(database.execute, con, profiles[con["profile"]]) for con in setup["constituency"]}
+    for code, wrong in found.items():
+        print(code, "differs: " + ", ".join(wrong) if wrong else "agrees")
+    return 1 if any(found.values()) else 0
 
 
-main(sys.argv[1]) if len(sys.argv) == 2 else sys.exit(__doc__.splitlines()[0])
+command = argparse.ArgumentParser(description=__doc__.splitlines()[0])
+command.add_argument("file", type=Path)
+try:
+    sys.exit(main(command.parse_args().file.resolve()))
+except sqlite3.Error as error:
+    command.error(str(error))

@@ -235,7 +235,7 @@ def test_bodies_stand_in_the_tests_of_the_desk():
         target = re.sub(r"{c}", "c1", re.sub(r"{s}", "s1", path))
         for kind, _, name, value in contents(operation["requestBody"]):
             body = value.replace("\n", "|") if kind == "text/csv" else json.dumps(value, separators=(",", ":"))
-            assert f"POST {target} {body} = 200 OK" in TESTED or body in TESTED, f"{method} {path} {name}: {body}"
+            assert f"POST {target} {body} = 200 OK" in TESTED, f"{method} {path} {name}: {body}"
 
 
 def main():

@@ -13,6 +13,7 @@ import json
 import os
 import random
 import re
+import resource
 import shutil
 import signal
 import socket
@@ -22,8 +23,11 @@ import sys
 import tempfile
 import threading
 import time
+import tomllib
 import traceback
 from pathlib import Path
+
+import openapi
 
 ROOT = Path(__file__).resolve().parent.parent
 PROGRAM = ROOT / "crates/tally_office/out/tally_office"
@@ -188,8 +192,38 @@ def twin_town(db="office.db"):
 
 
 def recount(db="office.db", text="c1 agrees\n", status=0):
-    ran = subprocess.run([sys.executable, ROOT / "examples/recount.py", db], capture_output=True, text=True, timeout=60)
+    ran = subprocess.run([sys.executable, ROOT / "examples/recount.py", db], capture_output=True, text=True, timeout=120)
     same(Ran(ran.returncode, ran.stdout, ran.stderr), Ran(status, text, ""))
+
+
+# The databases that a test leaves spoiled: what a recount says of each.
+SPOILED = {}
+
+
+def spoiled(text, db="office.db"):
+    """This database is no office's: a recount says so now, and at the end of the test."""
+    SPOILED[os.path.realpath(db)] = text
+    recount(db, text, 1)
+
+
+def offices():
+    """Each office's database in this folder and below it, with the codes of its constituencies."""
+    for file in sorted(Path(".").rglob("*")):
+        if file.is_symlink() or not file.is_file() or not file.read_bytes().startswith(b"SQLite format 3\0"):
+            continue
+        uri = f"{file.resolve().as_uri()}?mode=ro&immutable=1"
+        with contextlib.closing(sqlite3.connect(uri, uri=True)) as it:
+            if it.execute("SELECT name FROM sqlite_master WHERE name = 'setup'").fetchall():
+                setup = tomllib.loads(it.execute("SELECT text FROM setup").fetchone()[0])
+                yield file, [con["code"] for con in setup["constituency"]]
+
+
+def recount_all():
+    """Counts again what is there at the end of a test: each office agrees, unless the test said what differs."""
+    for file, codes in offices():
+        differs = SPOILED.pop(os.path.realpath(file), None)
+        recount(f"./{file}", differs or "".join(f"{code} agrees\n" for code in codes), 1 if differs else 0)
+    same(SPOILED, {})
 
 
 def only(*names):
@@ -669,12 +703,69 @@ def test_an_alternating_lot():
     recount()
 
 
+def change(sql, db="office.db"):
+    with database(db) as it:
+        it.execute(sql)
+
+
 def test_a_recount_finds_what_differs():
     twin_town()
-    with database() as it:
-        it.execute("UPDATE seats SET n = 3 - n")
-        it.execute("UPDATE totals SET n = n + 1 WHERE item = 0")
-    recount(text="c1 differs: totals, seats\n", status=1)
+    change("UPDATE seats SET n = 3 - n")
+    change("UPDATE totals SET n = n + 1 WHERE item = 0")
+    spoiled("c1 differs: totals, seats\n")
+
+
+def test_a_recount_compares_the_numbers_of_lists():
+    """The same numbers in the same order, but of the second list and a third."""
+    twin_town()
+    put("past", ("c1", 1, 1, 3), ("c1", 1, 2, 0))
+    recount()
+    for table in ("seats", "past"):
+        change(f"UPDATE {table} SET list = list + 10")
+        change(f"UPDATE {table} SET list = list - 9")
+    spoiled("c1 differs: seats, past 1\n")
+
+
+def test_a_recount_finds_stations_that_are_not_closed():
+    new(THREE_STATIONS)
+    close_return("s1", "c1", [100, 100])
+    recount()
+    certify("c1", 3, [1, 2], [2, 1])
+    spoiled("c1 differs: 2 of 3 stations not closed\n")
+    put("returns", ("s2", "c1", 1, "p2", 1, ""), ("s3", "c1", 1, "p3", 1, ""))
+    spoiled("c1 differs: 2 of 3 stations not closed\n")
+    change("UPDATE returns SET status = 4 WHERE station = 's2'")
+    close_return("s4", "c1", [0, 0])
+    spoiled("c1 differs: 1 of 3 stations not closed, stations of no setup\n")
+
+
+def test_a_recount_of_version_1():
+    twin_town()
+    change("DROP TABLE past")
+    change("UPDATE setup SET version = 1")
+    before = Path("office.db").read_bytes()
+    recount()
+    same(Path("office.db").read_bytes(), before)
+    only("office.db")
+
+
+def test_a_recount_of_any_path():
+    twin_town()
+    for folder, name in (("what?", "office?mode=memory.db"), ("#1", "a#b.db"), ("100%", "%41%2f.db"), ("ñ &+", " \n;.db"), (".", "-o.db")):
+        os.makedirs(folder, exist_ok=True)
+        shutil.copy("office.db", f"{folder}/{name}")
+        recount(f"./{folder}/{name}")
+        same(os.listdir(folder) if folder != "." else [name], [name])
+
+
+def test_a_recount_makes_no_file():
+    os.mkdir("folder")
+    write("text.db", "this is no database, and it is long enough to be looked at as one " * 20)
+    for name in ("nowhere.db", "folder", "text.db"):
+        words = [sys.executable, ROOT / "examples/recount.py", name]
+        ran = subprocess.run(words, capture_output=True, text=True, timeout=120)
+        assert (ran.returncode, ran.stdout) == (2, "") and "error: " in ran.stderr and "Traceback" not in ran.stderr, ran
+    only("folder", "text.db")
 
 
 def test_an_output_that_takes_nothing():
@@ -729,10 +820,10 @@ def free_port():
 class Desk:
     """The program as it serves."""
 
-    def __init__(self, db, count, port=None):
+    def __init__(self, db, count, port=None, **how):
         self.port, self.count = port or free_port(), count
         words = [PROGRAM, "serve", "--db", db, "--port", str(self.port), "--count", str(count)]
-        self.process = subprocess.Popen(words, stdout=subprocess.PIPE, stderr=subprocess.PIPE)
+        self.process = subprocess.Popen(words, stdout=subprocess.PIPE, stderr=subprocess.PIPE, **how)
         same(self.process.stderr.readline().decode(), f"listening on 127.0.0.1:{self.port} for {count} connections\n")
 
     def ask(self, method, path, body=None):
@@ -953,13 +1044,272 @@ def test_a_server_that_is_killed():
     recount()
 
 
+def test_a_recount_beside_a_log():
+    """A server was killed: what it answered is in the log, which a recount reads and leaves as it is."""
+    new()
+    desk = Desk("office.db", 1000)
+    for step in SCRIPT[:10]:
+        take(desk, step)
+    desk.process.kill()
+    desk.process.communicate()
+    before = Path("office.db").read_bytes(), Path("office.db-wal").read_bytes()
+    recount()
+    same((Path("office.db").read_bytes(), Path("office.db-wal").read_bytes()), before)
+    shows("seats", SEATS)
+
+
+# ---- every byte of a message
+
+LODGE = b'POST /station/s1/lodge HTTP/1.1\r\nContent-Length: 51\r\n\r\n{"slip":"p1","votes":[50,40],"blank":2,"spoiled":1}'
+
+
+def answered(message, desk):
+    """The status and the body of an answer, which is one of those that docs/FORMATS.md names."""
+    found = desk.send(message)
+    head, _, body = found.partition(b"\r\n\r\n")
+    line, *fields = head.decode().split("\r\n")
+    status, phrase = line.removeprefix("HTTP/1.1 ").split(" ", 1)
+    value = json.loads(body)
+    if "refused" in value:
+        same((value["word"], status), openapi.refusals()[value["refused"]])
+    elif "word" in value:
+        same(status, openapi.words()[value["word"]])
+    else:
+        same(status, "200")
+    allow = [f"Allow: {'GET' if b'/lodge' not in message else 'POST'}"] if status == "405" else []
+    same(fields, ["Content-Type: application/json", f"Content-Length: {len(body)}", *allow, "Connection: close"])
+    same((phrase, body.decode()), (openapi.PHRASES[status], openapi.compact(value)))
+    return int(status), value
+
+
+def stands(desk, text):
+    """A return of this text stands, or none where there is no text."""
+    status, _, body = desk.ask("GET", "/station/s1")
+    if text is None:
+        same((status, body), (404, '{"refused":8,"word":"no_return"}'))
+    else:
+        whole = {**text, "note": "", "rev": 1, "station": "s1", "status": "received"}
+        same((status, json.loads(body)), (200, whole))
+
+
+def test_every_beginning_of_a_message():
+    """Each is answered as one that ended early, and nothing comes of it."""
+    new()
+    with serving("office.db", 2 * len(LODGE) + 1) as desk:
+        for length in range(len(LODGE)):
+            status, value = answered(LODGE[:length], desk)
+            same((status, value["word"]), (400, "bad_head" if length < LODGE.index(b"{") else "ended_early"))
+            stands(desk, None)
+        desk.get("/progress", PROGRESS)
+    recount()
+
+
+def test_every_byte_of_a_message():
+    """Each is changed to another: the answer is one that is documented, and the office has the whole return or none."""
+    new(db="new.db")
+    lodged = 0
+    for place in range(len(LODGE)):
+        message = bytearray(LODGE)
+        message[place] = (message[place] + 1) % 256
+        shutil.copy("new.db", "office.db")
+        with serving("office.db", 3) as desk:
+            status, value = answered(bytes(message), desk)
+            if status == 200:
+                lodged += 1
+                same(value, {"ok": "lodged", "rev": 1})
+            text = json.loads(message[LODGE.index(b"{"):]) if status == 200 else None
+            stands(desk, text)
+            desk.get("/progress", PROGRESS if text is None else PROGRESS.replace("1      1      0", "1      0      1"))
+        only("new.db", "office.db")
+    assert lodged > 5, lodged
+
+
+# ---- the examples of docs/openapi.json
+
+
+def counted(votes):
+    """A return of s1 is lodged and closed."""
+    return [("/station/s1/lodge", {"slip": "p1", "votes": votes, "blank": 0, "spoiled": 0}), ("/station/s1/close", {"rev": 1})]
+
+
+RECOUNT = [step[:2] for step in SCRIPT if step[2] == 200]
+CERTIFIED = [*counted([120, 100]), ("/con/c1/certify", {"edition": 1})]
+ROWS = ("/con/c1/import", RETURNS.rstrip())
+WORKED = ("/station/s1/lodge", json.loads(LODGE[LODGE.index(b"{"):]))
+
+# The states in which examples are given: a setup, the requests that lead there, and what is then changed by hand.
+STATES = {
+    "new": (SETUP, []), "received": (SETUP, RECOUNT[:1]), "closed": (SETUP, RECOUNT[:2]), "drawn": (SETUP, RECOUNT[:3]),
+    "certified": (SETUP, RECOUNT[:4]), "vacated": (SETUP, RECOUNT[:5]), "reopened": (SETUP, RECOUNT[:6]),
+    "queried": (SETUP, RECOUNT[:7]), "corrected": (SETUP, RECOUNT[:8]), "closed again": (SETUP, RECOUNT[:9]),
+    "worked": (SETUP, [WORKED]), "three stations": (THREE_STATIONS, []), "imported": (THREE_STATIONS, [ROWS]),
+    "no votes": (SETUP, counted([0, 0])), "no tie": (SETUP, counted([120, 100])), "certified without a lot": (SETUP, CERTIFIED),
+    "hare": (SETUP.replace("dhondt", "hare"), RECOUNT[:4]), "three equal lists": (setup_of("dhondt", 2, "ABC"), counted([100, 100, 100])),
+    "last revision": (SETUP, RECOUNT[:2], "UPDATE returns SET rev = 9999"),
+    "last edition": (SETUP, RECOUNT[:2], "UPDATE cons SET edition = 9999"),
+    "last certificate": (SETUP, CERTIFIED, "UPDATE cons SET edition = 9999"),
+}
+
+
+def given(state, body=None, s="s1", c="c1", **changes):
+    """A state, and the request to which an example is the answer there: the route's own example, another body, or some changes."""
+    assert state in STATES, state
+    return state, {"s": s, "c": c}, body, changes
+
+
+# Where each answer is given, by its name or by the name of its route and its own.
+GIVEN = {
+    "no_station": given("new", s="zz"), "no_constituency": given("new", c="zz"), "no_return": given("new"), "not_certified": given("new"),
+    "progress report": given("new"), "station corrected": given("corrected"), "station received": given("imported", s="s2"),
+    "constituency certified": given("certified"), "tally report": given("closed"), "report": given("certified"),
+    "quota report": given("hare"), "past report": given("reopened"),
+    "other_method": given("hare"), "quota other_method": given("certified"),
+    "lodge lodged": given("new"), "same": given("worked"), "differs": given("closed again"), "bad_body": given("new", "x"),
+    "bad_counts": given("queried", votes=[50, 40, 30]), "too_many_votes": given("queried", votes=[300, 1]), "bad_note": given("certified", note=""),
+    "query moved": given("reopened"), "correct moved": given("queried"), "close moved": given("received"),
+    "certified": given("certified"), "exhausted": given("last revision", rev=9999), "stale": given("closed"), "query stale": given("closed", rev=1),
+    "query wrong_status_2": given("queried", rev=3), "correct wrong_status_1": given("received", rev=1),
+    "correct wrong_status_3": given("corrected", rev=4), "correct wrong_status_4": given("closed", rev=2),
+    "close wrong_status_2": given("queried", rev=3), "close wrong_status_4": given("closed", rev=2),
+    "draw edition": given("closed"), "certify edition": given("drawn"), "reopen edition": given("certified"),
+    "draw exhausted": given("last edition", edition=9999), "certify exhausted": given("last edition", edition=9999),
+    "reopen exhausted": given("last certificate", edition=9999), "draw stale": given("drawn"), "certify stale": given("drawn", edition=1),
+    "reopen stale": given("certified without a lot"), "not_all_closed": given("new", edition=1), "no_eligible": given("no votes", edition=1),
+    "lot_stands": given("drawn", edition=2), "lot_not_needed": given("no tie"), "lot_wrong_group": given("closed", order=["A"]),
+    "lot_missing_1": given("closed", edition=1), "lot_missing_2": given("three equal lists", edition=1),
+    "nobody": given("certified"), "next": given("certified", list="A"), "no_candidate": given("certified", place=2),
+    "already_gone": given("vacated"), "not_holder": given("certified", list="A", place=2),
+    "lodged": given("three stations"), "import differs": given("imported", ROWS[1].replace("30,40", "31,40")),
+    "bad_header": given("three stations", "station"), "import too_long": given("three stations", RETURNS + "x\n" * 19998),
+    "importSemicolon too_long": given("three stations", RETURNS.replace(",", ";") + "x\n" * 19998),
+}
+
+# The messages of any route that have these answers, whatever the state.
+FAULTY = {
+    "bad_head": "{method} {target}\r\n\r\n",
+    "head_too_long": "{method} {target} HTTP/1.1\r\na: " + "b" * 16384,
+    "bad_length": "{method} {target} HTTP/1.1\r\nContent-Length: x\r\n\r\n",
+    "body_too_long": "{method} {target} HTTP/1.1\r\nContent-Length: 1048577\r\n\r\n",
+    "ended_early": "{method} {target} HTTP/1.1\r\nContent-Length: 3\r\n\r\n{{}}",
+    "length_required": "{method} {target} HTTP/1.1\r\nTransfer-Encoding: chunked\r\n\r\n",
+    "no_method": "PUT {target} HTTP/1.1\r\n\r\n",
+    "no_route": "{method} {target}/ HTTP/1.1\r\n\r\n",
+}
+
+
+def example_answer(status, response, kind, value):
+    """All bytes of the answer that an example stands for."""
+    text = openapi.compact(value) if kind == "application/json" else value
+    allow = [f"Allow: {it['schema']['enum'][0]}\r\n" for name, it in response["headers"].items() if name == "Allow"]
+    return (f"HTTP/1.1 {status} {openapi.PHRASES[status]}\r\nContent-Type: {kind}\r\nContent-Length: {len(text.encode())}\r\n"
+            f"{''.join(allow)}Connection: close\r\n\r\n{text}").encode()
+
+
+def request(method, target, body):
+    if method == "GET":
+        return f"GET {target} HTTP/1.1\r\n\r\n".encode()
+    text = body if isinstance(body, str) else json.dumps(body)
+    return f"POST {target} HTTP/1.1\r\nContent-Length: {len(text.encode())}\r\n\r\n{text}".encode()
+
+
+def examples():
+    """Of each example of an answer its name with that of its route, where it is given, the message, and the answer."""
+    operations = list(openapi.operations())
+    # The answer of every target that is on none of the paths.
+    operations.append(("/progress", "get", {"operationId": "none", "responses": {"404": openapi.DOCUMENT["components"]["responses"]["no_route"]}}))
+    for path, method, operation in operations:
+        method, bodies = method.upper(), [None]
+        if method == "POST":
+            bodies = [value for *_, value in openapi.contents(operation["requestBody"])]
+        for status, response in operation["responses"].items():
+            response = openapi.resolved(response)
+            for kind, _, own, value in openapi.contents(response):
+                name, answer = f"{operation['operationId']} {own}", example_answer(status, response, kind, value)
+                if own in FAULTY:
+                    target = path.format(s="s1", c="c1")
+                    yield name, "new", FAULTY[own].format(method=method, target=target).encode(), answer
+                elif own == "unavailable":
+                    yield from ((name, "full disk", request(method, path.format(s="s1", c="c1"), body), answer) for body in bodies)
+                else:
+                    assert name in GIVEN or own in GIVEN, f"nothing is known to lead to the example {name}"
+                    state, codes, body, changes = GIVEN.get(name) or GIVEN[own]
+                    # Where an answer is that of the route's own request, it is that of each of its examples.
+                    mine = [body] if body else [{**it, **changes} if changes else it for it in bodies]
+                    yield from ((name, state, request(method, path.format(**codes), it), answer) for it in mine)
+
+
+def lead_to(state):
+    """An office in a state, in a file of its name."""
+    setup, steps, *by_hand = STATES[state]
+    db = new(setup, f"{state}.db")
+    if steps:
+        with serving(db, len(steps)) as desk:
+            for path, body in steps:
+                same(desk.ask("POST", path, body if isinstance(body, str) else json.dumps(body))[0], 200)
+    for sql in by_hand:
+        change(sql, db)
+    return db
+
+
+def wrongly_answered(desk, sent):
+    """Those of these examples that are not answered as they stand."""
+    return [f"{name}: {message[:200]}\n  found  {found}\n  wanted {answer}" for name, _, message, answer in sent
+            if (found := desk.send(message)) != answer]
+
+
+def test_each_example_of_the_document():
+    """Each answer in docs/openapi.json is given, byte for byte, in a state that leads to it; each request is one that is accepted."""
+    sent = list(examples())
+    same({state for _, state, _, _ in sent}, {*STATES, "full disk"})
+    same({*GIVEN, *FAULTY, "unavailable"} - {name for it in sent for name in (it[0], it[0].split()[1])}, set())
+    accepted = [it for it in sent if it[2].startswith(b"POST") and it[3].startswith(b"HTTP/1.1 200 ")]
+    for path, method, operation in openapi.operations():
+        for *_, value in openapi.contents(operation["requestBody"]) if method == "post" else ():
+            assert request("POST", path.format(s="s1", c="c1"), value) in [it[2] for it in accepted], f"{path}: {value}"
+    wrong = []
+    for state in STATES:
+        db = lead_to(state)
+        before = rows(db)
+        for group in [[it for it in sent if it[1] == state and it not in accepted], *([it] for it in accepted if it[1] == state)]:
+            shutil.copy(db, "copy.db")
+            with serving("copy.db", len(group) + 1) as desk:
+                wrong += wrongly_answered(desk, group)
+                same(desk.ask("GET", "/progress")[0], 200)
+            if group and group[0] in accepted:
+                recount("copy.db")
+            else:
+                same(rows("copy.db"), before)
+    assert not wrong, "\n" + "\n".join(wrong)
+
+
+def test_what_is_answered_where_the_disk_is_full():
+    """A return that cannot be written gets the answer 503, which is the same on each route, and nothing has changed."""
+    unavailable = [it for it in examples() if it[1] == "full disk"]
+    same(len({answer for *_, answer in unavailable}), 1)
+    sent = [it for it in unavailable if it[0].startswith("lodge ")]
+    new()
+    desk = Desk("office.db", len(sent) + 1, restore_signals=False)
+    try:
+        resource.prlimit(desk.process.pid, resource.RLIMIT_FSIZE, (0, 0))
+        wrong = wrongly_answered(desk, sent)
+        same(desk.ask("GET", "/station/s1")[0], 404)
+        # Whether the closing fails too depends on what there is left to write.
+        ran = desk.end()
+        assert ran in (Ran(0, f"answered {len(sent) + 1} failed 0\n", ""), Ran(3, "", "failed: store\n")), ran
+    finally:
+        desk.process.kill()
+        desk.process.wait()
+    assert sent and not wrong, "\n" + "\n".join(wrong)
+    shows("progress", PROGRESS, con=None)
+
+
 # ---- the first page
 
 
 def test_the_first_election_of_the_readme():
     """Each command as it stands in README.md prints what stands there."""
     text = (ROOT / "README.md").read_text(encoding="utf-8")
-    part = text[text.index("## A first election"):text.index("## Quick start")]
+    part = text[text.index("## A first election"):text.index("## Statuses and spreadsheets")]
     lines = [line[4:] for line in part.splitlines() if line.startswith("    ")]
     port = str(free_port())
     commands = [line[2:].replace("8080", port) for line in lines if line[:2] in ("$ ", "> ")]
@@ -980,6 +1330,48 @@ def test_the_first_election_of_the_readme():
         ran = subprocess.run(["bash", "-c", script], stdout=subprocess.PIPE, stderr=said, env=environment, timeout=120)
     same((ran.returncode, re.findall(r'\{.*?\}|[^{\n]+', ran.stdout.decode())), (0, wanted))
     same(Path("closed").read_text(encoding="utf-8"), '{"ok":"moved","rev":2}' * 15)
+
+
+def command_lines(document):
+    """The lines of a document, in blocks and within the text, that begin with the program or the recount."""
+    text = (ROOT / document).read_text(encoding="utf-8")
+    found = re.findall(r"^    (?:\$ )?((?:\./office|python3 examples/recount\.py)\b.*)|`((?:\./office|python3 examples/recount\.py)\b[^`]*)`", text, re.M)
+    # Behind two spaces a block has words on the line.
+    return [re.split(r"  | &$", block or inline)[0] for block, inline in found]
+
+
+def test_the_command_lines_of_the_documents():
+    """Each runs as it stands: none is a wrong command line but those that ask for help, and a recount agrees."""
+    Path("office").symlink_to(PROGRAM)
+    Path("examples").symlink_to(ROOT / "examples")
+    lines = [line for document in ("README.md", "docs/FORMATS.md", "examples/README.md") for line in command_lines(document)]
+    assert len(lines) >= 10, lines
+    for line in lines:
+        # A word in capitals stands for any command, and FILE for a database.
+        for command in ("check", "new", "import", "show", "serve") if " COMMAND" in line else ("",):
+            words = line.replace("COMMAND", command)
+            for db in Path(".").glob("*.db"):
+                shutil.copy(db, "FILE")
+            if words.startswith("./office serve") and "--help" not in words:
+                starts_to_serve(words)
+                continue
+            ran = subprocess.run(["bash", "-c", words], stdin=subprocess.DEVNULL, capture_output=True, text=True, timeout=120)
+            if "--help" in words or words == "./office":
+                assert ran.returncode == 2 and "Usage" in ran.stderr, (words, ran)
+            elif words.startswith("python3"):
+                assert ran.returncode == 0 and ran.stdout.endswith(" agrees\n"), (words, ran)
+            else:
+                assert ran.returncode in (0, 1), (words, ran)
+
+
+def starts_to_serve(words):
+    """A server of a document's line, on a port that is free, is ended once it listens."""
+    words = re.sub(r"--port \d+", f"--port {free_port()}", words)
+    process = subprocess.Popen(["bash", "-c", "exec " + words], stdout=subprocess.PIPE, stderr=subprocess.PIPE)
+    said = process.stderr.readline().decode()
+    process.terminate()
+    process.communicate(timeout=60)
+    assert said.startswith(("listening on ", "refused: ")), (words, said)
 
 
 # A stand-in for `curl -s -d BODY URL`.
@@ -1009,7 +1401,9 @@ def main():
         with tempfile.TemporaryDirectory(prefix="office-test-") as folder:
             os.chdir(folder)
             try:
+                SPOILED.clear()
                 tests[name]()
+                recount_all()
                 passed += 1
             except Exception:
                 failures += 1

@@ -16,6 +16,10 @@ abbrev pub IsFindTrouble : Option Constituency → Trouble → Type 0
 IsFindTrouble None t = t ≡ NoConstituency
 IsFindTrouble (Some con) t = t ≡ Memory
 
+-- the six lines of an import's counts
+abbrev pub IsCountText : List ℕ → Type 0
+IsCountText text = (count : ImportCount) × (text ≡ count_text count)
+
 -- All rows that come were imported, where it is known what comes, and the text is the six lines of their count.
 abbrev pub IsImported : List Constituency → Option State → Option Coming → List ℕ → Option State → Type 0
 IsImported setup old known text new =

@@ -1,8 +1,12 @@
 -- What is told of an office that was made.
-use Rattle.std.specs.Prelude.{ℕ, List, length, codes}
+use Rattle.std.specs.Prelude.{◌≡◌, ℕ, List, length, codes}
 use Rattle.tally_import.specs.Check.{named_number}
 use Rattle.tally_rules.specs.Constituency.{Constituency}
 
 -- a line of how many constituencies there are
 abbrev pub constituencies_text : List Constituency → List ℕ
 constituencies_text cons = named_number (codes "constituencies") (length cons)
+
+-- such a line
+abbrev pub IsMadeText : List ℕ → Type 0
+IsMadeText text = (cons : List Constituency) × (text ≡ constituencies_text cons)

@@ -3,7 +3,7 @@
 ghost use Rattle.std.specs.Prelude.{◌≡◌, IfErr, IfOk, Some, option_map, string_bytes};
 ghost use Rattle.tally_import.specs.ReturnRows.{text_coming};
 ghost use Rattle.tally_rules.specs.Setup.{constituency_with};
-ghost use Rattle.tally_commands.specs.Imported.{IsFindTrouble, IsImportTrouble, IsImported};
+ghost use Rattle.tally_commands.specs.Imported.{IsCountText, IsFindTrouble, IsImportTrouble, IsImported};
 
 use crate::named::con_named;
 use crate::room::push_count;
@@ -42,6 +42,7 @@ pub fn import_rows<K: Keeper, R: Read + Drop>(
 ) -> Result<String, Trouble>
     ensures setup { K.constituencies keeper.new ≡ K.constituencies keeper.old }
     ensures trusted { K.IsTrusted keeper.new → K.IsTrusted keeper.old }
+    ensures text { IfOk result (λ text. IsCountText (string_bytes text)) }
     ensures imported { K.IsTrusted keeper.new → IfOk result (λ text.
         IsImported (K.constituencies keeper.old) (K.content keeper.old) (option_map (text_coming con sep) (R.remaining reader))
         (string_bytes text) (K.content keeper.new)) }

@@ -1,8 +1,10 @@
 //! Commands, and what GET shows after them.
 
 use crate::lines::first_wrong_in;
-use crate::offices::TWIN_TOWN;
+use crate::offices::Stored;
 use std::test::*;
+use tally_core::Book;
+use tally_scripts::TWIN_TOWN;
 
 // Three seats for two lists of 100 votes each, a lot, a vacancy and a recount.
 const RECOUNT: &str =
@@ -38,9 +40,12 @@ GET /station/s1 = 404 Not Found|{"refused":8,"word":"no_return"}"#;
 
 #[test]
 fn commands_have_these_answers(rt: HostRuntime) -> Result<(), Fail> {
+    let alloc = rt.alloc();
     for lines in [RECOUNT, REFUSED] {
-        let wrong = first_wrong_in(rt.alloc(), TWIN_TOWN, lines)?;
+        let wrong = first_wrong_in::<Book>(alloc, TWIN_TOWN, lines)?;
         assert!(rt; wrong.is_empty(), "{wrong}");
+        let wrong = first_wrong_in::<Stored>(alloc, TWIN_TOWN, lines)?;
+        assert!(rt; wrong.is_empty(), "in a database: {wrong}");
     }
     Ok(())
 }

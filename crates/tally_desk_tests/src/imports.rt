@@ -1,9 +1,10 @@
 //! Imports.
 
 use crate::lines::first_wrong_in;
-use crate::offices::TWIN_TOWN;
-use std::alloc::{AllocError, Global};
+use crate::offices::Stored;
 use std::test::*;
+use tally_core::Book;
+use tally_scripts::TWIN_TOWN;
 
 // Two more stations.
 const OTHER_STATIONS: &str = r#"
@@ -33,18 +34,25 @@ GET /station/s2 = 404 Not Found|{"refused":8,"word":"no_return"}
 POST /con/c1/import/semicolon station;slip;blank;spoiled;A;B|s2;p2;1;0;30;40 = 200 OK|{"bad":0,"differs":0,"first":null,"lodged":1,"ok":"import","refused":0,"same":0}
 GET /station/s2 = 200 OK|{"blank":1,"note":"","rev":1,"slip":"p2","spoiled":0,"station":"s2","status":"received","votes":[30,40]}"#;
 
-fn three_stations(alloc: Global) -> Result<String, AllocError> {
-    let mut setup = String::from_str(alloc, TWIN_TOWN)?;
-    setup.push_str(OTHER_STATIONS)?;
-    Ok(setup)
-}
+// The same text where neither of the other two is a station.
+const OF_OTHER_STATIONS: &str =
+    r#"POST /con/c1/import station,slip,blank,spoiled,A,B|s1,p1,0,0,10,20|s2,p2,1,0,30,40|s3,p3,0,2,50,60 = 200 OK|{"bad":2,"differs":0,"first":[2,0],"lodged":1,"ok":"import","refused":0,"same":0}
+GET /station/s1 = 200 OK|{"blank":0,"note":"","rev":1,"slip":"p1","spoiled":0,"station":"s1","status":"received","votes":[10,20]}
+GET /station/s2 = 404 Not Found|{"refused":1,"word":"no_station"}"#;
 
 #[test]
 fn imports_are_answered_with_their_counts(rt: HostRuntime) -> Result<(), Fail> {
-    let setup = three_stations(rt.alloc())?;
-    for lines in [AGAIN, BAD] {
-        let wrong = first_wrong_in(rt.alloc(), setup.as_str(), lines)?;
+    let alloc = rt.alloc();
+    let setup = format!(in alloc; "{TWIN_TOWN}{OTHER_STATIONS}")?;
+    for (text, lines) in [
+        (setup.as_str(), AGAIN),
+        (setup.as_str(), BAD),
+        (TWIN_TOWN, OF_OTHER_STATIONS),
+    ] {
+        let wrong = first_wrong_in::<Book>(alloc, text, lines)?;
         assert!(rt; wrong.is_empty(), "{wrong}");
+        let wrong = first_wrong_in::<Stored>(alloc, text, lines)?;
+        assert!(rt; wrong.is_empty(), "in a database: {wrong}");
     }
     Ok(())
 }

@@ -1,9 +1,11 @@
-//! Tests of `tally_desk`, which over its finished proofs are checked once. Nothing here is public, so there are no
-//! must-fail edits.
+//! Tests of `tally_desk` over a keeper in memory and over one in a database, which over its finished proofs are
+//! checked once. Nothing here is public, so there are no must-fail edits.
 #![tactic(auto)]
 
 #[cfg(test)]
 mod commands;
+#[cfg(test)]
+mod failures;
 #[cfg(test)]
 mod imports;
 #[cfg(test)]

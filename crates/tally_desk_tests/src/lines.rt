@@ -1,12 +1,12 @@
 //! Messages and answers as lines of text.
 
-use crate::offices::{answer_to, office};
+use crate::offices::{Office, answer_to};
 use std::alloc::{AllocError, Global};
 use std::test::Fail;
-use tally_core::Book;
+use tally_core::Keeper;
 
 /// The texts before a mark and behind it; where there is no mark, the whole text and an empty one.
-fn cut<'a>(text: &'a str, mark: &str) -> (&'a str, &'a str) {
+pub(crate) fn cut<'a>(text: &'a str, mark: &str) -> (&'a str, &'a str) {
     text.split_once(mark).unwrap_or((text, ""))
 }
 
@@ -23,7 +23,7 @@ fn body_of(alloc: Global, text: &str) -> Result<String, AllocError> {
 }
 
 /// The message of a line such as `POST /con/c1/certify {"edition":1}`.
-fn message(alloc: Global, line: &str) -> Result<String, AllocError> {
+pub(crate) fn message(alloc: Global, line: &str) -> Result<String, AllocError> {
     let (method, rest) = cut(line, " ");
     let (target, body) = cut(rest, " ");
     let body = body_of(alloc, body)?;
@@ -45,7 +45,7 @@ fn answer(alloc: Global, status: &str, kind: &str, body: &str) -> Result<String,
 }
 
 /// The answer of a line such as `200 OK|{"ok":"lodged","rev":1}`, in JSON.
-fn json_answer(alloc: Global, line: &str) -> Result<String, AllocError> {
+pub(crate) fn json_answer(alloc: Global, line: &str) -> Result<String, AllocError> {
     let (status, body) = cut(line, "|");
     answer(alloc, status, "application/json", body)
 }
@@ -57,13 +57,21 @@ fn text_answer(alloc: Global, report: &str) -> Result<String, AllocError> {
 }
 
 /// What an office answers to the message of a line.
-fn answer_to_line(alloc: Global, office: &mut Book, line: &str) -> Result<String, Fail> {
+pub(crate) fn answer_to_line<K: Keeper>(
+    alloc: Global,
+    office: &mut K,
+    line: &str,
+) -> Result<String, Fail> {
     let message = message(alloc, line)?;
     answer_to(alloc, office, message.as_str())
 }
 
 /// The first of these lines, a message and its answer, whose answer is another, with that answer; or nothing.
-pub(crate) fn first_wrong(alloc: Global, office: &mut Book, lines: &str) -> Result<String, Fail> {
+pub(crate) fn first_wrong<K: Keeper>(
+    alloc: Global,
+    office: &mut K,
+    lines: &str,
+) -> Result<String, Fail> {
     for line in lines.lines() {
         let (said, want) = cut(line, " = ");
         let want = json_answer(alloc, want)?;
@@ -76,15 +84,29 @@ pub(crate) fn first_wrong(alloc: Global, office: &mut Book, lines: &str) -> Resu
 }
 
 /// The same of a new office of a setup.
-pub(crate) fn first_wrong_in(alloc: Global, setup: &str, lines: &str) -> Result<String, Fail> {
-    let mut office = office(alloc, setup)?;
+pub(crate) fn first_wrong_in<K: Office>(
+    alloc: Global,
+    setup: &str,
+    lines: &str,
+) -> Result<String, Fail> {
+    let mut office = K::made(alloc, setup)?;
     first_wrong(alloc, &mut office, lines)
 }
 
+/// A new office of a setup after these lines, whose answers are given.
+pub(crate) fn office_after<K: Office>(alloc: Global, setup: &str, lines: &str) -> Result<K, Fail> {
+    let mut office = K::made(alloc, setup)?;
+    let wrong = first_wrong(alloc, &mut office, lines)?;
+    if wrong.is_empty() {
+        return Ok(office);
+    }
+    Err(Fail::from(wrong))
+}
+
 /// The same of paragraphs, each a message in its first line and a report in the others.
-pub(crate) fn first_wrong_report(
+pub(crate) fn first_wrong_report<K: Keeper>(
     alloc: Global,
-    office: &mut Book,
+    office: &mut K,
     paragraphs: &str,
 ) -> Result<String, Fail> {
     for paragraph in paragraphs.split("\n\n") {

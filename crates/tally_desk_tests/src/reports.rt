@@ -1,12 +1,14 @@
 //! Reports over HTTP.
 
-use crate::lines::{first_wrong, first_wrong_report};
-use crate::offices::{TWIN_TOWN, office};
+use crate::lines::{first_wrong, first_wrong_report, office_after};
+use crate::offices::{Office, Stored};
 use std::alloc::Global;
 use std::test::*;
+use tally_core::Book;
+use tally_scripts::{TWIN_TOWN, twin_town};
 
-// Three seats for two lists of 100 votes each, and a lot by which B is first.
-const CERTIFIED: &str =
+/// Three seats for two lists of 100 votes each, and a lot by which B is first.
+pub(crate) const CERTIFIED: &str =
     r#"POST /station/s1/lodge {"slip":"p1","votes":[100,100],"blank":0,"spoiled":0} = 200 OK|{"ok":"lodged","rev":1}
 POST /station/s1/close {"rev":1} = 200 OK|{"ok":"moved","rev":2}
 POST /con/c1/draw {"edition":1,"order":["B","A"]} = 200 OK|{"edition":2,"ok":"edition"}
@@ -70,48 +72,44 @@ edition 3
 A                   1 Alpha
 B                   2 Beta";
 
-// The setup by the method of that name.
-fn by_method(alloc: Global, method: &str) -> Result<String, Fail> {
-    let (front, back) = TWIN_TOWN.split_once("dhondt").ok_or("no method")?;
-    Ok(format!(in alloc; "{front}{method}{back}")?)
-}
-
-// The first wrong answer up to a certification by a method, and among the reports after it; or nothing.
-fn wrong_after_certification(alloc: Global, method: &str, reports: &str) -> Result<String, Fail> {
-    let setup = by_method(alloc, method)?;
-    let mut office = office(alloc, setup.as_str())?;
-    let wrong = first_wrong(alloc, &mut office, CERTIFIED)?;
-    if !wrong.is_empty() {
-        return Ok(wrong);
-    }
+// The first wrong one among the reports after a certification by a method; or nothing.
+fn wrong_after_certification<K: Office>(
+    alloc: Global,
+    method: &str,
+    reports: &str,
+) -> Result<String, Fail> {
+    let setup = twin_town(alloc, method, 3)?;
+    let mut office = office_after::<K>(alloc, setup.as_str(), CERTIFIED)?;
     first_wrong_report(alloc, &mut office, reports)
-}
-
-// The same where the certificate is reopened after a vacancy.
-fn wrong_after_reopening(alloc: Global) -> Result<String, Fail> {
-    let mut office = office(alloc, TWIN_TOWN)?;
-    for lines in [CERTIFIED, VACATED_AND_REOPENED] {
-        let wrong = first_wrong(alloc, &mut office, lines)?;
-        if !wrong.is_empty() {
-            return Ok(wrong);
-        }
-    }
-    first_wrong_report(alloc, &mut office, PAST)
 }
 
 #[test]
 fn each_report_has_its_route(rt: HostRuntime) -> Result<(), Fail> {
     let alloc = rt.alloc();
     for (method, reports) in [("dhondt", BY_DIVISORS), ("hare", BY_QUOTAS)] {
-        let wrong = wrong_after_certification(alloc, method, reports)?;
+        let wrong = wrong_after_certification::<Book>(alloc, method, reports)?;
         assert!(rt; wrong.is_empty(), "{wrong}");
+        let wrong = wrong_after_certification::<Stored>(alloc, method, reports)?;
+        assert!(rt; wrong.is_empty(), "in a database: {wrong}");
     }
     Ok(())
 }
 
+// The first wrong answer where a certificate is reopened after a vacancy; or nothing.
+fn wrong_after_reopening<K: Office>(alloc: Global) -> Result<String, Fail> {
+    let mut office = office_after::<K>(alloc, TWIN_TOWN, CERTIFIED)?;
+    let wrong = first_wrong(alloc, &mut office, VACATED_AND_REOPENED)?;
+    if !wrong.is_empty() {
+        return Ok(wrong);
+    }
+    first_wrong_report(alloc, &mut office, PAST)
+}
+
 #[test]
 fn a_certificate_that_was_reopened_is_past(rt: HostRuntime) -> Result<(), Fail> {
-    let wrong = wrong_after_reopening(rt.alloc())?;
+    let wrong = wrong_after_reopening::<Book>(rt.alloc())?;
     assert!(rt; wrong.is_empty(), "{wrong}");
+    let wrong = wrong_after_reopening::<Stored>(rt.alloc())?;
+    assert!(rt; wrong.is_empty(), "in a database: {wrong}");
     Ok(())
 }

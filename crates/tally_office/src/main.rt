@@ -1,15 +1,9 @@
 //! The program `office`: an electoral office on the command line.
 #![tactic(auto)]
 
-mod commands;
-mod files;
-mod help;
-mod line;
-mod perform;
-
-use perform::{perform, report_start};
 use std::process::ExitCode;
 use std::{env, io};
+use tally_program::{perform, report_start};
 
 fn main(rt: HostRuntime) -> ExitCode {
     let status = match run(&rt) {

@@ -16,3 +16,4 @@ pub mod StoredLemmas
 pub mod CertifiedLemmas
 pub mod OpenedLemmas
 pub mod TakeoverLemmas
+pub mod UnwrittenLemmas

@@ -21,7 +21,7 @@ use Rattle.tally_tables.specs.TablesOfState.{AreTables, version}
 use Rattle.tally_store.specs.Create.{IsAsBefore}
 use Rattle.tally_store.specs.Making.{IsSettled}
 use Rattle.tally_store.specs.Open.{AreFormerTables, HasSetup, IsOfKnownVersion, IsOpenFault, IsOpened, IsSetupOf, LacksTable, former_version, taken_over}
-use Rattle.tally_store.specs.Opening.{AreFormerOfNone, AreTablesOfNone, IsFormerFault, IsJudged, IsOfNoVersion, IsStored, IsTodayFault, with_setup}
+use Rattle.tally_store.specs.Opening.{AreFormerOfNone, AreTablesOfNone, IsFormerFault, IsJudged, IsOfNoVersion, HasSetupRow, IsTodayFault, with_setup}
 use Rattle.tally_store.specs.Store.{IsOffice}
 use Rattle.tally_store.specs.declared.fault.OpenFault.{OpenFault}
 use Rattle.tally_store.specs.declared.fault.OpenFault.TheVariants.{BadTables, Memory, NoTables, Setup, Store}
@@ -84,7 +84,7 @@ is_text text words setup same reads = rw (same, reads) refl
 stored_same : (old : Seen) (text : List ℕ) → HasSetup version text old.now.trees → AreSame (with_setup text old).now.trees old.now.trees
 stored_same old text row = record { setup = row; tables = λ t. sym (beside_setup text old t) }
 
-pub opened_today : (setup : List Constituency) (old new : Seen) → old.now.schema ≡ office_schema → IsStored version setup old → IsJudged setup old → IsSettled old → (IsTrue new.is_open → IsTrue old.is_open)
+pub opened_today : (setup : List Constituency) (old new : Seen) → old.now.schema ≡ office_schema → HasSetupRow version setup old → IsJudged setup old → IsSettled old → (IsTrue new.is_open → IsTrue old.is_open)
     → (IsTrue new.is_open → IsAsBefore old new) → IsOpened setup old new
 opened_today setup old new schema stored judged settled was_open before = record {
   state = (judged.one stored.text).state;
@@ -124,7 +124,7 @@ fault_today old BadTables schema names past told = (λ setup text s lawful found
     lacks (inr missing) = true≢false (sym past ∙ missing.0)
 
     Told : Type 0
-    Told = ((text : List ℕ) → HasSetup version text old.now.trees → ⊥) ⊎ ((setup : List Constituency) × IsStored version setup old × AreTablesOfNone setup old)
+    Told = ((text : List ℕ) → HasSetup version text old.now.trees → ⊥) ⊎ ((setup : List Constituency) × HasSetupRow version setup old × AreTablesOfNone setup old)
 
     no_state : Told → (setup : List Constituency) (text : List ℕ) (s : State) → IsLawfulState setup s → setup_of_text text ≡ Ok setup
         → ((old.now.schema ≡ office_schema) × AreTables setup text s old.now.trees) ⊎ ((old.now.schema ≡ former_schema) × AreFormerTables setup text s old.now.trees) → ⊥
@@ -195,6 +195,6 @@ setup_opened setup old new opened = (opened.text, known opened.found.found.1, op
 -- ---- what calls answered
 
 pub today_each : (r : Result (List Constituency) OpenFault) (old new : Seen) → old.now.schema ≡ office_schema → IsSettled old → (IsTrue new.is_open → IsTrue old.is_open) → (IsTrue new.is_open → IsAsBefore old new)
-    → IfOk r (λ setup. IsStored version setup old) → IfOk r (λ setup. IsJudged setup old) → IfOk r (λ setup. IsOpened setup old new)
+    → IfOk r (λ setup. HasSetupRow version setup old) → IfOk r (λ setup. IsJudged setup old) → IfOk r (λ setup. IsOpened setup old new)
 today_each (Ok setup) old new schema settled was_open before stored judged = opened_today setup old new schema stored judged settled was_open before
 today_each (Err fault) old new schema settled was_open before stored judged = tt

@@ -32,7 +32,7 @@ use Rattle.tally_store.specs.Content.{content_of}
 use Rattle.tally_store.specs.Crash.{AreTablesAfter, AreTablesImported}
 use Rattle.tally_store.specs.Create.{IsAsBefore}
 use Rattle.tally_store.specs.Requests.{Does, DoesImport, IsDone, IsAllDone, IsImportDone}
-use Rattle.tally_store.specs.Store.{HasState, IsOffice, IsStored}
+use Rattle.tally_store.specs.Store.{HasState, IsOffice, IsStored, KeepsText}
 use Rattle.tally_store.proofs.ContentLemmas.{content_is, content_shut}
 
 -- ---- a transaction and its end
@@ -203,3 +203,17 @@ module _ (setup : List Constituency) (old new : Seen) (known : Option Coming) (e
           subst₂ (λ a b. Happens setup a (failed_import fault) b) (sym (content_is setup office.0 old views was.limits office.1 office.2 before)) (sym (content_shut setup new shut)) tt
       go false true before now = absurd (true≢false (sym (h.was_open clean now) ∙ before))
       go false false before shut = subst₂ (λ a b. Happens setup a (failed_import fault) b) (sym (content_shut setup old before)) (sym (content_shut setup new shut)) tt
+
+-- ---- the text of the setup
+
+pub keeps_text : (setup : List Constituency) (old new : Seen) (ask : Ask) (r : Result Reply Refusal) → Does setup ask old new r → HasCleanDisk new → IsTrue new.is_open → KeepsText setup old new
+keeps_text setup old new ask r does clean now text s lawful h =
+    let done = does clean now text s lawful h in
+    (done.state, done.has)
+
+text_imported : (setup : List Constituency) (text : List ℕ) (s : State) (known : Option Coming) (r : Result ImportCount ImportFault) (new : Seen) → IsImportDone setup text s known r new → (t : State) × HasState setup text t new
+text_imported setup text s known (Ok count) new done = (done.state, done.has)
+text_imported setup text s known (Err fault) new done = (s, done)
+
+pub keeps_text_imported : (setup : List Constituency) (old new : Seen) (known : Option Coming) (r : Result ImportCount ImportFault) → DoesImport setup known old new r → HasCleanDisk new → IsTrue new.is_open → KeepsText setup old new
+keeps_text_imported setup old new known r does clean now text s lawful h = text_imported setup text s known r new (does clean now text s lawful h)

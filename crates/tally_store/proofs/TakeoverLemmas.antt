@@ -18,7 +18,7 @@ use Rattle.tally_statements.specs.Office.{HasSetup as SetsSetup, IsInside, Shows
 use Rattle.tally_tables.specs.TablesOfState.{AreTables, version}
 use Rattle.tally_store.specs.Crash.{LeavesTakenOver}
 use Rattle.tally_store.specs.Open.{AreFormerTables, HasSetup, IsOpened, IsTakenOver, former_version, taken_over}
-use Rattle.tally_store.specs.Opening.{IsFormerFault, IsFormerJudgedFault, IsFormerSetupFault, IsJudged, HasPast, IsReady, IsShownFault, IsShownSetup, IsStored, IsTaken, with_setup}
+use Rattle.tally_store.specs.Opening.{IsFormerFault, IsFormerJudgedFault, IsFormerSetupFault, IsJudged, AddsPast, IsReady, IsShownFault, IsShownSetup, HasSetupRow, IsTaken, with_setup}
 use Rattle.tally_store.specs.declared.fault.OpenFault.{OpenFault}
 use Rattle.tally_store.specs.declared.fault.OpenFault.TheVariants.{BadTables, Memory, NoTables, Setup, Store}
 use Rattle.tally_store.proofs.JudgingLemmas.{judged_now, tables_still}
@@ -27,7 +27,7 @@ use Rattle.tally_store.proofs.StoredLemmas.{row_shown, row_stored}
 
 -- ---- the row of `setup`
 
-pub stored_shown : (seen : Seen) (answer : List Row) (setup : List Constituency) → ShowsSetup seen answer → IsShownSetup answer setup → IsStored former_version setup seen
+pub stored_shown : (seen : Seen) (answer : List Row) (setup : List Constituency) → ShowsSetup seen answer → IsShownSetup answer setup → HasSetupRow former_version setup seen
 stored_shown seen answer setup shown is = record { text = is.0; reads = is.2; row = row_stored former_version is.0 seen answer shown is.1 }
 
 pub fault_shown : (seen : Seen) (answer : List Row) (fault : OpenFault) → ShowsSetup seen answer → IsShownFault answer fault → IsFormerSetupFault seen.now.trees fault
@@ -40,7 +40,7 @@ fault_shown seen answer Store shown told = (told.0, row_stored former_version to
 
 -- ---- the table `past`
 
-pub past_added : (old new : Seen) → AddsTable 8 past_tree old new → HasPast old new
+pub past_added : (old new : Seen) → AddsTable 8 past_tree old new → AddsPast old new
 past_added old new added = record {
   has = record { schema = added.tables.schema; sound = λ _. added.sound; inside = added.tables.inside };
   setup = added.others.0;
@@ -57,14 +57,14 @@ past_added old new added = record {
     each text Totals = added.others.1.1.1.1.1.1.1.0
     each text Past = added.empty
 
-past_still : (old mid new : Seen) → HasPast old mid → IsUnchanged mid new → HasPast old new
+past_still : (old mid new : Seen) → AddsPast old mid → IsUnchanged mid new → AddsPast old new
 past_still old mid new past same = record {
   has = tables_still mid new past.has same;
   setup = ap (λ (d : Database). d.trees setup_tree) same.0.now_is ∙ past.setup;
   each = λ text t. ap (λ (d : Database). d.trees (tree_of t)) same.0.now_is ∙ past.each text t;
 }
 
-pub ready : (setup : List Constituency) (old mid new : Seen) → HasPast old mid → IsUnchanged mid new → IsStored former_version setup mid → IsJudged setup mid → IsReady setup old new
+pub ready : (setup : List Constituency) (old mid new : Seen) → AddsPast old mid → IsUnchanged mid new → HasSetupRow former_version setup mid → IsJudged setup mid → IsReady setup old new
 ready setup old mid new past same stored judged = record {
   stored = record { text = stored.text; reads = stored.reads; row = sym past.setup ∙ stored.row };
   judged = judged_now setup new mid (sym same.0.now_is) judged;
@@ -72,11 +72,11 @@ ready setup old mid new past same stored judged = record {
 }
 
 -- with a row of today's version they are the tables as they are taken over
-over_same : (text : List ℕ) (old mid : Seen) → HasPast old mid → AreSame (with_setup text mid).now.trees (taken_over text old.now.trees)
+over_same : (text : List ℕ) (old mid : Seen) → AddsPast old mid → AreSame (with_setup text mid).now.trees (taken_over text old.now.trees)
 over_same text old mid past = record { setup = refl; tables = λ t. sym (beside_setup text mid t ∙ past.each text t) }
 
 -- why they are not taken over
-pub fault_judged : (old mid : Seen) (fault : OpenFault) → HasPast old mid → IsFormerJudgedFault mid fault → IsFormerFault old.now.trees fault
+pub fault_judged : (old mid : Seen) (fault : OpenFault) → AddsPast old mid → IsFormerJudgedFault mid fault → IsFormerFault old.now.trees fault
 fault_judged old mid NoTables past told = (told.0, sym past.setup ∙ told.1)
 fault_judged old mid BadTables past (inl none) = inl (λ text row. none.0 text (past.setup ∙ row), λ text row. none.1 text (past.setup ∙ row))
 fault_judged old mid BadTables past (inr unlawful) = inr (record {
@@ -143,13 +143,13 @@ leaves_taken setup old last db schema h is = (schema, setup, h.text, h.state, h.
 
 -- ---- what calls answered
 
-pub ready_each : (r : Result (Result (List Constituency) OpenFault) Error) (old mid new : Seen) → HasPast old mid → OnOk r (IsUnchanged mid new) → IfOk r (λ told. IfOk told (λ setup. IsStored former_version setup mid))
+pub ready_each : (r : Result (Result (List Constituency) OpenFault) Error) (old mid new : Seen) → AddsPast old mid → OnOk r (IsUnchanged mid new) → IfOk r (λ told. IfOk told (λ setup. HasSetupRow former_version setup mid))
     → IfOk r (λ told. IfOk told (λ setup. IsJudged setup mid)) → IfOk r (λ told. IfOk told (λ setup. IsReady setup old new))
 ready_each (Ok (Ok setup)) old mid new past same stored judged = ready setup old mid new past same stored judged
 ready_each (Ok (Err fault)) old mid new past same stored judged = tt
 ready_each (Err e) old mid new past same stored judged = tt
 
-pub fault_each : (r : Result (Result (List Constituency) OpenFault) Error) (old mid : Seen) → HasPast old mid → IfOk r (λ told. IfErr told (IsFormerJudgedFault mid)) → IfOk r (λ told. IfErr told (IsFormerFault old.now.trees))
+pub fault_each : (r : Result (Result (List Constituency) OpenFault) Error) (old mid : Seen) → AddsPast old mid → IfOk r (λ told. IfErr told (IsFormerJudgedFault mid)) → IfOk r (λ told. IfErr told (IsFormerFault old.now.trees))
 fault_each (Ok (Ok setup)) old mid past told = tt
 fault_each (Ok (Err fault)) old mid past told = fault_judged old mid fault past told
 fault_each (Err e) old mid past told = tt

@@ -1,7 +1,7 @@
 -- What a crash may leave.
-use Rattle.std.specs.Prelude.{◌≡◌, List, ℕ, Option, Some, Result, Ok}
+use Rattle.std.specs.Prelude.{◌≡◌, List, ℕ, Option, Some, Result, Ok, IsTrue, codes}
 use Rattle.sqlite.specs.Effect.{Database}
-use Rattle.sqlite.specs.State.{State as Seen}
+use Rattle.sqlite.specs.State.{State as Seen, HasCleanDisk, Survives}
 use Rattle.sqlite_trees.specs.Tree.{Trees}
 use Rattle.tally_rules.specs.Constituency.{Constituency}
 use Rattle.tally_rules.specs.Reading.{setup_of_text}
@@ -14,8 +14,10 @@ use Rattle.tally_returns.specs.declared.reply.Reply.{Reply}
 use Rattle.tally_core.specs.Keeper.{IsImportOf}
 use Rattle.tally_core.specs.Source.{Coming}
 use Rattle.tally_core.specs.declared.import.ImportCount.{ImportCount}
+use Rattle.tally_schema.specs.Made.{has_table}
 use Rattle.tally_schema.specs.Tables.{former_schema}
 use Rattle.tally_tables.specs.TablesOfState.{AreTables}
+use Rattle.tally_store.specs.Create.{IsAsBefore}
 use Rattle.tally_store.specs.Open.{AreFound}
 use Rattle.tally_store.specs.Store.{HasState, IsOffice}
 
@@ -49,6 +51,17 @@ LeavesImported setup known old db = (text : List ℕ) (s : State) → IsLawfulSt
 abbrev pub LeavesTakenOver : Database → Trees → Type 0
 LeavesTakenOver found db =
     (found.schema ≡ former_schema) × (setup : List Constituency) × (text : List ℕ) × (s : State) × IsLawfulState setup s × AreFound setup text s found × AreTables setup text s db
+
+-- a table `past` stands, so that there is nothing to take over
+abbrev pub HasPast : Database → Type 0
+HasPast db = IsTrue (has_table db.schema (codes "past"))
+
+-- Nothing was written. A crash leaves what it could leave before: where the connection was open, what was found and nothing else. Where it
+-- still is open, what is there, and what was committed, are what was found, row by row.
+pub record IsUnwritten (old new : Seen) : Type 0 where
+  pub survives : Survives old new (λ _. ⊥)
+  pub crash : HasCleanDisk new → IsTrue old.is_open → (db : Trees) → new.may_leave db → db ≡ old.now.trees
+  pub same : HasCleanDisk new → IsTrue new.is_open → IsAsBefore old new
 
 -- Between calls: the database is that of a lawful state, and a crash leaves its tables and nothing else.
 pub record IsKept (setup : List Constituency) (seen : Seen) : Type 0 where

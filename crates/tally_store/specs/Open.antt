@@ -80,7 +80,7 @@ abbrev pub HasOfficeTables : Database → Type 0
 HasOfficeTables db = (db.schema ≡ office_schema) ⊎ (db.schema ≡ former_schema)
 
 -- Why a database is not opened: a table is missing; none is, and the rows are those of no state, and the text is not at fault; the text of
--- a known version is no setup. The database, and want of memory, may be the reason at any place.
+-- a known version is no setup. The database, and being out of memory, may be the reason at any place.
 abbrev pub IsOpenFault : Database → OpenFault → Type 0
 IsOpenFault db NoTables = LacksTable db
 IsOpenFault db BadTables = AreOfNoState db × HasNoTextFault db × HasOfficeTables db × (LacksTable db → ⊥)

@@ -104,14 +104,14 @@ shown_of_row row =
 abbrev pub setup_shown : List Row → Option (ℕ × List ℕ)
 setup_shown rows = if length rows == 1 then shown_of_row (slice_index_or rows 0 []) else None
 
--- why a stored text is not taken: its first fault, or want of memory
+-- why a stored text is not taken: its first fault, or that it is out of memory
 abbrev pub IsTextFault : List ℕ → OpenFault → Type 0
 IsTextFault text (Setup fault) = IsFaultIn (setup_of_text text) fault × (fault ≢ setup_fault.Memory)
 IsTextFault text Memory = Unit {0}
 IsTextFault text other = ⊥
 
 -- `setup` has its one row, of this version and of a text that is this setup.
-pub record IsStored (number : ℕ) (setup : List Constituency) (seen : Seen) : Type 0 where
+pub record HasSetupRow (number : ℕ) (setup : List Constituency) (seen : Seen) : Type 0 where
   pub text : List ℕ
   pub reads : setup_of_text text ≡ Ok setup
   pub row : seen.now.trees setup_tree ≡ setup_row number text ∷ []
@@ -124,7 +124,7 @@ IsSetupFault number seen fault = (text : List ℕ) × (seen.now.trees setup_tree
 -- Why the tables are not taken: the same; or they are those of no lawful state over the setup that is stored.
 abbrev pub IsJudgedFault : ℕ → Seen → OpenFault → Type 0
 IsJudgedFault number seen BadTables =
-    ((text : List ℕ) → seen.now.trees setup_tree ≡ setup_row number text ∷ [] → ⊥) ⊎ ((setup : List Constituency) × IsStored number setup seen × AreTablesOfNone setup seen)
+    ((text : List ℕ) → seen.now.trees setup_tree ≡ setup_row number text ∷ [] → ⊥) ⊎ ((setup : List Constituency) × HasSetupRow number setup seen × AreTablesOfNone setup seen)
 IsJudgedFault number seen fault = (text : List ℕ) × (seen.now.trees setup_tree ≡ setup_row number text ∷ []) × IsTextFault text fault
 
 -- The same of an opening of today's tables; the database may fail at any place.
@@ -158,7 +158,7 @@ IsFormerSetupFault db fault = (text : List ℕ) × HasSetup former_version text 
 
 -- Why tables with an empty `past` are not taken over: the same; or they are those of no lawful state over the setup that is stored.
 abbrev pub IsFormerJudgedFault : Seen → OpenFault → Type 0
-IsFormerJudgedFault seen BadTables = IsOfNoVersion seen.now.trees ⊎ ((setup : List Constituency) × IsStored former_version setup seen × AreTablesOfNone setup seen)
+IsFormerJudgedFault seen BadTables = IsOfNoVersion seen.now.trees ⊎ ((setup : List Constituency) × HasSetupRow former_version setup seen × AreTablesOfNone setup seen)
 IsFormerJudgedFault seen fault = IsFormerSetupFault seen.now.trees fault
 
 -- The tables of version 1 are those of no lawful state over the setup that is stored.
@@ -178,16 +178,16 @@ IsFormerFault db Memory = Unit {0}
 IsFormerFault db Store = Unit {0}
 
 -- Beside the tables of version 1, whose rows stay, there is a table `past` without rows.
-pub record HasPast (old new : Seen) : Type 0 where
+pub record AddsPast (old new : Seen) : Type 0 where
   pub has : HasTables new
   pub setup : new.now.trees setup_tree ≡ old.now.trees setup_tree
   pub each : (text : List ℕ) (t : KeyedTable) → new.now.trees (tree_of t) ≡ taken_over text old.now.trees (tree_of t)
 
 -- The tables of version 1 are those of one lawful state, and `past` is there.
 pub record IsReady (setup : List Constituency) (old new : Seen) : Type 0 where
-  pub stored : IsStored former_version setup old
+  pub stored : HasSetupRow former_version setup old
   pub judged : IsJudged setup new
-  pub past : HasPast old new
+  pub past : AddsPast old new
 
 -- They are taken over, and were those of one lawful state.
 pub record IsTaken (setup : List Constituency) (old new : Seen) : Type 0 where
@@ -210,7 +210,7 @@ IsTodaySchema schema = (schema ≡ office_schema) × (has_former_tables schema �
 abbrev pub IsFormerSchema : Schema → Type 0
 IsFormerSchema schema = (schema ≡ former_schema) × (has_former_tables schema ≡ true) × (has_table schema (codes "past") ≡ false)
 
--- why a schema is not one of them: a table of version 1 is missing; the database and want of memory may be the reason at any place
+-- why a schema is not one of them: a table of version 1 is missing; the database, and being out of memory, may be the reason at any place
 abbrev pub IsSchemaFault : Schema → OpenFault → Type 0
 IsSchemaFault schema NoTables = has_former_tables schema ≡ false
 IsSchemaFault schema Memory = Unit {0}

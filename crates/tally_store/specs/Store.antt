@@ -44,3 +44,9 @@ pub record IsStored (setup : List Constituency) (seen : Seen) : Type 0 where
   pub limits : IsSetup setup
   pub autocommit : seen.in_transaction ≡ false
   pub office : HasCleanDisk seen → IsTrue seen.is_open → (s : State) × IsLawfulState setup s × IsOffice setup s seen
+
+-- The text of the setup that is on record stays, byte for byte: where the database was that of a lawful state over this text, it is that of
+-- some state over the same.
+abbrev pub KeepsText : List Constituency → Seen → Seen → Type 0
+KeepsText setup old new =
+    (text : List ℕ) (s : State) → IsLawfulState setup s → HasState setup text s old → (t : State) × HasState setup text t new

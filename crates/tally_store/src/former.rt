@@ -10,7 +10,7 @@ ghost use Rattle.tally_store.specs.Crash.{LeavesTakenOver};
 ghost use Rattle.tally_store.specs.Create.{IsAsBefore};
 ghost use Rattle.tally_store.specs.Making.{IsSettled};
 ghost use Rattle.tally_store.specs.Open.{IsOpened, former_version};
-ghost use Rattle.tally_store.specs.Opening.{IsFormerFault, IsFormerJudgedFault, IsFormerSetupFault, IsJudged, IsReady, IsShownFault, IsShownSetup, IsStored, IsTaken};
+ghost use Rattle.tally_store.specs.Opening.{IsFormerFault, IsFormerJudgedFault, IsFormerSetupFault, IsJudged, IsReady, IsShownFault, IsShownSetup, HasSetupRow, IsTaken};
 
 use crate::fault::OpenFault;
 use crate::judging::judge_office;
@@ -52,7 +52,7 @@ fn read_former<S: Alter>(
     ensures kept { HasCleanDisk (state S.Store tx.new.conn.now) → HasTables (state S.Store tx.old.conn.now) →
         KeepsCommit (state S.Store tx.old.conn.now) (state S.Store tx.new.conn.now) }
     ensures stored { HasCleanDisk (state S.Store tx.new.conn.now) → HasTables (state S.Store tx.old.conn.now) →
-        IfOk result (λ r. IfOk r (λ setup. IsStored former_version setup (state S.Store tx.old.conn.now))) }
+        IfOk result (λ r. IfOk r (λ setup. HasSetupRow former_version setup (state S.Store tx.old.conn.now))) }
     ensures fault { HasCleanDisk (state S.Store tx.new.conn.now) → HasTables (state S.Store tx.old.conn.now) →
         IfOk result (λ r. IfErr r (IsFormerSetupFault (state S.Store tx.old.conn.now).now.trees)) }
     ensures same { HasCleanDisk (state S.Store tx.new.conn.now) → HasTables (state S.Store tx.old.conn.now) →
@@ -72,7 +72,7 @@ fn judge_former<S: Alter>(
     ensures kept { HasCleanDisk (state S.Store tx.new.conn.now) → HasTables (state S.Store tx.old.conn.now) →
         KeepsCommit (state S.Store tx.old.conn.now) (state S.Store tx.new.conn.now) }
     ensures stored { HasCleanDisk (state S.Store tx.new.conn.now) → HasTables (state S.Store tx.old.conn.now) →
-        IfOk result (λ r. IfOk r (λ setup. IsStored former_version setup (state S.Store tx.old.conn.now))) }
+        IfOk result (λ r. IfOk r (λ setup. HasSetupRow former_version setup (state S.Store tx.old.conn.now))) }
     ensures judged { HasCleanDisk (state S.Store tx.new.conn.now) → HasTables (state S.Store tx.old.conn.now) →
         IfOk result (λ r. IfOk r (λ setup. IsJudged setup (state S.Store tx.old.conn.now))) }
     ensures fault { HasCleanDisk (state S.Store tx.new.conn.now) → HasTables (state S.Store tx.old.conn.now) →

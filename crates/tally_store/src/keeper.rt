@@ -1,13 +1,13 @@
 //! The store as a keeper of the office's state.
 
-ghost use Rattle.std.specs.Prelude.{◌≡◌, IfOk, IfSome};
+ghost use Rattle.std.specs.Prelude.{◌≡◌, IfOk, IfSome, IsTrue};
 ghost use Rattle.sqlite.specs.State.{HasCleanDisk, Survives};
 ghost use Rattle.sqlite.specs.Held.{state};
 ghost use Rattle.tally_core.specs.Keeper.{Happens, Imports, request};
 ghost use Rattle.tally_machine.specs.Kinds.{IsReplyTo};
 ghost use Rattle.tally_store.specs.Content.{content_of};
 ghost use Rattle.tally_store.specs.Crash.{LeavesAfter, LeavesImported};
-ghost use Rattle.tally_store.specs.Store.{IsOffice};
+ghost use Rattle.tally_store.specs.Store.{IsOffice, KeepsText};
 
 use crate::requests::{answer_request, import_rows};
 use crate::store::Store;
@@ -32,8 +32,10 @@ impl<S: Alter> Keeper for Store<S> {
         &self.setup
     }
 
-    /// Answers a request in a transaction of its own. The database is then that of the store's state;
-    /// a crash leaves what it could leave before, or the tables after this request.
+    /// Answers a request in a transaction of its own. The database is then that of the store's state, with
+    /// the same text of the setup, or a failed disk has shut the store. A crash at the end of the call, and
+    /// so a disk that stops anywhere within it, leaves what it could leave before, or the tables after this
+    /// request.
     fn answer(&mut self, ask: &Ask) -> Result<Reply, Refusal>
         ensures setup { self.new.setup ≡ self.old.setup }
         ensures trusted { HasCleanDisk (state S.Store self.new.conn) → HasCleanDisk (state S.Store self.old.conn) }
@@ -44,6 +46,8 @@ impl<S: Alter> Keeper for Store<S> {
         ensures tables { HasCleanDisk (state S.Store self.new.conn) →
             IfSome (content_of self.new.setup (state S.Store self.new.conn))
             (λ s. IsOffice self.new.setup s (state S.Store self.new.conn)) }
+        ensures text { HasCleanDisk (state S.Store self.new.conn) → IsTrue (state S.Store self.new.conn).is_open →
+            KeepsText self.old.setup (state S.Store self.old.conn) (state S.Store self.new.conn) }
         ensures crash { Survives (state S.Store self.old.conn) (state S.Store self.new.conn)
             (LeavesAfter self.old.setup ask.now (state S.Store self.old.conn)) }
     {
@@ -51,8 +55,10 @@ impl<S: Alter> Keeper for Store<S> {
         answer_request(self.alloc, &mut self.conn, &self.setup, ask)
     }
 
-    /// Lodges the rows of a source in one transaction. The database is then that of the store's state;
-    /// a crash leaves what it could leave before, or the tables after all rows.
+    /// Lodges the rows of a source in one transaction. The database is then that of the store's state, with
+    /// the same text of the setup, or a failed disk has shut the store. A crash at the end of the call, and
+    /// so a disk that stops anywhere within it, leaves what it could leave before, or the tables after all
+    /// rows.
     fn lodge_from<R: RowSource>(&mut self, rows: &mut R) -> Result<ImportCount, ImportFault>
         ensures setup { self.new.setup ≡ self.old.setup }
         ensures trusted { HasCleanDisk (state S.Store self.new.conn) → HasCleanDisk (state S.Store self.old.conn) }
@@ -62,6 +68,8 @@ impl<S: Alter> Keeper for Store<S> {
         ensures tables { HasCleanDisk (state S.Store self.new.conn) →
             IfSome (content_of self.new.setup (state S.Store self.new.conn))
             (λ s. IsOffice self.new.setup s (state S.Store self.new.conn)) }
+        ensures text { HasCleanDisk (state S.Store self.new.conn) → IsTrue (state S.Store self.new.conn).is_open →
+            KeepsText self.old.setup (state S.Store self.old.conn) (state S.Store self.new.conn) }
         ensures crash { Survives (state S.Store self.old.conn) (state S.Store self.new.conn)
             (LeavesImported self.old.setup (R.coming rows.old) (state S.Store self.old.conn)) }
     {

@@ -1,9 +1,9 @@
 //! Opening a database, of today's version or of version 1.
 
-ghost use Rattle.std.specs.Prelude.{◌≡◌, false, IfErr, IfOk, IsTrue, OnErr};
-ghost use Rattle.sqlite.specs.State.{HasCleanDisk, Survives};
+ghost use Rattle.std.specs.Prelude.{◌≡◌, false, IfErr, IfOk, IsTrue, OnErr, OnOk};
+ghost use Rattle.sqlite.specs.State.{HasCleanDisk, KeepsCounts, Survives};
 ghost use Rattle.sqlite.specs.Held.{state};
-ghost use Rattle.tally_store.specs.Crash.{LeavesTakenOver};
+ghost use Rattle.tally_store.specs.Crash.{HasPast, IsUnwritten, LeavesTakenOver};
 ghost use Rattle.tally_store.specs.Create.{IsAsBefore};
 ghost use Rattle.tally_store.specs.Open.{IsOpenFault, IsOpened};
 ghost use Rattle.tally_store.specs.Opening.{IsFormerSchema, IsSchemaFault, IsTodaySchema};
@@ -52,6 +52,9 @@ pub(crate) fn open_in<S: Alter>(alloc: Global, conn: &mut Connection<S>) -> Resu
         OnErr result (IsAsBefore (state S.Store conn.old) (state S.Store conn.new)) }
     ensures crash { Survives (state S.Store conn.old) (state S.Store conn.new)
         (LeavesTakenOver (state S.Store conn.old).now) }
+    ensures unwritten { HasPast (state S.Store conn.old).now → IsUnwritten (state S.Store conn.old) (state S.Store conn.new) }
+    ensures counts { HasPast (state S.Store conn.old).now → HasCleanDisk (state S.Store conn.new) →
+        OnOk result (KeepsCounts (state S.Store conn.old) (state S.Store conn.new)) }
 {
     if !conn.is_autocommit() {
         return Err(OpenFault::Store);

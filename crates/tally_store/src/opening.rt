@@ -1,7 +1,7 @@
 //! Opening a database.
 
 ghost use Rattle.std.specs.Prelude.{◌≡◌, ◌⊎◌, false, IfErr, IfOk, IsTrue, Ok, OnOk, option_map};
-ghost use Rattle.sqlite.specs.State.{HasCleanDisk, IsUnchanged, KeepsCommit, Survives};
+ghost use Rattle.sqlite.specs.State.{HasCleanDisk, IsUnchanged, KeepsCommit, KeepsCounts, Survives};
 ghost use Rattle.sqlite.specs.Held.{state};
 ghost use Rattle.tally_rules.specs.Reading.{setup_of_text};
 ghost use Rattle.tally_statements.specs.Office.{HasTables};
@@ -10,7 +10,7 @@ ghost use Rattle.tally_schema.specs.Tables.{office_schema};
 ghost use Rattle.tally_tables.specs.TablesOfState.{version};
 ghost use Rattle.tally_store.specs.Create.{IsAsBefore};
 ghost use Rattle.tally_store.specs.Making.{IsSettled};
-ghost use Rattle.tally_store.specs.Opening.{IsJudged, IsJudgedFault, IsTodayFault, IsSetupFault, IsStored, IsTextFault, setup_shown, shown_of_row};
+ghost use Rattle.tally_store.specs.Opening.{IsJudged, IsJudgedFault, IsTodayFault, IsSetupFault, HasSetupRow, IsTextFault, setup_shown, shown_of_row};
 
 use crate::fault::OpenFault;
 use crate::judging::judge_office;
@@ -64,7 +64,7 @@ fn read_stored<S: Alter>(
     ensures kept { HasCleanDisk (state S.Store tx.new.conn.now) → HasTables (state S.Store tx.old.conn.now) →
         KeepsCommit (state S.Store tx.old.conn.now) (state S.Store tx.new.conn.now) }
     ensures stored { HasCleanDisk (state S.Store tx.new.conn.now) → HasTables (state S.Store tx.old.conn.now) →
-        IfOk result (λ r. IfOk r (λ setup. IsStored number setup (state S.Store tx.old.conn.now))) }
+        IfOk result (λ r. IfOk r (λ setup. HasSetupRow number setup (state S.Store tx.old.conn.now))) }
     ensures fault { HasCleanDisk (state S.Store tx.new.conn.now) → HasTables (state S.Store tx.old.conn.now) →
         IfOk result (λ r. IfErr r (IsSetupFault number (state S.Store tx.old.conn.now))) }
     ensures same { HasCleanDisk (state S.Store tx.new.conn.now) → HasTables (state S.Store tx.old.conn.now) →
@@ -95,7 +95,7 @@ pub(crate) fn judge_stored<S: Alter>(
     ensures kept { HasCleanDisk (state S.Store tx.new.conn.now) → HasTables (state S.Store tx.old.conn.now) →
         KeepsCommit (state S.Store tx.old.conn.now) (state S.Store tx.new.conn.now) }
     ensures stored { HasCleanDisk (state S.Store tx.new.conn.now) → HasTables (state S.Store tx.old.conn.now) →
-        IfOk result (λ r. IfOk r (λ setup. IsStored number setup (state S.Store tx.old.conn.now))) }
+        IfOk result (λ r. IfOk r (λ setup. HasSetupRow number setup (state S.Store tx.old.conn.now))) }
     ensures judged { HasCleanDisk (state S.Store tx.new.conn.now) → HasTables (state S.Store tx.old.conn.now) →
         IfOk result (λ r. IfOk r (λ setup. IsJudged setup (state S.Store tx.old.conn.now))) }
     ensures fault { HasCleanDisk (state S.Store tx.new.conn.now) → HasTables (state S.Store tx.old.conn.now) →
@@ -138,7 +138,7 @@ pub(crate) fn open_today<S: Alter>(
     requires settled { IsSettled (state S.Store conn.old) }
     ensures ended { conn.new.in_transaction ≡ false }
     ensures stored { HasCleanDisk (state S.Store conn.new) →
-        IfOk result (λ setup. IsStored version setup (state S.Store conn.old)) }
+        IfOk result (λ setup. HasSetupRow version setup (state S.Store conn.old)) }
     ensures judged { HasCleanDisk (state S.Store conn.new) →
         IfOk result (λ setup. IsJudged setup (state S.Store conn.old)) }
     ensures fault { HasCleanDisk (state S.Store conn.new) → IfErr result (IsTodayFault (state S.Store conn.old)) }
@@ -146,6 +146,8 @@ pub(crate) fn open_today<S: Alter>(
         IsAsBefore (state S.Store conn.old) (state S.Store conn.new) }
     ensures was_open { HasCleanDisk (state S.Store conn.new) → IsTrue (state S.Store conn.new).is_open →
         IsTrue (state S.Store conn.old).is_open }
+    ensures counts { HasCleanDisk (state S.Store conn.new) →
+        OnOk result (KeepsCounts (state S.Store conn.old) (state S.Store conn.new)) }
     ensures unwritten { Survives (state S.Store conn.old) (state S.Store conn.new) (λ _. ⊥) }
 {
     let mut tx = conn.transaction();

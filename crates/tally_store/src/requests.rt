@@ -82,7 +82,7 @@ pub(crate) fn import_rows<S: Alter, R: RowSource>(
     }
 }
 
-/// Whether a call failed for want of memory.
+/// Whether a call failed because it was out of memory.
 fn is_memory(error: &Error) -> bool {
     matches!(error, Error::SqliteFailure(ErrorCode::OutOfMemory))
 }

@@ -1,13 +1,13 @@
 //! A keeper over a database.
 
 ghost use Rattle.std.specs.Prelude.{◌≡◌, false, Ok, IfOk, IfErr, IsTrue, OnOk, ◌⊎◌};
-ghost use Rattle.sqlite.specs.State.{HasCleanDisk, Survives};
+ghost use Rattle.sqlite.specs.State.{HasCleanDisk, KeepsCounts, Survives};
 ghost use Rattle.sqlite.specs.Held.{state};
 ghost use Rattle.tally_rules.specs.Fault.{IsFaultIn};
 ghost use Rattle.tally_rules.specs.Reading.{setup_of_text};
 ghost use Rattle.tally_machine.specs.LawfulState.{IsLawfulState};
 ghost use Rattle.tally_returns.specs.State.{State};
-ghost use Rattle.tally_store.specs.Crash.{LeavesOpening, LeavesTakenOver};
+ghost use Rattle.tally_store.specs.Crash.{HasPast, IsUnwritten, LeavesOpening, LeavesTakenOver};
 ghost use Rattle.tally_store.specs.Open.{IsOpenFault, IsOpened, IsSetupOf};
 ghost use Rattle.tally_store.specs.Store.{IsOffice, IsStored};
 ghost use Rattle.tally_store.specs.Create.{no_schema, HasOpeningTables, IsCreateFault, IsGivenBack};
@@ -45,7 +45,7 @@ impl<S: Alter> Model for Store<S> {
     ghost invariant = { λ s. IsStored s.setup (state S.Store s.conn) };
 }
 
-/// Whether a call failed for want of memory.
+/// Whether a call failed because it was out of memory.
 fn is_memory(error: &Error) -> bool {
     matches!(error, Error::SqliteFailure(ErrorCode::OutOfMemory))
 }
@@ -134,7 +134,8 @@ impl<S: Alter> Store<S> {
     }
 
     /// Takes a database whose tables are those of a lawful state. Tables of version 1 are taken over, in
-    /// one transaction. Otherwise the connection comes back with its tables as they were.
+    /// one transaction; where the table `past` stands nothing is written. Otherwise the connection comes
+    /// back with its tables as they were.
     pub fn open(
         alloc: Global,
         mut conn: Connection<S>,
@@ -151,6 +152,12 @@ impl<S: Alter> Store<S> {
             Survives (state S.Store conn) (state S.Store store.conn) (LeavesTakenOver (state S.Store conn).now)) }
         ensures crash_fault { IfErr result (λ e.
             Survives (state S.Store conn) (state S.Store e.0) (LeavesTakenOver (state S.Store conn).now)) }
+        ensures unwritten { IfOk result (λ store. HasPast (state S.Store conn).now →
+            IsUnwritten (state S.Store conn) (state S.Store store.conn)) }
+        ensures unwritten_fault { IfErr result (λ e. HasPast (state S.Store conn).now →
+            IsUnwritten (state S.Store conn) (state S.Store e.0)) }
+        ensures counts { IfOk result (λ store. HasPast (state S.Store conn).now → HasCleanDisk (state S.Store store.conn) →
+            KeepsCounts (state S.Store conn) (state S.Store store.conn)) }
     {
         match open_in(alloc, &mut conn) {
             Ok(setup) => Ok(store_over(alloc, conn, setup)),

@@ -1,9 +1,9 @@
 //! A file stops at its first call, at a later one, and so on, until a run meets no stop. After each run the
 //! files show what they showed before the step that was stopped, or what they show after it.
 
-use crate::deeds::{Deed, Done, carried_out};
+use crate::deeds::Deed;
 use crate::disks::{Contents, are_same, crossed, disks, have_stopped, synced, torn, written};
-use crate::looks::look;
+use crate::runs::{Done, carried_out, told};
 use std::alloc::Global;
 use std::test::Fail;
 
@@ -20,7 +20,7 @@ const MOST: u64 = 100_000;
 
 /// Whether files of these contents show what they may after so many acknowledged steps.
 fn check(alloc: Global, case: &Case<'_>, left: &Contents, steps: usize) -> Result<(), Fail> {
-    let shown = look(alloc, left)?;
+    let shown = told(alloc, left, Deed::Look)?;
     let before = case.shows.get(steps).ok_or("no such step")?;
     let after = case.shows.get(steps.saturating_add(1)).unwrap_or(before);
     if shown.as_str() == before.as_str() || shown.as_str() == after.as_str() {
@@ -32,7 +32,7 @@ fn check(alloc: Global, case: &Case<'_>, left: &Contents, steps: usize) -> Resul
 /// What a crash may leave: all that was written, what was synced, the one of the log and the other of the
 /// database file, or sectors of both in turn.
 fn check_left(alloc: Global, case: &Case<'_>, done: Done) -> Result<(), Fail> {
-    let Done { files, steps } = done;
+    let Done { files, steps, .. } = done;
     let written = written(alloc, &files)?;
     let synced = synced(alloc, files)?;
     check(alloc, case, &written, steps)?;

@@ -1,9 +1,7 @@
-//! What is done to a database until a file stops.
+//! What is done to a database until its store refuses, over any store.
 
-use crate::disks::{
-    Conn, Contents, Disks, closed, connected, disks, let_go, no_contents, over, written,
-};
-use crate::looks::{Office, open};
+use crate::looks::{looked, values};
+use sqlite::{Alter, Connection};
 use std::alloc::Global;
 use std::test::Fail;
 use tally_core::{ImportFault, Keeper};
@@ -11,7 +9,7 @@ use tally_import::{ReturnRows, Sep};
 use tally_scripts::{code, first_wrong};
 use tally_store::{CreateFault, OpenFault, Store};
 
-/// Each of its steps is carried out or not.
+/// What is done. The first four have steps, each of which is carried out or not.
 #[derive(Clone, Copy)]
 pub(crate) enum Deed<'a> {
     /// An office of this setup is made.
@@ -22,114 +20,213 @@ pub(crate) enum Deed<'a> {
     Answer(&'a str),
     /// It lodges the rows of this text.
     Import(&'a str),
+    /// These statements run.
+    Run(&'a str),
+    /// These statements run, and the log is not copied into the database file.
+    Leave(&'a str),
+    /// The first values of a SELECT are shown.
+    Read(&'a str),
+    /// All that an office shows is shown.
+    Look,
 }
 
-/// The files after the steps that were acknowledged, and how many these were.
+/// What is left of a connection: itself, or the store of one that is let go as it is.
 #[derive(Drop)]
-pub(crate) struct Done {
-    pub(crate) files: Disks,
+pub(crate) enum Left<S: Alter> {
+    Conn(Connection<S>),
+    Store(S),
+}
+
+/// What is left after the steps that were acknowledged, how many these were, and what was shown.
+#[derive(Drop)]
+pub(crate) struct Work<S: Alter> {
+    pub(crate) left: Left<S>,
     pub(crate) steps: usize,
+    pub(crate) told: String,
 }
 
-/// The files of a connection as a stop leaves them.
-fn stopped(conn: Conn, steps: usize) -> Done {
-    Done {
-        files: let_go(conn),
+/// A connection as a stop leaves it.
+fn stopped<S: Alter + Drop>(alloc: Global, conn: Connection<S>, steps: usize) -> Work<S> {
+    Work {
+        left: Left::Store(conn.into_store()),
         steps,
+        told: String::new(alloc),
     }
 }
 
-/// Those of one whose log is copied into the database file.
-fn ended(conn: Conn, steps: usize) -> Done {
-    Done {
-        files: closed(conn),
+/// One whose log is copied into the database file.
+fn ended<S: Alter + Drop>(alloc: Global, conn: Connection<S>, steps: usize) -> Work<S> {
+    Work {
+        left: Left::Conn(conn),
         steps,
+        told: String::new(alloc),
     }
 }
 
-fn create(alloc: Global, conn: Conn, text: &str) -> Result<Done, Fail> {
+/// What making an office in a database answers, and its connection where none is made.
+fn made<S: Alter + Drop>(
+    alloc: Global,
+    conn: Connection<S>,
+    text: &str,
+) -> Result<Store<S>, (Connection<S>, CreateFault)> {
     if !conn.is_autocommit() {
-        return Err(Fail::from("a transaction"));
+        return Err((conn, CreateFault::Store));
     }
-    match Store::create(alloc, conn, text.as_bytes()) {
-        Ok(office) => Ok(ended(office.close(), 1)),
-        Err((conn, CreateFault::Store)) => Ok(stopped(conn, 0)),
+    Store::create(alloc, conn, text.as_bytes())
+}
+
+/// What opening an office answers, and its connection where none is opened.
+pub(crate) fn open<S: Alter + Drop>(
+    alloc: Global,
+    conn: Connection<S>,
+) -> Result<Store<S>, (Connection<S>, OpenFault)> {
+    if !conn.is_autocommit() {
+        return Err((conn, OpenFault::Store));
+    }
+    Store::open(alloc, conn)
+}
+
+fn create<S: Alter + Drop>(
+    alloc: Global,
+    conn: Connection<S>,
+    text: &str,
+) -> Result<Work<S>, Fail> {
+    match made(alloc, conn, text) {
+        Ok(office) => Ok(ended(alloc, office.close(), 1)),
+        Err((conn, CreateFault::Store)) => Ok(stopped(alloc, conn, 0)),
         Err((_conn, fault)) => Err(Fail::from(format!(in alloc; "{fault}")?)),
     }
 }
 
-/// Answers the lines, up to the one that the store refuses.
-fn answer(alloc: Global, mut office: Office, lines: &str) -> Result<Done, Fail> {
+/// How many of the lines an office answers, up to the one that its store refuses, and whether there is none.
+fn answered<K: Keeper>(alloc: Global, office: &mut K, lines: &str) -> Result<(usize, bool), Fail> {
     let mut steps = 0usize;
     for line in lines.lines() {
-        let wrong = first_wrong(alloc, &mut office, line)?;
+        let wrong = first_wrong(alloc, office, line)?;
         if wrong.as_str().ends_with(", and not refused 23") {
-            return Ok(stopped(office.close(), steps));
+            return Ok((steps, false));
         }
         if !wrong.is_empty() {
             return Err(Fail::from(wrong));
         }
         steps = steps.saturating_add(1);
     }
-    Ok(ended(office.close(), steps))
+    Ok((steps, true))
 }
 
-fn import(alloc: Global, mut office: Office, text: &str) -> Result<Done, Fail> {
+fn answer<S: Alter + Drop>(
+    alloc: Global,
+    mut office: Store<S>,
+    lines: &str,
+) -> Result<Work<S>, Fail> {
+    let (steps, is_all) = answered(alloc, &mut office, lines)?;
+    if is_all {
+        return Ok(ended(alloc, office.close(), steps));
+    }
+    Ok(stopped(alloc, office.close(), steps))
+}
+
+/// Whether an office lodges the three rows of a text; else its store refuses.
+fn imported<K: Keeper>(alloc: Global, office: &mut K, text: &str) -> Result<bool, Fail> {
     let found = office.setup().con(code("c1")?).ok_or("c1")?;
     let con = found.try_copy(alloc)?;
     let mut rows = ReturnRows::new(alloc, text.as_bytes(), Sep::Comma, con);
     match office.lodge_from(&mut rows) {
-        Ok(count) if count.lodged == 3 => Ok(ended(office.close(), 1)),
+        Ok(count) if count.lodged == 3 => Ok(true),
         Ok(_) => Err(Fail::from("not three rows")),
-        Err(ImportFault::Store) => Ok(stopped(office.close(), 0)),
+        Err(ImportFault::Store) => Ok(false),
         Err(_) => Err(Fail::from("another fault")),
     }
 }
 
-fn carry_on(alloc: Global, conn: Conn, deed: Deed<'_>) -> Result<Done, Fail> {
-    if let Deed::Create(text) = deed {
-        return create(alloc, conn, text);
+fn import<S: Alter + Drop>(
+    alloc: Global,
+    mut office: Store<S>,
+    text: &str,
+) -> Result<Work<S>, Fail> {
+    if imported(alloc, &mut office, text)? {
+        return Ok(ended(alloc, office.close(), 1));
     }
-    let office = match open(alloc, conn) {
-        Ok(office) => office,
-        Err((conn, OpenFault::Store)) => return Ok(stopped(conn, 0)),
-        Err((_conn, fault)) => return Err(Fail::from(format!(in alloc; "{fault}")?)),
-    };
+    Ok(stopped(alloc, office.close(), 0))
+}
+
+/// Carries out what is done to an office.
+fn in_office<S: Alter + Drop>(
+    alloc: Global,
+    office: Store<S>,
+    deed: Deed<'_>,
+) -> Result<Work<S>, Fail> {
     match deed {
         Deed::Answer(lines) => answer(alloc, office, lines),
         Deed::Import(text) => import(alloc, office, text),
-        _ => Ok(ended(office.close(), 1)),
+        _ => Ok(ended(alloc, office.close(), 1)),
     }
 }
 
-/// Opens the files and carries a deed out, as far as it goes.
-pub(crate) fn carried_out(alloc: Global, files: Disks, deed: Deed<'_>) -> Result<Done, Fail> {
-    match connected(alloc, files) {
-        Ok(conn) => carry_on(alloc, conn, deed),
-        Err(files) => Ok(Done { files, steps: 0 }),
-    }
-}
-
-/// The contents of files after a deed that meets no stop.
-pub(crate) fn contents_after(
+fn opened<S: Alter + Drop>(
     alloc: Global,
-    contents: &Contents,
+    conn: Connection<S>,
     deed: Deed<'_>,
-) -> Result<Contents, Fail> {
-    let files = disks(alloc, contents, (u64::MAX, u64::MAX))?;
-    let done = carried_out(alloc, files, deed)?;
-    if done.steps == 0 {
-        return Err(Fail::from("a refusal without a stop"));
+) -> Result<Work<S>, Fail> {
+    match open(alloc, conn) {
+        Ok(office) => in_office(alloc, office, deed),
+        Err((conn, OpenFault::Store)) => Ok(stopped(alloc, conn, 0)),
+        Err((_conn, fault)) => Err(Fail::from(format!(in alloc; "{fault}")?)),
     }
-    written(alloc, &done.files)
 }
 
-/// The contents of the files of an office that has answered these lines, in tables of version 1. Part of them
-/// stands in the log alone.
-pub(crate) fn former_contents(alloc: Global, text: &str, lines: &str) -> Result<Contents, Fail> {
-    let made = contents_after(alloc, &no_contents(alloc), Deed::Create(text))?;
-    let contents = contents_after(alloc, &made, Deed::Answer(lines))?;
-    let mut conn = over(alloc, &contents)?;
-    conn.execute_batch("DROP TABLE past; UPDATE setup SET version = 1")?;
-    written(alloc, &let_go(conn))
+fn run<S: Alter + Drop>(
+    alloc: Global,
+    mut conn: Connection<S>,
+    statements: &str,
+) -> Result<Work<S>, Fail> {
+    conn.execute_batch(statements)?;
+    Ok(ended(alloc, conn, 1))
+}
+
+fn leave<S: Alter + Drop>(
+    alloc: Global,
+    mut conn: Connection<S>,
+    statements: &str,
+) -> Result<Work<S>, Fail> {
+    conn.execute_batch(statements)?;
+    Ok(stopped(alloc, conn, 1))
+}
+
+fn read<S: Alter + Drop>(
+    alloc: Global,
+    mut conn: Connection<S>,
+    select: &str,
+) -> Result<Work<S>, Fail> {
+    let told = values(alloc, &mut conn, select)?;
+    Ok(Work {
+        left: Left::Conn(conn),
+        steps: 1,
+        told,
+    })
+}
+
+fn look<S: Alter + Drop>(alloc: Global, conn: Connection<S>) -> Result<Work<S>, Fail> {
+    let (conn, told) = looked(alloc, conn)?;
+    Ok(Work {
+        left: Left::Conn(conn),
+        steps: 1,
+        told,
+    })
+}
+
+/// Carries a deed out, as far as it goes.
+pub(crate) fn carry_out<S: Alter + Drop>(
+    alloc: Global,
+    conn: Connection<S>,
+    deed: Deed<'_>,
+) -> Result<Work<S>, Fail> {
+    match deed {
+        Deed::Create(text) => create(alloc, conn, text),
+        Deed::Run(statements) => run(alloc, conn, statements),
+        Deed::Leave(statements) => leave(alloc, conn, statements),
+        Deed::Read(select) => read(alloc, conn, select),
+        Deed::Look => look(alloc, conn),
+        _ => opened(alloc, conn, deed),
+    }
 }

@@ -1,5 +1,6 @@
 //! The two files of a database, in memory. Each lets so many calls through and then stops.
 
+use crate::deeds::Left;
 use sqlite::{Connection, FileStore, Files, Options};
 use sqlite_disk::{Crash, Disk, Fuse, Memory};
 use std::alloc::Global;
@@ -9,7 +10,9 @@ pub(crate) type Stopping = Fuse<Memory>;
 
 pub(crate) type Disks = Files<Stopping>;
 
-pub(crate) type Conn = Connection<FileStore<Stopping>>;
+pub(crate) type Stored = FileStore<Stopping>;
+
+pub(crate) type Conn = Connection<Stored>;
 
 /// The contents of a log and a database file.
 #[derive(Drop)]
@@ -78,22 +81,19 @@ pub(crate) fn connected(alloc: Global, files: Disks) -> Result<Conn, Disks> {
     }
 }
 
-/// A connection to files of these contents, which do not stop.
-pub(crate) fn over(alloc: Global, contents: &Contents) -> Result<Conn, Fail> {
-    let files = disks(alloc, contents, (u64::MAX, u64::MAX))?;
-    Ok(connected(alloc, files).ok().ok_or("no database")?)
-}
-
-/// The files of a connection as they are.
-pub(crate) fn let_go(conn: Conn) -> Disks {
-    conn.into_store().close()
-}
-
-/// Those of one that copies its log into the database file, as far as it gets.
-pub(crate) fn closed(conn: Conn) -> Disks {
+/// The files of a connection that copies its log into the database file, as far as it gets.
+fn closed(conn: Conn) -> Disks {
     match conn.close_files() {
         Ok(files) => files,
         Err((_error, store)) => store.close(),
+    }
+}
+
+/// The files of what is left of a connection.
+pub(crate) fn files_of(left: Left<Stored>) -> Disks {
+    match left {
+        Left::Conn(conn) => closed(conn),
+        Left::Store(store) => store.close(),
     }
 }
 

@@ -11,6 +11,8 @@ mod disks;
 #[cfg(test)]
 mod looks;
 #[cfg(test)]
+mod runs;
+#[cfg(test)]
 mod stops;
 #[cfg(test)]
 mod texts;

@@ -1,15 +1,12 @@
-//! What files show when they are opened again.
+//! What a database shows.
 
-use crate::disks::{Conn, Contents, Stopping, over};
-use sqlite::FileStore;
+use crate::deeds::open;
+use sqlite::{Alter, Connection};
 use sqlite_value::value::Value;
 use std::alloc::Global;
 use std::test::Fail;
 use tally_core::{Ask, Book, Keeper};
 use tally_scripts::{command, first_wrong, setup, told};
-use tally_store::{OpenFault, Store};
-
-pub(crate) type Office = Store<FileStore<Stopping>>;
 
 /// A station that the setup lacks is refused.
 const SHOWN: [&str; 4] = ["return s1", "return s2", "return s3", "show c1"];
@@ -23,48 +20,55 @@ pub(crate) const FORMER_TABLES: &str =
 pub(crate) const TABLES: &str =
     "version 2, tables cons counts gone lots past returns seats setup totals\n";
 
-pub(crate) fn open(alloc: Global, conn: Conn) -> Result<Office, (Conn, OpenFault)> {
-    if !conn.is_autocommit() {
-        return Err((conn, OpenFault::Store));
-    }
-    Store::open(alloc, conn)
+/// What a keeper answers, as text.
+fn shown<K: Keeper>(alloc: Global, keeper: &mut K, ask: &Ask) -> Result<String, Fail> {
+    let answer = keeper.answer(ask);
+    told(alloc, &answer)
 }
 
 /// What a keeper shows: these returns, the constituency, and the progress.
 fn answers<K: Keeper>(alloc: Global, keeper: &mut K) -> Result<String, Fail> {
     let mut text = String::new(alloc);
     for line in SHOWN {
-        let answer = keeper.answer(&command(alloc, line)?);
-        text.push_str(told(alloc, &answer)?.as_str())?;
+        let ask = command(alloc, line)?;
+        text.push_str(shown(alloc, keeper, &ask)?.as_str())?;
         text.push_str("\n")?;
     }
-    let progress = keeper.answer(&Ask::ShowProgress);
-    text.push_str(told(alloc, &progress)?.as_str())?;
+    text.push_str(shown(alloc, keeper, &Ask::ShowProgress)?.as_str())?;
     Ok(text)
 }
 
+/// Adds a value. What is not in UTF-8 is replaced.
+fn push_value(alloc: Global, text: &mut String, value: &Value) -> Result<(), Fail> {
+    match value {
+        Value::Int(number) => write!(text, " {number}")?,
+        Value::Text(bytes) => {
+            let bytes = String::from_utf8_lossy(alloc, bytes.as_slice())?;
+            write!(text, " {}", bytes.as_str())?;
+        }
+        _ => text.push_str(" ?")?,
+    }
+    Ok(())
+}
+
 /// The first value of each row that a SELECT shows, or `none`.
-fn values(alloc: Global, conn: &mut Conn, select: &str) -> Result<String, Fail> {
-    let mut text = String::new(alloc);
+pub(crate) fn values<S: Alter + Drop>(
+    alloc: Global,
+    conn: &mut Connection<S>,
+    select: &str,
+) -> Result<String, Fail> {
     let Ok(rows) = conn.query_all(select, &[]) else {
         return Ok(String::from_str(alloc, " none")?);
     };
+    let mut text = String::new(alloc);
     for row in &rows {
-        match row.get::<Value>(0)? {
-            Value::Int(number) => write!(text, " {number}")?,
-            Value::Text(bytes) => {
-                text.push_str(" ")?;
-                let name = std::str::from_utf8(bytes.as_slice());
-                text.push_str(name.ok().ok_or("UTF-8")?)?;
-            }
-            _ => text.push_str(" ?")?,
-        }
+        push_value(alloc, &mut text, &row.get::<Value>(0)?)?;
     }
     Ok(text)
 }
 
 /// The version and the tables.
-fn outline(alloc: Global, conn: &mut Conn) -> Result<String, Fail> {
+fn outline<S: Alter + Drop>(alloc: Global, conn: &mut Connection<S>) -> Result<String, Fail> {
     let version = values(alloc, conn, "SELECT version FROM setup")?;
     let tables = "SELECT name FROM sqlite_schema WHERE type = 'table' ORDER BY name";
     let tables = values(alloc, conn, tables)?;
@@ -72,29 +76,46 @@ fn outline(alloc: Global, conn: &mut Conn) -> Result<String, Fail> {
 }
 
 /// What the office of a database shows, or why there is none.
-fn opened(alloc: Global, conn: Conn) -> Result<String, Fail> {
+fn opened<S: Alter + Drop>(
+    alloc: Global,
+    conn: Connection<S>,
+) -> Result<(Connection<S>, String), Fail> {
     match open(alloc, conn) {
-        Ok(mut office) => answers(alloc, &mut office),
-        Err((_conn, fault)) => Ok(format!(in alloc; "{fault}")?),
+        Ok(mut office) => {
+            let answers = answers(alloc, &mut office)?;
+            Ok((office.close(), answers))
+        }
+        Err((conn, fault)) => {
+            let fault = format!(in alloc; "{fault}")?;
+            Ok((conn, fault))
+        }
     }
 }
 
-/// What files of these contents show: the version, the tables, and the office's answers.
-pub(crate) fn look(alloc: Global, contents: &Contents) -> Result<String, Fail> {
-    let mut conn = over(alloc, contents)?;
+/// What a database shows: the version, the tables, and the office's answers.
+pub(crate) fn looked<S: Alter + Drop>(
+    alloc: Global,
+    mut conn: Connection<S>,
+) -> Result<(Connection<S>, String), Fail> {
     let outline = outline(alloc, &mut conn)?;
-    let opened = opened(alloc, conn)?;
-    Ok(format!(in alloc; "{outline}{opened}")?)
+    let (conn, opened) = opened(alloc, conn)?;
+    let text = format!(in alloc; "{outline}{opened}")?;
+    Ok((conn, text))
 }
 
-/// What files are to show of these tables, where the office has answered these lines: as an office in memory
-/// shows it.
-pub(crate) fn wanted(alloc: Global, tables: &str, text: &str, lines: &str) -> Result<String, Fail> {
+/// What an office in memory shows that has answered these lines.
+fn shown_in_memory(alloc: Global, text: &str, lines: &str) -> Result<String, Fail> {
     let mut book = Book::new(alloc, setup(alloc, text)?)?;
     let wrong = first_wrong(alloc, &mut book, lines)?;
     if !wrong.is_empty() {
         return Err(Fail::from(wrong));
     }
-    let answers = answers(alloc, &mut book)?;
+    answers(alloc, &mut book)
+}
+
+/// What a database is to show of these tables, where the office has answered these lines: as an office in
+/// memory shows it.
+pub(crate) fn wanted(alloc: Global, tables: &str, text: &str, lines: &str) -> Result<String, Fail> {
+    let answers = shown_in_memory(alloc, text, lines)?;
     Ok(format!(in alloc; "{tables}{answers}")?)
 }

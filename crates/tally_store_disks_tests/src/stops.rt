@@ -1,9 +1,10 @@
 //! What a stop of a file leaves of an office that is made, opened, asked or imported into.
 
 use crate::counts::{Case, db_counted, log_counted};
-use crate::deeds::{Deed, contents_after, former_contents};
+use crate::deeds::Deed;
 use crate::disks::no_contents;
 use crate::looks::{FORMER_TABLES, NO_TABLES, TABLES, wanted};
+use crate::runs::{contents_after, former_contents};
 use std::alloc::Global;
 use std::test::*;
 use tally_scripts::{RECOUNT, TWIN_TOWN};

@@ -2,8 +2,8 @@
 //! The letters are `o` for one that is opened, `b` for bad tables, and `-` for a change that the table
 //! itself refuses.
 
-use crate::offices::{TABLES, all_tables, database, open, push_row, rows};
-use sqlite::{Connection, Error, ErrorCode, MemStore, Row};
+use crate::offices::{Conn, TABLES, all_tables, database, open, push_row, rows};
+use sqlite::{Alter, Connection, Error, ErrorCode, Row};
 use sqlite_value::value::Value;
 use std::alloc::Global;
 use std::test::*;
@@ -93,30 +93,35 @@ past c1,3,1,1: obbbbbb bbbb- -bbb- bbbb- -b
 past c1,3,2,2: obbbbbb bbbb- b-bb- bbbb- -b
 ";
 
-/// Adds the letter for an opening after a change, and undoes the change.
-fn push_answer(
+/// The database of an office in which one value after the other is changed, and changed back, and the letters
+/// for the openings after each change.
+#[derive(Drop)]
+struct Trials<S: Alter> {
     alloc: Global,
-    mut conn: Connection<MemStore>,
-    told: &mut String,
-    change: &str,
-    back: &str,
-) -> Result<Connection<MemStore>, Fail> {
-    match conn.execute(change, &[]) {
-        Ok(_) => (),
-        Err(Error::SqliteFailure(ErrorCode::ConstraintViolation(_))) => {
-            told.push_str("-")?;
-            return Ok(conn);
-        }
-        Err(error) => return Err(Fail::from(format!(in alloc; "{change}: {error}")?)),
+    conn: Option<Connection<S>>,
+    told: String,
+}
+
+/// Carries a statement out, or finds that a table refuses it.
+fn is_carried_out<S: Alter + Drop>(
+    alloc: Global,
+    conn: &mut Connection<S>,
+    statement: &str,
+) -> Result<bool, Fail> {
+    match conn.execute(statement, &[]) {
+        Ok(_) => Ok(true),
+        Err(Error::SqliteFailure(ErrorCode::ConstraintViolation(_))) => Ok(false),
+        Err(error) => Err(Fail::from(format!(in alloc; "{statement}: {error}")?)),
     }
-    let (mut conn, letter) = match open(alloc, conn) {
+}
+
+/// The letter for an opening, and the database.
+fn letter_of<S: Alter + Drop>(alloc: Global, conn: Connection<S>) -> (Connection<S>, &'static str) {
+    match open(alloc, conn) {
         Ok(office) => (office.close(), "o"),
         Err((conn, OpenFault::BadTables)) => (conn, "b"),
         Err((conn, _)) => (conn, "?"),
-    };
-    told.push_str(letter)?;
-    conn.execute(back, &[])?;
-    Ok(conn)
+    }
 }
 
 /// A value as SQL writes it.
@@ -129,60 +134,6 @@ fn literal(alloc: Global, row: &Row, at: usize) -> Result<String, Fail> {
         }
         _ => Err(Fail::from("neither a number nor a text")),
     }
-}
-
-/// Adds the letters for the changes of a column of a row.
-fn push_column(
-    alloc: Global,
-    mut conn: Connection<MemStore>,
-    told: &mut String,
-    update: &str,
-    column: &str,
-    old: &str,
-    place: &str,
-) -> Result<Connection<MemStore>, Fail> {
-    let back = format!(in alloc; "{update} {column} = {old} {place}")?;
-    if old.starts_with("'") {
-        for text in TEXTS {
-            let change = format!(in alloc; "{update} {column} = {text} {place}")?;
-            conn = push_answer(alloc, conn, told, change.as_str(), back.as_str())?;
-        }
-        return Ok(conn);
-    }
-    for number in NUMBERS {
-        let change = format!(in alloc; "{update} {column} = {column} {number} {place}")?;
-        conn = push_answer(alloc, conn, told, change.as_str(), back.as_str())?;
-    }
-    Ok(conn)
-}
-
-/// Adds the letters for the changes of each column of a row, which is the one at a rowid.
-fn push_columns(
-    alloc: Global,
-    mut conn: Connection<MemStore>,
-    told: &mut String,
-    table: &str,
-    columns: &str,
-    row: &Row,
-    place: &str,
-) -> Result<Connection<MemStore>, Fail> {
-    let update = format!(in alloc; "UPDATE {table} SET")?;
-    let mut names = columns.split(", ");
-    for at in 0..row.column_count() {
-        let column = names.next().ok_or("a column")?;
-        told.push_str(" ")?;
-        let old = literal(alloc, row, at)?;
-        conn = push_column(
-            alloc,
-            conn,
-            told,
-            update.as_str(),
-            column,
-            old.as_str(),
-            place,
-        )?;
-    }
-    Ok(conn)
 }
 
 /// The INSERT of a row.
@@ -198,96 +149,281 @@ fn insert_of(alloc: Global, table: &str, row: &Row) -> Result<String, Fail> {
     Ok(insert)
 }
 
-/// Adds the line of a row.
-fn push_line(
+/// The statements by which two rows get these values.
+fn two_updates(
     alloc: Global,
-    conn: Connection<MemStore>,
-    told: &mut String,
-    table: &str,
-    columns: &str,
-    row: &Row,
-    rowid: i64,
-) -> Result<Connection<MemStore>, Fail> {
-    write!(told, "{table} ")?;
-    push_row(told, row)?;
-    told.push_str(":")?;
-    let place = format!(in alloc; "WHERE rowid = {rowid}")?;
-    let conn = push_columns(alloc, conn, told, table, columns, row, place.as_str())?;
-    told.push_str(" ")?;
-    let insert = insert_of(alloc, table, row)?;
-    let delete = format!(in alloc; "DELETE FROM {table} {}", place.as_str())?;
-    let conn = push_answer(alloc, conn, told, insert.as_str(), "")?;
-    let conn = push_answer(alloc, conn, told, delete.as_str(), insert.as_str())?;
-    told.push_str("\n")?;
-    Ok(conn)
+    update: &str,
+    one: (i64, &str),
+    other: (i64, &str),
+) -> Result<String, Fail> {
+    let mut text = format!(in alloc; "{update} {} WHERE rowid = {}; ", one.1, one.0)?;
+    write!(text, "{update} {} WHERE rowid = {}", other.1, other.0)?;
+    Ok(text)
 }
 
-/// Adds the lines of these rows of a table.
-fn push_table(
-    alloc: Global,
-    mut conn: Connection<MemStore>,
-    told: &mut String,
-    table: &str,
-    columns: &str,
-    which: &str,
-) -> Result<Connection<MemStore>, Fail> {
-    let select = format!(in alloc; "SELECT {columns} FROM {table} {which} ORDER BY {columns}")?;
-    let found = rows(&mut conn, select.as_str())?;
-    let select = format!(in alloc; "SELECT rowid FROM {table} {which} ORDER BY {columns}")?;
-    let rowids = rows(&mut conn, select.as_str())?;
-    for (row, rowid) in found.iter().zip(rowids.iter()) {
-        conn = push_line(alloc, conn, told, table, columns, row, rowid.get::<i64>(0)?)?;
+impl<S: Alter + Drop> Trials<S> {
+    /// Trials of the database of an office.
+    fn new(alloc: Global, conn: Connection<S>) -> Trials<S> {
+        Trials {
+            alloc,
+            conn: Some(conn),
+            told: String::new(alloc),
+        }
     }
-    Ok(conn)
+
+    /// Carries a statement out, or finds that a table refuses it.
+    fn execute(&mut self, statement: &str) -> Result<bool, Fail> {
+        let conn = self.conn.as_mut().ok_or("a database")?;
+        is_carried_out(self.alloc, conn, statement)
+    }
+
+    /// Carries statements out.
+    fn execute_all(&mut self, statements: &str) -> Result<(), Fail> {
+        let conn = self.conn.as_mut().ok_or("a database")?;
+        Ok(conn.execute_batch(statements)?)
+    }
+
+    /// The rows that a SELECT shows.
+    fn rows(&mut self, select: &str) -> Result<Vec<Row>, Fail> {
+        let conn = self.conn.as_mut().ok_or("a database")?;
+        Ok(rows(conn, select)?)
+    }
+
+    /// All tables.
+    fn tables(&mut self) -> Result<String, Fail> {
+        let conn = self.conn.as_mut().ok_or("a database")?;
+        all_tables(self.alloc, conn)
+    }
+
+    /// Adds the letter for an opening.
+    fn push_opening(&mut self) -> Result<(), Fail> {
+        let conn = self.conn.take().ok_or("a database")?;
+        let (conn, letter) = letter_of(self.alloc, conn);
+        self.conn = Some(conn);
+        self.told.push_str(letter)?;
+        Ok(())
+    }
+
+    /// Adds the letter for an opening after a change, and undoes the change.
+    fn push_answer(&mut self, change: &str, back: &str) -> Result<(), Fail> {
+        if !self.execute(change)? {
+            self.told.push_str("-")?;
+            return Ok(());
+        }
+        self.push_opening()?;
+        if !self.execute(back)? {
+            return Err(Fail::from("not undone"));
+        }
+        Ok(())
+    }
+
+    /// Adds the letters for the changes of a value: `UPDATE .. SET column =`, its text and its row.
+    fn push_value(
+        &mut self,
+        update: &str,
+        column: &str,
+        old: &str,
+        place: &str,
+    ) -> Result<(), Fail> {
+        let alloc = self.alloc;
+        let back = format!(in alloc; "{update} {column} = {old} {place}")?;
+        if old.starts_with("'") {
+            for text in TEXTS {
+                let change = format!(in alloc; "{update} {column} = {text} {place}")?;
+                self.push_answer(change.as_str(), back.as_str())?;
+            }
+            return Ok(());
+        }
+        for number in NUMBERS {
+            let change = format!(in alloc; "{update} {column} = {column} {number} {place}")?;
+            self.push_answer(change.as_str(), back.as_str())?;
+        }
+        Ok(())
+    }
+
+    /// Adds the letters for the changes of each column of a row.
+    fn push_columns(
+        &mut self,
+        table: &str,
+        columns: &str,
+        row: &Row,
+        place: &str,
+    ) -> Result<(), Fail> {
+        let alloc = self.alloc;
+        let update = format!(in alloc; "UPDATE {table} SET")?;
+        for (at, column) in columns.split(", ").enumerate() {
+            self.told.push_str(" ")?;
+            let old = literal(alloc, row, at)?;
+            self.push_value(update.as_str(), column, old.as_str(), place)?;
+        }
+        Ok(())
+    }
+
+    /// Adds the line of a row.
+    fn push_line(&mut self, table: &str, columns: &str, row: &Row, rowid: i64) -> Result<(), Fail> {
+        let alloc = self.alloc;
+        write!(self.told, "{table} ")?;
+        push_row(&mut self.told, row)?;
+        self.told.push_str(":")?;
+        let place = format!(in alloc; "WHERE rowid = {rowid}")?;
+        self.push_columns(table, columns, row, place.as_str())?;
+        self.told.push_str(" ")?;
+        let insert = insert_of(alloc, table, row)?;
+        let delete = format!(in alloc; "DELETE FROM {table} {}", place.as_str())?;
+        self.push_answer(insert.as_str(), "")?;
+        self.push_answer(delete.as_str(), insert.as_str())?;
+        self.told.push_str("\n")?;
+        Ok(())
+    }
+
+    /// Adds the lines of these rows of a table.
+    fn push_table(&mut self, table: &str, columns: &str, which: &str) -> Result<(), Fail> {
+        let alloc = self.alloc;
+        let select = format!(in alloc; "SELECT {columns} FROM {table} {which} ORDER BY {columns}")?;
+        let found = self.rows(select.as_str())?;
+        let select = format!(in alloc; "SELECT rowid FROM {table} {which} ORDER BY {columns}")?;
+        let rowids = self.rows(select.as_str())?;
+        for (row, rowid) in found.iter().zip(rowids.iter()) {
+            self.push_line(table, columns, row, rowid.get::<i64>(0)?)?;
+        }
+        Ok(())
+    }
+
+    /// Adds the letter for an opening where two rows have one another's value, and undoes the exchange. A
+    /// row is its rowid and its value.
+    fn push_exchange(&mut self, update: &str, one: &Row, other: &Row) -> Result<(), Fail> {
+        let alloc = self.alloc;
+        let (first, second) = (one.get::<i64>(0)?, other.get::<i64>(0)?);
+        let (a, b) = (literal(alloc, one, 1)?, literal(alloc, other, 1)?);
+        let (a, b) = (a.as_str(), b.as_str());
+        let exchange = two_updates(alloc, update, (first, b), (second, a))?;
+        let back = two_updates(alloc, update, (first, a), (second, b))?;
+        self.execute_all(exchange.as_str())?;
+        self.push_opening()?;
+        self.execute_all(back.as_str())
+    }
+
+    /// Adds the line of a table: a letter for each of these rows and the next one, which exchange the values
+    /// of the last column.
+    fn push_exchanges(&mut self, table: &str, columns: &str, which: &str) -> Result<(), Fail> {
+        let alloc = self.alloc;
+        let (_, value) = columns.rsplit_once(", ").ok_or("a column")?;
+        let select = format!(in alloc;
+            "SELECT rowid, {value} FROM {table} {which} ORDER BY {columns}"
+        )?;
+        let found = self.rows(select.as_str())?;
+        let update = format!(in alloc; "UPDATE {table} SET {value} =")?;
+        write!(self.told, "{table} ")?;
+        for (one, other) in found.iter().zip(found.iter().skip(1)) {
+            self.push_exchange(update.as_str(), one, other)?;
+        }
+        self.told.push_str("\n")?;
+        Ok(())
+    }
 }
 
 /// What is answered to all changes of these rows of these tables. Each is undone.
-fn answers(alloc: Global, tables: &[(&str, &str)], which: &str) -> Result<String, Fail> {
-    let setup = format!(in alloc; "{TWIN_TOWN}{LONG_SHORE}")?;
-    let mut conn = database(alloc, setup.as_str(), SCRIPT)?;
-    let before = all_tables(alloc, &mut conn)?;
-    let mut told = String::new(alloc);
+pub(crate) fn answers<S: Alter + Drop>(
+    alloc: Global,
+    conn: Connection<S>,
+    tables: &[(&str, &str)],
+    which: &str,
+) -> Result<String, Fail> {
+    let mut trials = Trials::new(alloc, conn);
+    let before = trials.tables()?;
     for (table, columns) in tables {
-        conn = push_table(alloc, conn, &mut told, table, columns, which)?;
+        trials.push_table(table, columns, which)?;
     }
-    let after = all_tables(alloc, &mut conn)?;
-    if after.as_str() != before.as_str() {
+    told_by(trials, before.as_str())
+}
+
+/// What is answered where two of these rows of these tables exchange their values. Each exchange is undone.
+pub(crate) fn exchanges<S: Alter + Drop>(
+    alloc: Global,
+    conn: Connection<S>,
+    tables: &[(&str, &str)],
+    which: &str,
+) -> Result<String, Fail> {
+    let mut trials = Trials::new(alloc, conn);
+    let before = trials.tables()?;
+    for (table, columns) in tables {
+        trials.push_exchanges(table, columns, which)?;
+    }
+    told_by(trials, before.as_str())
+}
+
+/// The letters of trials behind which the tables are as they were before.
+fn told_by<S: Alter + Drop>(mut trials: Trials<S>, before: &str) -> Result<String, Fail> {
+    let after = trials.tables()?;
+    if after.as_str() != before {
         return Err(Fail::from(after));
     }
+    let Trials { told, .. } = trials;
     Ok(told)
+}
+
+/// The office above.
+fn two_towns(alloc: Global) -> Result<Conn, Fail> {
+    let setup = format!(in alloc; "{TWIN_TOWN}{LONG_SHORE}")?;
+    database(alloc, setup.as_str(), SCRIPT)
 }
 
 #[test]
 fn a_changed_return(rt: HostRuntime) -> Result<(), Fail> {
-    let told = answers(rt.alloc(), &TABLES[..1], "")?;
+    let told = answers(rt.alloc(), two_towns(rt.alloc())?, &TABLES[..1], "")?;
     assert!(rt; told.as_str() == RETURNS, "{told}");
     Ok(())
 }
 
 #[test]
 fn a_changed_count(rt: HostRuntime) -> Result<(), Fail> {
-    let told = answers(rt.alloc(), &TABLES[1..2], "WHERE station = 's1'")?;
+    let told = answers(
+        rt.alloc(),
+        two_towns(rt.alloc())?,
+        &TABLES[1..2],
+        "WHERE station = 's1'",
+    )?;
     assert!(rt; told.as_str() == COUNTS, "{told}");
     Ok(())
 }
 
 #[test]
 fn a_changed_count_of_another_station(rt: HostRuntime) -> Result<(), Fail> {
-    let told = answers(rt.alloc(), &TABLES[1..2], "WHERE station <> 's1'")?;
+    let told = answers(
+        rt.alloc(),
+        two_towns(rt.alloc())?,
+        &TABLES[1..2],
+        "WHERE station <> 's1'",
+    )?;
     assert!(rt; told.as_str() == OTHER_COUNTS, "{told}");
     Ok(())
 }
 
 #[test]
 fn a_changed_constituency(rt: HostRuntime) -> Result<(), Fail> {
-    let told = answers(rt.alloc(), &TABLES[2..6], "")?;
+    let told = answers(rt.alloc(), two_towns(rt.alloc())?, &TABLES[2..6], "")?;
     assert!(rt; told.as_str() == CONSTITUENCIES, "{told}");
     Ok(())
 }
 
 #[test]
 fn a_changed_sum_or_record(rt: HostRuntime) -> Result<(), Fail> {
-    let told = answers(rt.alloc(), &TABLES[6..], "")?;
+    let told = answers(rt.alloc(), two_towns(rt.alloc())?, &TABLES[6..], "")?;
     assert!(rt; told.as_str() == SUMS, "{told}");
+    Ok(())
+}
+
+// The votes of both lists of c1 are the same, and so are the blank votes of c2 and the spoiled ones of c1. A
+// record has any seats.
+const EXCHANGED: &str = "lots b
+seats b
+gone \ntotals bobobb
+past o
+";
+
+#[test]
+fn exchanged_rows(rt: HostRuntime) -> Result<(), Fail> {
+    let told = exchanges(rt.alloc(), two_towns(rt.alloc())?, &TABLES[3..], "")?;
+    assert!(rt; told.as_str() == EXCHANGED, "{told}");
     Ok(())
 }

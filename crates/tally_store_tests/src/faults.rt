@@ -1,7 +1,7 @@
 //! Why an office is not made or opened.
 
 use crate::offices::{all_tables, create, database, empty, open};
-use sqlite::{Connection, MemStore};
+use sqlite::{Alter, Connection};
 use std::alloc::Global;
 use std::test::*;
 use tally_scripts::{TWIN_TOWN, with};
@@ -61,7 +61,7 @@ INSERT INTO seats VALUES ('c1', 3, 0) -> the tables are those of no state
 INSERT INTO counts VALUES ('s1', 3, 0) -> the tables are those of no state";
 
 /// What an opening answers, with the tables as they were where it is a fault.
-fn opening(alloc: Global, mut conn: Connection<MemStore>) -> Result<String, Fail> {
+fn opening<S: Alter + Drop>(alloc: Global, mut conn: Connection<S>) -> Result<String, Fail> {
     let before = all_tables(alloc, &mut conn)?;
     let (mut conn, fault) = match open(alloc, conn) {
         Ok(_) => return Ok(String::from_str(alloc, "opened")?),
@@ -74,8 +74,12 @@ fn opening(alloc: Global, mut conn: Connection<MemStore>) -> Result<String, Fail
     Ok(format!(in alloc; "{fault}")?)
 }
 
-fn after(alloc: Global, statements: &str) -> Result<String, Fail> {
-    let mut conn = database(alloc, TWIN_TOWN, SCRIPT)?;
+/// The same after these statements.
+pub(crate) fn after<S: Alter + Drop>(
+    alloc: Global,
+    mut conn: Connection<S>,
+    statements: &str,
+) -> Result<String, Fail> {
     conn.execute_batch(statements)?;
     opening(alloc, conn)
 }
@@ -85,14 +89,19 @@ fn a_changed_office_is_opened_or_not(rt: HostRuntime) -> Result<(), Fail> {
     let alloc = rt.alloc();
     for line in CHANGED.lines() {
         let (statements, want) = line.split_once("-> ").ok_or("an answer")?;
-        let got = after(alloc, statements.trim())?;
+        let conn = database(alloc, TWIN_TOWN, SCRIPT)?;
+        let got = after(alloc, conn, statements.trim())?;
         assert!(rt; got.as_str() == want, "{line}, and not {got}");
     }
     Ok(())
 }
 
 /// What making an office in a database answers.
-fn making_in(alloc: Global, conn: Connection<MemStore>, text: &str) -> Result<String, Fail> {
+fn making_in<S: Alter + Drop>(
+    alloc: Global,
+    conn: Connection<S>,
+    text: &str,
+) -> Result<String, Fail> {
     let (_conn, fault) = match create(alloc, conn, text)? {
         Ok(_) => return Ok(String::from_str(alloc, "made")?),
         Err(refused) => refused,
@@ -100,9 +109,13 @@ fn making_in(alloc: Global, conn: Connection<MemStore>, text: &str) -> Result<St
     Ok(format!(in alloc; "{fault}")?)
 }
 
-/// What making an office after these statements answers.
-fn making(alloc: Global, statements: &str, text: &str) -> Result<String, Fail> {
-    let mut conn = empty(alloc)?;
+/// The same after these statements.
+fn making<S: Alter + Drop>(
+    alloc: Global,
+    mut conn: Connection<S>,
+    statements: &str,
+    text: &str,
+) -> Result<String, Fail> {
     conn.execute_batch(statements)?;
     making_in(alloc, conn, text)
 }
@@ -129,7 +142,7 @@ fn an_office_is_made_in_an_empty_database_alone(rt: HostRuntime) -> Result<(), F
             "the setup: `seats` has a wrong value",
         ),
     ] {
-        let got = making(alloc, statements, text)?;
+        let got = making(alloc, empty(alloc)?, statements, text)?;
         assert!(rt; got.as_str() == want, "{statements}: {got}");
     }
     Ok(())

@@ -1,7 +1,7 @@
 //! Tables of version 1, taken over.
 
-use crate::offices::{all_tables, database, open, shown};
-use sqlite::{Connection, MemStore};
+use crate::offices::{Conn, all_tables, database, open, shown};
+use sqlite::{Alter, Connection};
 use std::alloc::Global;
 use std::test::*;
 use tally_scripts::{TWIN_TOWN, first_wrong};
@@ -16,57 +16,91 @@ const AFTER: &str = "certify c1 3 = refused 9
 reopen c1 3 recount = edition 4
 show c1 = open 4 1/1 [100, 100] [2, 1] [] recount past 3 [1, 2]";
 
-/// The database of an office in the tables of version 1.
-fn former(alloc: Global) -> Result<Connection<MemStore>, Fail> {
-    let mut conn = database(alloc, TWIN_TOWN, SCRIPT)?;
+/// A database whose tables become those of version 1.
+fn made_former<S: Alter + Drop>(mut conn: Connection<S>) -> Result<Connection<S>, Fail> {
     conn.execute_batch("DROP TABLE past; UPDATE setup SET version = 1")?;
     Ok(conn)
+}
+
+/// The database of an office in the tables of version 1.
+fn former(alloc: Global) -> Result<Conn, Fail> {
+    made_former(database(alloc, TWIN_TOWN, SCRIPT)?)
+}
+
+/// The version, and the tables.
+fn version_and_tables<S: Alter + Drop>(
+    alloc: Global,
+    mut conn: Connection<S>,
+) -> Result<String, Fail> {
+    let version = shown(alloc, &mut conn, "SELECT version FROM setup")?;
+    let tables = all_tables(alloc, &mut conn)?;
+    Ok(format!(in alloc; "{version}{tables}")?)
+}
+
+/// The same of a database that was opened.
+fn opened<S: Alter + Drop>(alloc: Global, conn: Connection<S>) -> Result<String, Fail> {
+    match open(alloc, conn) {
+        Ok(office) => version_and_tables(alloc, office.close()),
+        Err(_) => Err(Fail::from("not opened")),
+    }
 }
 
 #[test]
 fn tables_of_version_1_are_taken_over(rt: HostRuntime) -> Result<(), Fail> {
     let alloc = rt.alloc();
-    let Ok(office) = open(alloc, former(alloc)?) else {
-        return Err(Fail::from("not opened"));
-    };
-    let mut taken = office.close();
-    let version = shown(alloc, &mut taken, "SELECT version FROM setup")?;
-    assert!(rt; version.as_str() == "2\n", "{version}");
-    let mut made = database(alloc, TWIN_TOWN, SCRIPT)?;
-    let (got, want) = (
-        all_tables(alloc, &mut taken)?,
-        all_tables(alloc, &mut made)?,
-    );
+    let got = opened(alloc, former(alloc)?)?;
+    let want = version_and_tables(alloc, database(alloc, TWIN_TOWN, SCRIPT)?)?;
+    assert!(rt; got.as_str().starts_with("2\n"), "{got}");
     assert!(rt; got.as_str() == want.as_str(), "{got}");
     Ok(())
+}
+
+/// The first of these lines whose answer from a database that was opened is another; or nothing.
+fn wrong_after_opening<S: Alter + Drop>(
+    alloc: Global,
+    conn: Connection<S>,
+    script: &str,
+) -> Result<String, Fail> {
+    match open(alloc, conn) {
+        Ok(mut office) => first_wrong(alloc, &mut office, script),
+        Err(_) => Err(Fail::from("not opened")),
+    }
 }
 
 #[test]
 fn an_office_that_was_taken_over_goes_on(rt: HostRuntime) -> Result<(), Fail> {
     let alloc = rt.alloc();
-    let Ok(mut office) = open(alloc, former(alloc)?) else {
-        return Err(Fail::from("not opened"));
-    };
-    let wrong = first_wrong(alloc, &mut office, AFTER)?;
+    let wrong = wrong_after_opening(alloc, former(alloc)?, AFTER)?;
     assert!(rt; wrong.is_empty(), "{wrong}");
     Ok(())
+}
+
+/// The version, and whether there is a table `past`, of a database that is not opened.
+fn refused<S: Alter + Drop>(alloc: Global, conn: Connection<S>) -> Result<String, Fail> {
+    let mut conn = match open(alloc, conn) {
+        Ok(_) => return Err(Fail::from("opened")),
+        Err((conn, _)) => conn,
+    };
+    let version = shown(alloc, &mut conn, "SELECT version FROM setup")?;
+    let past = "SELECT name FROM sqlite_schema WHERE name = 'past'";
+    let tables = shown(alloc, &mut conn, past)?;
+    Ok(format!(in alloc; "{version}{tables}")?)
+}
+
+/// The same after this statement.
+fn refused_after<S: Alter + Drop>(
+    alloc: Global,
+    mut conn: Connection<S>,
+    statement: &str,
+) -> Result<String, Fail> {
+    conn.execute_batch(statement)?;
+    refused(alloc, conn)
 }
 
 #[test]
 fn bad_tables_of_version_1_stay(rt: HostRuntime) -> Result<(), Fail> {
     let alloc = rt.alloc();
-    let mut conn = former(alloc)?;
-    conn.execute_batch("UPDATE seats SET n = 3 - n")?;
-    let Err((mut conn, _)) = open(alloc, conn) else {
-        return Err(Fail::from("opened"));
-    };
-    let version = shown(alloc, &mut conn, "SELECT version FROM setup")?;
-    let tables = shown(
-        alloc,
-        &mut conn,
-        "SELECT name FROM sqlite_schema WHERE name = 'past'",
-    )?;
-    assert!(rt; version.as_str() == "1\n", "{version}");
-    assert!(rt; tables.is_empty(), "{tables}");
+    let told = refused_after(alloc, former(alloc)?, "UPDATE seats SET n = 3 - n")?;
+    assert!(rt; told.as_str() == "1\n", "{told}");
     Ok(())
 }

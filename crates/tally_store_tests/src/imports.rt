@@ -1,12 +1,15 @@
 //! Imports into an office in a database, which is opened again after each.
 
-use crate::offices::{Office, made, reopened};
+use crate::offices::{all_tables, made, reopened};
+use crate::tables::NEW;
+use sqlite::Alter;
 use std::alloc::{AllocError, Global};
 use std::io::{self, ErrorKind, Read};
 use std::test::*;
 use tally_core::{ImportCount, Keeper};
 use tally_import::{ReturnRows, Sep};
 use tally_scripts::{TWIN_TOWN, code, first_wrong};
+use tally_store::Store;
 
 const MORE_STATIONS: &str = r#"
 [[constituency.station]]
@@ -58,7 +61,12 @@ fn push_count(text: &mut String, count: ImportCount) -> Result<(), AllocError> {
 }
 
 /// What an import comes to, as text.
-fn imported(alloc: Global, office: &mut Office, text: &str, fails: bool) -> Result<String, Fail> {
+fn imported<K: Keeper>(
+    alloc: Global,
+    office: &mut K,
+    text: &str,
+    fails: bool,
+) -> Result<String, Fail> {
     let found = office.setup().con(code("c1")?).ok_or("c1")?;
     let con = found.try_copy(alloc)?;
     let text = Text {
@@ -74,53 +82,142 @@ fn imported(alloc: Global, office: &mut Office, text: &str, fails: bool) -> Resu
     Ok(told)
 }
 
-/// The office after an import, opened again, and what was wrong: the count or fault, or the first line of
-/// a script.
-fn wrong_after(
-    alloc: Global,
-    mut office: Office,
-    text: &str,
+/// A text that ends or fails, what its import comes to, and a line with its answer.
+#[derive(Clone, Copy)]
+struct Case<'a> {
+    text: &'a str,
     fails: bool,
-    want: &str,
-    script: &str,
-) -> Result<(Office, String), Fail> {
-    let told = imported(alloc, &mut office, text, fails)?;
+    want: &'a str,
+    line: &'a str,
+}
+
+/// The office after an import, opened again, and what was wrong: the count or fault, or the line.
+fn wrong_after<S: Alter + Drop>(
+    alloc: Global,
+    mut office: Store<S>,
+    case: Case<'_>,
+) -> Result<(Store<S>, String), Fail> {
+    let told = imported(alloc, &mut office, case.text, case.fails)?;
     let mut office = reopened(alloc, office)?;
-    if told.as_str() != want {
+    if told.as_str() != case.want {
         return Ok((office, told));
     }
-    let wrong = first_wrong(alloc, &mut office, script)?;
+    let wrong = first_wrong(alloc, &mut office, case.line)?;
     Ok((office, wrong))
 }
 
-// Where the read fails, the row of s1 had come.
+/// What was wrong first after these imports, one after the other; or nothing.
+fn first_wrong_import<S: Alter + Drop>(
+    alloc: Global,
+    mut office: Store<S>,
+    cases: &[Case<'_>],
+) -> Result<String, Fail> {
+    for case in cases {
+        let (next, wrong) = wrong_after(alloc, office, *case)?;
+        if !wrong.is_empty() {
+            return Ok(wrong);
+        }
+        office = next;
+    }
+    Ok(String::new(alloc))
+}
+
+// Behind the row of s1 a read fails.
+const CUT: &str = "station,slip,blank,spoiled,A,B\ns1,p1,0,0,10,20\ns2,p2,1,0,30";
+
+fn import_case<'a>(text: &'a str, fails: bool, want: &'a str, line: &'a str) -> Case<'a> {
+    Case {
+        text,
+        fails,
+        want,
+        line,
+    }
+}
+
 #[test]
 fn imports_one_after_the_other(rt: HostRuntime) -> Result<(), Fail> {
     let alloc = rt.alloc();
     let setup = format!(in alloc; "{TWIN_TOWN}{MORE_STATIONS}")?;
-    let cut = RETURNS.split_once(",40").ok_or("a row")?.0;
-    let mut office = made(alloc, setup.as_str())?;
-    for (text, fails, want, script) in [
-        (cut, true, "Read", "close s1 1 = refused 8"),
-        (
+    let cases = [
+        import_case(CUT, true, "Read", "close s1 1 = refused 8"),
+        import_case(
             TOO_MANY,
             false,
             "1 0 0 1 0, first 1 6",
             "close s1 1 = refused 8",
         ),
-        (RETURNS, false, "2 1 0 0 0", "close s1 1 = moved 2"),
-        (RETURNS, true, "Read", "close s2 1 = moved 2"),
-        (RETURNS, false, "0 3 0 0 0", "close s3 1 = moved 2"),
-        (
+        import_case(RETURNS, false, "2 1 0 0 0", "close s1 1 = moved 2"),
+        import_case(RETURNS, true, "Read", "close s2 1 = moved 2"),
+        import_case(RETURNS, false, "0 3 0 0 0", "close s3 1 = moved 2"),
+        import_case(
             DIFFERING,
             false,
             "0 1 1 0 1, first 2 7",
             "show c1 = open 1 3/3 [90, 120] [] []",
         ),
-    ] {
-        let (next, wrong) = wrong_after(alloc, office, text, fails, want, script)?;
-        assert!(rt; wrong.is_empty(), "{wrong}");
-        office = next;
+    ];
+    let wrong = first_wrong_import(alloc, made(alloc, setup.as_str())?, &cases)?;
+    assert!(rt; wrong.is_empty(), "{wrong}");
+    Ok(())
+}
+
+/// A text of so many rows: a return, and rows that are none.
+fn long_text(alloc: Global, rows: u32) -> Result<String, AllocError> {
+    let mut text = String::from_str(alloc, "station,slip,blank,spoiled,A,B\n")?;
+    text.push_str("s1,p1,0,0,10,20\n")?;
+    for _ in 1..rows {
+        text.push_str("x\n")?;
     }
+    Ok(text)
+}
+
+/// What an import into an office comes to, and the tables then.
+fn import_and_tables<S: Alter + Drop>(
+    alloc: Global,
+    mut office: Store<S>,
+    text: &str,
+) -> Result<String, Fail> {
+    let told = imported(alloc, &mut office, text, false)?;
+    let mut conn = office.close();
+    let tables = all_tables(alloc, &mut conn)?;
+    Ok(format!(in alloc; "{told}\n{tables}")?)
+}
+
+/// The same of so many rows and a new office.
+fn long_import(alloc: Global, rows: u32) -> Result<String, Fail> {
+    let text = long_text(alloc, rows)?;
+    import_and_tables(alloc, made(alloc, TWIN_TOWN)?, text.as_str())
+}
+
+// What a new office has, with the return.
+const ONE_RETURN: &str = "returns
+s1,c1,1,p1,1,
+counts
+s1,0,0
+s1,1,10
+s1,2,20
+s1,61,0
+cons
+c1,1,0,
+lots
+seats
+gone
+totals
+c1,0,0
+c1,1,0
+c1,2,0
+c1,61,0
+past
+";
+
+#[test]
+fn an_import_has_20000_rows_at_most(rt: HostRuntime) -> Result<(), Fail> {
+    let alloc = rt.alloc();
+    let told = long_import(alloc, 20_001)?;
+    let want = format!(in alloc; "TooLong\n{NEW}")?;
+    assert!(rt; told.as_str() == want.as_str(), "{told}");
+    let told = long_import(alloc, 20_000)?;
+    let want = format!(in alloc; "1 0 0 0 19999, first 2 0\n{ONE_RETURN}")?;
+    assert!(rt; told.as_str() == want.as_str(), "{told}");
     Ok(())
 }

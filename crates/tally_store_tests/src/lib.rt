@@ -15,4 +15,6 @@ mod offices;
 #[cfg(test)]
 mod requests;
 #[cfg(test)]
+mod rules;
+#[cfg(test)]
 mod tables;

@@ -1,15 +1,17 @@
 //! Offices in a database in memory.
 
-use sqlite::{Connection, Error, ErrorCode, MemStore, Row};
+use sqlite::{Alter, Connection, Error, ErrorCode, MemStore, Row};
 use sqlite_value::value::Value;
 use std::alloc::Global;
 use std::test::Fail;
 use tally_scripts::first_wrong;
 use tally_store::{CreateFault, OpenFault, Store};
 
-pub(crate) type Office = Store<MemStore>;
+// What is done to a connection or an office is written over any store. Over this one each of these functions
+// takes the prover longer.
+pub(crate) type Conn = Connection<MemStore>;
 
-pub(crate) fn empty(alloc: Global) -> Result<Connection<MemStore>, Error> {
+pub(crate) fn empty(alloc: Global) -> Result<Conn, Error> {
     match Connection::open_in_memory(alloc) {
         Ok(conn) => Ok(conn),
         Err(_) => Err(Error::SqliteFailure(ErrorCode::OutOfMemory)),
@@ -17,11 +19,11 @@ pub(crate) fn empty(alloc: Global) -> Result<Connection<MemStore>, Error> {
 }
 
 /// What making an office in a database answers, and its connection where none is made.
-pub(crate) fn create(
+pub(crate) fn create<S: Alter + Drop>(
     alloc: Global,
-    conn: Connection<MemStore>,
+    conn: Connection<S>,
     text: &str,
-) -> Result<Result<Office, (Connection<MemStore>, CreateFault)>, Fail> {
+) -> Result<Result<Store<S>, (Connection<S>, CreateFault)>, Fail> {
     if !conn.is_autocommit() {
         return Err(Fail::from("a transaction"));
     }
@@ -29,18 +31,27 @@ pub(crate) fn create(
 }
 
 /// A new office of the setup of a text.
-pub(crate) fn made(alloc: Global, text: &str) -> Result<Office, Fail> {
-    let (_conn, fault) = match create(alloc, empty(alloc)?, text)? {
+fn made_in<S: Alter + Drop>(
+    alloc: Global,
+    conn: Connection<S>,
+    text: &str,
+) -> Result<Store<S>, Fail> {
+    let (_conn, fault) = match create(alloc, conn, text)? {
         Ok(office) => return Ok(office),
         Err(refused) => refused,
     };
     Err(Fail::from(format!(in alloc; "{fault}")?))
 }
 
-pub(crate) fn open(
+/// The same in memory.
+pub(crate) fn made(alloc: Global, text: &str) -> Result<Store<MemStore>, Fail> {
+    made_in(alloc, empty(alloc)?, text)
+}
+
+pub(crate) fn open<S: Alter + Drop>(
     alloc: Global,
-    conn: Connection<MemStore>,
-) -> Result<Office, (Connection<MemStore>, OpenFault)> {
+    conn: Connection<S>,
+) -> Result<Store<S>, (Connection<S>, OpenFault)> {
     if !conn.is_autocommit() {
         return Err((conn, OpenFault::Store));
     }
@@ -48,7 +59,7 @@ pub(crate) fn open(
 }
 
 /// An office, closed and opened again.
-pub(crate) fn reopened(alloc: Global, office: Office) -> Result<Office, Fail> {
+pub(crate) fn reopened<S: Alter + Drop>(alloc: Global, office: Store<S>) -> Result<Store<S>, Fail> {
     let (_conn, fault) = match open(alloc, office.close()) {
         Ok(office) => return Ok(office),
         Err(refused) => refused,
@@ -56,13 +67,12 @@ pub(crate) fn reopened(alloc: Global, office: Office) -> Result<Office, Fail> {
     Err(Fail::from(format!(in alloc; "{fault}")?))
 }
 
-/// The database of a new office of the setup of a text after these commands, whose answers are given.
-pub(crate) fn database(
+/// The database of an office after these commands, whose answers are given.
+fn database_of<S: Alter + Drop>(
     alloc: Global,
-    text: &str,
+    mut office: Store<S>,
     script: &str,
-) -> Result<Connection<MemStore>, Fail> {
-    let mut office = made(alloc, text)?;
+) -> Result<Connection<S>, Fail> {
     let wrong = first_wrong(alloc, &mut office, script)?;
     if !wrong.is_empty() {
         return Err(Fail::from(wrong));
@@ -70,7 +80,15 @@ pub(crate) fn database(
     Ok(office.close())
 }
 
-pub(crate) fn rows(conn: &mut Connection<MemStore>, select: &str) -> Result<Vec<Row>, Error> {
+/// That of a new office in memory of the setup of a text.
+pub(crate) fn database(alloc: Global, text: &str, script: &str) -> Result<Conn, Fail> {
+    database_of(alloc, made(alloc, text)?, script)
+}
+
+pub(crate) fn rows<S: Alter + Drop>(
+    conn: &mut Connection<S>,
+    select: &str,
+) -> Result<Vec<Row>, Error> {
     conn.query_all(select, &[])
 }
 
@@ -105,9 +123,9 @@ fn push_rows(text: &mut String, rows: &[Row]) -> Result<(), Fail> {
 }
 
 /// The rows that a SELECT shows, a line each.
-pub(crate) fn shown(
+pub(crate) fn shown<S: Alter + Drop>(
     alloc: Global,
-    conn: &mut Connection<MemStore>,
+    conn: &mut Connection<S>,
     select: &str,
 ) -> Result<String, Fail> {
     let mut text = String::new(alloc);
@@ -127,18 +145,35 @@ pub(crate) const TABLES: [(&str, &str); 8] = [
     ("past", "con, edition, list, n"),
 ];
 
+/// Adds the name of a table and its rows, or that there is no such table.
+fn push_table<S: Alter + Drop>(
+    alloc: Global,
+    text: &mut String,
+    conn: &mut Connection<S>,
+    table: &str,
+    columns: &str,
+) -> Result<(), Fail> {
+    let select = format!(in alloc; "SELECT {columns} FROM {table} ORDER BY {columns}")?;
+    match rows(conn, select.as_str()) {
+        Ok(rows) => {
+            write!(text, "{table}\n")?;
+            push_rows(text, &rows)
+        }
+        Err(_) => {
+            write!(text, "no {table}\n")?;
+            Ok(())
+        }
+    }
+}
+
 /// All tables but `setup`: the name of each, and its rows, or that there is no such table.
-pub(crate) fn all_tables(alloc: Global, conn: &mut Connection<MemStore>) -> Result<String, Fail> {
+pub(crate) fn all_tables<S: Alter + Drop>(
+    alloc: Global,
+    conn: &mut Connection<S>,
+) -> Result<String, Fail> {
     let mut text = String::new(alloc);
     for (table, columns) in TABLES {
-        let select = format!(in alloc; "SELECT {columns} FROM {table} ORDER BY {columns}")?;
-        match rows(conn, select.as_str()) {
-            Ok(rows) => {
-                write!(text, "{table}\n")?;
-                push_rows(&mut text, &rows)?;
-            }
-            Err(_) => write!(text, "no {table}\n")?,
-        }
+        push_table(alloc, &mut text, conn, table, columns)?;
     }
     Ok(text)
 }

@@ -1,22 +1,30 @@
 //! Requests to an office in a database have the answers of one in memory, also where it is opened again
 //! after each.
 
-use crate::offices::{Office, made, reopened};
+use crate::offices::{made, reopened};
+use sqlite::Alter;
 use std::alloc::Global;
 use std::test::*;
 use tally_scripts::{
     ALTERNATING, HARE, LIFE, RECOUNT, RIVERS, TWIN_TOWN, VACANCIES, first_wrong, twin_town, with,
 };
+use tally_store::Store;
 
 /// The first wrong line of a script.
-fn wrong_at_once(alloc: Global, text: &str, script: &str) -> Result<String, Fail> {
-    let mut office = made(alloc, text)?;
+fn wrong_at_once<S: Alter + Drop>(
+    alloc: Global,
+    mut office: Store<S>,
+    script: &str,
+) -> Result<String, Fail> {
     first_wrong(alloc, &mut office, script)
 }
 
-/// The same, closed and opened again behind each line.
-fn wrong_line_by_line(alloc: Global, text: &str, script: &str) -> Result<String, Fail> {
-    let mut office: Office = made(alloc, text)?;
+/// The same of an office that is closed and opened again behind each line.
+fn wrong_line_by_line<S: Alter + Drop>(
+    alloc: Global,
+    mut office: Store<S>,
+    script: &str,
+) -> Result<String, Fail> {
     for line in script.lines() {
         let wrong = first_wrong(alloc, &mut office, line)?;
         if !wrong.is_empty() {
@@ -28,11 +36,11 @@ fn wrong_line_by_line(alloc: Global, text: &str, script: &str) -> Result<String,
 }
 
 fn wrong_in(alloc: Global, text: &str, script: &str) -> Result<String, Fail> {
-    let wrong = wrong_at_once(alloc, text, script)?;
+    let wrong = wrong_at_once(alloc, made(alloc, text)?, script)?;
     if !wrong.is_empty() {
         return Ok(wrong);
     }
-    wrong_line_by_line(alloc, text, script)
+    wrong_line_by_line(alloc, made(alloc, text)?, script)
 }
 
 #[test]

@@ -4,7 +4,8 @@ use crate::offices::{all_tables, database};
 use std::test::*;
 use tally_scripts::TWIN_TOWN;
 
-const NEW: &str = "returns
+/// The tables of a new office.
+pub(crate) const NEW: &str = "returns
 counts
 cons
 c1,1,0,

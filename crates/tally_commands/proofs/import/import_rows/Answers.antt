@@ -9,6 +9,10 @@ returns-in_default-clause-trouble g c sure =
     let k = g.K.Keeper in
     (None, lodging.Memory, memory-import (k.constituencies c.args.keeper.now) (k.content c.args.keeper.now) _, refl)
 
+pub returns-in-Ok-lodge_from-clause-text : goal.returns-in-Ok-lodge_from-clause-text
+returns-in-Ok-lodge_from-clause-text g c =
+    (c.in-Ok-lodge_from.count, c.push_count.ensures ∙ ap (λ (l : List ℕ). l ++ count_text c.in-Ok-lodge_from.count) c.in-Ok.ensures.bytes)
+
 pub returns-in-Ok-lodge_from-clause-imported : goal.returns-in-Ok-lodge_from-clause-imported
 returns-in-Ok-lodge_from-clause-imported g c sure =
     let k = g.K.Keeper in

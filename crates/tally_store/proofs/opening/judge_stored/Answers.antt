@@ -2,7 +2,7 @@ use Rattle.std.proofs.Common.{◌≡◌, ◌∙◌, Option, Some, None, inl, inr
 use Rattle.std.specs.Prelude.{IfSome, OnSome}
 use Rattle.sqlite.specs.State.{HasCleanDisk, IsUnchanged}
 use Rattle.sqlite.specs.Held.{state}
-use Rattle.tally_store.specs.Opening.{AreTablesOfNone, IsJudged, IsStored}
+use Rattle.tally_store.specs.Opening.{AreTablesOfNone, IsJudged, HasSetupRow}
 use Rattle.tally_store.proofs.JudgingLemmas.{judged_before, none_before, tables_still}
 use Rattle.tally_store.proofs.opening.judge_stored.Goals as goal
 
@@ -23,5 +23,5 @@ returns-in-None-clause-fault g c clean has =
     let early : HasCleanDisk mid = omega (arith, c.judge_office.ensures.survives.clean) in
     let same : IsUnchanged old mid = c.in_ok-setup.ensures.same early has in
     let none : AreTablesOfNone c.in-Ok.setup mid = c.in_ok-setup-2.ensures.refused clean (tables_still old mid has same) c.in-None.is in
-    let stored : IsStored c.args.number c.in-Ok.setup old = rw c.in-Ok.is at (c.in_ok-setup.ensures.stored early has) in
+    let stored : HasSetupRow c.args.number c.in-Ok.setup old = rw c.in-Ok.is at (c.in_ok-setup.ensures.stored early has) in
     inr (c.in-Ok.setup, stored, none_before c.in-Ok.setup old mid same none)

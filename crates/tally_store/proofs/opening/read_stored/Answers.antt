@@ -6,7 +6,7 @@ use Rattle.tally_rules.specs.Constituency.{Constituency}
 use Rattle.tally_rules.specs.Reading.{setup_of_text}
 use Rattle.tally_schema.specs.Cells.{setup_row}
 use Rattle.tally_schema.specs.Tables.{setup_tree}
-use Rattle.tally_store.specs.Opening.{IsSetupFault, IsStored, IsTextFault, setup_shown}
+use Rattle.tally_store.specs.Opening.{IsSetupFault, HasSetupRow, IsTextFault, setup_shown}
 use Rattle.tally_store.proofs.StoredLemmas.{fault_stored, row_shown, row_stored}
 use Rattle.tally_store.proofs.opening.read_stored.Goals as goal
 

@@ -2,8 +2,8 @@ use Rattle.std.proofs.Common.{arith, subst}
 use Rattle.sqlite.specs.Held.{state}
 use Rattle.tally_core.specs.Keeper.{Happens, request}
 use Rattle.tally_store.specs.Content.{content_of}
-use Rattle.tally_store.specs.Store.{Stored}
-use Rattle.tally_store.proofs.RequestLemmas.{Served, happens_after, shows_tables, stored_after}
+use Rattle.tally_store.specs.Store.{KeepsText, Stored}
+use Rattle.tally_store.proofs.RequestLemmas.{Served, happens_after, keeps_text, shows_tables, stored_after}
 use Rattle.tally_store.proofs.keeper.StoreKeeper.answer.Goals as goal
 
 pub invariant_of-self : goal.invariant_of-self
@@ -36,3 +36,11 @@ returns-clause-tables g c clean =
     let r = c.answer_request.result in
     let served : Served setup old new c.args.ask.now r = record { ended = told.ended; codes = told.codes; clean = λ clean. omega (arith, clean, told.crash.clean); done = told.done; shut = told.shut; was_open = told.was_open } in
     shows_tables setup new c.a_constituency_has_a_view.ensures.lawful (stored_after setup old new c.args.ask.now r c.self.invariant served) clean
+
+pub returns-clause-text : goal.returns-clause-text
+returns-clause-text g c clean now =
+    let setup = c.self.inside.setup in
+    let old = state g.S.Store c.self.inside.conn in
+    let new = state g.S.Store c.answer_request.new.conn in
+    subst (λ (h : Stored _). KeepsText h.setup (state g.S.Store h.conn) new) c.self.view_is
+    (keeps_text setup old new c.args.ask.now c.answer_request.result c.answer_request.ensures.done clean now)

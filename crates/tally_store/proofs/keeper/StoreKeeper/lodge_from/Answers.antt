@@ -2,8 +2,8 @@ use Rattle.std.proofs.Common.{arith, subst}
 use Rattle.sqlite.specs.Held.{state}
 use Rattle.tally_core.specs.Keeper.{Imports}
 use Rattle.tally_store.specs.Content.{content_of}
-use Rattle.tally_store.specs.Store.{Stored}
-use Rattle.tally_store.proofs.RequestLemmas.{Took, imports_after, shows_tables, stored_import}
+use Rattle.tally_store.specs.Store.{KeepsText, Stored}
+use Rattle.tally_store.proofs.RequestLemmas.{Took, imports_after, keeps_text_imported, shows_tables, stored_import}
 use Rattle.tally_store.proofs.keeper.StoreKeeper.lodge_from.Goals as goal
 
 pub invariant_of-self : goal.invariant_of-self
@@ -42,3 +42,11 @@ returns-clause-tables g c clean =
     let r = c.import_rows.result in
     let took : Took setup old new known ending r = record { ended = told.ended; clean = λ clean. omega (arith, clean, told.crash.clean); done = told.done; came = told.came; fault = told.fault; shut = told.shut; was_open = told.was_open } in
     shows_tables setup new c.a_constituency_has_a_view.ensures.lawful (stored_import setup old new known ending r c.self.invariant took) clean
+
+pub returns-clause-text : goal.returns-clause-text
+returns-clause-text g c clean now =
+    let setup = c.self.inside.setup in
+    let old = state g.S.Store c.self.inside.conn in
+    let new = state g.S.Store c.import_rows.new.conn in
+    subst (λ (h : Stored _). KeepsText h.setup (state g.S.Store h.conn) new) c.self.view_is
+    (keeps_text_imported setup old new (g.R.RowSource.coming c.args.rows.now) c.import_rows.result c.import_rows.ensures.done clean now)

@@ -1,6 +1,7 @@
 use Rattle.std.proofs.Common.{sym, subst, subst₂}
-use Rattle.sqlite.specs.State.{HasCleanDisk}
+use Rattle.sqlite.specs.State.{HasCleanDisk, KeepsCounts}
 use Rattle.sqlite.specs.Held.{state}
+use Rattle.tally_store.specs.Crash.{IsUnwritten}
 use Rattle.tally_store.specs.Open.{IsOpened}
 use Rattle.tally_store.proofs.OpenedLemmas.{office_opened}
 use Rattle.tally_store.proofs.store.Store.open.Goals as goal
@@ -13,3 +14,13 @@ returns-in-Ok-clause-opened g c clean =
     let told = c.store_over.ensures in
     let early : HasCleanDisk (state g.S.Store c.open_in.new.conn) = subst (λ (h : _). HasCleanDisk (state g.S.Store h)) told.conn clean in
     subst₂ (λ s (h : _). IsOpened s (state g.S.Store c.args.conn) (state g.S.Store h)) (sym told.setup) (sym told.conn) (c.in-Ok.ensures.opened early)
+
+pub returns-in-Ok-clause-unwritten : goal.returns-in-Ok-clause-unwritten
+returns-in-Ok-clause-unwritten g c past =
+    subst (λ (h : _). IsUnwritten (state g.S.Store c.args.conn) (state g.S.Store h)) (sym c.store_over.ensures.conn) (c.open_in.ensures.unwritten past)
+
+pub returns-in-Ok-clause-counts : goal.returns-in-Ok-clause-counts
+returns-in-Ok-clause-counts g c past clean =
+    let told = c.store_over.ensures in
+    let early : HasCleanDisk (state g.S.Store c.open_in.new.conn) = subst (λ (h : _). HasCleanDisk (state g.S.Store h)) told.conn clean in
+    subst (λ (h : _). KeepsCounts (state g.S.Store c.args.conn) (state g.S.Store h)) (sym told.conn) (c.in-Ok.ensures.counts past early)

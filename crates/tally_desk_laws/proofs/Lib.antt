@@ -1,0 +1,4 @@
+pub mod SeenLemmas
+pub mod RouteLemmas
+pub mod MessageLemmas
+pub mod AgainLemmas

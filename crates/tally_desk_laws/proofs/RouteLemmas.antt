@@ -1,0 +1,158 @@
+-- What an answer has done: on each route it has shown something, or it has carried out an order or an import.
+use Rattle.std.proofs.Common.{◌≡◌, ◌⊎◌, ℕ, List, false, Option, Some, None, Result, Ok, Err, refl, inl, inr}
+use Rattle.tally_rules.specs.Constituency.{Constituency}
+use Rattle.tally_returns.specs.Named.{BringsCode}
+use Rattle.tally_returns.specs.State.{State}
+use Rattle.tally_returns.specs.declared.ask.Ask.{Ask}
+use Rattle.tally_returns.specs.declared.ask.Ask.TheVariants.{ShowReturn, ShowCon, ShowProgress}
+use Rattle.tally_returns.specs.declared.refusal.Refusal.{Refusal}
+use Rattle.tally_returns.specs.declared.refusal.Refusal.TheVariants.{NoConstituency, NoStation}
+use Rattle.tally_returns.specs.declared.reply.Reply.{Reply}
+use Rattle.tally_returns.specs.declared.reply.Reply.TheVariants as reply
+use Rattle.tally_machine.specs.Runs.{is_act}
+use Rattle.tally_core.specs.Keeper.{Happens, request}
+use Rattle.tally_records.specs.declared.separator.Sep.{Sep}
+use Rattle.tally_records.specs.declared.separator.Sep.TheVariants.{Comma, Semicolon}
+use Rattle.tally_message.specs.declared.message.Message.{Message}
+use Rattle.tally_asks.specs.declared.routes.Route.{Route}
+use Rattle.tally_asks.specs.declared.routes.Route.TheVariants as route
+use Rattle.tally_desk_laws.specs.LawStatements.{IsImportRoute}
+use Rattle.tally_desk.specs.Requests.{Asks, HasConText, HasProgressText, HasReportText, HasReturnText, Imports, Named, OnCon, OnNamed, OnStation, Orders, con_named, station_named}
+use Rattle.tally_desk.specs.Respond.{IsAnswerOn}
+use Rattle.tally_desk.specs.declared.report.Report.{Report}
+use Rattle.tally_desk.specs.declared.report.Report.TheVariants as report
+
+-- ---- what is shown
+
+-- nothing came to the office, or a request that showed something or was refused
+abbrev pub IsShown : List Constituency → Option State → Option State → Type 0
+IsShown setup old new =
+    (new ≡ old) ⊎ ((a : Ask) × (r : Result Reply Refusal) × BringsCode a × (is_act r ≡ false) × Happens setup old (request a r) new)
+
+asked : (setup : List Constituency) (old new : Option State) (a : Ask) (HasText : Result Reply Refusal → List ℕ → Type 0) (text : List ℕ) → BringsCode a
+    → ((r : Result Reply Refusal) → HasText r text → is_act r ≡ false) → Asks setup old a HasText text new → IsShown setup old new
+asked setup old new a HasText text code idle is = inr (a, is.0, code, idle is.0 is.2, is.1)
+
+return-idle : (code text : List ℕ) (r : Result Reply Refusal) → HasReturnText code r text → is_act r ≡ false
+return-idle code text (Ok (reply.Return kept)) has = refl
+return-idle code text (Ok other) has = absurd has
+return-idle code text (Err why) has = refl
+
+con-idle : (con : Constituency) (text : List ℕ) (r : Result Reply Refusal) → HasConText con r text → is_act r ≡ false
+con-idle con text (Ok (reply.Con view)) has = refl
+con-idle con text (Ok other) has = absurd has
+con-idle con text (Err why) has = refl
+
+report-idle : (con : Constituency) (which : Report) (text : List ℕ) (r : Result Reply Refusal) → HasReportText con which r text → is_act r ≡ false
+report-idle con which text (Ok (reply.Con view)) has = refl
+report-idle con which text (Ok other) has = absurd has
+report-idle con which text (Err why) has = refl
+
+progress-idle : (text : List ℕ) (r : Result Reply Refusal) → HasProgressText r text → is_act r ≡ false
+progress-idle text (Ok (reply.Progress rows)) has = refl
+progress-idle text (Ok other) has = absurd has
+progress-idle text (Err why) has = refl
+
+-- what is shown brings no slip
+progress-brings : BringsCode ShowProgress
+progress-brings = λ slip none. absurd (let k = none in cc)
+
+return-brings : (code : List ℕ) → BringsCode (ShowReturn code)
+return-brings code = λ slip none. absurd (let k = none in cc)
+
+con-brings : (code : List ℕ) → BringsCode (ShowCon code)
+con-brings code = λ slip none. absurd (let k = none in cc)
+
+-- ---- what a path names
+
+named-shown : (setup : List Constituency) (old new : Option State) (why : Refusal) (o : Option Named) (F : List ℕ → Constituency → List ℕ → Option State → Type 0) (text : List ℕ)
+    → ((code : List ℕ) (con : Constituency) → F code con text new → IsShown setup old new) → OnNamed why old o F text new → IsShown setup old new
+named-shown setup old new why None F text each is = inl is.1
+named-shown setup old new why (Some named) F text each is = each named.0 named.1 is
+
+-- ---- what a route does
+
+pub data Kind : Type 0 where
+  shown : Kind
+  order_on_station : Kind
+  order_on_con : Kind
+  import : Sep → Kind
+
+abbrev pub kind : Route → Kind
+kind route.Progress = shown
+kind route.Station = shown
+kind route.Con = shown
+kind route.Tally = shown
+kind route.Seats = shown
+kind route.Quotients = shown
+kind route.Awards = shown
+kind route.Quota = shown
+kind route.Short = shown
+kind route.Holders = shown
+kind route.Past = shown
+kind route.Lodge = order_on_station
+kind route.Query = order_on_station
+kind route.Correct = order_on_station
+kind route.Close = order_on_station
+kind route.Draw = order_on_con
+kind route.Certify = order_on_con
+kind route.Reopen = order_on_con
+kind route.Vacate = order_on_con
+kind route.Import = import Comma
+kind route.ImportSemicolon = import Semicolon
+
+-- an answer on a route of this kind
+abbrev pub IsOfKind : Kind → List Constituency → Option State → Route → Message → List ℕ → Option State → Type 0
+IsOfKind shown setup old r m text new = IsShown setup old new
+IsOfKind order_on_station setup old r m text new = OnStation setup old m (λ code con. Orders setup old con r code m) text new
+IsOfKind order_on_con setup old r m text new = OnCon setup old m (λ code con. Orders setup old con r code m) text new
+IsOfKind (import sep) setup old r m text new = OnCon setup old m (λ code con. Imports setup old con sep m) text new
+
+-- where the route is one of an import, it is of that kind
+abbrev pub IsImportKind : Kind → Type 0
+IsImportKind (import sep) = Unit {0}
+IsImportKind other = ⊥
+
+pub import-kind : (r : Route) → IsImportRoute r → IsImportKind (kind r)
+import-kind route.Import is = tt
+import-kind route.ImportSemicolon is = tt
+import-kind other is = absurd is
+
+reported : (setup : List Constituency) (old new : Option State) (con : Constituency) (code : List ℕ) (which : Report) (text : List ℕ)
+    → Asks setup old (ShowCon code) (HasReportText con which) text new → IsShown setup old new
+reported setup old new con code which text is = asked setup old new (ShowCon code) (HasReportText con which) text (con-brings code) (report-idle con which text) is
+
+report-on : (setup : List Constituency) (old new : Option State) (m : Message) (which : Report) (text : List ℕ)
+    → OnCon setup old m (λ code con. Asks setup old (ShowCon code) (HasReportText con which)) text new → IsShown setup old new
+report-on setup old new m which text is =
+    named-shown setup old new NoConstituency (con_named setup m.target.items) (λ code con. Asks setup old (ShowCon code) (HasReportText con which)) text
+    (λ code con. reported setup old new con code which text) is
+
+-- what an answer on a route is
+pub of-kind : (setup : List Constituency) (old new : Option State) (r : Route) (m : Message) (text : List ℕ)
+    → IsAnswerOn setup old r m text new → IsOfKind (kind r) setup old r m text new
+of-kind setup old new route.Progress m text is = asked setup old new ShowProgress HasProgressText text progress-brings (progress-idle text) is
+of-kind setup old new route.Station m text is =
+    named-shown setup old new NoStation (station_named setup m.target.items) (λ code con. Asks setup old (ShowReturn code) (HasReturnText code)) text
+    (λ code con. asked setup old new (ShowReturn code) (HasReturnText code) text (return-brings code) (return-idle code text)) is
+of-kind setup old new route.Con m text is =
+    named-shown setup old new NoConstituency (con_named setup m.target.items) (λ code con. Asks setup old (ShowCon code) (HasConText con)) text
+    (λ code con. asked setup old new (ShowCon code) (HasConText con) text (con-brings code) (con-idle con text)) is
+of-kind setup old new route.Tally m text is = report-on setup old new m report.Tally text is
+of-kind setup old new route.Seats m text is = report-on setup old new m report.Seats text is
+of-kind setup old new route.Quotients m text is = report-on setup old new m report.Quotients text is
+of-kind setup old new route.Awards m text is = report-on setup old new m report.Awards text is
+of-kind setup old new route.Quota m text is = report-on setup old new m report.Quota text is
+of-kind setup old new route.Short m text is = report-on setup old new m report.Short text is
+of-kind setup old new route.Holders m text is = report-on setup old new m report.Holders text is
+of-kind setup old new route.Past m text is = report-on setup old new m report.Past text is
+of-kind setup old new route.Lodge m text is = is
+of-kind setup old new route.Query m text is = is
+of-kind setup old new route.Correct m text is = is
+of-kind setup old new route.Close m text is = is
+of-kind setup old new route.Draw m text is = is
+of-kind setup old new route.Certify m text is = is
+of-kind setup old new route.Reopen m text is = is
+of-kind setup old new route.Vacate m text is = is
+of-kind setup old new route.Import m text is = is
+of-kind setup old new route.ImportSemicolon m text is = is

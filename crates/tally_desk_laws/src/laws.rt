@@ -1,0 +1,29 @@
+//! The laws of messages. The functions do nothing: each contract is a law.
+
+ghost use Rattle.tally_desk_laws.specs.LawStatements as law;
+
+use tally_core::laws as keeper;
+use tally_machine::laws as machine;
+
+/// What the answer to a message does to an office is one request, one import or nothing, as they
+/// happen to a keeper, and all messages of a serving are requests and imports, one after the other.
+/// So the laws of keepers hold of messages.
+pub fn messages_are_what_happens_to_a_keeper()
+    ensures answers { law.AnswersAreWhatHappens }
+    ensures servings { law.ServingsAreWhatHappens }
+{}
+
+/// A message that is sent again acts no second time. Where it acted, it does not when it comes again,
+/// whatever came between. Where it was answered otherwise than with 503, it does not when it comes
+/// again in the state that it left; and an import then lodges nothing at any later time.
+pub fn a_message_that_is_sent_again_acts_no_second_time()
+    ensures later { law.WhatActedActsNoSecondTime }
+    ensures at_once { law.WhatComesAgainAtOnceDoesNotAct }
+    ensures import { law.ImportsLodgeNothingAgain }
+{
+    keeper::no_two_equal_requests_act();
+    keeper::requests_and_imports_are_a_run();
+    keeper::the_same_import_again_lodges_nothing();
+    keeper::what_does_not_act_can_be_left_out();
+    machine::a_step_is_one();
+}

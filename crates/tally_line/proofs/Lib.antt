@@ -1,0 +1,3 @@
+pub mod LeafLemmas
+pub mod CommandLemmas
+pub mod NumberLemmas

@@ -1,0 +1,228 @@
+-- The command line of the program: what it offers, and what the words that it is given ask for, as
+-- clap reads them.
+use Rattle.std.specs.Prelude.{◌≡◌, ◌≤◌, ◌&&◌, ℕ, Bool, true, false, not, List, [], ◌∷◌, Option, Some, None, is_some}
+use Rattle.std.specs.Prelude.{codes, if◌then◌else◌, option_and_then, option_map, string_bytes}
+use Rattle.std.specs.Option.{option_map_or}
+use Rattle.std.specs.Str.{bytes_eq}
+use Rattle.std.specs.Str.Parse.{digits_value, without_leading_plus}
+use Rattle.clap.specs.Words.{App, IsAmong, Kinds, Row, Rule, Text, fault_of, first_of, kind_of, new_app, new_rule, one_of}
+use Rattle.clap.specs.Words.{subcommand_of, with_rule, with_subcommand}
+use Rattle.clap.specs.Kinds.{or_else}
+use Rattle.clap.specs.Simple.{on_top}
+use Rattle.clap.specs.ValueTests.{is_unsigned_in}
+use Rattle.clap.specs.declared.error.Error.{Error}
+use Rattle.clap.specs.declared.error.ErrorKind.{ErrorKind}
+use Rattle.clap.specs.declared.error.ErrorKind.TheVariants.{InvalidValue, OutOfMemory}
+use Rattle.clap.specs.declared.builder.ArgAction.TheVariants.{SetTrue}
+use Rattle.clap.specs.declared.builder.ValueParser.TheVariants.{Unsigned}
+use Rattle.tally_records.specs.declared.separator.Sep.{Sep}
+use Rattle.tally_records.specs.declared.separator.Sep.TheVariants.{Comma, Semicolon}
+use Rattle.tally_line.specs.declared.line.Line.{Line}
+use Rattle.tally_line.specs.declared.line.Line.TheVariants as line
+use Rattle.tally_line.specs.declared.line.LineFault.{LineFault}
+use Rattle.tally_line.specs.declared.line.LineFault.TheVariants.{Usage, NoCon, Memory}
+use Rattle.tally_line.specs.declared.line.ReportName.{ReportName}
+use Rattle.tally_line.specs.declared.line.ReportName.TheVariants as report
+
+-- ---- what the program offers
+
+-- `--semicolon`, a flag
+abbrev pub semicolon_rule : Rule
+semicolon_rule = record (new_rule (codes "semicolon")) {
+  long = Some (codes "semicolon");
+  action = Some SetTrue;
+}
+
+-- `--NAME VALUE`, which may be left out
+abbrev pub value_rule : Text → Rule
+value_rule name = record (new_rule name) { long = Some name; value_names = 1 }
+
+-- `--NAME VALUE`, which has to be given
+abbrev pub wanted_rule : Text → Rule
+wanted_rule name = record (value_rule name) { required = true }
+
+-- `--NAME N`, which has to be given, N a whole number from low to high
+abbrev pub number_rule : Text → ℕ → ℕ → Rule
+number_rule name low high = record (wanted_rule name) { parser = Some (Unsigned low high) }
+
+-- `check [--semicolon]`
+abbrev pub check_app : App
+check_app = with_rule (new_app (codes "check")) semicolon_rule
+
+-- `new --db FILE --setup FILE`
+abbrev pub new_office_app : App
+new_office_app = with_rule (with_rule (new_app (codes "new")) (wanted_rule (codes "db"))) (wanted_rule (codes "setup"))
+
+-- `import --db FILE --con CODE --csv FILE [--semicolon]`
+abbrev pub import_app : App
+import_app = with_rule (with_rule (with_rule (with_rule (new_app (codes "import"))
+    (wanted_rule (codes "db"))) (wanted_rule (codes "con"))) (wanted_rule (codes "csv"))) semicolon_rule
+
+-- `show --db FILE --report NAME [--con CODE]`
+abbrev pub show_app : App
+show_app = with_rule (with_rule (with_rule (new_app (codes "show"))
+    (wanted_rule (codes "db"))) (wanted_rule (codes "report"))) (value_rule (codes "con"))
+
+-- `serve --db FILE --port N --count N`
+abbrev pub serve_app : App
+serve_app = with_rule (with_rule (with_rule (new_app (codes "serve"))
+    (wanted_rule (codes "db"))) (number_rule (codes "port") 1 65535)) (number_rule (codes "count") 1 1000000)
+
+-- `office COMMAND`, where a command is wanted, and help is the answer to nothing at all; it has a version
+abbrev pub office_app : App
+office_app = with_subcommand (with_subcommand (with_subcommand (with_subcommand (with_subcommand (on_top (λ s. record s {
+  has_version = true;
+  subcommand_required = true;
+  arg_required_else_help = true;
+}) (new_app (codes "office"))) check_app.top) new_office_app.top) import_app.top) show_app.top) serve_app.top
+
+-- ---- what the values of a command are
+
+-- the flag was given
+abbrev pub is_set : Text → List Row → Bool
+is_set id rows = option_map_or (bytes_eq (codes "true")) (one_of id rows) false
+
+abbrev pub sep_of : List Row → Sep
+sep_of rows = if is_set (codes "semicolon") rows then Semicolon else Comma
+
+-- the number that a text writes, where it is from low to high
+abbrev pub number_in : ℕ → ℕ → Text → Option ℕ
+number_in low high text = if is_unsigned_in low high text then Some (digits_value 10 (without_leading_plus text)) else None
+
+abbrev pub number_of : Text → ℕ → ℕ → List Row → Option ℕ
+number_of id low high rows = option_and_then (number_in low high) (first_of id rows)
+
+-- the report of a name
+abbrev pub report_named : Text → Option ReportName
+report_named name =
+    if bytes_eq name (codes "tally") then Some report.Tally
+    else if bytes_eq name (codes "seats") then Some report.Seats
+    else if bytes_eq name (codes "quotients") then Some report.Quotients
+    else if bytes_eq name (codes "awards") then Some report.Awards
+    else if bytes_eq name (codes "quota") then Some report.Quota
+    else if bytes_eq name (codes "holders") then Some report.Holders
+    else if bytes_eq name (codes "past") then Some report.Past
+    else if bytes_eq name (codes "short") then Some report.Short
+    else if bytes_eq name (codes "progress") then Some report.Progress
+    else None
+
+abbrev pub report_of : List Row → Option ReportName
+report_of rows = option_and_then report_named (first_of (codes "report") rows)
+
+-- the report is of one constituency; the progress alone is of all
+abbrev pub needs_con : ReportName → Bool
+needs_con report.Progress = false
+needs_con name = true
+
+-- ---- lines
+
+-- A line as contracts see it: a text is its bytes, however a program keeps it.
+pub data LineSeen : Type 0 where
+  CheckSeen : Sep → LineSeen
+  NewSeen : Text → Text → LineSeen
+  ImportSeen : Text → Text → Text → Sep → LineSeen
+  ShowSeen : Text → ReportName → Option Text → LineSeen
+  ServeSeen : Text → ℕ → ℕ → LineSeen
+
+abbrev pub line_seen : Line → LineSeen
+line_seen (line.Check sep) = CheckSeen sep
+line_seen (line.New db setup) = NewSeen (string_bytes db) (string_bytes setup)
+line_seen (line.Import db con csv sep) = ImportSeen (string_bytes db) (string_bytes con) (string_bytes csv) sep
+line_seen (line.Show db name con) = ShowSeen (string_bytes db) name (option_map string_bytes con)
+line_seen (line.Serve db port count) = ServeSeen (string_bytes db) port count
+
+-- one value after another, where each is there
+infixl 10 ◌>>=◌
+abbrev pub ◌>>=◌ : {A B : Type 0} → Option A → (A → Option B) → Option B
+found >>= next = option_and_then next found
+
+abbrev pub new_line : List Row → Option LineSeen
+new_line rows = do
+  db ← first_of (codes "db") rows
+  setup ← first_of (codes "setup") rows
+  Some (NewSeen db setup)
+
+abbrev pub import_line : List Row → Option LineSeen
+import_line rows = do
+  db ← first_of (codes "db") rows
+  con ← first_of (codes "con") rows
+  csv ← first_of (codes "csv") rows
+  Some (ImportSeen db con csv (sep_of rows))
+
+-- a report, of the constituency that is named, where the report needs one
+abbrev pub shown : Text → ReportName → Option Text → Option LineSeen
+shown db name con = if needs_con name && not (is_some con) then None else Some (ShowSeen db name con)
+
+abbrev pub show_line : List Row → Option LineSeen
+show_line rows = do
+  db ← first_of (codes "db") rows
+  name ← report_of rows
+  shown db name (first_of (codes "con") rows)
+
+abbrev pub serve_line : List Row → Option LineSeen
+serve_line rows = do
+  db ← first_of (codes "db") rows
+  port ← number_of (codes "port") 1 65535 rows
+  count ← number_of (codes "count") 1 1000000 rows
+  Some (ServeSeen db port count)
+
+-- the line that a subcommand and the matches of its arguments are
+abbrev pub line_of_command : Text × List Row → Option LineSeen
+line_of_command p =
+    if bytes_eq p.0 (codes "check") then Some (CheckSeen (sep_of p.1))
+    else if bytes_eq p.0 (codes "new") then new_line p.1
+    else if bytes_eq p.0 (codes "import") then import_line p.1
+    else if bytes_eq p.0 (codes "show") then show_line p.1
+    else if bytes_eq p.0 (codes "serve") then serve_line p.1
+    else None
+
+-- nothing, where there is a fault
+abbrev pub unless_fault : Kinds → Option LineSeen → Option LineSeen
+unless_fault [] line = line
+unless_fault (kind ∷ kinds) line = None
+
+-- what the words, the program's name first, ask for: the line of the command that clap finds in them, where it finds no fault
+abbrev pub line_of : List Text → Option LineSeen
+line_of words = unless_fault (fault_of office_app words)
+    (option_and_then line_of_command (subcommand_of office_app words))
+
+-- The numbers are within their limits, and there is a constituency where the report needs one.
+abbrev pub IsWithinLimits : Line → Type 0
+IsWithinLimits (line.Serve db port count) = (1 ≤ port) × (port ≤ 65535) × (1 ≤ count) × (count ≤ 1000000)
+IsWithinLimits (line.Show db name con) = needs_con name ≡ true → is_some con ≡ true
+IsWithinLimits _ = Unit {0}
+
+-- ---- refusals
+
+-- a `show` of a report that there is none of
+abbrev pub lacks_report : Text × List Row → Bool
+lacks_report p = bytes_eq p.0 (codes "show") && not (is_some (report_of p.1))
+
+-- a `show` of a report that needs a constituency, without one
+abbrev pub lacks_con : Text × List Row → Bool
+lacks_con p = bytes_eq p.0 (codes "show") && (option_map_or needs_con (report_of p.1) false
+    && not (is_some (first_of (codes "con") p.1)))
+
+-- the kinds of error that the words may be answered with: those of clap, and where it finds no fault, that of a report's name that is none
+abbrev pub usage_kinds : List Text → Kinds
+usage_kinds words = or_else (fault_of office_app words)
+    (if option_map_or lacks_report (subcommand_of office_app words) false then InvalidValue ∷ [] else [])
+
+abbrev pub is_out_of_memory : ErrorKind → Bool
+is_out_of_memory OutOfMemory = true
+is_out_of_memory _ = false
+
+-- the fault that an error of clap is
+abbrev pub fault_from : Error → LineFault
+fault_from e = if is_out_of_memory (kind_of e) then Memory else Usage e
+
+-- The words have no line, though clap finds no fault in them: they are a `show` without the constituency that its report needs.
+abbrev pub LacksCon : List Text → Type 0
+LacksCon words = (line_of words ≡ None) × (fault_of office_app words ≡ [])
+    × (option_map_or lacks_con (subcommand_of office_app words) false ≡ true)
+
+-- out of memory; or the words are refused, or answered with help, by this kind of error; or they lack the constituency
+abbrev pub IsRefusal : List Text → LineFault → Type 0
+IsRefusal words (Usage e) = (line_of words ≡ None) × IsAmong (kind_of e) (usage_kinds words)
+IsRefusal words NoCon = LacksCon words
+IsRefusal words Memory = Unit {0}

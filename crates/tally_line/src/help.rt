@@ -1,0 +1,369 @@
+//! What the program says of itself.
+
+/// The program's version.
+pub const VERSION: &str = "0.1.0";
+
+pub const OFFICE: &str = "An electoral office for party-list elections";
+
+pub const OFFICE_EXAMPLE: &str = "\
+A first session:
+  office new --db office.db --setup setup.toml
+      makes an office of the setup and prints 'constituencies 1'
+  office check < returns.csv
+      adds up a file of returns, and stores nothing
+  office import --db office.db --con montehondo --csv returns.csv
+      lodges the returns of the stations of montehondo
+  office show --db office.db --report progress
+      shows how far every constituency is
+  office serve --db office.db --port 8080 --count 100
+      answers 100 connections, to close the returns and to certify
+  office show --db office.db --report seats --con montehondo
+      shows the seats, once montehondo is certified
+
+'office new --help', and so of each command, says what goes in and what comes
+out. docs/FORMATS.md of the repository is the long manual.";
+
+pub const CHECK: &str = "Check the returns of polling stations and add them up";
+
+pub const CHECK_LONG: &str = "\
+Check the returns of polling stations and add them up.
+
+The returns come on standard input as CSV: a header, and then one row a
+station. The check reads them all, counts the rows by what is wrong with them,
+and adds up the votes of the returns that are good. It stores nothing.
+
+What goes in:
+  The header is station,slip,blank,spoiled and then the code of each list, at
+  most 60 lists. A row has the station's code, the code of its slip, the blank
+  votes, the spoiled votes, and the votes of each list in the header's order.
+  A code is 1 to 16 letters A-Z a-z, digits, dashes or underscores, and case
+  counts. A number is 1 to 9 digits. Rows are numbered from 1, the header not
+  counted; there are at most 20000 rows and 16777216 bytes.
+
+What comes out:
+  lodged N    returns that were lodged, the first good one of each station
+  same N      rows that repeat a lodged return, with its slip and its counts
+  differs N   rows of a station whose return was lodged, that say otherwise
+  refused N   rows with a number above 1000000, or with more than 1000000 votes,
+              the blank and the spoiled ones among them
+  bad N       rows that cannot be read as returns: another number of fields
+              than the header, a station or slip that is not a code, votes
+              that are not a number
+  first R N   the first row R that was neither lodged nor same, and why: N is
+              0 for a bad row, 4 for a number above 1000000, 6 for more than
+              1000000 votes, 7 for a row that differs; 'first -' where there
+              is none
+  blank N     the blank votes of the lodged returns
+  spoiled N   their spoiled votes
+  CODE N      the votes of each list, in the header's order";
+
+pub const CHECK_EXAMPLE: &str = "\
+Example:
+  With this text in returns.csv
+
+    station,slip,blank,spoiled,A,B
+    s1,p1,2,1,50,40
+    s2,p2,0,0,30,60
+    s1,p1,2,1,50,40
+    s3,p3,0,0,x,5
+
+  'office check < returns.csv' prints
+
+    lodged 2
+    same 1
+    differs 0
+    refused 0
+    bad 1
+    first 4 0
+    blank 2
+    spoiled 1
+    A 80
+    B 100
+
+Exit status:
+  0  the returns were checked, whatever was found in their rows
+  1  'refused: bad_header' or 'refused: too_long' on standard error
+  2  a wrong command line, or a call for help
+  3  'failed: WORD' on standard error:
+       memory    the program is out of memory
+       read      standard input cannot be read
+       write     standard output takes no more; a part may be printed";
+
+pub const SEMICOLON: &str = "The fields are separated by semicolons instead of commas";
+
+pub const DB: &str = "The database of the office";
+
+pub const NEW: &str = "Make an office in a new database";
+
+pub const NEW_LONG: &str = "\
+Make an office in a new database.
+
+The office is that of a setup: its rules of allotment, its constituencies with
+their lists and candidates, and its polling stations. The setup is kept in the
+database as it is, and does not change afterwards.
+
+What goes in:
+  --db     a database with nothing in it; a file that is not there is made
+  --setup  the setup, a TOML file of at most 8388608 bytes: the tables
+           profile, constituency, constituency.list and constituency.station
+
+What comes out:
+  constituencies N   how many constituencies the office has";
+
+pub const NEW_EXAMPLE: &str = "\
+Example:
+  With this text in setup.toml
+
+    [[profile]]
+    code = \"d0\"
+    method = \"dhondt\"
+    threshold = 0
+    base = \"valid\"
+
+    [[constituency]]
+    code = \"c1\"
+    name = \"Twin Town\"
+    seats = 3
+    profile = \"d0\"
+
+    [[constituency.list]]
+    code = \"A\"
+    name = \"Alpha\"
+    candidates = [\"Ana\", \"Abel\"]
+
+    [[constituency.list]]
+    code = \"B\"
+    name = \"Beta\"
+    candidates = [\"Bea\"]
+
+    [[constituency.station]]
+    code = \"s1\"
+    electors = 300
+
+  'office new --db office.db --setup setup.toml' prints
+
+    constituencies 1
+
+Exit status:
+  0  the office was made
+  1  'refused: WORD' on standard error:
+       not_toml           the setup is not TOML, or not UTF-8
+       missing KEY        a key is not there, or its array is empty
+       bad_value KEY      a value is of another kind, or outside its limits
+       over_limit KEY     an array has too many entries; of 'text', the setup
+                          is too long
+       duplicate CODE     a code occurs twice
+       unknown_profile    a constituency names a profile that is not there
+       not_empty          the database has a table of one of the office's names
+  2  a wrong command line, or a call for help
+  3  'failed: WORD' on standard error; after store or write the office may have
+     been made:
+       memory             the program is out of memory
+       store              the database cannot be opened or written, mostly since
+                          another program has it open
+       file, read         the setup cannot be opened, or cannot be read
+       write              standard output takes no more";
+
+pub const NEW_DB: &str = "The database to make the office in";
+
+pub const SETUP: &str = "The setup, a TOML file";
+
+pub const IMPORT: &str = "Lodge the returns of a constituency from a file";
+
+pub const IMPORT_LONG: &str = "\
+Lodge the returns of a constituency from a file.
+
+Each row is the return of one polling station. The first good row of a station
+is lodged; a return that was lodged is not changed by any row, and a row that is
+not lodged changes nothing. So the same file can be imported again, and then its
+rows count as same.
+
+What goes in:
+  --db         the database of an office
+  --con        the code of a constituency; one that begins with a dash is
+               written --con=-x
+  --csv        the returns as CSV, at most 16777216 bytes and 20000 rows. The
+               header is station,slip,blank,spoiled and then the codes of the
+               constituency's lists, in the order of the setup
+  --semicolon  where the fields are separated by semicolons
+
+What comes out:
+  lodged N    returns that were lodged, the first good one of each station
+  same N      rows that repeat a lodged return, with its slip and its counts
+  differs N   rows of a station whose return was lodged, that say otherwise
+  refused N   rows with a number above 1000000, or with more votes than the
+              station has electors, the blank and the spoiled ones among them
+  bad N       rows that are no return of a station of the constituency
+  first R N   the first row R that was neither lodged nor same, and why: N is
+              0 for a bad row, 4 for a number above 1000000, 6 for too many
+              votes, 7 for a row that differs; 'first -' where there is none";
+
+pub const IMPORT_EXAMPLE: &str = "\
+Example:
+  With this text in returns.csv
+
+    station,slip,blank,spoiled,A,B
+    s1,p1,0,0,100,100
+
+  'office import --db office.db --con c1 --csv returns.csv' prints
+
+    lodged 1
+    same 0
+    differs 0
+    refused 0
+    bad 0
+    first -
+
+Exit status:
+  0  the file was imported, whatever was found in its rows
+  1  'refused: WORD' on standard error:
+       no_tables          the database has no office
+       bad_tables         its tables are not those of an office
+       bad_setup          the setup in it is not a setup
+       no_constituency    the office has no constituency of this code
+       bad_header         the header is not that of the constituency
+       too_long           there are more rows or bytes than there may be
+  2  a wrong command line, or a call for help
+  3  'failed: WORD' on standard error; after store or write the import may have
+     been done. Give it again: its rows then count as same:
+       memory             the program is out of memory
+       store              the database cannot be opened, read or written, mostly
+                          since another program, such as 'office serve', has it
+                          open
+       file, read         the returns cannot be opened, or cannot be read
+       write              standard output takes no more";
+
+pub const IMPORT_CON: &str = "The code of the constituency";
+
+pub const CSV: &str = "The returns, a CSV file";
+
+pub const SHOW: &str = "Show a report of the office";
+
+pub const SHOW_LONG: &str = "\
+Show a report of the office.
+
+What goes in:
+  --db      the database of an office
+  --report  the name of the report:
+              tally      the votes of each list, and whether it takes part
+              seats      the seats of each list
+              quotients  the quotients of each list; a star marks the number
+                         at its right as one that won a seat
+              awards     the seats in the order in which they were given
+              quota      the quotas and remainders of each list
+              holders    who holds the seats
+              past       the certificates that were reopened
+              short      the least number of votes more with which each list
+                         is sure of one seat more, if the others stay as they
+                         are, and whatever lot is drawn
+              progress   how far every constituency is
+  --con     the code of a constituency; one that begins with a dash is written
+            --con=-x. Every report but progress needs it; progress ignores it
+
+What comes out:
+  The report. Tally and past are given at any time; seats, quotients, awards,
+  quota, holders and short of a constituency that is certified. Quotients,
+  awards and short are of the rules by divisors, and quota is of Hare's.";
+
+pub const SHOW_EXAMPLE: &str = "\
+Example:
+  'office show --db office.db --report tally --con c1' prints
+
+    TALLY c1 Twin Town
+    stations 1 closed 1
+    valid 200 blank 0 spoiled 0
+    A                        100   50.00 in  Alpha
+    B                        100   50.00 in  Beta
+
+Exit status:
+  0  the report was shown
+  1  'refused: WORD' on standard error:
+       no_tables          the database has no office
+       bad_tables         its tables are not those of an office
+       bad_setup          the setup in it is not a setup
+       no_constituency    the office has no constituency of this code
+       not_certified      the report is of certified constituencies alone
+       other_method       the report is of another rule of allotment
+  2  a wrong command line, or a call for help; 'missing --con' on standard
+     error, where the report needs a constituency
+  3  'failed: WORD' on standard error:
+       memory             the program is out of memory
+       store              the database cannot be opened or read, mostly since
+                          another program, such as 'office serve', has it open
+       write              standard output takes no more; a part may be printed";
+
+pub const REPORT: &str = "The report, such as tally; --help has the names";
+
+pub const REPORTS: &str = "\
+  [possible values: tally, seats, quotients, awards, quota, holders, past,
+  short, progress]";
+
+pub const SHOW_CON: &str = "The code of the constituency; progress needs none";
+
+pub const SERVE: &str = "Answer requests over HTTP, at 127.0.0.1";
+
+pub const SERVE_LONG: &str = "\
+Answer requests over HTTP, at 127.0.0.1.
+
+One connection after the other is served, each with one request and its answer,
+until N connections came, those that failed among them. Requests lodge, query,
+correct and close returns, draw lots, certify and reopen constituencies, record
+who leaves a seat, import files, and show all this. What was answered as done is
+in the database. So Ctrl-C ends the server at any time, and nothing of it is
+lost; no other command can open the database before.
+
+What goes in:
+  --db     the database of an office
+  --port   the port, 1 to 65535
+  --count  how many connections to serve, 1 to 1000000
+
+The routes, with S the code of a station, C that of a constituency:
+  GET /progress, /station/S, /con/C
+  GET /con/C/tally, and so seats, quotients, awards, quota, holders, past, short
+  POST /station/S/lodge     {\"slip\":\"p1\",\"votes\":[50,40],\"blank\":2,\"spoiled\":1}
+  POST /station/S/query     {\"rev\":1,\"note\":\"the sum is wrong\"}
+  POST /station/S/correct   as lodge, and \"rev\":2
+  POST /station/S/close     {\"rev\":3}
+  POST /con/C/draw          {\"edition\":1,\"order\":[\"B\",\"A\"]}
+  POST /con/C/certify       {\"edition\":2}
+  POST /con/C/reopen        {\"edition\":3,\"note\":\"a recount\"}
+  POST /con/C/vacate        {\"list\":\"B\",\"place\":1,\"note\":\"resigned\"}
+  POST /con/C/import        a CSV of at most 1048576 bytes, with curl
+                            --data-binary @returns.csv; the fields separated by
+                            semicolons: /con/C/import/semicolon
+
+What comes out:
+  On standard error, once it listens:
+    listening on 127.0.0.1:PORT for N connections
+  On standard output, at its end:
+    answered N failed M    connections that were answered, and that failed";
+
+pub const SERVE_EXAMPLE: &str = "\
+Example:
+  While 'office serve --db office.db --port 8080 --count 1' runs,
+
+    curl -d '{\"rev\":1}' http://127.0.0.1:8080/station/s1/close
+
+  closes the return of s1 and prints {\"ok\":\"moved\",\"rev\":2}. Then the
+  program prints
+
+    answered 1 failed 0
+
+Exit status:
+  0  the connections were served
+  1  'refused: WORD' on standard error:
+       no_tables          the database has no office
+       bad_tables         its tables are not those of an office
+       bad_setup          the setup in it is not a setup
+  2  a wrong command line, or a call for help
+  3  'failed: WORD' on standard error; what was answered as done is done:
+       memory             the program is out of memory
+       store              the database cannot be opened, read or closed, mostly
+                          since another program has it open
+       port               the port cannot be had: another program has it, or it
+                          needs more rights
+       write              standard output takes no more";
+
+pub const PORT: &str = "The port to listen at, 1 to 65535";
+
+pub const COUNT: &str = "How many connections to serve, 1 to 1000000";

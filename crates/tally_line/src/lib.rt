@@ -1,0 +1,7 @@
+//! The command line of the program: what it offers, and what the words that it is given ask for.
+#![tactic(auto)]
+
+mod help;
+mod line;
+
+pub use line::{Line, LineFault, ReportName, read_line};

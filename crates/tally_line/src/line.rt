@@ -1,0 +1,453 @@
+//! The command line.
+
+ghost use Rattle.std.specs.Prelude.{◌≡◌, ◌≤◌, IfOk, IfErr, Some, true, false, codes, is_some, map, option_map, string_bytes};
+ghost use Rattle.clap.specs.Words.{app_of, first_of, found_of, kind_of, rows_of, rule_of, with_rule, with_subcommand};
+ghost use Rattle.clap.specs.declared.builder.command.Command.TheViews.{out-Command};
+ghost use Rattle.clap.specs.declared.error.ErrorKind.TheVariants.{InvalidValue};
+ghost use Rattle.tally_line.specs.Line.{IsRefusal, IsWithinLimits, check_app, import_app, import_line, is_set, line_of, line_of_command};
+ghost use Rattle.tally_line.specs.Line.{line_seen, needs_con, new_line, new_office_app, number_of, number_rule, office_app, report_named};
+ghost use Rattle.tally_line.specs.Line.{semicolon_rule, sep_of, serve_app, serve_line, show_app, show_line, value_rule, wanted_rule};
+ghost use Rattle.tally_line.specs.internal.Arguments.{IsCommandFault, IsShowFault, has, has_arguments};
+
+use crate::help;
+use clap::builder::ValueParser;
+use clap::error::ErrorKind;
+use clap::{Arg, ArgAction, ArgMatches, Command};
+use std::alloc::{AllocError, Global};
+use tally_records::Sep;
+
+const CHECK: &str = "check";
+
+const NEW: &str = "new";
+
+const IMPORT: &str = "import";
+
+const SHOW: &str = "show";
+
+const SERVE: &str = "serve";
+
+const SEMICOLON: &str = "semicolon";
+
+const DB: &str = "db";
+
+const SETUP: &str = "setup";
+
+const CON: &str = "con";
+
+const CSV: &str = "csv";
+
+const REPORT: &str = "report";
+
+const PORT: &str = "port";
+
+const COUNT: &str = "count";
+
+const MOST_PORT: u64 = 65535;
+
+const MOST_COUNT: u64 = 1_000_000;
+
+/// What a command line asks for. A text is as it was given.
+#[derive(Debug, PartialEq, Eq, Drop)]
+pub enum Line {
+    /// Check the returns on the standard input.
+    Check {
+        sep: Sep,
+    },
+    /// Make an office of a setup, in the database of this name.
+    New {
+        db: String,
+        setup: String,
+    },
+    /// Lodge the returns of a file, of the stations of a constituency.
+    Import {
+        db: String,
+        con: String,
+        csv: String,
+        sep: Sep,
+    },
+    /// Show a report, of a constituency where the report is of one.
+    Show {
+        db: String,
+        report: ReportName,
+        con: Option<String>,
+    },
+    /// Serve `count` connections, 1 to 1,000,000, on a port from 1.
+    Serve {
+        db: String,
+        port: u16,
+        count: u32,
+    },
+}
+
+/// The reports, by their names on the command line.
+#[derive(Clone, Copy, Debug, PartialEq, Eq)]
+pub enum ReportName {
+    Tally,
+    Seats,
+    Quotients,
+    Awards,
+    Quota,
+    Holders,
+    Past,
+    Short,
+    Progress,
+}
+
+/// Why a command line asks for nothing that can be done.
+#[derive(Debug, Drop)]
+pub enum LineFault {
+    /// A wrong command line, or one that asks for help or the version: `clap`'s error has the text.
+    Usage(clap::Error),
+    /// A report of a constituency is to be shown, and the constituency is not named.
+    NoCon,
+    /// Memory ran out.
+    Memory,
+}
+
+impl From<clap::Error> for LineFault {
+    ghost use Rattle.tally_line.specs.Line.{fault_from};
+
+    ghost from_gives = { λ error fault. fault ≡ fault_from error };
+
+    fn from(error: clap::Error) -> LineFault {
+        match error.kind() {
+            ErrorKind::OutOfMemory => LineFault::Memory,
+            _ => LineFault::Usage(error),
+        }
+    }
+}
+
+impl From<AllocError> for LineFault {
+    ghost use Rattle.tally_line.specs.declared.line.LineFault.TheVariants.{Memory};
+
+    ghost from_gives = { λ _ fault. fault ≡ Memory };
+
+    fn from(_error: AllocError) -> LineFault {
+        LineFault::Memory
+    }
+}
+
+/// Reads a command line, the program's name first.
+pub fn read_line(alloc: Global, words: &[String]) -> Result<Line, LineFault>
+    ensures line { IfOk result (λ line. line_of (map string_bytes words.now) ≡ Some (line_seen line)) }
+    ensures limits { IfOk result IsWithinLimits }
+    ensures fault { IfErr result (IsRefusal (map string_bytes words.now)) }
+{
+    let matches = office_command(alloc)?.try_get_matches_from(words)?;
+    match matches.subcommand() {
+        Some((name, arguments)) => read_command(alloc, name, arguments),
+        None => unreachable!(),
+    }
+}
+
+// The line that a command and its arguments are.
+fn read_command(alloc: Global, name: &str, arguments: &ArgMatches<'_>) -> Result<Line, LineFault>
+    requires { has_arguments (name.now, rows_of (found_of arguments.now)) ≡ true }
+    ensures line { IfOk result (λ line. line_of_command (name.now, rows_of (found_of arguments.now)) ≡ Some (line_seen line)) }
+    ensures fault { IfErr result (IsCommandFault (name.now, rows_of (found_of arguments.now))) }
+{
+    match name {
+        CHECK => Ok(Line::Check {
+            sep: read_sep(arguments),
+        }),
+        NEW => Ok(read_new(alloc, arguments)?),
+        IMPORT => Ok(read_import(alloc, arguments)?),
+        SHOW => read_show(alloc, arguments),
+        SERVE => Ok(read_serve(alloc, arguments)?),
+        _ => unreachable!(),
+    }
+}
+
+fn read_new(alloc: Global, arguments: &ArgMatches<'_>) -> Result<Line, AllocError>
+    requires db { has (codes "db") (rows_of (found_of arguments.now)) ≡ true }
+    requires setup { has (codes "setup") (rows_of (found_of arguments.now)) ≡ true }
+    ensures { IfOk result (λ line. new_line (rows_of (found_of arguments.now)) ≡ Some (line_seen line)) }
+{
+    Ok(Line::New {
+        db: read_text(alloc, arguments, DB)?,
+        setup: read_text(alloc, arguments, SETUP)?,
+    })
+}
+
+fn read_import(alloc: Global, arguments: &ArgMatches<'_>) -> Result<Line, AllocError>
+    requires db { has (codes "db") (rows_of (found_of arguments.now)) ≡ true }
+    requires con { has (codes "con") (rows_of (found_of arguments.now)) ≡ true }
+    requires csv { has (codes "csv") (rows_of (found_of arguments.now)) ≡ true }
+    ensures { IfOk result (λ line. import_line (rows_of (found_of arguments.now)) ≡ Some (line_seen line)) }
+{
+    Ok(Line::Import {
+        db: read_text(alloc, arguments, DB)?,
+        con: read_text(alloc, arguments, CON)?,
+        csv: read_text(alloc, arguments, CSV)?,
+        sep: read_sep(arguments),
+    })
+}
+
+fn read_show(alloc: Global, arguments: &ArgMatches<'_>) -> Result<Line, LineFault>
+    requires db { has (codes "db") (rows_of (found_of arguments.now)) ≡ true }
+    requires report { has (codes "report") (rows_of (found_of arguments.now)) ≡ true }
+    ensures line { IfOk result (λ line. show_line (rows_of (found_of arguments.now)) ≡ Some (line_seen line)) }
+    ensures fault { IfErr result (IsShowFault (rows_of (found_of arguments.now))) }
+{
+    let Some(name) = text_of(arguments, REPORT) else {
+        unreachable!();
+    };
+    let Some(report) = report_named(name) else {
+        return Err(LineFault::Usage(no_report(alloc, name)?));
+    };
+    let con = read_con(alloc, arguments)?;
+    if needs_con(report) && con.is_none() {
+        return Err(LineFault::NoCon);
+    }
+    Ok(Line::Show {
+        db: read_text(alloc, arguments, DB)?,
+        report,
+        con,
+    })
+}
+
+fn read_serve(alloc: Global, arguments: &ArgMatches<'_>) -> Result<Line, AllocError>
+    requires db { has (codes "db") (rows_of (found_of arguments.now)) ≡ true }
+    requires port { is_some (number_of (codes "port") 1 65535 (rows_of (found_of arguments.now))) ≡ true }
+    requires count { is_some (number_of (codes "count") 1 1000000 (rows_of (found_of arguments.now))) ≡ true }
+    ensures { IfOk result (λ line. serve_line (rows_of (found_of arguments.now)) ≡ Some (line_seen line)) }
+{
+    Ok(Line::Serve {
+        db: read_text(alloc, arguments, DB)?,
+        port: read_number(arguments, PORT, MOST_PORT) as u16,
+        count: read_number(arguments, COUNT, MOST_COUNT) as u32,
+    })
+}
+
+// The text of an argument that was given.
+fn read_text(alloc: Global, arguments: &ArgMatches<'_>, id: &str) -> Result<String, AllocError>
+    requires { has id.now (rows_of (found_of arguments.now)) ≡ true }
+    ensures { IfOk result (λ text. first_of id.now (rows_of (found_of arguments.now)) ≡ Some (string_bytes text)) }
+{
+    match text_of(arguments, id) {
+        Some(text) => text.to_string(alloc),
+        None => unreachable!(),
+    }
+}
+
+// The number of an argument that was given, from 1 to `most`.
+fn read_number(arguments: &ArgMatches<'_>, id: &str, most: u64) -> u64
+    requires { is_some (number_of id.now 1 most (rows_of (found_of arguments.now))) ≡ true }
+    ensures number { number_of id.now 1 most (rows_of (found_of arguments.now)) ≡ Some result }
+    ensures bound { result ≤ most }
+{
+    match text_of(arguments, id) {
+        Some(text) => match text.parse() {
+            Ok(number) => number,
+            Err(_) => unreachable!(),
+        },
+        None => unreachable!(),
+    }
+}
+
+fn read_con(alloc: Global, arguments: &ArgMatches<'_>) -> Result<Option<String>, AllocError>
+    ensures { IfOk result (λ con. option_map string_bytes con ≡ first_of (codes "con") (rows_of (found_of arguments.now))) }
+{
+    match text_of(arguments, CON) {
+        Some(text) => Ok(Some(text.to_string(alloc)?)),
+        None => Ok(None),
+    }
+}
+
+fn read_sep(arguments: &ArgMatches<'_>) -> Sep
+    ensures { result ≡ sep_of (rows_of (found_of arguments.now)) }
+{
+    if is_given(arguments, SEMICOLON) {
+        Sep::Semicolon
+    } else {
+        Sep::Comma
+    }
+}
+
+// The first text of an argument, where it was given.
+fn text_of<'a>(arguments: &ArgMatches<'a>, id: &str) -> Option<&'a str>
+    ensures { option_map (λ text. text.now) result ≡ first_of id.now (rows_of (found_of arguments.now)) }
+{
+    arguments.get_str(id)
+}
+
+// Whether a flag was given.
+fn is_given(arguments: &ArgMatches<'_>, flag: &str) -> bool
+    ensures { result ≡ is_set flag.now (rows_of (found_of arguments.now)) }
+{
+    arguments.get_one(flag).unwrap_or(false)
+}
+
+fn report_named(name: &str) -> Option<ReportName>
+    ensures { result ≡ report_named name.now }
+{
+    match name {
+        "tally" => Some(ReportName::Tally),
+        "seats" => Some(ReportName::Seats),
+        "quotients" => Some(ReportName::Quotients),
+        "awards" => Some(ReportName::Awards),
+        "quota" => Some(ReportName::Quota),
+        "holders" => Some(ReportName::Holders),
+        "past" => Some(ReportName::Past),
+        "short" => Some(ReportName::Short),
+        "progress" => Some(ReportName::Progress),
+        _ => None,
+    }
+}
+
+fn needs_con(report: ReportName) -> bool
+    ensures { result ≡ needs_con report }
+{
+    !matches!(report, ReportName::Progress)
+}
+
+// The error of a report's name that is none, in the form of those of `clap`.
+fn no_report(alloc: Global, name: &str) -> Result<clap::Error, AllocError>
+    ensures { IfOk result (λ error. kind_of error ≡ InvalidValue) }
+{
+    let message = format!(in alloc;
+        "invalid value '{name}' for '--report <NAME>'\n{}",
+        help::REPORTS
+    )?;
+    let mut command = show_command(alloc)?.bin_name("office show")?;
+    command.error(ErrorKind::InvalidValue, message.as_str())
+}
+
+fn office_command<'a>(alloc: Global) -> Result<Command<'a>, AllocError>
+    ensures { IfOk result (λ c. app_of c ≡ office_app) }
+{
+    let office = Command::new(alloc, "office")
+        .version(help::VERSION)
+        .about(help::OFFICE)
+        .after_help(help::OFFICE_EXAMPLE)
+        .subcommand_required(true)
+        .arg_required_else_help(true)
+        .subcommand(check_command(alloc)?)?;
+    let office = add_new_and_import(alloc, office)?;
+    add_show_and_serve(alloc, office)
+}
+
+fn add_new_and_import<'a>(alloc: Global, office: Command<'a>) -> Result<Command<'a>, AllocError>
+    ensures { IfOk result (λ c. app_of c ≡ with_subcommand (with_subcommand (app_of office.entry) new_office_app.top) import_app.top) }
+{
+    office
+        .subcommand(new_command(alloc)?)?
+        .subcommand(import_command(alloc)?)
+}
+
+fn add_show_and_serve<'a>(alloc: Global, office: Command<'a>) -> Result<Command<'a>, AllocError>
+    ensures { IfOk result (λ c. app_of c ≡ with_subcommand (with_subcommand (app_of office.entry) show_app.top) serve_app.top) }
+{
+    office
+        .subcommand(show_command(alloc)?)?
+        .subcommand(serve_command(alloc)?)
+}
+
+fn check_command<'a>(alloc: Global) -> Result<Command<'a>, AllocError>
+    ensures app { IfOk result (λ c. app_of c ≡ check_app) }
+    ensures local { IfOk result (λ c. (out-Command c).has_globals ≡ false) }
+{
+    Command::new(alloc, CHECK)
+        .about(help::CHECK)
+        .long_about(help::CHECK_LONG)
+        .after_long_help(help::CHECK_EXAMPLE)
+        .arg(semicolon_arg(alloc))
+}
+
+fn new_command<'a>(alloc: Global) -> Result<Command<'a>, AllocError>
+    ensures app { IfOk result (λ c. app_of c ≡ new_office_app) }
+    ensures local { IfOk result (λ c. (out-Command c).has_globals ≡ false) }
+{
+    Command::new(alloc, NEW)
+        .about(help::NEW)
+        .long_about(help::NEW_LONG)
+        .after_long_help(help::NEW_EXAMPLE)
+        .arg(wanted_arg(alloc, DB, "FILE", help::NEW_DB))?
+        .arg(wanted_arg(alloc, SETUP, "FILE", help::SETUP))
+}
+
+fn import_command<'a>(alloc: Global) -> Result<Command<'a>, AllocError>
+    ensures app { IfOk result (λ c. app_of c ≡ import_app) }
+    ensures local { IfOk result (λ c. (out-Command c).has_globals ≡ false) }
+{
+    let import = Command::new(alloc, IMPORT)
+        .about(help::IMPORT)
+        .long_about(help::IMPORT_LONG)
+        .after_long_help(help::IMPORT_EXAMPLE)
+        .arg(wanted_arg(alloc, DB, "FILE", help::DB))?
+        .arg(wanted_arg(alloc, CON, "CODE", help::IMPORT_CON))?;
+    add_csv(alloc, import)
+}
+
+fn add_csv<'a>(alloc: Global, import: Command<'a>) -> Result<Command<'a>, AllocError>
+    requires { (out-Command import).has_globals ≡ false }
+    ensures app { IfOk result (λ c. app_of c ≡ with_rule (with_rule (app_of import.entry) (wanted_rule (codes "csv"))) semicolon_rule) }
+    ensures local { IfOk result (λ c. (out-Command c).has_globals ≡ false) }
+{
+    import
+        .arg(wanted_arg(alloc, CSV, "FILE", help::CSV))?
+        .arg(semicolon_arg(alloc))
+}
+
+fn show_command<'a>(alloc: Global) -> Result<Command<'a>, AllocError>
+    ensures app { IfOk result (λ c. app_of c ≡ show_app) }
+    ensures local { IfOk result (λ c. (out-Command c).has_globals ≡ false) }
+{
+    Command::new(alloc, SHOW)
+        .about(help::SHOW)
+        .long_about(help::SHOW_LONG)
+        .after_long_help(help::SHOW_EXAMPLE)
+        .arg(wanted_arg(alloc, DB, "FILE", help::DB))?
+        .arg(wanted_arg(alloc, REPORT, "NAME", help::REPORT))?
+        .arg(value_arg(alloc, CON, "CODE", help::SHOW_CON))
+}
+
+fn serve_command<'a>(alloc: Global) -> Result<Command<'a>, AllocError>
+    ensures app { IfOk result (λ c. app_of c ≡ serve_app) }
+    ensures local { IfOk result (λ c. (out-Command c).has_globals ≡ false) }
+{
+    Command::new(alloc, SERVE)
+        .about(help::SERVE)
+        .long_about(help::SERVE_LONG)
+        .after_long_help(help::SERVE_EXAMPLE)
+        .arg(wanted_arg(alloc, DB, "FILE", help::DB))?
+        .arg(number_arg(alloc, PORT, MOST_PORT, help::PORT))?
+        .arg(number_arg(alloc, COUNT, MOST_COUNT, help::COUNT))
+}
+
+fn semicolon_arg<'a>(alloc: Global) -> Arg<'a>
+    ensures rule { rule_of result ≡ semicolon_rule }
+    ensures local { result.global ≡ false }
+{
+    Arg::new(alloc, SEMICOLON)
+        .long(SEMICOLON)
+        .action(ArgAction::SetTrue)
+        .help(help::SEMICOLON)
+}
+
+// An argument with one value, which may be left out.
+fn value_arg<'a>(alloc: Global, name: &'a str, value: &'a str, text: &'a str) -> Arg<'a>
+    ensures rule { rule_of result ≡ value_rule name.now }
+    ensures local { result.global ≡ false }
+{
+    Arg::new(alloc, name)
+        .long(name)
+        .value_name(value)
+        .help(text)
+}
+
+// An argument with one value, which has to be given.
+fn wanted_arg<'a>(alloc: Global, name: &'a str, value: &'a str, text: &'a str) -> Arg<'a>
+    ensures rule { rule_of result ≡ wanted_rule name.now }
+    ensures local { result.global ≡ false }
+{
+    value_arg(alloc, name, value, text).required(true)
+}
+
+// An argument that is a number from 1 to `most`, which has to be given.
+fn number_arg<'a>(alloc: Global, name: &'a str, most: u64, text: &'a str) -> Arg<'a>
+    ensures rule { rule_of result ≡ number_rule name.now 1 most }
+    ensures local { result.global ≡ false }
+{
+    wanted_arg(alloc, name, "N", text).value_parser(ValueParser::unsigned(1, most))
+}

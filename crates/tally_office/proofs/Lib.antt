@@ -1,4 +1,0 @@
-pub mod LeafLemmas
-pub mod CommandLemmas
-pub mod NumberLemmas
-pub mod ToldLemmas

@@ -1,0 +1,246 @@
+//! What each command over a database does.
+
+ghost use Rattle.std.specs.Prelude.{◌≡◌, ◌++◌, [], IfErr, IfOk, OnOk, Err, false, true, is_some, string_bytes};
+ghost use Rattle.tally_commands.specs.Imported.{IsCountText};
+ghost use Rattle.tally_commands.specs.Made.{IsMadeText};
+ghost use Rattle.tally_program.specs.Commands.{IsAnyText, IsServedText, IsWritten, report_of_name, served_line};
+ghost use Rattle.tally_line.specs.Line.{needs_con};
+
+use crate::files::{Office, close_office, make_office, open_file, open_office, read_setup};
+use std::alloc::AllocError;
+use std::io::Write;
+use std::net::{Ipv4Addr, TcpListener};
+use tally_commands::{
+    CONSTITUENCIES_ROOM, Report, Sep, Trouble, constituencies_text, find_con, import_rows,
+    show_progress, show_report,
+};
+use tally_desk::{TcpDoor, serve};
+use tally_import::write_text;
+use tally_line::ReportName;
+
+/// The most bytes of the line of a server that ends.
+const SERVED_ROOM: usize = 64;
+
+/// Closes the database of a command, and then writes what it came to, where that is no trouble.
+fn end<W: Write>(
+    rt: &HostRuntime,
+    db: &str,
+    office: Office,
+    outcome: Result<String, Trouble>,
+    output: &mut W,
+) -> Result<(), Trouble>
+    ensures text { IfOk outcome (λ text. IsWritten (λ written. written ≡ string_bytes text) (W.contents output.old) (W.contents output.new) result) }
+    ensures trouble { IfErr outcome (λ trouble. (result ≡ Err trouble) × (output.new ≡ output.old)) }
+{
+    let is_closed = close_office(rt, db, office);
+    match outcome {
+        Ok(text) => finish(is_closed, &text, output),
+        Err(trouble) => Err(trouble),
+    }
+}
+
+/// Writes what a command came to, once its database is closed: that is in one file also where the
+/// output takes nothing.
+fn finish<W: Write>(is_closed: bool, text: &str, output: &mut W) -> Result<(), Trouble>
+    ensures closed { is_closed ≡ false → (result ≡ Err Trouble.Store) × (output.new ≡ output.old) }
+    ensures written { IsWritten (λ written. written ≡ text.now) (W.contents output.old) (W.contents output.new) result }
+{
+    if !is_closed {
+        return Err(Trouble::Store);
+    }
+    match write_text(output, text.as_bytes()) {
+        Ok(()) => Ok(()),
+        Err(_) => Err(Trouble::Write),
+    }
+}
+
+/// Room for a line, which is had before anything is changed.
+fn line_room(rt: &HostRuntime, bytes: usize) -> Result<String, Trouble>
+    ensures { IfOk result (λ line. string_bytes line ≡ []) }
+{
+    match String::with_capacity(rt.alloc(), bytes) {
+        Ok(text) => Ok(text),
+        Err(_) => Err(Trouble::Memory),
+    }
+}
+
+/// Makes an office of a setup.
+pub fn make<W: Write>(
+    rt: &HostRuntime,
+    db: &str,
+    setup: &str,
+    output: &mut W,
+) -> Result<(), Trouble>
+    ensures { IsWritten IsMadeText (W.contents output.old) (W.contents output.new) result }
+{
+    let text = match read_setup(rt, setup) {
+        Ok(text) => text,
+        Err(trouble) => return Err(trouble),
+    };
+    let mut line = match line_room(rt, CONSTITUENCIES_ROOM) {
+        Ok(line) => line,
+        Err(trouble) => return Err(trouble),
+    };
+    let office = match make_office(rt, db, text.as_slice()) {
+        Ok(office) => office,
+        Err(trouble) => return Err(trouble),
+    };
+    let outcome = made_text(line, &office);
+    end(rt, db, office, outcome, output)
+}
+
+/// The number of the constituencies, in a line that is empty.
+fn made_text(mut line: String, office: &Office) -> Result<String, Trouble>
+    requires { string_bytes line ≡ [] }
+    ensures { IfOk result (λ text. IsMadeText (string_bytes text)) }
+{
+    match constituencies_text(&mut line, office.setup()) {
+        Ok(()) => Ok(line),
+        Err(_) => Err(Trouble::Memory),
+    }
+}
+
+/// Lodges the returns of a file.
+pub fn import<W: Write>(
+    rt: &HostRuntime,
+    db: &str,
+    con: &str,
+    csv: &str,
+    sep: Sep,
+    output: &mut W,
+) -> Result<(), Trouble>
+    ensures { IsWritten IsCountText (W.contents output.old) (W.contents output.new) result }
+{
+    let mut office = match open_office(rt, db) {
+        Ok(office) => office,
+        Err(trouble) => return Err(trouble),
+    };
+    let outcome = import_file(rt, &mut office, con, csv, sep);
+    end(rt, db, office, outcome, output)
+}
+
+fn import_file(
+    rt: &HostRuntime,
+    office: &mut Office,
+    con: &str,
+    csv: &str,
+    sep: Sep,
+) -> Result<String, Trouble>
+    ensures { IfOk result (λ text. IsCountText (string_bytes text)) }
+{
+    let con = match find_con(rt.alloc(), office.setup(), con) {
+        Ok(con) => con,
+        Err(trouble) => return Err(trouble),
+    };
+    let file = match open_file(rt, csv) {
+        Ok(file) => file,
+        Err(trouble) => return Err(trouble),
+    };
+    import_rows(rt.alloc(), office, con, sep, file)
+}
+
+/// Prints a report. Progress is that of all constituencies; any other is of the one that is named.
+pub fn show<W: Write>(
+    rt: &HostRuntime,
+    db: &str,
+    report: ReportName,
+    con: Option<&str>,
+    output: &mut W,
+) -> Result<(), Trouble>
+    requires { needs_con report ≡ true → is_some con ≡ true }
+    ensures { IsWritten IsAnyText (W.contents output.old) (W.contents output.new) result }
+{
+    let mut office = match open_office(rt, db) {
+        Ok(office) => office,
+        Err(trouble) => return Err(trouble),
+    };
+    let outcome = show_in(rt, &mut office, report, con);
+    end(rt, db, office, outcome, output)
+}
+
+fn show_in(
+    rt: &HostRuntime,
+    office: &mut Office,
+    report: ReportName,
+    con: Option<&str>,
+) -> Result<String, Trouble>
+    requires { needs_con report ≡ true → is_some con ≡ true }
+{
+    let Some(which) = report_of(report) else {
+        return show_progress(rt.alloc(), office);
+    };
+    match con {
+        Some(con) => show_report(rt.alloc(), office, con, which),
+        None => unreachable!(),
+    }
+}
+
+/// The report of a constituency that has this name.
+fn report_of(name: ReportName) -> Option<Report>
+    ensures { result ≡ report_of_name name }
+{
+    match name {
+        ReportName::Tally => Some(Report::Tally),
+        ReportName::Seats => Some(Report::Seats),
+        ReportName::Quotients => Some(Report::Quotients),
+        ReportName::Awards => Some(Report::Awards),
+        ReportName::Quota => Some(Report::Quota),
+        ReportName::Holders => Some(Report::Holders),
+        ReportName::Past => Some(Report::Past),
+        ReportName::Short => Some(Report::Short),
+        ReportName::Progress => None,
+    }
+}
+
+/// Serves so many connections on this machine's own address, one after the other.
+pub fn serve_office<W: Write, E: Write>(
+    rt: &HostRuntime,
+    db: &str,
+    port: u16,
+    count: u32,
+    output: &mut W,
+    errors: &mut E,
+) -> Result<(), Trouble>
+    ensures { IsWritten (IsServedText count) (W.contents output.old) (W.contents output.new) result }
+{
+    let mut office = match open_office(rt, db) {
+        Ok(office) => office,
+        Err(trouble) => return Err(trouble),
+    };
+    let outcome = serve_on(rt, &mut office, port, count, errors);
+    end(rt, db, office, outcome, output)
+}
+
+fn serve_on<E: Write>(
+    rt: &HostRuntime,
+    office: &mut Office,
+    port: u16,
+    count: u32,
+    errors: &mut E,
+) -> Result<String, Trouble>
+    ensures { IfOk result (λ text. IsServedText count (string_bytes text)) }
+{
+    let mut line = match line_room(rt, SERVED_ROOM) {
+        Ok(line) => line,
+        Err(trouble) => return Err(trouble),
+    };
+    let Ok(listener) = TcpListener::bind(rt, (Ipv4Addr::LOCALHOST, port)) else {
+        return Err(Trouble::Port);
+    };
+    let _ = writeln!(
+        errors,
+        "listening on 127.0.0.1:{port} for {count} connections"
+    );
+    let mut door = TcpDoor::timed(listener, rt);
+    let served = serve(rt.alloc(), office, &mut door, count);
+    match push_served(&mut line, served.answered, served.failed) {
+        Ok(()) => Ok(line),
+        Err(_) => Err(Trouble::Memory),
+    }
+}
+
+fn push_served(text: &mut String, answered: u32, failed: u32) -> Result<(), AllocError>
+    ensures { OnOk result (string_bytes text.new ≡ string_bytes text.old ++ served_line answered failed) }
+{
+    writeln!(text, "answered {answered} failed {failed}")
+}
