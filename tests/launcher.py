@@ -7,6 +7,7 @@ The last line is `N passed, M failed`. It takes about half a minute, most of it 
 """
 
 import os
+import re
 import shutil
 import signal
 import subprocess
@@ -21,17 +22,22 @@ ROOT = Path(__file__).resolve().parent.parent
 PARTS = ("src", "specs", "proofs")
 NOBODY = 65534
 
-# The stub's `rt run` notes that it ran, does what the file `plan` says, and builds a program, which is another one at
-# each build: it prints the number of the build, its folder and its arguments, copies its input and ends with status 1.
+# The stub's `rt all` does what the file `plan` says. Its `rt run` notes that it ran and builds a program, which is another
+# one at each build: it prints the number of the build, its folder and its arguments, copies its input and ends with
+# status 1; then it does what the file `end` says.
 STUB = r"""#!/usr/bin/env bash
 here=$(dirname "$0")
 if [ "$1" = version ]; then
     cat "$here/version"
     exit
 fi
+echo "$*" >>"$here/calls"
+if [ "$1" = all ]; then
+    echo $$ >"$here/pid"
+    . "$here/plan"
+    exit
+fi
 echo "$*" >>"$here/runs"
-echo $$ >"$here/pid"
-. "$here/plan"
 cat >"$here/input"
 cat >out/tally_office <<END
 #!/bin/sh
@@ -41,23 +47,29 @@ echo "an error" >&2
 exit 1
 END
 chmod +x out/tally_office
+echo "logic=proved functions=28 sum=0" >&2
 echo "the program's own output"
+. "$here/end"
 """
 
+# What `rt all check` says of crates that it proves, and last of one that was proved already.
 PROVED = """
+echo "only=0 proved=0"
 for crate in tally_frac tally_office; do
-    echo "rt: chose --jobs 4 for $crate" >&2
-    echo "fn $crate::main: proved" >&2
-    echo "logic=proved functions=28 sum=0" >&2
+    echo "== $crate"
+    echo "fn $crate::main: proved"
+    echo "logic=proved functions=28 sum=0"
 done
+echo "== tally_rules"
+printf '== summary\\ntally_frac: ok\\n'
 """
 
 WAITS = "office: another ./office is building the program: waiting for it\n"
 
-# What `rt run` says of a function whose contract is not proved.
+# What it says of a function whose contract is not proved.
 OPEN = """
-cat >&2 <<'END'
-rt: chose --jobs 4 for tally_frac
+cat <<'END'
+== tally_frac
 fn tally_frac::rank::RankKey::new: proved
 note: src/share.rt:60:5: it is not proved that what the function ensures holds when it returns (`returns`)
 fn tally_frac::share::Share::floor: no proof: expected answers in ./proofs/share/Share/floor/Answers.antt
@@ -107,12 +119,16 @@ class Copy:
             if part.name in PARTS:
                 shutil.copytree(part, self.root / part.relative_to(ROOT))
         self.plan(plan)
+        self.end("")
         self.version("stub 1")
         (self.bin / "rt").write_text(STUB)
         (self.bin / "rt").chmod(0o755)
 
     def plan(self, text):
         (self.bin / "plan").write_text(text)
+
+    def end(self, text):
+        (self.bin / "end").write_text(text)
 
     def version(self, text):
         (self.bin / "version").write_text(text + "\n")
@@ -186,7 +202,8 @@ def first_launch_builds_and_the_next_does_not(copy):
     assert status == 1 and out.splitlines() == ["build 1", str(copy.folder), "check", "a b", "*"], (status, out)
     assert errors.endswith("office: the program is built\nan error\n"), errors
     assert "the program's own output" not in out + errors
-    assert (copy.bin / "runs").read_text() == "run -- check\n"
+    first, second = (copy.bin / "calls").read_text().splitlines()
+    assert re.fullmatch("all check --jobs [1-9][0-9]*", first) and second == "run -- check", (first, second)
     assert (copy.bin / "input").read_text() == "station,slip,blank,spoiled,A\n"
     assert copy.run("check") == (1, f"build 1\n{copy.folder}\ncheck\n", "an error\n")
     assert copy.runs() == 1
@@ -358,16 +375,20 @@ def without_the_toolchain_is_status_3(copy):
 def what_fails_is_status_3(copy):
     copy.run("check")
     plans = {
-        "a build": "exit 1",
-        "a build with no program": f"rm -f '{copy.program}'; exit 0",
-        "a build that is killed": "kill -9 $$",
+        "a proof": ("exit 1", ""),
+        "a build": (PROVED, "exit 1"),
+        "a build with no program": (PROVED, f"rm -f '{copy.program}'"),
+        "a proof that is killed": ("kill -9 $$", ""),
+        "a build that is killed": (PROVED, "kill -9 $$"),
     }
-    for name, plan in plans.items():
+    for name, (plan, end) in plans.items():
         copy.plan(plan)
+        copy.end(end)
         append(copy.root / "crates.txt", "# changed\n")
         status, out, errors = copy.run("check")
         assert (status, out) == (3, ""), f"{name}: {status} {errors}"
-    copy.plan(PROVED + "printf '\\177ELF%080d' 0 >out/tally_office; chmod +x out/tally_office; exit 0")
+    copy.plan(PROVED)
+    copy.end("printf '\\177ELF%080d' 0 >out/tally_office; chmod +x out/tally_office")
     assert copy.run("check")[0] == 3, "a program that cannot be started"
     (copy.root / "crates.txt").unlink()
     assert copy.run("check")[0] == 3, "no crates.txt"
@@ -394,22 +415,22 @@ def a_failed_build_shows_the_open_goal_first(copy):
 def a_build_says_what_it_needs_and_how_many_crates_are_left(copy):
     lines = copy.run("check")[2].splitlines()
     assert all(need in lines[1] for need in ("5 GB of disk", "of memory", "about an hour")), lines
-    assert lines[2:6] == [
-        f"office: proving tally_frac, {CRATES} of {CRATES} crates left",
-        "office: tally_frac is proved, 28 functions",
-        f"office: proving tally_office, 1 of {CRATES} crates left",
-        "office: tally_office is proved, 28 functions",
+    assert lines[2:] == [
+        f"office: tally_frac is proved, 28 functions: {CRATES - 1} of {CRATES} crates left",
+        f"office: tally_office is proved, 28 functions: {CRATES - 2} of {CRATES} crates left",
+        "office: the program is built",
+        "an error",
     ], lines
 
 
 def a_build_that_is_silent_is_spoken_of_every_half_minute(copy):
-    copy.plan("echo 'rt: chose --jobs 4 for tally_frac' >&2; exec sleep 60")
+    copy.plan("echo '== tally_frac'; exec sleep 60")
     ran = copy.start("check")
     begun, seen = time.monotonic(), []
     threading.Timer(30, ran.terminate).start()
     for line in ran.stderr:
         seen.append((time.monotonic() - begun, line))
-    still = [at for at, line in seen if f"still proving tally_frac, {CRATES} of {CRATES} crates left" in line]
+    still = [at for at, line in seen if f"still proving, {CRATES - 1} of {CRATES} crates left" in line]
     assert still and still[0] < 30, seen
 
 
@@ -442,7 +463,7 @@ def after_a_build_that_was_ended_the_next_in_line_builds(copy):
     assert second.stderr.readline() == WAITS
     first.terminate()
     out, errors = second.communicate(timeout=60)
-    assert second.returncode == 1 and out.startswith("build 2\n"), errors
+    assert second.returncode == 1 and out.startswith("build 1\n"), errors
 
 
 TESTS = [

@@ -21,7 +21,7 @@ const LINGER_MILLISECONDS: u64 = 2_000;
 const LINGER_BYTES: usize = 2_097_152;
 
 /// How much of it is read at a time.
-const PIECE: usize = 65_536;
+const PIECE: usize = 4_096;
 
 /// In place of a clock where there is none.
 #[derive(Clone, Copy)]
@@ -37,11 +37,13 @@ impl Clock for NoClock {
     }
 }
 
-/// A connection, and when its time is over.
+/// A connection, when its time is over, and how long its socket waits in a read and in a write, where that was set.
 #[derive(Drop)]
 struct Timed {
     stream: TcpStream,
     end: Option<Instant>,
+    read_wait: Option<Duration>,
+    write_wait: Option<Duration>,
 }
 
 /// The connections of a listener, one after the other. Nothing is known of what they give and take.
@@ -63,9 +65,12 @@ impl Timed {
     fn read<C: Clock>(&mut self, clock: &C, buf: &mut [u8]) -> Result<usize, DoorFault>
         ensures { IfOk result (λ n. n ≤ length buf.new) }
     {
-        let wait = time_left(clock, self.end, Duration::from_secs(WAIT_SECONDS));
-        if self.stream.set_read_timeout(Some(wait)).is_err() {
-            return Err(DoorFault::Failed);
+        let wait = Some(time_left(clock, self.end, Duration::from_secs(WAIT_SECONDS)));
+        if self.read_wait != wait {
+            if self.stream.set_read_timeout(wait).is_err() {
+                return Err(DoorFault::Failed);
+            }
+            self.read_wait = wait;
         }
         match self.stream.read(buf) {
             Ok(count) => Ok(count),
@@ -76,9 +81,12 @@ impl Timed {
     fn write<C: Clock>(&mut self, clock: &C, bytes: &[u8]) -> Result<usize, DoorFault>
         ensures { IfOk result (λ n. n ≤ length bytes.now) }
     {
-        let wait = time_left(clock, self.end, Duration::from_secs(WAIT_SECONDS));
-        if self.stream.set_write_timeout(Some(wait)).is_err() {
-            return Err(DoorFault::Failed);
+        let wait = Some(time_left(clock, self.end, Duration::from_secs(WAIT_SECONDS)));
+        if self.write_wait != wait {
+            if self.stream.set_write_timeout(wait).is_err() {
+                return Err(DoorFault::Failed);
+            }
+            self.write_wait = wait;
         }
         match self.stream.write(bytes) {
             Ok(count) => Ok(count),
@@ -194,7 +202,12 @@ impl<C: Clock + Drop> Door for TcpDoor<C> {
             return Err(DoorFault::Failed);
         };
         let end = end_of(&self.clock, Duration::from_secs(CONNECTION_SECONDS));
-        self.current = Some(Timed { stream, end });
+        self.current = Some(Timed {
+            stream,
+            end,
+            read_wait: None,
+            write_wait: None,
+        });
         Ok(())
     }
 

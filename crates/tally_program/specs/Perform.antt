@@ -48,6 +48,10 @@ abbrev pub IsCommandTold : Option (List ℕ) → Option (List ℕ) → Result (U
 IsCommandTold held holds (Ok done) = Keeps held holds
 IsCommandTold held holds (Err trouble) = Told held holds (trouble_line trouble)
 
+-- a command line was out of memory before anything was begun: status 3, `failed: memory`, and nothing written as its text
+abbrev pub IsNotBegun : {W : Type 0} → W → W → Option (List ℕ) → Option (List ℕ) → ℕ → Type 0
+IsNotBegun old new told tells status = (status ≡ 3) × (new ≡ old) × Told told tells (codes "failed: memory\n")
+
 -- One check takes the input from its bytes to the rest, the output from what it held to what it holds, and the errors
 -- from what they held to what they hold: these are those of its outcome, and so is the status. A text that is not known is
 -- one of which nothing is said.

@@ -9,7 +9,7 @@ ghost use Rattle.tally_commands.specs.Imported.{IsCountText};
 ghost use Rattle.tally_commands.specs.Made.{IsMadeText};
 ghost use Rattle.tally_program.specs.Commands.{EndsCommand, EndsServer, IsAnyText};
 ghost use Rattle.tally_line.specs.Line.{CheckSeen, ImportSeen, LacksCon, NewSeen, ServeSeen, ShowSeen, line_of};
-ghost use Rattle.tally_program.specs.Perform.{ChecksInput, IsCommandTold, IsTold, check_status, command_status, fault_status, fault_words};
+ghost use Rattle.tally_program.specs.Perform.{ChecksInput, IsCommandTold, IsNotBegun, IsTold, check_status, command_status, fault_status, fault_words};
 
 use crate::commands::{import, make, serve_office, show};
 use std::io::{self, ErrorKind, Read, Write};
@@ -39,19 +39,19 @@ pub fn perform<R: Read, W: Write, E: Write>(
     errors: &mut E,
 ) -> u8
     ensures check { (sep : Sep) → line_of (map string_bytes words.now) ≡ Some (CheckSeen sep)
-        → ((result ≡ FAILED) × (input.new ≡ input.old) × (output.new ≡ output.old) × Told (E.contents errors.old) (E.contents errors.new) (codes "failed: memory\n"))
+        → ((input.new ≡ input.old) × IsNotBegun output.old output.new (E.contents errors.old) (E.contents errors.new) result)
         ⊎ ChecksInput sep (R.remaining input.old) (R.remaining input.new) (W.contents output.old) (W.contents output.new) (E.contents errors.old) (E.contents errors.new) result }
     ensures new { (db setup : List ℕ) → line_of (map string_bytes words.now) ≡ Some (NewSeen db setup)
-        → ((result ≡ FAILED) × (output.new ≡ output.old) × Told (E.contents errors.old) (E.contents errors.new) (codes "failed: memory\n"))
+        → IsNotBegun output.old output.new (E.contents errors.old) (E.contents errors.new) result
         ⊎ EndsCommand IsMadeText (W.contents output.old) (W.contents output.new) (E.contents errors.old) (E.contents errors.new) result }
     ensures import { (db con csv : List ℕ) (sep : Sep) → line_of (map string_bytes words.now) ≡ Some (ImportSeen db con csv sep)
-        → ((result ≡ FAILED) × (output.new ≡ output.old) × Told (E.contents errors.old) (E.contents errors.new) (codes "failed: memory\n"))
+        → IsNotBegun output.old output.new (E.contents errors.old) (E.contents errors.new) result
         ⊎ EndsCommand IsCountText (W.contents output.old) (W.contents output.new) (E.contents errors.old) (E.contents errors.new) result }
     ensures show { (db : List ℕ) (name : ReportName) (con : Option (List ℕ)) → line_of (map string_bytes words.now) ≡ Some (ShowSeen db name con)
-        → ((result ≡ FAILED) × (output.new ≡ output.old) × Told (E.contents errors.old) (E.contents errors.new) (codes "failed: memory\n"))
+        → IsNotBegun output.old output.new (E.contents errors.old) (E.contents errors.new) result
         ⊎ EndsCommand IsAnyText (W.contents output.old) (W.contents output.new) (E.contents errors.old) (E.contents errors.new) result }
     ensures serve { (db : List ℕ) (port count : ℕ) → line_of (map string_bytes words.now) ≡ Some (ServeSeen db port count)
-        → ((result ≡ FAILED) × (output.new ≡ output.old) × Told (E.contents errors.old) (E.contents errors.new) (codes "failed: memory\n"))
+        → IsNotBegun output.old output.new (E.contents errors.old) (E.contents errors.new) result
         ⊎ EndsServer count (W.contents output.old) (W.contents output.new) result }
     ensures no_line { line_of (map string_bytes words.now) ≡ None
         → ((result ≡ USAGE) ⊎ ((result ≡ FAILED) × Told (E.contents errors.old) (E.contents errors.new) (codes "failed: memory\n")))

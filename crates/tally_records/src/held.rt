@@ -42,7 +42,8 @@ impl Held {
     }
 
     /// Reads until so many bytes are held or the input ends, of itself or stopped. An
-    /// input that goes on past 16 MiB is stopped there.
+    /// input that goes on past 16 MiB is stopped there. Room for all that may come is made at
+    /// once, so what is held is not moved as it grows.
     pub(crate) fn fill<R: Read>(
         &mut self,
         input: &mut R,
@@ -56,6 +57,9 @@ impl Held {
         ensures limit { IfOk result (λ end. end ≡ None → self.new.taken ≤ 16777216) }
         ensures failed { IfOk result (λ end. IsEnd end (has_failed watch.new)) }
     {
+        let missing = size.saturating_sub(self.bytes.len());
+        self.bytes
+            .reserve(missing.min(SIZE_LIMIT + 1 - self.taken))?;
         let mut buffer = [0; READ_SIZE];
         while self.bytes.len() < size && self.taken <= SIZE_LIMIT {
             let wanted = READ_SIZE
