@@ -313,6 +313,12 @@ def an_edit_during_a_build_builds_again(copy):
     assert copy.run("check")[1].startswith("build 2\n")
 
 
+def a_launcher_that_changes_during_a_build_goes_on(copy):
+    copy.plan(f"printf 'exit 7\\n%.0s' {{1..3000}} >'{copy.root}/office'\n" + PROVED)
+    status, out, errors = copy.run("check")
+    assert status == 1 and out.startswith("build 1\n"), (status, errors)
+
+
 def a_current_program_starts_at_once(copy):
     copy.run("check")
     copy.program.write_text("#!/bin/sh\n:\n")
@@ -481,6 +487,7 @@ TESTS = [
     a_build_says_what_it_needs_and_how_many_crates_are_left,
     a_launcher_that_is_ended_ends_its_build,
     after_a_build_that_was_ended_the_next_in_line_builds,
+    a_launcher_that_changes_during_a_build_goes_on,
     a_current_program_starts_at_once,
 ]
 
@@ -501,6 +508,9 @@ def passes(test):
 
 
 def main():
+    # A program in the background may begin with these ignored, and what it starts then ignores them too.
+    for number in (signal.SIGINT, signal.SIGTERM, signal.SIGHUP):
+        signal.signal(number, signal.SIG_DFL)
     chosen = [test for test in TESTS if not sys.argv[1:] or test.__name__ in sys.argv[1:]]
     # The first only waits, so it runs beside the others; those run one at a time.
     with ThreadPoolExecutor(2) as pool:

@@ -1387,6 +1387,9 @@ print(end=urllib.request.urlopen("http://" + url, body.encode()).read().decode()
 
 def main():
     global PROGRAM
+    # A program in the background may begin with these ignored, and what it starts then ignores them too.
+    for number in (signal.SIGINT, signal.SIGTERM, signal.SIGHUP):
+        signal.signal(number, signal.SIG_DFL)
     words = sys.argv[1:]
     if words[:1] == ["--program"]:
         PROGRAM, words = Path(words[1]).resolve(), words[2:]

@@ -96,6 +96,13 @@ fn a_changed_office_is_opened_or_not(rt: HostRuntime) -> Result<(), Fail> {
     Ok(())
 }
 
+#[test]
+fn an_empty_database_is_not_opened(rt: HostRuntime) -> Result<(), Fail> {
+    let told = after(rt.alloc(), empty(rt.alloc())?, "")?;
+    assert!(rt; told.as_str() == "the database lacks a table", "{told}");
+    Ok(())
+}
+
 /// What making an office in a database answers.
 fn making_in<S: Alter + Drop>(
     alloc: Global,

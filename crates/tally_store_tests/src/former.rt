@@ -1,6 +1,6 @@
 //! Tables of version 1, taken over.
 
-use crate::offices::{Conn, all_tables, database, open, shown};
+use crate::offices::{Conn, all_tables, database, open, shown, steps};
 use sqlite::{Alter, Connection};
 use std::alloc::Global;
 use std::test::*;
@@ -16,15 +16,24 @@ const AFTER: &str = "certify c1 3 = refused 9
 reopen c1 3 recount = edition 4
 show c1 = open 4 1/1 [100, 100] [2, 1] [] recount past 3 [1, 2]";
 
+// The last steps of the recount. A certificate that was reopened in version 1 is not on record.
+const LAST_STEPS: &str = "show c1 = open 4 1/1 [120, 120] [] [] recount 2.1 resigned
+certify c1 4 = lot of 1 2 for 1
+draw c1 4 A,B = edition 5
+certify c1 5 = edition 6
+show c1 = certified 6 1/1 [120, 120] [1, 2] [2, 1] recount 2.1 resigned
+lodge s1 p1 100,100 = differs 5
+lodge s1 p2 120,120 = same 5";
+
 /// A database whose tables become those of version 1.
 fn made_former<S: Alter + Drop>(mut conn: Connection<S>) -> Result<Connection<S>, Fail> {
     conn.execute_batch("DROP TABLE past; UPDATE setup SET version = 1")?;
     Ok(conn)
 }
 
-/// The database of an office in the tables of version 1.
-fn former(alloc: Global) -> Result<Conn, Fail> {
-    made_former(database(alloc, TWIN_TOWN, SCRIPT)?)
+/// The database of an office after these commands, in the tables of version 1.
+fn former(alloc: Global, script: &str) -> Result<Conn, Fail> {
+    made_former(database(alloc, TWIN_TOWN, script)?)
 }
 
 /// The version, and the tables.
@@ -48,7 +57,7 @@ fn opened<S: Alter + Drop>(alloc: Global, conn: Connection<S>) -> Result<String,
 #[test]
 fn tables_of_version_1_are_taken_over(rt: HostRuntime) -> Result<(), Fail> {
     let alloc = rt.alloc();
-    let got = opened(alloc, former(alloc)?)?;
+    let got = opened(alloc, former(alloc, SCRIPT)?)?;
     let want = version_and_tables(alloc, database(alloc, TWIN_TOWN, SCRIPT)?)?;
     assert!(rt; got.as_str().starts_with("2\n"), "{got}");
     assert!(rt; got.as_str() == want.as_str(), "{got}");
@@ -70,8 +79,11 @@ fn wrong_after_opening<S: Alter + Drop>(
 #[test]
 fn an_office_that_was_taken_over_goes_on(rt: HostRuntime) -> Result<(), Fail> {
     let alloc = rt.alloc();
-    let wrong = wrong_after_opening(alloc, former(alloc)?, AFTER)?;
-    assert!(rt; wrong.is_empty(), "{wrong}");
+    let recount = steps(alloc, 20)?;
+    for (before, after) in [(SCRIPT, AFTER), (recount.as_str(), LAST_STEPS)] {
+        let wrong = wrong_after_opening(alloc, former(alloc, before)?, after)?;
+        assert!(rt; wrong.is_empty(), "{wrong}");
+    }
     Ok(())
 }
 
@@ -100,7 +112,7 @@ fn refused_after<S: Alter + Drop>(
 #[test]
 fn bad_tables_of_version_1_stay(rt: HostRuntime) -> Result<(), Fail> {
     let alloc = rt.alloc();
-    let told = refused_after(alloc, former(alloc)?, "UPDATE seats SET n = 3 - n")?;
+    let told = refused_after(alloc, former(alloc, SCRIPT)?, "UPDATE seats SET n = 3 - n")?;
     assert!(rt; told.as_str() == "1\n", "{told}");
     Ok(())
 }

@@ -4,7 +4,7 @@ use sqlite::{Alter, Connection, Error, ErrorCode, MemStore, Row};
 use sqlite_value::value::Value;
 use std::alloc::Global;
 use std::test::Fail;
-use tally_scripts::first_wrong;
+use tally_scripts::{RECOUNT, first_wrong};
 use tally_store::{CreateFault, OpenFault, Store};
 
 // What is done to a connection or an office is written over any store. Over this one each of these functions
@@ -65,6 +65,20 @@ pub(crate) fn reopened<S: Alter + Drop>(alloc: Global, office: Store<S>) -> Resu
         Err(refused) => refused,
     };
     Err(Fail::from(format!(in alloc; "{fault}")?))
+}
+
+/// So many steps of the recount, each with its answer, without the lines that only show.
+pub(crate) fn steps(alloc: Global, count: usize) -> Result<String, Fail> {
+    let mut lines = String::new(alloc);
+    for line in RECOUNT
+        .lines()
+        .filter(|line| !line.starts_with("show"))
+        .take(count)
+    {
+        lines.push_str(line)?;
+        lines.push_str("\n")?;
+    }
+    Ok(lines)
 }
 
 /// The database of an office after these commands, whose answers are given.

@@ -1,6 +1,6 @@
 //! The rows of the tables, worked by hand.
 
-use crate::offices::{all_tables, database};
+use crate::offices::{all_tables, database, shown, steps};
 use std::test::*;
 use tally_scripts::TWIN_TOWN;
 
@@ -121,6 +121,25 @@ fn the_tables_hold_what_was_done(rt: HostRuntime) -> Result<(), Fail> {
         let mut conn = database(alloc, TWIN_TOWN, script)?;
         let got = all_tables(alloc, &mut conn)?;
         assert!(rt; got.as_str() == want, "{got}");
+    }
+    Ok(())
+}
+
+// The item 0 is blank votes, 61 spoiled ones.
+const SUMS: &str = "SELECT con, item, n FROM totals ORDER BY con, item";
+
+// After the first closing, after the return was queried, and after it was corrected and closed again.
+#[test]
+fn the_sums_are_those_of_closed_votes(rt: HostRuntime) -> Result<(), Fail> {
+    let alloc = rt.alloc();
+    for (count, want) in [
+        (3, "c1,0,0\nc1,1,100\nc1,2,100\nc1,61,0\n"),
+        (18, "c1,0,0\nc1,1,0\nc1,2,0\nc1,61,0\n"),
+        (20, "c1,0,0\nc1,1,120\nc1,2,120\nc1,61,0\n"),
+    ] {
+        let mut conn = database(alloc, TWIN_TOWN, steps(alloc, count)?.as_str())?;
+        let got = shown(alloc, &mut conn, SUMS)?;
+        assert!(rt; got.as_str() == want, "after {count} steps {got}");
     }
     Ok(())
 }
