@@ -1,6 +1,6 @@
 //! Tests of `tally_core` and of the crates that its names come from (`tally_machine` among them), which
-//! over their finished proofs are checked once. Public is the keeper `Frail` alone, on which the must-fail
-//! edits turn.
+//! over their finished proofs are checked once. Public is the keeper `Frail` alone, which fails as a disk
+//! does.
 #![tactic(auto)]
 
 #[cfg(test)]
