@@ -1,10 +1,10 @@
 -- Heads in the bytes that came so far, and in the whole text.
-use Rattle.std.proofs.Common.{◌≡◌, ℕ, Bool, true, false, ◌+◌, ◌-◌, ◌<◌, ◌≤◌, ◌⊎◌, List, [], ◌++◌, length, take, drop, refl, sym, ap, subst, append_assoc, append-nil, Result, Ok, Err, IfOk, IfErr, inl, inr, ◌∙◌, arith}
+use Rattle.std.proofs.Common.{◌≡◌, ℕ, Bool, true, false, ◌+◌, ◌-◌, ◌<◌, ◌≤◌, List, [], ◌++◌, length, take, drop, sym, ap, subst, append_assoc, append-nil, Result, Ok, Err, IfOk, IfErr, inl, inr, ◌∙◌, arith}
 use Rattle.std.proofs.Math.Seq.{take-append_seam, take-append-add, take-length}
 use Rattle.std.proofs.lemmas.List.{take-append-drop, take-append-le, length-append, length-drop}
-use Rattle.httparse.specs.Grammar.{RequestHead, ReadsRequest, HasNoRequest, print_request}
+use Rattle.httparse.specs.Grammar.{ReadsRequest, HasNoRequest, print_request}
 use Rattle.httparse.specs.Spans.{RequestOverflows}
-use Rattle.tally_message.specs.Message.{head_limit, field_limit, BeginsWithHead, HasNoHead, CannotBecomeHead, IsFault}
+use Rattle.tally_message.specs.Message.{head_limit, field_limit, HasNoHead, CannotBecomeHead, IsFault}
 use Rattle.tally_message.specs.Reading.{HaveNoHead}
 use Rattle.tally_message.specs.declared.message.MessageFault.{MessageFault}
 use Rattle.tally_message.specs.declared.message.MessageFault.TheVariants.{BadHead, HeadTooLong, Read}

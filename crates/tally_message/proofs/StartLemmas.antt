@@ -1,11 +1,12 @@
 -- The start of a message, in the bytes that were read and in the whole text.
-use Rattle.std.proofs.Common.{◌≡◌, ℕ, zero, suc, ◌+◌, ◌-◌, ◌<◌, ◌≤◌, Bool, true, false, cond, ◌⊎◌, List, [], ◌∷◌, ◌++◌, length, map, take, drop, min, get_or, refl, sym, ap, subst, append_assoc, inl, inr, ◌∙◌, arith, IsTrue, nat_le, codes, bytes_eq, Result, Ok, Err, IfOk, IfErr, IsErrAnd}
+use Rattle.std.proofs.Common.{◌≡◌, ℕ, zero, suc, ◌+◌, ◌<◌, ◌≤◌, Bool, true, false, cond, List, [], ◌∷◌, ◌++◌, length, map, take, drop, refl, sym, ap, subst, append_assoc, inr, ◌∙◌, arith, IsTrue, nat_le, codes, bytes_eq, Result, Ok, Err, IfOk, IfErr, IsErrAnd}
 use Rattle.std.specs.Prelude.{⊤}
-use Rattle.std.proofs.lemmas.List.{length-take, length-take-le, length-map, length-append}
+use Rattle.std.proofs.lemmas.List.{length-take, length-map, length-append}
+use Rattle.std.proofs.lemmas.Bool.{leb-true}
 use Rattle.http.specs.Token as http
 use Rattle.httparse.specs.Grammar as grammar
 use Rattle.httparse.specs.Grammar.{RequestHead, Field, ReadsRequest, print_request}
-use Rattle.httparse.specs.Spans.{IsRequestAt, IsRequestOf, IsRequestWithin, AreFieldsAt, header_bytes, span_bytes, name_and_value}
+use Rattle.httparse.specs.Spans.{IsRequestAt, IsRequestWithin, header_bytes, span_bytes, name_and_value}
 use Rattle.httparse.specs.declared.spans.HeaderSpan.{HeaderSpan}
 use Rattle.httparse.specs.declared.spans.RequestSpans.{RequestSpans}
 use Rattle.httparse.proofs.GrammarLemmas.{ReadsRequest-append}
@@ -63,7 +64,7 @@ body_is zero rest left = refl
 body_is (suc n) [] left = refl
 body_is (suc n) (x ∷ rest) left = ap (λ t. x ∷ t) (body_is n rest left)
 
--- ---- the faults that a head's fields may have
+-- ---- the length, or the fault, that a head's fields may have
 
 abbrev IsFieldFault : MessageFault → Type 0
 IsFieldFault BadHead = ⊥
@@ -80,13 +81,18 @@ either P true x y px py = px
 either P false x y px py = py
 
 abbrev Passes : Result ℕ MessageFault → Type 0
-Passes r = IfErr r IsFieldFault
+Passes (Ok count) = count ≤ body_limit
+Passes (Err fault) = IsFieldFault fault
+
+within_limit : (n : ℕ) (b : Bool) → nat_le n body_limit ≡ b → Passes (cond b (Ok n) (Err BodyTooLong))
+within_limit n true is = leb-true n body_limit is
+within_limit n false is = tt
 
 number_fault : (v : List ℕ) → Passes (content_length v)
-number_fault v = either Passes (is_content_length v) _ (Err BadLength) (either Passes (nat_le (digits_value 10 v) body_limit) (Ok (digits_value 10 v)) (Err BodyTooLong) tt tt) tt
+number_fault v = either Passes (is_content_length v) _ (Err BadLength) (within_limit (digits_value 10 v) _ refl) tt
 
 from_fault : (post : Bool) (vs : List (List ℕ)) → Passes (length_by post (single_value vs))
-from_fault post [] = either Passes post (Err LengthRequired) (Ok 0) tt tt
+from_fault post [] = either Passes post (Err LengthRequired) (Ok 0) tt (omega arith)
 from_fault post (v ∷ []) = number_fault v
 from_fault post (v ∷ w ∷ vs) = tt
 
@@ -105,6 +111,9 @@ faulty_start bytes e h rest begins is = go e begins is (subst Passes is (length_
     go EndedEarly b i k = absurd k
     go Read b i k = absurd k
     go Memory b i k = absurd k
+
+pub short_body : (bytes : List ℕ) (s : Start) → IsStart bytes s → s.length ≤ body_limit
+short_body bytes s (h, rest, is) = subst Passes is.announces.length (length_fault h.method (map name_and_value h.fields))
 
 -- the same fault of the whole text
 pub whole_fault : (bytes left : List ℕ) (fails : Bool) (e : MessageFault) → IsFaultyStart bytes e → IsFault (bytes ++ left) fails e

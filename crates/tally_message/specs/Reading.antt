@@ -1,6 +1,5 @@
 -- What the steps of reading a message leave.
 use Rattle.std.specs.Prelude.{◌≡◌, ◌⊎◌, ℕ, ◌<◌, ◌≤◌, Bool, true, false, List, [], ◌++◌, length, take, Result, Ok, Err, IfOk, IfErr, ⊤}
-use Rattle.std.specs.declared.alloc.AllocError.{AllocError}
 use Rattle.httparse.specs.Grammar.{HasNoRequest}
 use Rattle.httparse.specs.Spans.{RequestOverflows}
 use Rattle.tally_door.specs.Connection.{Connection}
@@ -12,14 +11,13 @@ use Rattle.tally_message.specs.declared.input.Input.{Input}
 use Rattle.tally_message.specs.declared.input.Input.TheVariants.{Bytes, End, Failure}
 
 -- What was taken from the input is behind the bytes that were there.
-abbrev pub HasReadOnto : Connection → List ℕ → Result Input AllocError → List ℕ → Connection → Type 0
-HasReadOnto c old (Ok Bytes) new d = old ++ c.input ≡ new ++ d.input
-HasReadOnto c old (Ok End) new d = (c.input ≡ []) × (c.fails ≡ false) × (d.input ≡ []) × (new ≡ old)
-HasReadOnto c old (Ok Failure) new d = (c.input ≡ []) × (c.fails ≡ true) × (d.input ≡ []) × (new ≡ old)
-HasReadOnto c old (Err refused) new d = ⊤
+abbrev pub HasReadOnto : Connection → List ℕ → Input → List ℕ → Connection → Type 0
+HasReadOnto c old Bytes new d = old ++ c.input ≡ new ++ d.input
+HasReadOnto c old End new d = (c.input ≡ []) × (c.fails ≡ false) × (d.input ≡ []) × (new ≡ old)
+HasReadOnto c old Failure new d = (c.input ≡ []) × (c.fails ≡ true) × (d.input ≡ []) × (new ≡ old)
 
 -- Input was taken and put behind the bytes that were there.
-abbrev pub ReadsOnto : List ℕ → Result Input AllocError → List ℕ → Connection → Connection → Type 0
+abbrev pub ReadsOnto : List ℕ → Input → List ℕ → Connection → Connection → Type 0
 ReadsOnto old result new c d = OnlyReads c d × HasReadOnto c old result new d
 
 -- Input was taken that begins with a head, and perhaps some of what follows it, or the input has a fault.

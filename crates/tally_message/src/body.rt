@@ -9,7 +9,7 @@ use crate::input::{Input, read_more};
 use crate::message::MessageFault;
 use tally_door::Door;
 
-/// Reads the rest of a body of `count` bytes, of which the first may have come.
+/// Reads the rest of a body of `count` bytes, of which the first may have come. It comes by way of `piece`.
 pub(crate) fn read_body<D: Door>(
     door: &mut D,
     piece: &mut [u8],
@@ -24,9 +24,11 @@ pub(crate) fn read_body<D: Door>(
     ensures taken { ChangesCurrent (D.known door.old) (D.known door.new) (TakesAtMost count) }
 {
     while body.len() < count {
-        let missing = count - body.len();
-        match read_more(door, piece, body, missing)? {
-            Input::Bytes => {}
+        let most = piece.len().min(count - body.len());
+        let room = &mut piece[..most];
+        let mut came = 0;
+        match read_more(door, room, &mut came) {
+            Input::Bytes => body.extend_from_slice(&room[..came])?,
             Input::End => return Err(MessageFault::EndedEarly),
             Input::Failure => return Err(MessageFault::Read),
         }

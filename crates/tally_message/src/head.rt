@@ -1,6 +1,6 @@
 //! Reading a head.
 
-ghost use Rattle.std.specs.Prelude.{◌≡◌, ◌<◌, ◌≤◌, [], true, length, IfOk, IfErr, IfSome, IfNone};
+ghost use Rattle.std.specs.Prelude.{◌≡◌, ◌≤◌, true, length, take, IfOk, IfErr, IfSome, IfNone};
 ghost use Rattle.httparse.specs.Grammar.{HasNoRequest};
 ghost use Rattle.httparse.specs.Spans.{IsRequestWithin, IsRequestOf, RequestOverflows};
 ghost use Rattle.tally_door.specs.Connection.{ChangesCurrent};
@@ -54,41 +54,41 @@ fn head_or(
     }
 }
 
-/// Reads up to the end of the head, and perhaps some of what follows it.
+/// Reads up to the end of the head, and perhaps some of what follows it: the first `count` bytes of the room.
 pub(crate) fn read_head<D: Door>(
     door: &mut D,
-    piece: &mut [u8],
-    bytes: &mut Vec<u8>,
+    room: &mut [u8],
+    count: &mut usize,
     headers: &mut [HeaderSpan],
 ) -> Result<RequestSpans, MessageFault>
     requires connected { D.connected door.old ≡ true }
-    requires piece { 0 < length piece.old }
-    requires empty { bytes.old.items ≡ [] }
-    requires room { length headers.old ≡ field_limit }
+    requires room { length room.old ≡ head_limit }
+    requires empty { count.old ≡ 0 }
+    requires fields { length headers.old ≡ field_limit }
     ensures connected { D.connected door.new ≡ true }
-    ensures short { length bytes.new.items ≤ head_limit }
-    ensures within { IfOk result (IsRequestWithin bytes.new.items headers.new) }
-    ensures head { IfOk result (IsRequestOf bytes.new.items headers.new) }
-    ensures known { ChangesCurrent (D.known door.old) (D.known door.new) (ReadsHead result bytes.new.items) }
+    ensures short { count.new ≤ head_limit }
+    ensures within { IfOk result (IsRequestWithin (take count.new room.new) headers.new) }
+    ensures head { IfOk result (IsRequestOf (take count.new room.new) headers.new) }
+    ensures known { ChangesCurrent (D.known door.old) (D.known door.new) (ReadsHead result (take count.new room.new)) }
     ensures taken { ChangesCurrent (D.known door.old) (D.known door.new) (TakesAtMost head_limit) }
 {
     let mut lines = Lines::new();
-    loop {
-        let count = bytes.len();
-        if count >= HEAD_LIMIT {
-            return head_or(bytes, headers, MessageFault::HeadTooLong);
-        }
-        match read_more(door, piece, bytes, HEAD_LIMIT - count)? {
+    while *count < HEAD_LIMIT {
+        let before = *count;
+        match read_more(door, room, count) {
             Input::Bytes => {}
-            Input::End => return head_or(bytes, headers, MessageFault::BadHead),
-            Input::Failure => return head_or(bytes, headers, MessageFault::Read),
+            Input::End => return head_or(&room[..*count], headers, MessageFault::BadHead),
+            Input::Failure => return head_or(&room[..*count], headers, MessageFault::Read),
         }
-        if lines.end_in(&bytes[count..]) {
-            match head_in(bytes, headers) {
-                Ok(Some(head)) => return Ok(head),
-                Ok(None) => {}
-                Err(fault) => return Err(fault),
+        for place in before..*count {
+            if lines.end_with(room[place]) {
+                match head_in(&room[..*count], headers) {
+                    Ok(Some(head)) => return Ok(head),
+                    Ok(None) => {}
+                    Err(fault) => return Err(fault),
+                }
             }
         }
     }
+    head_or(&room[..*count], headers, MessageFault::HeadTooLong)
 }

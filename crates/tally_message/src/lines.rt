@@ -17,25 +17,21 @@ impl Lines {
         }
     }
 
-    /// Whether an empty line ends among these bytes, which come next. Those before the start line are passed over
+    /// Whether an empty line ends with this byte, which comes next. Those before the start line are passed over
     /// (RFC 9112, section 2.2).
-    pub(crate) fn end_in(&mut self, bytes: &[u8]) -> bool {
-        let mut ended = false;
-        for byte in bytes {
-            match *byte {
-                b'\n' => {
-                    if self.begun && self.empty {
-                        ended = true;
-                    }
-                    self.empty = true;
-                }
-                b'\r' => {}
-                _ => {
-                    self.begun = true;
-                    self.empty = false;
-                }
+    pub(crate) fn end_with(&mut self, byte: u8) -> bool {
+        match byte {
+            b'\n' => {
+                let ended = self.begun && self.empty;
+                self.empty = true;
+                ended
+            }
+            b'\r' => false,
+            _ => {
+                self.begun = true;
+                self.empty = false;
+                false
             }
         }
-        ended
     }
 }

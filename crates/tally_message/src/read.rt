@@ -12,9 +12,6 @@ use httparse::spans::EMPTY_HEADER_SPAN;
 use std::alloc::Global;
 use tally_door::Door;
 
-/// The most bytes that are read at a time.
-const PIECE: usize = 4_096;
-
 /// Reads a message from the current connection. What follows its body is not looked at. Nothing is written.
 pub fn read_message<D: Door>(alloc: Global, door: &mut D) -> Result<Message, MessageFault>
     requires { D.connected door.old ≡ true }
@@ -22,15 +19,16 @@ pub fn read_message<D: Door>(alloc: Global, door: &mut D) -> Result<Message, Mes
     ensures message { ChangesCurrent (D.known door.old) (D.known door.new) (HasReadMessage result) }
     ensures taken { ChangesCurrent (D.known door.old) (D.known door.new) (TakesWithinLimits result) }
 {
-    let mut bytes = Vec::with_capacity(alloc, HEAD_LIMIT)?;
+    let mut room = [0u8; HEAD_LIMIT];
+    let mut count = 0;
     let mut headers = [EMPTY_HEADER_SPAN; FIELD_LIMIT];
-    let mut piece = [0u8; PIECE];
-    let head = read_head(door, &mut piece, &mut bytes, &mut headers)?;
-    let mut start = match start_in(alloc, &bytes, &headers, head) {
+    let head = read_head(door, &mut room, &mut count, &mut headers)?;
+    let mut start = match start_in(alloc, &room[..count], &headers, head) {
         Ok(start) => start,
         Err(fault) => return Err(fault),
     };
-    match read_body(door, &mut piece, &mut start.body, start.length) {
+    // The head is taken apart by now, so what is still to come of the body goes by way of its room.
+    match read_body(door, &mut room, &mut start.body, start.length) {
         Ok(()) => Ok(Message {
             method: start.method,
             target: start.target,

@@ -1,4 +1,4 @@
-use Rattle.std.proofs.Common.{◌≡◌, ◌≤◌, ◌-◌, ◌++◌, true, length, vec_len}
+use Rattle.std.proofs.Common.{◌≡◌, ◌≤◌, ◌-◌, ◌++◌, true, vec_len}
 use Rattle.tally_door.specs.Connection.{ChangesCurrent}
 use Rattle.tally_message.specs.Message.{OnlyReads}
 use Rattle.tally_message.proofs.body.read_body.Given as goal

@@ -1,27 +1,26 @@
-use Rattle.std.proofs.Common.{◌≡◌, ◌++◌, List, ℕ, Bool, Err, Ok, sym, ap, subst, refl}
+use Rattle.std.proofs.Common.{◌≡◌, ◌++◌, List, ℕ, Bool, Err, Ok, take, sym, ap, subst, refl, arith}
 use Rattle.tally_door.specs.Connection.{Connection}
 use Rattle.tally_message.specs.Message.{IsFault, IsMessageOrFault}
 use Rattle.tally_message.specs.Reading.{IsBodyOrFault}
-use Rattle.tally_message.specs.Start.{IsStart, IsFaultyStart}
+use Rattle.tally_message.specs.Start.{IsStart}
 use Rattle.tally_message.specs.declared.message.Message.{Message}
-use Rattle.tally_message.proofs.StartLemmas.{whole_fault, cut_fault, whole_message, reads_on}
+use Rattle.tally_message.proofs.StartLemmas.{short_body, whole_fault, cut_fault, whole_message, reads_on}
 use Rattle.tally_message.proofs.read.read_message.Goals as goal
 
 pub returns-in-Err-clause-message : goal.returns-in-Err-clause-message
 returns-in-Err-clause-message g c ended coming connection is =
     let at = c.in_ok-head.ensures.known ended coming connection is in
-    let bytes = c.read_head.new.bytes.items in
+    let bytes = take c.read_head.new.count c.read_head.new.room in
     let fault = c.in-Err.fault in
-    let bad : IsFaultyStart bytes fault = subst (λ (b : List ℕ). IsFaultyStart b fault) c.deref.ensures.value c.in-Err.ensures.err in
-    (at.0, at.1, (at.2.0, subst (λ (t : List ℕ). IsFault t connection.fails fault) (sym at.2.1) (whole_fault bytes at.0.input connection.fails fault bad)))
+    (at.0, at.1, (at.2.0, subst (λ (t : List ℕ). IsFault t connection.fails fault) (sym at.2.1) (whole_fault bytes at.0.input connection.fails fault c.in-Err.ensures.err)))
 
-pub returns-clause-message : goal.returns-clause-message
-returns-clause-message g c ended coming connection is =
+pub returns-in-Err-read_body-clause-message : goal.returns-in-Err-read_body-clause-message
+returns-in-Err-read_body-clause-message g c ended coming connection is =
     let at = c.in_ok-head.ensures.known ended coming connection is in
-    let bytes = c.read_head.new.bytes.items in
+    let bytes = take c.read_head.new.count c.read_head.new.room in
     let fault = c.in-Err-read_body.fault in
     let start = c.in-Ok.start in
-    let started : IsStart bytes start = subst (λ (b : List ℕ). IsStart b start) c.deref.ensures.value c.in-Ok.ensures.ok in
+    let started : IsStart bytes start = c.in-Ok.ensures.ok in
     let after = c.in-Err-read_body.ensures.known ended coming at.0 at.1 in
     let same : at.0.fails ≡ connection.fails = ap (λ (t : Connection). t.fails) at.2.0.2 in
     let reads : IsBodyOrFault (start.body.items ++ at.0.input) connection.fails start.length (Err fault) c.read_body.new.body.items =
@@ -37,9 +36,9 @@ returns-clause-message g c ended coming connection is =
 pub returns-in-Ok-read_body-clause-message : goal.returns-in-Ok-read_body-clause-message
 returns-in-Ok-read_body-clause-message g c ended coming connection is =
     let at = c.in_ok-head.ensures.known ended coming connection is in
-    let bytes = c.read_head.new.bytes.items in
+    let bytes = take c.read_head.new.count c.read_head.new.room in
     let start = c.in-Ok.start in
-    let started : IsStart bytes start = subst (λ (b : List ℕ). IsStart b start) c.deref.ensures.value c.in-Ok.ensures.ok in
+    let started : IsStart bytes start = c.in-Ok.ensures.ok in
     let after = c.in-Ok-read_body.ensures.known ended coming at.0 at.1 in
     let same : at.0.fails ≡ connection.fails = ap (λ (t : Connection). t.fails) at.2.0.2 in
     let m : Message = record { method = start.method; target = start.target; body = c.read_body.new.body } in
@@ -52,3 +51,10 @@ returns-in-Ok-read_body-clause-message g c ended coming connection is =
         subst (λ (t : List ℕ). IsMessageOrFault t connection.fails (Ok m)) (sym at.2.1) (whole_message bytes at.0.input connection.fails start m started refl refl reads),
       ),
     )
+
+pub returns-in-Err-read_body-clause-taken : goal.returns-in-Err-read_body-clause-taken
+returns-in-Err-read_body-clause-taken g c ended coming connection is =
+    let at = c.in_ok-head.ensures.taken ended coming connection is in
+    let after = c.in-Err-read_body.ensures.taken ended coming at.0 at.1 in
+    let short = short_body _ c.in-Ok.start c.in-Ok.ensures.ok in
+    (after.0, after.1, omega (arith, at.2, after.2, short))

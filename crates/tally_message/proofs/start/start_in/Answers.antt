@@ -1,7 +1,5 @@
-use Rattle.std.proofs.Common.{◌≡◌, List, ℕ, length, take, drop, sym, ap, subst, ◌∙◌, arith, rules, Err}
+use Rattle.std.proofs.Common.{take, drop, sym, ap, subst, ◌∙◌}
 use Rattle.http.specs.Token.{IsToken}
-use Rattle.httparse.specs.Grammar.{RequestHead}
-use Rattle.tally_message.specs.Message.{BeginsWithHead, body_length}
 use Rattle.tally_message.proofs.StartLemmas.{begins, same_length, faulty_start, token}
 use Rattle.tally_message.proofs.HeadLemmas.{rest_all}
 use Rattle.tally_message.proofs.start.start_in.Goals as goal

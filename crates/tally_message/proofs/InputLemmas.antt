@@ -1,0 +1,26 @@
+-- What is read behind the bytes that came before.
+use Rattle.std.proofs.Common.{◌≡◌, ℕ, ◌+◌, ◌≤◌, List, [], ◌++◌, length, take, sym, ap, ◌∙◌, append_assoc}
+use Rattle.std.proofs.Math.Seq.{take-append-add}
+use Rattle.std.proofs.lemmas.List.{take-append-le, length-take-le}
+use borrow.Rule.Slice.PartMut.{put_mid, post_of}
+
+-- the first bytes of a room, where others were put behind some of them
+front : (count k n : ℕ) (room buf : List ℕ) → count ≤ length room → n ≤ length buf
+    → take (count + n) (put_mid count k room buf) ≡ take count room ++ take n buf
+front count k n room buf within fits =
+    let rest = buf ++ post_of count k room in
+    ap (λ m. take (m + n) (take count room ++ rest)) (sym (length-take-le count room within)) ∙ take-append-add (take count room) rest n
+    ∙ ap (λ t. take count room ++ t) (take-append-le n buf (post_of count k room) fits)
+
+-- some of the input was put behind what came before
+pub put_behind : (old came all input left : List ℕ) → all ≡ old ++ came → input ≡ came ++ left → old ++ input ≡ all ++ left
+put_behind old came all input left is taken = ap (λ t. old ++ t) taken ∙ sym (append_assoc old came left) ∙ ap (λ t. t ++ left) (sym is)
+
+-- `n` bytes of the input were put behind the first `count` bytes of a room
+pub read_behind : (count k n : ℕ) (room buf input left : List ℕ) → count ≤ length room → n ≤ length buf → input ≡ take n buf ++ left
+    → take count room ++ input ≡ take (count + n) (put_mid count k room buf) ++ left
+read_behind count k n room buf input left within fits taken = put_behind _ _ _ input left (front count k n room buf within fits) taken
+
+-- nothing more came, and nothing was behind what came before
+pub none_behind : (text old now input left : List ℕ) → text ≡ old ++ input → input ≡ [] → left ≡ [] → now ≡ old → text ≡ now ++ left
+none_behind text old now input left is none over same = cc
