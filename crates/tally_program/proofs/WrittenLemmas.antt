@@ -1,18 +1,15 @@
 -- What a command writes: nothing where it had a trouble before, and a text of a kind where it wrote one that is of the kind.
-use Rattle.std.proofs.Common.{◌≡◌, ℕ, List, [], Option, Some, None, is_some, Result, Ok, Err, IfOk, IfErr, true, take, refl, sym, subst, ap, append-nil, true≢false, arith}
+use Rattle.std.proofs.Common.{◌≡◌, ℕ, List, [], Option, Some, None, Result, Ok, Err, IfOk, IfErr, refl, sym, subst, ap, append-nil, arith}
 use Rattle.std.proofs.KnownBytes.{Keeps-refl}
-use Rattle.std.specs.Io.KnownBytes.{Appends, Keeps}
+use Rattle.std.specs.Io.KnownBytes.{Appends}
 use Rattle.tally_core.specs.declared.import.ImportCount.{ImportCount}
+use Rattle.tally_rules.specs.Constituency.{Constituency}
 use Rattle.tally_import.specs.Check.{count_text}
-use Rattle.tally_desk.specs.declared.report.Report.{Report}
 use Rattle.tally_commands.specs.Imported.{IsCountText}
 use Rattle.tally_commands.specs.Made.{IsMadeText, constituencies_text}
 use Rattle.tally_commands.specs.declared.trouble.Trouble.{Trouble}
 use Rattle.tally_commands.specs.declared.trouble.Trouble.TheVariants as trouble
-use Rattle.tally_program.specs.Commands.{IsAnyText, IsServedText, IsWritten, report_of_name, served_line}
-use Rattle.tally_line.specs.Line.{needs_con}
-use Rattle.tally_line.specs.declared.line.ReportName.{ReportName}
-use Rattle.tally_line.specs.declared.line.ReportName.TheVariants as name
+use Rattle.tally_program.specs.Commands.{IsAnyText, IsServedText, IsWritten, served_line}
 
 appends-nothing : (held : Option (List ℕ)) → Appends held held []
 appends-nothing None = tt
@@ -40,6 +37,12 @@ served count = (served_line 0 count, (0, count, omega arith, refl))
 pub any_text : {S : Type 0} (bytes : S → List ℕ) (outcome : Result S Trouble) → IfOk outcome (λ text. IsAnyText (bytes text))
 any_text bytes (Ok text) = tt
 any_text bytes (Err t) = tt
+
+-- a line of how many constituencies some have
+pub made_of : {S : Type 0} (cons : List Constituency) (bytes : S → List ℕ) (outcome : Result S Trouble) → IfOk outcome (λ text. bytes text ≡ constituencies_text cons)
+    → IfOk outcome (λ text. IsMadeText (bytes text))
+made_of cons bytes (Ok text) is = (cons, is)
+made_of cons bytes (Err t) is = tt
 
 -- where nothing was written there may have been any trouble
 pub unwritten : (IsText : List ℕ → Type 0) → Example IsText → (held : Option (List ℕ)) (t : Trouble) → IsWritten IsText held held (Err t)
@@ -90,15 +93,3 @@ ended IsText example contents bytes old new (Ok text) r is writes fails = of_kin
 ended IsText example contents bytes old new (Err t) r is writes fails =
     subst (λ (r : Result (Unit {0}) Trouble). IsWritten IsText (contents old) (contents new) r) (sym fails.0)
     (subst (λ (holds : Option (List ℕ)). IsWritten IsText (contents old) holds (Err t)) (ap contents (sym fails.1)) (unwritten IsText example (contents old) t))
-
--- a report of a constituency needs one
-pub report-needs : (n : ReportName) (which : Report) → report_of_name n ≡ Some which → needs_con n ≡ true
-report-needs name.Tally which is = refl
-report-needs name.Seats which is = refl
-report-needs name.Quotients which is = refl
-report-needs name.Awards which is = refl
-report-needs name.Quota which is = refl
-report-needs name.Holders which is = refl
-report-needs name.Past which is = refl
-report-needs name.Short which is = refl
-report-needs name.Progress which is = absurd (true≢false (sym (ap is_some is)))

@@ -1,9 +1,10 @@
 //! What each command over a database does.
 
-ghost use Rattle.std.specs.Prelude.{◌≡◌, ◌++◌, [], IfErr, IfOk, OnOk, Err, false, true, is_some, string_bytes};
+ghost use Rattle.std.specs.Prelude.{◌≡◌, ◌⊎◌, ◌++◌, [], IfErr, IfOk, OnOk, Err, false, true, is_some, option_map, string_bytes};
 ghost use Rattle.tally_commands.specs.Imported.{IsCountText};
-ghost use Rattle.tally_commands.specs.Made.{IsMadeText};
+ghost use Rattle.tally_commands.specs.Made.{IsMadeText, constituencies_text};
 ghost use Rattle.tally_program.specs.Commands.{IsAnyText, IsServedText, IsWritten, report_of_name, served_line};
+ghost use Rattle.tally_program.specs.Worked.{IsFileImported, IsFileTrouble, IsShown, IsShowTrouble};
 ghost use Rattle.tally_line.specs.Line.{needs_con};
 
 use crate::files::{Office, close_office, make_office, open_file, open_office, read_setup};
@@ -14,6 +15,7 @@ use tally_commands::{
     CONSTITUENCIES_ROOM, Report, Sep, Trouble, constituencies_text, find_con, import_rows,
     show_progress, show_report,
 };
+use tally_core::Keeper;
 use tally_desk::{TcpDoor, serve};
 use tally_import::write_text;
 use tally_line::ReportName;
@@ -56,7 +58,8 @@ fn finish<W: Write>(is_closed: bool, text: &str, output: &mut W) -> Result<(), T
 
 /// Room for a line, which is had before anything is changed.
 fn line_room(rt: &HostRuntime, bytes: usize) -> Result<String, Trouble>
-    ensures { IfOk result (λ line. string_bytes line ≡ []) }
+    ensures line { IfOk result (λ line. string_bytes line ≡ []) }
+    ensures trouble { IfErr result (λ trouble. trouble ≡ Trouble.Memory) }
 {
     match String::with_capacity(rt.alloc(), bytes) {
         Ok(text) => Ok(text),
@@ -90,11 +93,12 @@ pub fn make<W: Write>(
 }
 
 /// The number of the constituencies, in a line that is empty.
-fn made_text(mut line: String, office: &Office) -> Result<String, Trouble>
+fn made_text<K: Keeper>(mut line: String, keeper: &K) -> Result<String, Trouble>
     requires { string_bytes line ≡ [] }
-    ensures { IfOk result (λ text. IsMadeText (string_bytes text)) }
+    ensures text { IfOk result (λ text. string_bytes text ≡ constituencies_text (K.constituencies keeper.now)) }
+    ensures trouble { IfErr result (λ trouble. trouble ≡ Trouble.Memory) }
 {
-    match constituencies_text(&mut line, office.setup()) {
+    match constituencies_text(&mut line, keeper.setup()) {
         Ok(()) => Ok(line),
         Err(_) => Err(Trouble::Memory),
     }
@@ -119,16 +123,23 @@ pub fn import<W: Write>(
     end(rt, db, office, outcome, output)
 }
 
-fn import_file(
+/// The counts of the rows that were imported from a file.
+fn import_file<K: Keeper>(
     rt: &HostRuntime,
-    office: &mut Office,
+    keeper: &mut K,
     con: &str,
     csv: &str,
     sep: Sep,
 ) -> Result<String, Trouble>
-    ensures { IfOk result (λ text. IsCountText (string_bytes text)) }
+    ensures setup { K.constituencies keeper.new ≡ K.constituencies keeper.old }
+    ensures trusted { K.IsTrusted keeper.new → K.IsTrusted keeper.old }
+    ensures text { IfOk result (λ text. IsCountText (string_bytes text)) }
+    ensures imported { K.IsTrusted keeper.new → IfOk result (λ text.
+        IsFileImported (K.constituencies keeper.old) (K.content keeper.old) con.now (string_bytes text) (K.content keeper.new)) }
+    ensures trouble { K.IsTrusted keeper.new → IfErr result (λ trouble.
+        IsFileTrouble (K.constituencies keeper.old) (K.content keeper.old) con.now trouble (K.content keeper.new)) }
 {
-    let con = match find_con(rt.alloc(), office.setup(), con) {
+    let con = match find_con(rt.alloc(), keeper.setup(), con) {
         Ok(con) => con,
         Err(trouble) => return Err(trouble),
     };
@@ -136,7 +147,7 @@ fn import_file(
         Ok(file) => file,
         Err(trouble) => return Err(trouble),
     };
-    import_rows(rt.alloc(), office, con, sep, file)
+    import_rows(rt.alloc(), keeper, con, sep, file)
 }
 
 /// Prints a report. Progress is that of all constituencies; any other is of the one that is named.
@@ -154,23 +165,32 @@ pub fn show<W: Write>(
         Ok(office) => office,
         Err(trouble) => return Err(trouble),
     };
-    let outcome = show_in(rt, &mut office, report, con);
+    let outcome = show_in(rt, &mut office, report_of(report), con);
     end(rt, db, office, outcome, output)
 }
 
-fn show_in(
+/// The text of a report, or of the progress where none is named.
+fn show_in<K: Keeper>(
     rt: &HostRuntime,
-    office: &mut Office,
-    report: ReportName,
+    keeper: &mut K,
+    report: Option<Report>,
     con: Option<&str>,
 ) -> Result<String, Trouble>
-    requires { needs_con report ≡ true → is_some con ≡ true }
+    requires { is_some report ≡ true → is_some con ≡ true }
+    ensures setup { K.constituencies keeper.new ≡ K.constituencies keeper.old }
+    ensures trusted { K.IsTrusted keeper.new → K.IsTrusted keeper.old }
+    ensures shown { K.IsTrusted keeper.new → IfOk result (λ text.
+        IsShown (K.constituencies keeper.old) (K.content keeper.old) report (option_map (λ c. c.now) con.entry) (string_bytes text)
+        (K.content keeper.new)) }
+    ensures trouble { K.IsTrusted keeper.new → IfErr result (λ trouble.
+        IsShowTrouble (K.constituencies keeper.old) (K.content keeper.old) report (option_map (λ c. c.now) con.entry) trouble
+        (K.content keeper.new)) }
 {
-    let Some(which) = report_of(report) else {
-        return show_progress(rt.alloc(), office);
+    let Some(which) = report else {
+        return show_progress(rt.alloc(), keeper);
     };
     match con {
-        Some(con) => show_report(rt.alloc(), office, con, which),
+        Some(con) => show_report(rt.alloc(), keeper, con, which),
         None => unreachable!(),
     }
 }
@@ -211,14 +231,17 @@ pub fn serve_office<W: Write, E: Write>(
     end(rt, db, office, outcome, output)
 }
 
-fn serve_on<E: Write>(
+/// Listens, says so, serves, and answers how many connections were answered and how many failed.
+fn serve_on<K: Keeper, E: Write>(
     rt: &HostRuntime,
-    office: &mut Office,
+    keeper: &mut K,
     port: u16,
     count: u32,
     errors: &mut E,
 ) -> Result<String, Trouble>
-    ensures { IfOk result (λ text. IsServedText count (string_bytes text)) }
+    ensures trusted { K.IsTrusted keeper.new → K.IsTrusted keeper.old }
+    ensures text { IfOk result (λ text. IsServedText count (string_bytes text)) }
+    ensures trouble { IfErr result (λ trouble. (trouble ≡ Trouble.Memory) ⊎ ((trouble ≡ Trouble.Port) × (keeper.new ≡ keeper.old))) }
 {
     let mut line = match line_room(rt, SERVED_ROOM) {
         Ok(line) => line,
@@ -232,7 +255,7 @@ fn serve_on<E: Write>(
         "listening on 127.0.0.1:{port} for {count} connections"
     );
     let mut door = TcpDoor::timed(listener, rt);
-    let served = serve(rt.alloc(), office, &mut door, count);
+    let served = serve(rt.alloc(), keeper, &mut door, count);
     match push_served(&mut line, served.answered, served.failed) {
         Ok(()) => Ok(line),
         Err(_) => Err(Trouble::Memory),

@@ -1,8 +1,8 @@
 //! The files that a command works on: the office's database, a setup, the returns.
 
-ghost use Rattle.std.specs.Prelude.{◌≡◌, false, IfOk};
+ghost use Rattle.std.specs.Prelude.{◌≡◌, ◌⊎◌, false, IfErr, IfOk};
 
-use sqlite::{Connection, Error, ErrorCode, FileFrom, FileStore, Wary};
+use sqlite::{Alter, Connection, Error, ErrorCode, FileFrom, FileStore, Wary};
 use std::fs::{self, File};
 use std::io::{self, ErrorKind, Read};
 use tally_commands::Trouble;
@@ -25,7 +25,9 @@ fn is_memory(error: &io::Error) -> bool {
 }
 
 /// Opens a file that is read.
-pub fn open_file(rt: &HostRuntime, path: &str) -> Result<File, Trouble> {
+pub fn open_file(rt: &HostRuntime, path: &str) -> Result<File, Trouble>
+    ensures { IfErr result (λ trouble. (trouble ≡ Trouble.Memory) ⊎ (trouble ≡ Trouble.File)) }
+{
     match File::open(rt, path) {
         Ok(file) => Ok(file),
         Err(error) if is_memory(&error) => Err(Trouble::Memory),
@@ -171,7 +173,7 @@ pub fn make_office(rt: &HostRuntime, path: &str, text: &[u8]) -> Result<Office, 
 
 /// Removes the files of a database that has no tables: as long as the connection is open, no other
 /// program has them.
-fn remove(rt: &HostRuntime, path: &str, log: &str, conn: FileConnection) {
+fn remove<S: Alter + Drop>(rt: &HostRuntime, path: &str, log: &str, conn: Connection<S>) {
     if conn.schema().tables.as_slice().is_empty() {
         let _ = remove_files(rt, path, log);
     }

@@ -9,4 +9,4 @@ returns-in-Err g c = unwritten IsCountText counted (g.W.Write.contents c.args.ou
 pub returns : goal.returns
 returns g c =
     ended IsCountText counted g.W.Write.contents string_bytes c.args.output.now c.end.new.output c.import_file-outcome.result c.end.result
-    c.import_file-outcome.ensures c.end.ensures.text c.end.ensures.trouble
+    c.import_file-outcome.ensures.text c.end.ensures.text c.end.ensures.trouble

@@ -1,6 +1,6 @@
 use Rattle.std.proofs.Common.{string_bytes}
 use Rattle.tally_commands.specs.Made.{IsMadeText}
-use Rattle.tally_program.proofs.WrittenLemmas.{ended, made, unwritten}
+use Rattle.tally_program.proofs.WrittenLemmas.{ended, made, made_of, unwritten}
 use Rattle.tally_program.proofs.commands.make.Goals as goal
 
 pub returns-in-Err : goal.returns-in-Err
@@ -15,4 +15,4 @@ returns-in-Err-make_office g c = unwritten IsMadeText made (g.W.Write.contents c
 pub returns : goal.returns
 returns g c =
     ended IsMadeText made g.W.Write.contents string_bytes c.args.output.now c.end.new.output c.made_text-outcome.result c.end.result
-    c.made_text-outcome.ensures c.end.ensures.text c.end.ensures.trouble
+    (made_of _ string_bytes c.made_text-outcome.result c.made_text-outcome.ensures.text) c.end.ensures.text c.end.ensures.trouble

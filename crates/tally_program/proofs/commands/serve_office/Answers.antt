@@ -9,4 +9,4 @@ returns-in-Err g c = unwritten (IsServedText c.args.count) (served c.args.count)
 pub returns : goal.returns
 returns g c =
     ended (IsServedText c.args.count) (served c.args.count) g.W.Write.contents string_bytes c.args.output.now c.end.new.output c.serve_on-outcome.result c.end.result
-    c.serve_on-outcome.ensures c.end.ensures.text c.end.ensures.trouble
+    c.serve_on-outcome.ensures.text c.end.ensures.text c.end.ensures.trouble
