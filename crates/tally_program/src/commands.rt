@@ -135,7 +135,8 @@ fn import_file<K: Keeper>(
     ensures trusted { K.IsTrusted keeper.new → K.IsTrusted keeper.old }
     ensures text { IfOk result (λ text. IsCountText (string_bytes text)) }
     ensures imported { K.IsTrusted keeper.new → IfOk result (λ text.
-        IsFileImported (K.constituencies keeper.old) (K.content keeper.old) con.now (string_bytes text) (K.content keeper.new)) }
+        IsFileImported (K.constituencies keeper.old) (K.content keeper.old) con.now (string_bytes text)
+        (K.content keeper.new)) }
     ensures trouble { K.IsTrusted keeper.new → IfErr result (λ trouble.
         IsFileTrouble (K.constituencies keeper.old) (K.content keeper.old) con.now trouble (K.content keeper.new)) }
 {
@@ -180,8 +181,8 @@ fn show_in<K: Keeper>(
     ensures setup { K.constituencies keeper.new ≡ K.constituencies keeper.old }
     ensures trusted { K.IsTrusted keeper.new → K.IsTrusted keeper.old }
     ensures shown { K.IsTrusted keeper.new → IfOk result (λ text.
-        IsShown (K.constituencies keeper.old) (K.content keeper.old) report (option_map (λ c. c.now) con.entry) (string_bytes text)
-        (K.content keeper.new)) }
+        IsShown (K.constituencies keeper.old) (K.content keeper.old) report (option_map (λ c. c.now) con.entry)
+        (string_bytes text) (K.content keeper.new)) }
     ensures trouble { K.IsTrusted keeper.new → IfErr result (λ trouble.
         IsShowTrouble (K.constituencies keeper.old) (K.content keeper.old) report (option_map (λ c. c.now) con.entry) trouble
         (K.content keeper.new)) }
@@ -241,7 +242,8 @@ fn serve_on<K: Keeper, E: Write>(
 ) -> Result<String, Trouble>
     ensures trusted { K.IsTrusted keeper.new → K.IsTrusted keeper.old }
     ensures text { IfOk result (λ text. IsServedText count (string_bytes text)) }
-    ensures trouble { IfErr result (λ trouble. (trouble ≡ Trouble.Memory) ⊎ ((trouble ≡ Trouble.Port) × (keeper.new ≡ keeper.old))) }
+    ensures trouble { IfErr result (λ trouble.
+        (trouble ≡ Trouble.Memory) ⊎ ((trouble ≡ Trouble.Port) × (keeper.new ≡ keeper.old))) }
 {
     let mut line = match line_room(rt, SERVED_ROOM) {
         Ok(line) => line,
