@@ -1385,7 +1385,8 @@ print(end=urllib.request.urlopen("http://" + url, body.encode()).read().decode()
 # ---- running the tests
 
 
-def main():
+def main(names):
+    """Runs the tests among these names, or those of them that the arguments give."""
     global PROGRAM
     # A program in the background may begin with these ignored, and what it starts then ignores them too.
     for number in (signal.SIGINT, signal.SIGTERM, signal.SIGHUP):
@@ -1393,7 +1394,7 @@ def main():
     words = sys.argv[1:]
     if words[:1] == ["--program"]:
         PROGRAM, words = Path(words[1]).resolve(), words[2:]
-    tests = {name.removeprefix("test_"): test for name, test in globals().items() if name.startswith("test_")}
+    tests = {name.removeprefix("test_"): test for name, test in names.items() if name.startswith("test_")}
     lost = set(words) - set(tests)
     if lost or not os.access(PROGRAM, os.X_OK):
         print(f"no such test: {' '.join(sorted(lost))}" if lost else f"no program at {PROGRAM}: ./office builds it")
@@ -1417,4 +1418,4 @@ def main():
 
 
 if __name__ == "__main__":
-    sys.exit(main())
+    sys.exit(main(globals()))
