@@ -485,6 +485,13 @@ def test_a_text_as_a_spreadsheet_saves_it():
     imports({"lodged": 3}, b"\xef\xbb\xbf" + "".join(f"{line}\r\n" for line in lines).encode(), flags=("--semicolon",))
 
 
+def test_an_import_of_twenty_thousand_rows():
+    new(THREE_STATIONS)
+    header, row = RETURNS.splitlines(keepends=True)[:2]
+    imports({"lodged": 1, "bad": 19999, "first": "2 0"}, header + row + "s9,p9,0,0,10,20\n" * 19999)
+    same([row[0] for row in rows()["returns"]], ["s1"])
+
+
 def test_imports_that_change_nothing():
     new(THREE_STATIONS)
     before = rows()

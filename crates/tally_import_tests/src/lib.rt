@@ -5,8 +5,6 @@
 #[cfg(test)]
 mod check;
 #[cfg(test)]
-mod lodging;
-#[cfg(test)]
 mod readers;
 #[cfg(test)]
 mod return_rows;

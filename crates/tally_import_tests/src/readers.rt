@@ -1,4 +1,4 @@
-//! Readers that end or fail, and a writer that is full.
+//! A reader that ends or fails, and a writer that is full.
 
 use std::io::{self, ErrorKind, Read, Write};
 
@@ -19,20 +19,6 @@ impl Read for Pieces<'_> {
         buf[..taken].copy_from_slice(&self.text[..taken]);
         self.text = &self.text[taken..];
         Ok(taken)
-    }
-}
-
-/// A reader of a text by so many bytes at a time, that then ends or fails.
-pub(crate) fn text_by_reads(text: &[u8], piece: usize, fails: bool) -> Pieces<'_> {
-    let failure = if fails {
-        Some(ErrorKind::BrokenPipe)
-    } else {
-        None
-    };
-    Pieces {
-        text,
-        piece,
-        failure,
     }
 }
 

@@ -1,0 +1,203 @@
+#!/usr/bin/env python3
+"""Tests what `office check` writes of a file of returns, and which files it refuses.
+
+    python3 tests/check.py [--program FILE] [TEST..]
+
+The program and the last line are those of `tests/program.py`. In tables of rows and headers `/` stands for a line
+feed, `~` for a carriage return, and `!` and `?` for bytes that no text in UTF-8 has there.
+"""
+
+import subprocess
+import sys
+
+import program
+from program import Ran
+
+HEADER = "station,slip,blank,spoiled,A,B\n"
+
+ROW = "s,p,0,0,1,2\n"
+
+NAMES = ("lodged", "same", "differs", "refused", "bad", "first", "blank", "spoiled")
+
+EXAMPLE = """\
+station,slip,blank,spoiled,A,B
+s1,p1,2,1,50,40
+s2,p2,0,0,30,60
+s1,p1,2,1,50,40
+s2,p2,0,0,31,60
+s3,p3,0,0,x,5
+s4,p4,0,0,900000,200000
+"""
+
+EXAMPLE_COUNTS = "2, 1, 1, 1, 1, 4 7, 2, 1, 80, 100"
+
+# Rows, and what they come to: lodged, same, differs, refused, bad, the first, blank, spoiled, A, B.
+
+# No row, and numbers.
+NUMBERS = """
+ = 0, 0, 0, 0, 0, -, 0, 0, 0, 0
+s,p,0,0,000000001,000000002/ = 1, 0, 0, 0, 0, -, 0, 0, 1, 2
+s,p,0,0,123456789,2/ = 0, 0, 0, 1, 0, 1 4, 0, 0, 0, 0
+s,p,0,0,1234567890,2/ = 0, 0, 0, 0, 1, 1 0, 0, 0, 0, 0
+s,p,0,0,0000000001,2/ = 0, 0, 0, 0, 1, 1 0, 0, 0, 0, 0
+s,p,0,0,,2/ = 0, 0, 0, 0, 1, 1 0, 0, 0, 0, 0
+s,p,0,0,+1,2/ = 0, 0, 0, 0, 1, 1 0, 0, 0, 0, 0
+s,p,0,0, 1,2/ = 0, 0, 0, 0, 1, 1 0, 0, 0, 0, 0
+s,p,x,0,1,2/ = 0, 0, 0, 0, 1, 1 0, 0, 0, 0, 0
+s,p,0,x,1,2/ = 0, 0, 0, 0, 1, 1 0, 0, 0, 0, 0
+"""
+
+CODES = """
+ABCDEFGHIJKLMNOP,p,3,4,1,2/ = 1, 0, 0, 0, 0, -, 3, 4, 1, 2
+ABCDEFGHIJKLMNOPQ,p,3,4,1,2/ = 0, 0, 0, 0, 1, 1 0, 0, 0, 0, 0
+s,A-Z_a-z_01234567,3,4,1,2/ = 1, 0, 0, 0, 0, -, 3, 4, 1, 2
+s,A-Z_a-z_012345678,3,4,1,2/ = 0, 0, 0, 0, 1, 1 0, 0, 0, 0, 0
+,p,0,0,1,2/ = 0, 0, 0, 0, 1, 1 0, 0, 0, 0, 0
+s,,0,0,1,2/ = 0, 0, 0, 0, 1, 1 0, 0, 0, 0, 0
+!,p,0,0,1,2/s,p,0,0,?,2/s,p,0,0,1,2/ = 1, 0, 0, 0, 2, 1 0, 0, 0, 1, 2
+"""
+
+# Fields and lines.
+LINES = """
+s,p,0,0,1/ = 0, 0, 0, 0, 1, 1 0, 0, 0, 0, 0
+s,p,0,0,1,2,3/ = 0, 0, 0, 0, 1, 1 0, 0, 0, 0, 0
+""/ = 0, 0, 0, 0, 1, 1 0, 0, 0, 0, 0
+s;p;0;0;1;2/ = 0, 0, 0, 0, 1, 1 0, 0, 0, 0, 0
+//~//s,p,0,0,1,2// = 1, 0, 0, 0, 0, -, 0, 0, 1, 2
+//x/ = 0, 0, 0, 0, 1, 1 0, 0, 0, 0, 0
+s,p,0,0,1,2 = 1, 0, 0, 0, 0, -, 0, 0, 1, 2
+s,p,0,0,1,2~t,p,0,0,1,2~/u,p,0,0,1,2/ = 3, 0, 0, 0, 0, -, 0, 0, 3, 6
+"s","p","0","0","1","2"/ = 1, 0, 0, 0, 0, -, 0, 0, 1, 2
+s,p,0,0,1,"2 = 1, 0, 0, 0, 0, -, 0, 0, 1, 2
+s,p,0,0,1,"2/ = 0, 0, 0, 0, 1, 1 0, 0, 0, 0, 0
+"""
+
+# What a Lodge is answered.
+ANSWERS = """
+s,p,0,0,1000000,0/ = 1, 0, 0, 0, 0, -, 0, 0, 1000000, 0
+s,p,0,0,1000001,0/ = 0, 0, 0, 1, 0, 1 4, 0, 0, 0, 0
+s,p,1000001,0,0,0/ = 0, 0, 0, 1, 0, 1 4, 0, 0, 0, 0
+s,p,0,1000001,0,0/ = 0, 0, 0, 1, 0, 1 4, 0, 0, 0, 0
+s,p,1,0,999999,1/ = 0, 0, 0, 1, 0, 1 6, 0, 0, 0, 0
+s,p,0,1,999999,1/ = 0, 0, 0, 1, 0, 1 6, 0, 0, 0, 0
+s,p,0,0,1000001,0/s,p,1,0,0,0/s,p,1,0,0,0/s,q,1,0,0,0/s,p,0,1,0,0/ = 1, 1, 2, 1, 0, 1 4, 1, 0, 0, 0
+s,p,0,0,1,2/s,p,0,0,2,1/S,p,0,0,1,2/ = 2, 0, 1, 0, 0, 2 7, 0, 0, 2, 4
+s,p,0,0,1,2/s,p,0,0,1,2/x/s,q,0,0,1,2/ = 1, 1, 1, 0, 1, 3 0, 0, 0, 1, 2
+"""
+
+# Headers: with the row below each is good or bad. `^` stands for a byte order mark.
+HEADERS = """
+good station,slip,blank,spoiled,A,B/
+good /~/station,slip,blank,spoiled,A,B~
+good "station","slip","blank","spoiled","A","B"~/
+good ^station,slip,blank,spoiled,A,B/
+bad ^^station,slip,blank,spoiled,A,B/
+good station,slip,blank,spoiled,A,ABCDEFGHIJKLMNOP/
+bad station,slip,blank,spoiled,A,ABCDEFGHIJKLMNOPQ/
+bad station,slip,blank,spoiled,A,A/
+good station,slip,blank,spoiled,a,A/
+bad station,slip,blank,spoiled,A,/
+bad station,slip,blank,spoiled,A,B C/
+bad station,slip,blank,spoiled/
+bad station,slip,blank/
+bad station,slip,spoiled,blank,A,B/
+bad slip,station,blank,spoiled,A,B/
+bad Station,slip,blank,spoiled,A,B/
+bad  station,slip,blank,spoiled,A,B/
+bad station;slip;blank;spoiled;A;B/
+bad ""/
+bad station,slip,blank,spoiled,A,"B/
+"""
+
+
+def meant(text):
+    text = text.replace("/", "\n").replace("~", "\r").replace("^", "\ufeff").encode()
+    return text.replace(b"!", b"\xff").replace(b"?", b"\xc3")
+
+
+def check(text, *flags):
+    text = text if isinstance(text, bytes) else text.encode()
+    ran = subprocess.run([program.PROGRAM, "check", *flags], input=text, capture_output=True, timeout=120)
+    return Ran(ran.returncode, ran.stdout.decode(), ran.stderr.decode())
+
+
+def told(text, ran, wanted):
+    assert ran == wanted, f"\n  of     {text[:200]!r}\n  found  {ran}\n  wanted {wanted}"
+
+
+def counted(text, numbers, *flags, lists=("A", "B")):
+    lines = zip(NAMES + tuple(lists), numbers.split(", "), strict=True)
+    told(text, check(text, *flags), Ran(0, "".join(f"{name} {number}\n" for name, number in lines), ""))
+
+
+def refused(text, word, *flags):
+    told(text, check(text, *flags), Ran(1, "", f"refused: {word}\n"))
+
+
+def lines(table):
+    return table.strip("\n").split("\n")
+
+
+def test_rows_and_what_is_counted_of_them():
+    for table in (NUMBERS, CODES, LINES, ANSWERS):
+        for line in lines(table):
+            text, numbers = line.split(" = ")
+            counted(HEADER.encode() + meant(text), numbers)
+
+
+def test_the_worked_example():
+    counted(EXAMPLE, EXAMPLE_COUNTS)
+
+
+def test_headers():
+    for line in lines(HEADERS):
+        word, header = line.split(" ", 1)
+        text = meant(header) + ROW.encode()
+        if word == "good":
+            ran = check(text)
+            assert ran.status == 0 and ran.out.startswith("lodged 1\n") and not ran.err, (line, ran)
+        else:
+            refused(text, "bad_header")
+
+
+def test_a_text_without_a_record_has_no_header():
+    for text in ("", "\n", "\r\n\n", "\ufeff"):
+        refused(text, "bad_header")
+
+
+def test_sixty_lists_and_one_more():
+    codes = [f"L{n}" for n in range(61)]
+    fixed = "station,slip,blank,spoiled,"
+    counted(fixed + ",".join(codes[:60]), "0, 0, 0, 0, 0, -, 0, 0" + ", 0" * 60, lists=codes[:60])
+    refused(fixed + ",".join(codes), "bad_header")
+
+
+def test_semicolons():
+    counted("station;slip;blank;spoiled;A;B\ns;p;3;4;1;2\nt,p,3,4,1,2\n", "1, 0, 0, 0, 1, 2 0, 3, 4, 1, 2", "--semicolon")
+    refused(EXAMPLE, "bad_header", "--semicolon")
+
+
+def test_twenty_thousand_rows_and_one_more():
+    most = HEADER + "x\n" * 19999 + ROW
+    counted(most, "1, 0, 0, 0, 19999, 1 0, 0, 0, 1, 2")
+    refused(most + "x", "too_long")
+    refused(most + "x\n", "bad_header", "--semicolon")
+
+
+def test_sixteen_mebibytes_and_one_more():
+    counted(EXAMPLE.ljust(16777216, "\n"), EXAMPLE_COUNTS)
+    refused(EXAMPLE.ljust(16777217, "\n"), "too_long")
+    refused(EXAMPLE.ljust(16777217, "\n"), "bad_header", "--semicolon")
+    # A header that goes on past the limit is not looked at.
+    refused("x" * 16777217, "too_long")
+
+
+def test_lines_within_quotes_where_the_input_is_cut():
+    # Records with line ends in quotes, and one that is longer than what is read at once, behind so many empty lines.
+    for empty in range(20):
+        text = HEADER + "\n" * empty + '"xxxxxxxx\n\nxxxxxx"\r' * 18000 + "x" * 800000 + "\n" + ROW
+        counted(text, "1, 0, 0, 0, 18001, 1 0, 0, 0, 1, 2")
+
+
+if __name__ == "__main__":
+    sys.exit(program.main(globals()))
