@@ -9,6 +9,7 @@ The last line is `N passed, M failed, K skipped`. It needs Python 3.11 or later 
 
 import contextlib
 import http.client
+import itertools
 import json
 import os
 import random
@@ -25,6 +26,7 @@ import threading
 import time
 import tomllib
 import traceback
+from fractions import Fraction
 from pathlib import Path
 
 import openapi
@@ -699,6 +701,65 @@ C                         16           7           4
 """)
     shows("short", "SHORT c1 Village\nA                   2           -\nB                   0           1\nC                   0           2\n")
     recount()
+
+
+DIVISORS = {
+    "dhondt": lambda k: Fraction(k),
+    "sainte-lague": lambda k: Fraction(2 * k - 1),
+    "modified-sainte-lague": lambda k: Fraction(7, 5) if k == 1 else Fraction(2 * k - 1),
+}
+
+ORDERS = list(itertools.permutations(range(3)))
+
+
+def awarded(method, seats, votes, order):
+    """The seats of three lists, each given to the greatest quotient, then the most votes, then the first in order."""
+    won = [0, 0, 0]
+    for _ in range(seats):
+        take_part = [m for m in range(3) if votes[m]]
+        won[max(take_part, key=lambda m: (votes[m] / DIVISORS[method](won[m] + 1), votes[m], -order.index(m)))] += 1
+    return won
+
+
+def tried(method, seats, votes, m, held):
+    """The least number of votes more with which a list has more seats in every order, tried one by one."""
+    for more in itertools.count(1):
+        if held == seats:
+            return "-"
+        with_more = [n + more * (place == m) for place, n in enumerate(votes)]
+        if min(awarded(method, seats, with_more, order)[m] for order in ORDERS) > held:
+            return more
+
+
+def test_seats_and_votes_short_are_found_by_trying():
+    """Two hundred constituencies of few votes, many of them with a lot. That they open says that their seats are the allotment."""
+    draw = random.Random(163)
+    methods = list(DIVISORS)
+    polls = []
+    while len(polls) < 200:
+        votes = [draw.randrange(7) for _ in "ABC"]
+        if any(votes):
+            polls.append((draw.choice(methods), draw.randint(1, 4), votes))
+    text = "".join(f'[[profile]]\ncode = "p{n}"\nmethod = "{method}"\nthreshold = 0\nbase = "lists"\n' for n, method in enumerate(methods))
+    lists = ", ".join(f'{{code = "{code}", name = "{code}", candidates = ["x"]}}' for code in "ABC")
+    for n, (method, seats, _) in enumerate(polls):
+        text += f'[[constituency]]\ncode = "c{n}"\nname = "Village"\nseats = {seats}\nprofile = "p{methods.index(method)}"\n'
+        text += f'list = [{lists}]\nstation = [{{code = "s{n}", electors = 1000}}]\n'
+    new(text, constituencies=200)
+    wanted = {}
+    for n, (method, seats, votes) in enumerate(polls):
+        results = [awarded(method, seats, votes, order) for order in ORDERS]
+        group = [m for m in range(3) if len({won[m] for won in results}) > 1]
+        order = draw.choice(ORDERS)
+        won = awarded(method, seats, votes, order)
+        close_return(f"s{n}", f"c{n}", votes)
+        certify(f"c{n}", 3 if group else 2, won, [m + 1 for m in order if m in group])
+        wanted[f"c{n}"] = f"SHORT c{n} Village\n" + "".join(
+            f"{code:<16}{won[m]:>5}{tried(method, seats, votes, m, won[m]):>12}\n" for m, code in enumerate("ABC") if votes[m])
+    for con, lines in wanted.items():
+        shows("short", lines, con)
+    with database() as it:
+        assert it.execute("SELECT count(DISTINCT con) FROM lots").fetchone()[0] >= 20
 
 
 def test_an_alternating_lot():

@@ -3,14 +3,8 @@
 #![tactic(auto)]
 
 #[cfg(test)]
-mod agreement;
-#[cfg(test)]
-mod lots;
+mod answers;
 #[cfg(test)]
 mod polls;
 #[cfg(test)]
-mod seats;
-#[cfg(test)]
-mod short;
-#[cfg(test)]
-mod tables;
+mod worked;
