@@ -119,26 +119,3 @@ impl Divisors for ModifiedSainteLague {
 
     ghost unit_to_five = { λ _. Prim.omega arith };
 }
-
-#[cfg(test)]
-mod tests {
-    use super::*;
-
-    /// The first, second, third and last divisor of a rule, and its unit.
-    fn sample<D: Divisors>(rule: &D) -> [u64; 5] {
-        [
-            rule.nth(1),
-            rule.nth(2),
-            rule.nth(3),
-            rule.nth(501),
-            rule.unit(),
-        ]
-    }
-
-    #[test]
-    fn the_rules_have_their_divisors(rt: HostRuntime) {
-        assert!(rt; sample(&DHondt) == [1, 2, 3, 501, 1]);
-        assert!(rt; sample(&SainteLague) == [1, 3, 5, 1001, 1]);
-        assert!(rt; sample(&ModifiedSainteLague) == [7, 15, 25, 5005, 5]);
-    }
-}

@@ -14,22 +14,3 @@ pub fn is_at_least(votes: u64, threshold: u32, base: u64) -> bool
 {
     votes * 10_000 >= u64::from(threshold) * base
 }
-
-#[cfg(test)]
-mod tests {
-    use super::*;
-
-    #[test]
-    fn three_per_cent_is_reached_exactly(rt: HostRuntime) {
-        assert!(rt; is_at_least(300, 300, 10_000));
-        assert!(rt; !is_at_least(299, 300, 10_000));
-    }
-
-    #[test]
-    fn the_greatest_numbers_are_compared(rt: HostRuntime) {
-        let most = 5_000_000_000;
-        assert!(rt; is_at_least(most, 10_000, most));
-        assert!(rt; !is_at_least(most - 1, 10_000, most));
-        assert!(rt; is_at_least(0, 0, most));
-    }
-}
