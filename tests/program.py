@@ -417,31 +417,6 @@ def test_files_that_are_no_office():
     failed("store", "show", "--db", "office.db", "--report", "progress")
 
 
-def test_tables_changed_by_hand_are_refused():
-    twin_town("good.db")
-    for change, word in (
-        ("UPDATE returns SET rev = 0", "bad_tables"), ("UPDATE returns SET rev = 10000", "bad_tables"),
-        ("UPDATE cons SET edition = 0", "bad_tables"), ("UPDATE cons SET certified = 2", "bad_tables"),
-        ("UPDATE returns SET station = 'zz'", "bad_tables"), ("DELETE FROM counts WHERE item = 61", "bad_tables"),
-        ("UPDATE counts SET item = 62 WHERE item = 61", "bad_tables"), ("UPDATE counts SET n = 101 WHERE item = 1", "bad_tables"),
-        ("DELETE FROM lots WHERE place = 2", "bad_tables"), ("UPDATE lots SET list = 2", "bad_tables"),
-        ("DELETE FROM seats WHERE list = 1", "bad_tables"), ("UPDATE seats SET n = 3 - n", "bad_tables"),
-        ("UPDATE cons SET certified = 0", "bad_tables"), ("UPDATE cons SET note = 'a' || char(10)", "bad_tables"),
-        ("INSERT INTO gone VALUES ('c1', 1, 9, 'x')", "bad_tables"), ("INSERT INTO setup VALUES (2, 2, 'x')", "bad_tables"),
-        ("UPDATE setup SET version = 7", "bad_tables"), ("UPDATE setup SET text = '[['", "bad_setup"),
-        ("UPDATE setup SET text = '[[', version = 7", "bad_tables"), ("DROP TABLE lots", "no_tables"),
-        ("UPDATE totals SET n = n + 1 WHERE item = 1", "bad_tables"), ("INSERT INTO past VALUES ('c1', 3, 1, 3), ('c1', 3, 2, 0)", "bad_tables"),
-    ):
-        shutil.copy("good.db", "office.db")
-        with database() as it:
-            it.execute(change)
-        before = rows() if word != "no_tables" else None
-        refused(word, "show", "--db", "office.db", "--report", "progress")
-        assert before is None or rows() == before, change
-    shutil.copy("good.db", "office.db")
-    shows("seats", SEATS)
-
-
 def test_version_1_is_taken_over():
     new()
     close_return("s1", "c1", [120, 120], rev=5, slip="p2", note="sum")

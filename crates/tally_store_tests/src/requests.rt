@@ -1,8 +1,8 @@
 //! Requests to an office in a database have the answers of one in memory, also where it is opened again
 //! after each, and then it shows what it showed before.
 
-use crate::offices::{made, reopened};
-use sqlite::Alter;
+use crate::offices::{database, made, opened};
+use sqlite::{Alter, Connection};
 use std::alloc::Global;
 use std::test::*;
 use tally_core::{Ask, Keeper, Refusal, Reply, run};
@@ -31,8 +31,8 @@ fn asks(alloc: Global, lines: &str) -> Result<Vec<Ask>, Fail> {
 fn all_told(alloc: Global, answers: &[Result<Reply, Refusal>]) -> Result<String, Fail> {
     let mut text = String::new(alloc);
     for answer in answers {
-        let line = told(alloc, answer)?;
-        writeln!(text, "{line}")?;
+        text.push_str(told(alloc, answer)?.as_str())?;
+        text.push_str("\n")?;
     }
     Ok(text)
 }
@@ -49,12 +49,12 @@ fn reopened_the_same<S: Alter + Drop>(
     mut office: Store<S>,
 ) -> Result<Store<S>, Fail> {
     let before = answers(alloc, &mut office, SHOWN)?;
-    let mut office = reopened(alloc, office)?;
+    let mut office = opened(alloc, office.close())?;
     let after = answers(alloc, &mut office, SHOWN)?;
     if after.as_str() == before.as_str() {
         return Ok(office);
     }
-    Err(Fail::from(format!(in alloc; "{before}and opened again {after}")?))
+    Err(Fail::from(after))
 }
 
 /// The first wrong line of a script.
@@ -83,38 +83,24 @@ fn wrong_line_by_line<S: Alter + Drop>(
     Ok(String::new(alloc))
 }
 
-fn wrong_in(alloc: Global, text: &str, script: &str) -> Result<String, Fail> {
-    let wrong = wrong_at_once(alloc, made(alloc, text)?, script)?;
-    if !wrong.is_empty() {
-        return Ok(wrong);
-    }
-    wrong_line_by_line(alloc, made(alloc, text)?, script)
-}
-
 #[test]
-fn a_return_a_recount_and_a_lot(rt: HostRuntime) -> Result<(), Fail> {
+fn scripts_at_once_and_line_by_line(rt: HostRuntime) -> Result<(), Fail> {
     let alloc = rt.alloc();
-    for (text, script) in [(TWIN_TOWN, LIFE), (TWIN_TOWN, RECOUNT), (RIVERS, HARE)] {
-        let wrong = wrong_in(alloc, text, script)?;
+    let one_seat = twin_town(alloc, "dhondt", 1)?;
+    let rule = "base = \"valid\"\nlot = \"alternating\"";
+    let alternating = with(alloc, TWIN_TOWN, "base = \"valid\"", rule)?;
+    for (setup, script) in [
+        (TWIN_TOWN, LIFE),
+        (TWIN_TOWN, RECOUNT),
+        (RIVERS, HARE),
+        (one_seat.as_str(), VACANCIES),
+        (alternating.as_str(), ALTERNATING),
+    ] {
+        let wrong = wrong_at_once(alloc, made(alloc, setup)?, script)?;
+        assert!(rt; wrong.is_empty(), "{wrong}");
+        let wrong = wrong_line_by_line(alloc, made(alloc, setup)?, script)?;
         assert!(rt; wrong.is_empty(), "{wrong}");
     }
-    Ok(())
-}
-
-#[test]
-fn vacancies(rt: HostRuntime) -> Result<(), Fail> {
-    let setup = twin_town(rt.alloc(), "dhondt", 1)?;
-    let wrong = wrong_in(rt.alloc(), setup.as_str(), VACANCIES)?;
-    assert!(rt; wrong.is_empty(), "{wrong}");
-    Ok(())
-}
-
-#[test]
-fn lots_that_alternate(rt: HostRuntime) -> Result<(), Fail> {
-    let rule = "base = \"valid\"\nlot = \"alternating\"";
-    let setup = with(rt.alloc(), TWIN_TOWN, "base = \"valid\"", rule)?;
-    let wrong = wrong_in(rt.alloc(), setup.as_str(), ALTERNATING)?;
-    assert!(rt; wrong.is_empty(), "{wrong}");
     Ok(())
 }
 
@@ -146,45 +132,71 @@ fn a_run_and_the_progress_after_it(rt: HostRuntime) -> Result<(), Fail> {
     Ok(())
 }
 
-// 12 is Exhausted.
-const LAST_REVISION: &str = "query s1 9999 sum = refused 12
+const CERTIFIED: &str = "lodge s1 p1 100,100 = lodged 1
+close s1 1 = moved 2
+draw c1 1 B,A = edition 2
+certify c1 2 = edition 3";
+
+// The tables of version 1 have no record of a certificate that was reopened.
+const FORMER: &str = "DROP TABLE past; UPDATE setup SET version = 1";
+
+// Once they were taken over a reopening puts the certificate on record.
+const REOPENED: &str = "certify c1 3 = refused 9
+reopen c1 3 recount = edition 4
+show c1 = open 4 1/1 [100, 100] [2, 1] [] recount past 3 [1, 2]";
+
+// A certificate that was reopened, and votes that were counted again.
+const COUNTED_AGAIN: &str = "lodge s1 p1 100,100 = lodged 1
+close s1 1 = moved 2
+draw c1 1 B,A = edition 2
+certify c1 2 = edition 3
+vacate c1 B 1 resigned = vacated None
+reopen c1 3 recount = edition 4
+query s1 2 sum = moved 3
+correct s1 3 p2 120,120 = moved 4
+close s1 4 = moved 5";
+
+const CERTIFIED_AGAIN: &str = "show c1 = open 4 1/1 [120, 120] [] [] recount 2.1 resigned
+certify c1 4 = lot of 1 2 for 1
+draw c1 4 A,B = edition 5
+certify c1 5 = edition 6
+show c1 = certified 6 1/1 [120, 120] [1, 2] [2, 1] recount 2.1 resigned
+lodge s1 p1 100,100 = differs 5
+lodge s1 p2 120,120 = same 5";
+
+// A return that is queried and corrected in turn. 12 is Exhausted.
+const LAST_REVISION: &str = "query s1 9997 sum = moved 9998
+correct s1 9998 p1 1,1 = moved 9999
+query s1 9999 sum = refused 12
 close s1 9999 = refused 12
 return s1 = 9999 p1 Corrected [1, 1] 0 0 sum";
 
-/// A return that is queried and corrected in turn, up to its last revision.
-fn to_the_last_revision(alloc: Global) -> Result<String, Fail> {
-    let mut script = String::from_str(alloc, "lodge s1 p1 1,1 = lodged 1\n")?;
-    for turn in 0..4_999u32 {
-        let rev = 2 * turn + 1;
-        let (next, after) = (rev + 1, rev + 2);
-        writeln!(script, "query s1 {rev} sum = moved {next}")?;
-        writeln!(script, "correct s1 {next} p1 1,1 = moved {after}")?;
-    }
-    script.push_str(LAST_REVISION)?;
-    Ok(script)
-}
-
-/// The first wrong line of a script, or of its end where the office was closed and opened again.
-fn wrong_at_the_end<S: Alter + Drop>(
+/// What is wrong in a script, line by line, where a database was changed by these statements before.
+fn wrong_after<S: Alter + Drop>(
     alloc: Global,
-    mut office: Store<S>,
+    mut conn: Connection<S>,
+    statements: &str,
     script: &str,
-    end: &str,
 ) -> Result<String, Fail> {
-    let wrong = first_wrong(alloc, &mut office, script)?;
-    if !wrong.is_empty() {
-        return Ok(wrong);
-    }
-    wrong_at_once(alloc, reopened_the_same(alloc, office)?, end)
+    conn.execute_batch(statements)?;
+    wrong_line_by_line(alloc, opened(alloc, conn)?, script)
 }
 
-// `rt try --test` is slower by far than the test that `rt test` builds, and needs `--seconds` for the 9,998 commands.
 #[test]
-fn a_return_at_its_last_revision(rt: HostRuntime) -> Result<(), Fail> {
+fn offices_whose_tables_were_changed_go_on(rt: HostRuntime) -> Result<(), Fail> {
     let alloc = rt.alloc();
-    let script = to_the_last_revision(alloc)?;
-    let office = made(alloc, TWIN_TOWN)?;
-    let wrong = wrong_at_the_end(alloc, office, script.as_str(), LAST_REVISION)?;
-    assert!(rt; wrong.is_empty(), "{wrong}");
+    for (before, statements, after) in [
+        (CERTIFIED, FORMER, REOPENED),
+        (COUNTED_AGAIN, FORMER, CERTIFIED_AGAIN),
+        (
+            "lodge s1 p1 1,1 = lodged 1\nquery s1 1 sum = moved 2\ncorrect s1 2 p1 1,1 = moved 3",
+            "UPDATE returns SET rev = 9997",
+            LAST_REVISION,
+        ),
+    ] {
+        let conn = database(alloc, TWIN_TOWN, before)?;
+        let wrong = wrong_after(alloc, conn, statements, after)?;
+        assert!(rt; wrong.is_empty(), "{wrong}");
+    }
     Ok(())
 }
