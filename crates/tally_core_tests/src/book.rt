@@ -1,19 +1,12 @@
 //! A keeper in memory.
 
-use crate::setups::{first_wrong_in, fresh};
+use crate::setups::{check_fresh, fresh};
 use std::alloc::Global;
 use std::test::*;
-use tally_core::{Ask, Refusal, Reply, run};
+use tally_core::{Ask, run};
 use tally_scripts::{
-    ALTERNATING, HARE, LIFE, RECOUNT, RIVERS, TWIN_TOWN, VACANCIES, command, told, twin_town, with,
+    ALTERNATING, HARE, LIFE, RECOUNT, RIVERS, TWIN_TOWN, VACANCIES, command, twin_town,
 };
-
-#[test]
-fn the_life_of_a_return(rt: HostRuntime) -> Result<(), Fail> {
-    let wrong = first_wrong_in(rt.alloc(), TWIN_TOWN, LIFE)?;
-    assert!(rt; wrong.is_empty(), "{wrong}");
-    Ok(())
-}
 
 fn asks(alloc: Global, lines: &str) -> Result<Vec<Ask>, Fail> {
     let mut asks = Vec::new(alloc);
@@ -24,20 +17,12 @@ fn asks(alloc: Global, lines: &str) -> Result<Vec<Ask>, Fail> {
     Ok(asks)
 }
 
-/// What a new keeper answers to a run of these commands and to one that shows the progress, a line each.
+/// What a new keeper answers to a run of these commands and to one that shows the progress.
 fn answers(alloc: Global, lines: &str) -> Result<String, Fail> {
     let asks = asks(alloc, lines)?;
     let mut book = fresh(alloc, TWIN_TOWN)?;
-    all_told(alloc, &run(alloc, &mut book, &asks)?)
-}
-
-fn all_told(alloc: Global, answers: &[Result<Reply, Refusal>]) -> Result<String, Fail> {
-    let mut text = String::new(alloc);
-    for answer in answers {
-        let line = told(alloc, answer)?;
-        writeln!(text, "{line}")?;
-    }
-    Ok(text)
+    let answers = run(alloc, &mut book, &asks)?;
+    Ok(format!(in alloc; "{answers:?}")?)
 }
 
 const RUN: &str = "lodge s1 p1 100,100
@@ -45,17 +30,15 @@ lodge s1 p1 100,100
 close s1 1
 close s1 1";
 
-const RUN_ANSWERED: &str = "lodged 1
-same 1
-moved 2
-stale 2
-progress c1 1: 0 0 0 1 1 false
-";
+const RUN_ANSWERED: &str =
+    "[Ok(Lodged { rev: 1 }), Ok(Same { rev: 1 }), Ok(Moved { rev: 2 }), Err(Stale { now: 2 }), \
+    Ok(Progress([ProgressRow { con: \"c1\", stations: 1, received: 0, queried: 0, corrected: 0, \
+    closed: 1, edition: 1, certified: false }]))]";
 
 #[test]
 fn a_run_and_the_progress_after_it(rt: HostRuntime) -> Result<(), Fail> {
     let told = answers(rt.alloc(), RUN)?;
-    assert!(rt; told.as_str() == RUN_ANSWERED, "{told}");
+    assert!(rt; told.as_str() == RUN_ANSWERED);
     Ok(())
 }
 
@@ -63,69 +46,73 @@ fn a_run_and_the_progress_after_it(rt: HostRuntime) -> Result<(), Fail> {
 const ELECTORS: &str = "lodge s1 p1 150,150 1 = refused 6
 lodge s1 p1 150,150 = lodged 1";
 
-#[test]
-fn blank_votes_fit_the_electors_too(rt: HostRuntime) -> Result<(), Fail> {
-    let wrong = first_wrong_in(rt.alloc(), TWIN_TOWN, ELECTORS)?;
-    assert!(rt; wrong.is_empty(), "{wrong}");
-    Ok(())
-}
+// The method of a setup in which lots alternate.
+const ALTERNATING_LOTS: &str = "dhondt\"\nlot = \"alternating";
 
-// 12 is Exhausted.
-const LAST_REVISION: &str = "query s1 9999 sum = refused 12
-close s1 9999 = refused 12
-return s1 = 9999 p1 Corrected [1, 1] 0 0 sum";
+// An open constituency with an open station; 10 is NotCertified, 5 BadNote, 3 NoCandidate.
+const OPEN: &str = "lodge s1 p1 100,100 = lodged 1
+draw c1 1 B,A = left 1
+certify c1 1 = left 1
+certify c1 2 = stale 1
+reopen c1 1 = refused 5
+reopen c1 2 = refused 5
+reopen c1 2 count again = refused 10
+vacate c1 B 1 resigned = refused 10
+vacate c1 B 1 = refused 5
+vacate c1 Z 1 = refused 3";
 
-/// A return that is queried and corrected in turn, up to its last revision.
-fn to_the_last_revision(alloc: Global) -> Result<String, Fail> {
-    let mut script = String::from_str(alloc, "lodge s1 p1 1,1 = lodged 1\n")?;
-    for turn in 0..4_999u32 {
-        let rev = 2 * turn + 1;
-        let (next, after) = (rev + 1, rev + 2);
-        writeln!(script, "query s1 {rev} sum = moved {next}")?;
-        writeln!(script, "correct s1 {next} p1 1,1 = moved {after}")?;
-    }
-    script.push_str(LAST_REVISION)?;
-    Ok(script)
-}
+// 3 seats and the quotients 100, 100, 50 and 50: a lot names each list of its group once. 16 is LotStands.
+const LOT: &str = "lodge s1 p1 100,100 = lodged 1
+close s1 1 = moved 2
+certify c1 1 = lot of 1 2 for 1
+draw c1 1 A = no order of 1 2
+draw c1 1 A,A = no order of 1 2
+draw c1 1 A,B,B = no order of 1 2
+draw c1 1 A,Z = no order of 1 2
+draw c1 1 = no order of 1 2
+certify c1 2 = stale 1
+draw c1 2 B,A = stale 1
+draw c1 1 B,A = edition 2
+draw c1 2 A,B = refused 16
+certify c1 2 = edition 3
+show c1 = certified 3 1/1 [100, 100] [2, 1] [1, 2]";
 
-#[test]
-fn a_return_at_its_last_revision(rt: HostRuntime) -> Result<(), Fail> {
-    let script = to_the_last_revision(rt.alloc())?;
-    let wrong = first_wrong_in(rt.alloc(), TWIN_TOWN, script.as_str())?;
-    assert!(rt; wrong.is_empty(), "{wrong}");
-    Ok(())
-}
+// 3 seats, and the third is that of the first in the lot. 9 is Certified, 20 AlreadyGone, 21 NotHolder. B has one
+// candidate, so that its second seat is empty.
+const CERTIFIED: &str = "lodge s1 p1 100,100 = lodged 1
+close s1 1 = moved 2
+draw c1 1 B,A = edition 2
+certify c1 2 = edition 3
+draw c1 3 B,A = refused 9
+draw c1 4 B,A = refused 9
+certify c1 4 = refused 9
+reopen c1 3 = refused 5
+reopen c1 4 count again = stale 3
+vacate c1 B 1 resigned = vacated None
+vacate c1 B 1 resigned = refused 20
+vacate c1 A 2 resigned = refused 21
+vacate c1 A 0 resigned = refused 3
+vacate c1 A 3 resigned = refused 3
+vacate c1 Z 1 resigned = refused 3
+vacate c1 A 2 = refused 5
+reopen c1 3 count again = edition 4
+show c1 = open 4 1/1 [100, 100] [2, 1] [] count again 2.1 resigned past 3 [1, 2]";
 
-#[test]
-fn a_tie_a_lot_a_vacancy_and_a_recount(rt: HostRuntime) -> Result<(), Fail> {
-    let wrong = first_wrong_in(rt.alloc(), TWIN_TOWN, RECOUNT)?;
-    assert!(rt; wrong.is_empty(), "{wrong}");
-    Ok(())
-}
+// By Hare with one seat the quota is 100, and each list has a remainder of 50.
+const LOT_BY_HARE: &str = "lodge s1 p1 50,50 = lodged 1
+close s1 1 = moved 2
+certify c1 1 = lot of 1 2 for 1
+draw c1 1 A,B = edition 2
+certify c1 2 = edition 3
+show c1 = certified 3 1/1 [50, 50] [1, 2] [1, 0]";
 
-#[test]
-fn a_recount_where_lots_alternate(rt: HostRuntime) -> Result<(), Fail> {
-    let rule = "base = \"valid\"\nlot = \"alternating\"";
-    let setup = with(rt.alloc(), TWIN_TOWN, "base = \"valid\"", rule)?;
-    let wrong = first_wrong_in(rt.alloc(), setup.as_str(), ALTERNATING)?;
-    assert!(rt; wrong.is_empty(), "{wrong}");
-    Ok(())
-}
-
-// 4 seats; 17 is LotNotNeeded.
+// 4 seats, and all four quotients have one; 17 is LotNotNeeded.
 const DECIDED: &str = "lodge s1 p1 100,100 = lodged 1
 close s1 1 = moved 2
 draw c1 1 B,A = refused 17
+draw c1 1 Z = refused 17
 certify c1 1 = edition 2
 show c1 = certified 2 1/1 [100, 100] [] [2, 2]";
-
-#[test]
-fn what_the_votes_decide(rt: HostRuntime) -> Result<(), Fail> {
-    let setup = twin_town(rt.alloc(), "dhondt", 4)?;
-    let wrong = first_wrong_in(rt.alloc(), setup.as_str(), DECIDED)?;
-    assert!(rt; wrong.is_empty(), "{wrong}");
-    Ok(())
-}
 
 // 15 is NoEligible.
 const NOBODY: &str = "lodge s1 p1 0,0 = lodged 1
@@ -133,51 +120,93 @@ close s1 1 = moved 2
 draw c1 1 B,A = refused 15
 certify c1 1 = refused 15";
 
-#[test]
-fn where_nobody_voted_no_list_is_eligible(rt: HostRuntime) -> Result<(), Fail> {
-    let wrong = first_wrong_in(rt.alloc(), TWIN_TOWN, NOBODY)?;
-    assert!(rt; wrong.is_empty(), "{wrong}");
-    Ok(())
+// Of Twin Town a method, the number of seats, and a script.
+const SCRIPTS: [(&str, u32, &str); 11] = [
+    ("dhondt", 3, LIFE),
+    ("dhondt", 3, ELECTORS),
+    ("dhondt", 3, RECOUNT),
+    (ALTERNATING_LOTS, 3, ALTERNATING),
+    ("dhondt", 3, OPEN),
+    ("dhondt", 3, LOT),
+    ("dhondt", 3, CERTIFIED),
+    ("hare", 1, LOT_BY_HARE),
+    ("dhondt", 4, DECIDED),
+    ("dhondt", 3, NOBODY),
+    ("dhondt", 1, VACANCIES),
+];
+
+fn check_in_twin_town(alloc: Global, method: &str, seats: u32, script: &str) -> Result<(), Fail> {
+    let setup = twin_town(alloc, method, seats)?;
+    check_fresh(alloc, setup.as_str(), script)
 }
 
 #[test]
-fn who_moves_in(rt: HostRuntime) -> Result<(), Fail> {
-    let setup = twin_town(rt.alloc(), "dhondt", 1)?;
-    let wrong = first_wrong_in(rt.alloc(), setup.as_str(), VACANCIES)?;
-    assert!(rt; wrong.is_empty(), "{wrong}");
-    Ok(())
+fn scripts_of_commands_have_these_answers(rt: HostRuntime) -> Result<(), Fail> {
+    for (method, seats, script) in SCRIPTS {
+        check_in_twin_town(rt.alloc(), method, seats, script)?;
+    }
+    check_fresh(rt.alloc(), RIVERS, HARE)
 }
 
-#[test]
-fn a_threshold_a_tie_of_remainders_and_a_reopening(rt: HostRuntime) -> Result<(), Fail> {
-    let wrong = first_wrong_in(rt.alloc(), RIVERS, HARE)?;
-    assert!(rt; wrong.is_empty(), "{wrong}");
-    Ok(())
-}
+// A return that is queried and corrected in turn, up to its last revision. 12 is Exhausted.
+const LODGED: &str = "lodge s1 p1 1,1 = lodged 1\n";
+
+const LAST_REVISION: &str = "query s1 9999 sum = refused 12
+close s1 9999 = refused 12
+return s1 = 9999 p1 Corrected [1, 1] 0 0 sum";
+
+// A constituency that is certified and opened again in turn, up to its last edition: there it is open, or, where a
+// lot was an edition too, certified. 9 is Certified, 10 NotCertified.
+const CLOSED: &str = "lodge s1 p1 100,50 = lodged 1
+close s1 1 = moved 2
+";
 
 const LAST_EDITION: &str = "certify c1 9999 = refused 12
 reopen c1 9999 sum = refused 10
 draw c1 9999 A,B = refused 12
 certify c1 9998 = stale 9999";
 
-/// A constituency that is certified and opened again in turn, up to its last edition.
-fn to_the_last_edition(alloc: Global) -> Result<String, Fail> {
-    let front = "lodge s1 p1 100,50 = lodged 1\nclose s1 1 = moved 2\n";
+const DRAWN: &str = "lodge s1 p1 100,100 = lodged 1
+close s1 1 = moved 2
+draw c1 1 B,A = edition 2
+";
+
+const LAST_CERTIFICATE: &str = "certify c1 9999 = refused 9
+reopen c1 9999 count again = refused 12";
+
+/// A script from a revision or an edition up to the last, 9,999: one command where it is odd and another where it is
+/// even, each with its answer but for the next number.
+fn to_the_last(
+    alloc: Global,
+    front: &str,
+    from: u32,
+    at_odd: (&str, &str),
+    at_even: (&str, &str),
+    end: &str,
+) -> Result<String, Fail> {
     let mut script = String::from_str(alloc, front)?;
-    for turn in 0..4_999u32 {
-        let edition = 2 * turn + 1;
-        let (next, after) = (edition + 1, edition + 2);
-        writeln!(script, "certify c1 {edition} = edition {next}")?;
-        writeln!(script, "reopen c1 {next} sum = edition {after}")?;
+    for now in from..9_999 {
+        let (ask, answer) = if now % 2 == 1 { at_odd } else { at_even };
+        let next = now + 1;
+        write!(script, "{ask} {now} {answer} {next}\n")?;
     }
-    script.push_str(LAST_EDITION)?;
+    script.push_str(end)?;
     Ok(script)
 }
 
 #[test]
-fn a_constituency_at_its_last_edition(rt: HostRuntime) -> Result<(), Fail> {
-    let script = to_the_last_edition(rt.alloc())?;
-    let wrong = first_wrong_in(rt.alloc(), TWIN_TOWN, script.as_str())?;
-    assert!(rt; wrong.is_empty(), "{wrong}");
+fn nothing_follows_the_last_revision_and_edition(rt: HostRuntime) -> Result<(), Fail> {
+    let query = ("query s1", "sum = moved");
+    let correct = ("correct s1", "p1 1,1 = moved");
+    let certify = ("certify c1", "= edition");
+    let reopen = ("reopen c1", "sum = edition");
+    for (front, from, at_odd, at_even, end) in [
+        (LODGED, 1, query, correct, LAST_REVISION),
+        (CLOSED, 1, certify, reopen, LAST_EDITION),
+        (DRAWN, 2, reopen, certify, LAST_CERTIFICATE),
+    ] {
+        let script = to_the_last(rt.alloc(), front, from, at_odd, at_even, end)?;
+        check_fresh(rt.alloc(), TWIN_TOWN, script.as_str())?;
+    }
     Ok(())
 }

@@ -8,7 +8,7 @@ ghost use Rattle.tally_returns.specs.Lawful.{IsLawful};
 use std::alloc::Global;
 use std::test::*;
 use tally_core::{Ask, Change, Refusal, Return, decide_return};
-use tally_rules::{Code, Constituency, Station};
+use tally_rules::{Code, Constituency, Setup, Station};
 use tally_scripts::{TWIN_TOWN, code, command, setup, told_refusal};
 
 /// Whether a command may be decided: its station is one of the constituency, and the return that
@@ -66,41 +66,34 @@ fn carry_out(
     }
 }
 
-/// Decides the command of a line and carries it out: what was decided, as text.
-fn answered(
+/// Decides the command of a line, `COMMAND = TEXT`, and carries it out; fails where something else was decided.
+fn check_line(
     alloc: Global,
     con: &Constituency,
     certified: bool,
     standing: &mut Option<Return>,
-    line: &str,
-) -> Result<String, Fail> {
-    let ask = command(alloc, line)?;
+    line: &'static str,
+) -> Result<(), Fail> {
+    let (ask, wanted) = line.split_once(" = ").ok_or("no text")?;
+    let ask = command(alloc, ask)?;
     let decided = decided(alloc, con, certified, standing.as_ref(), &ask);
-    carry_out(alloc, standing, decided)
+    if carry_out(alloc, standing, decided)?.as_str() == wanted {
+        return Ok(());
+    }
+    Err(Fail::from(line))
 }
 
-/// The first of these lines, `COMMAND = TEXT`, of which something else is decided.
-fn first_other<'a>(
+fn check_lines(
     alloc: Global,
     con: &Constituency,
     certified: bool,
-    script: &'a str,
-) -> Result<&'a str, Fail> {
+    lines: &'static str,
+) -> Result<(), Fail> {
     let mut standing = None;
-    for line in script.lines() {
-        let (ask, wanted) = line.split_once(" = ").ok_or("no text")?;
-        if answered(alloc, con, certified, &mut standing, ask)?.as_str() != wanted {
-            return Ok(line);
-        }
+    for line in lines.lines() {
+        check_line(alloc, con, certified, &mut standing, line)?;
     }
-    Ok("")
-}
-
-/// The same in the setup of Twin Town.
-fn first_wrong<'a>(alloc: Global, certified: bool, script: &'a str) -> Result<&'a str, Fail> {
-    let setup = setup(alloc, TWIN_TOWN)?;
-    let con = setup.con(code("c1")?).ok_or("c1 is there")?;
-    first_other(alloc, con, certified, script)
+    Ok(())
 }
 
 // A station of 300 electors; 6 is TooManyVotes.
@@ -113,22 +106,20 @@ correct s1 2 p2 1,1 = revision 3
 close s1 3 = revision 4
 close s1 4 = status Closed";
 
-#[test]
-fn what_is_decided_while_the_constituency_is_open(rt: HostRuntime) -> Result<(), Fail> {
-    let wrong = first_wrong(rt.alloc(), false, OPEN)?;
-    assert!(rt; wrong.is_empty(), "{wrong}");
-    Ok(())
-}
-
 // 9 is Certified.
 const CERTIFIED: &str = "lodge s1 p1 100,100 = revision 1
 query s1 1 sum = refused 9
 correct s1 1 p2 1,1 = refused 9
 close s1 1 = refused 9";
 
+fn check_in(alloc: Global, setup: &Setup) -> Result<(), Fail> {
+    let con = setup.con(code("c1")?).ok_or("c1 is there")?;
+    check_lines(alloc, con, false, OPEN)?;
+    check_lines(alloc, con, true, CERTIFIED)
+}
+
 #[test]
-fn what_is_decided_where_it_is_certified(rt: HostRuntime) -> Result<(), Fail> {
-    let wrong = first_wrong(rt.alloc(), true, CERTIFIED)?;
-    assert!(rt; wrong.is_empty(), "{wrong}");
-    Ok(())
+fn what_is_decided_of_commands(rt: HostRuntime) -> Result<(), Fail> {
+    let setup = setup(rt.alloc(), TWIN_TOWN)?;
+    check_in(rt.alloc(), &setup)
 }

@@ -26,21 +26,17 @@ fn refused(answer: Result<LodgeReply, Refusal>) -> u32 {
     }
 }
 
-/// The first of these lines, `SLIP COUNTS = NUMBER`, that is answered otherwise.
-fn first_wrong<'a>(
-    alloc: Global,
-    found: Option<&Return>,
-    script: &'a str,
-) -> Result<&'a str, Fail> {
-    for line in script.lines() {
+/// Fails at the first of these lines, `SLIP COUNTS = NUMBER`, that is answered otherwise.
+fn check_lines(alloc: Global, found: Option<&Return>, lines: &'static str) -> Result<(), Fail> {
+    for line in lines.lines() {
         let (given, wanted) = line.split_once(" = ").ok_or("no number")?;
         let (slip, given) = given.split_once(" ").ok_or("no counts")?;
         let answer = decided(found, code(slip)?, &counts(alloc, given)?);
         if refused(answer) != number(wanted)? {
-            return Ok(line);
+            return Err(Fail::from(line));
         }
     }
-    Ok("")
+    Ok(())
 }
 
 // Votes, blank and spoiled ones; 4 is BadCounts, 6 TooManyVotes.
@@ -54,13 +50,6 @@ p1 0,0 1000001 0 = 4
 p1 0 0 0 = 4
 p1 0,0,0 0 0 = 4";
 
-#[test]
-fn what_the_first_return_of_a_station_is_answered(rt: HostRuntime) -> Result<(), Fail> {
-    let wrong = first_wrong(rt.alloc(), None, FIRST)?;
-    assert!(rt; wrong.is_empty(), "{wrong}");
-    Ok(())
-}
-
 // 7 is Differs; the checks on counts come first.
 const SECOND: &str = "p1 50,40 2 1 = 0
 p2 50,40 2 1 = 7
@@ -70,16 +59,11 @@ p1 50,40 2 2 = 7
 p1 50,40 2 9 = 6
 p1 50 2 1 = 4";
 
-fn second_wrong(alloc: Global) -> Result<&'static str, Fail> {
-    let standing = standing(alloc)?;
-    first_wrong(alloc, Some(&standing), SECOND)
-}
-
 #[test]
-fn what_a_second_return_of_a_station_is_answered(rt: HostRuntime) -> Result<(), Fail> {
-    let wrong = second_wrong(rt.alloc())?;
-    assert!(rt; wrong.is_empty(), "{wrong}");
-    Ok(())
+fn what_the_return_of_a_station_is_answered(rt: HostRuntime) -> Result<(), Fail> {
+    check_lines(rt.alloc(), None, FIRST)?;
+    let standing = standing(rt.alloc())?;
+    check_lines(rt.alloc(), Some(&standing), SECOND)
 }
 
 /// The places of those who hold the seats of a list, as text.
@@ -88,14 +72,22 @@ fn held(alloc: Global, candidates: u32, seats: u32, gone: &[u32]) -> Result<Stri
     Ok(format!(in alloc; "{places:?}")?)
 }
 
+// Of a list its candidates, its seats, the places of those who are gone, and of those who hold its seats.
+const HOLDERS: [(u32, u32, &[u32], &str); 6] = [
+    (3, 2, &[1], "[2, 3]"),
+    (1, 2, &[], "[1]"),
+    // after the recount where lots are fixed, and where they alternate
+    (2, 2, &[], "[1, 2]"),
+    (1, 1, &[1], "[]"),
+    (2, 1, &[2], "[1]"),
+    (1, 2, &[1], "[]"),
+];
+
 #[test]
 fn who_holds_the_seats_of_a_list(rt: HostRuntime) -> Result<(), Fail> {
-    assert!(rt; held(rt.alloc(), 3, 2, &[1])?.as_str() == "[2, 3]");
-    assert!(rt; held(rt.alloc(), 1, 2, &[])?.as_str() == "[1]");
-    // after the recount where lots are fixed, and where they alternate
-    assert!(rt; held(rt.alloc(), 2, 2, &[])?.as_str() == "[1, 2]");
-    assert!(rt; held(rt.alloc(), 1, 1, &[1])?.as_str() == "[]");
-    assert!(rt; held(rt.alloc(), 2, 1, &[2])?.as_str() == "[1]");
-    assert!(rt; held(rt.alloc(), 1, 2, &[1])?.as_str() == "[]");
+    for (candidates, seats, gone, wanted) in HOLDERS {
+        let held = held(rt.alloc(), candidates, seats, gone)?;
+        assert!(rt; held.as_str() == wanted);
+    }
     Ok(())
 }

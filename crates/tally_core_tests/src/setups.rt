@@ -11,8 +11,17 @@ pub(crate) fn fresh(alloc: Global, text: &str) -> Result<Book, Fail> {
     Ok(Book::new(alloc, setup)?)
 }
 
-/// The first wrong line of a script, of a keeper of the setup of a text in which no return stands.
-pub(crate) fn first_wrong_in(alloc: Global, setup: &str, script: &str) -> Result<String, Fail> {
+/// Fails at the first line of a script that a keeper answers otherwise.
+pub(crate) fn check(alloc: Global, book: &mut Book, script: &str) -> Result<(), Fail> {
+    let wrong = first_wrong(alloc, book, script)?;
+    if wrong.is_empty() {
+        return Ok(());
+    }
+    Err(Fail::from(wrong))
+}
+
+/// The same of a keeper of the setup of a text, in which no return stands.
+pub(crate) fn check_fresh(alloc: Global, setup: &str, script: &str) -> Result<(), Fail> {
     let mut book = fresh(alloc, setup)?;
-    first_wrong(alloc, &mut book, script)
+    check(alloc, &mut book, script)
 }
