@@ -1,91 +1,65 @@
 //! Which command a body is.
 
-use crate::commands::told;
+use crate::lines::check_each;
 use std::alloc::Global;
-use std::test::Fail;
-use tally_asks::Route;
+use std::test::*;
+use tally_asks::{Route, ask_in};
 use tally_rules::Code;
 
-fn code(text: &str) -> Result<Code, Fail> {
-    Ok(Code::new(text.as_bytes()).ok_or("no code")?)
-}
-
-fn route(word: &str) -> Result<Route, Fail> {
+/// The route of a word for it.
+pub(crate) fn route_named(word: &str) -> Option<Route> {
     match word {
-        "lodge" => Ok(Route::Lodge),
-        "query" => Ok(Route::Query),
-        "correct" => Ok(Route::Correct),
-        "close" => Ok(Route::Close),
-        "draw" => Ok(Route::Draw),
-        "certify" => Ok(Route::Certify),
-        "reopen" => Ok(Route::Reopen),
-        "vacate" => Ok(Route::Vacate),
-        _ => Err(Fail::from("no route")),
+        "lodge" => Some(Route::Lodge),
+        "query" => Some(Route::Query),
+        "correct" => Some(Route::Correct),
+        "close" => Some(Route::Close),
+        "draw" => Some(Route::Draw),
+        "certify" => Some(Route::Certify),
+        "reopen" => Some(Route::Reopen),
+        "vacate" => Some(Route::Vacate),
+        "con" => Some(Route::Con),
+        "import" => Some(Route::Import),
+        _ => None,
     }
 }
 
-/// What is wrong with a line `ROUTE CODE BODY = ANSWER`.
-fn wrong_in(alloc: Global, line: &str) -> Result<Option<String>, Fail> {
-    let (asked, wanted) = line.split_once(" = ").ok_or("no answer")?;
-    let (word, rest) = asked.split_once(" ").ok_or("no code")?;
-    let (of, body) = rest.split_once(" ").ok_or("no body")?;
-    let told = told(alloc, route(word)?, code(of)?, body.as_bytes())?;
-    if told.as_str() == wanted {
-        return Ok(None);
+/// The command that a text `CODE BODY` is on a route.
+pub(crate) fn told_body(alloc: Global, route: Route, text: &str) -> Result<String, Fail> {
+    let (of, body) = text.split_once(" ").ok_or("no body")?;
+    let of = Code::new(of.as_bytes()).ok_or("no code")?;
+    match ask_in(alloc, route, of, body.as_bytes())? {
+        Some(ask) => Ok(format!(in alloc; "{ask:?}")?),
+        None => Ok(String::from_str(alloc, "bad body")?),
     }
-    Ok(Some(format!(in alloc; "{line}, and not {told}")?))
-}
-
-/// The first of these lines whose answer is another, with that answer.
-fn first_wrong(alloc: Global, lines: &str) -> Result<String, Fail> {
-    for line in lines.lines() {
-        if let Some(wrong) = wrong_in(alloc, line)? {
-            return Ok(wrong);
-        }
-    }
-    Ok(String::new(alloc))
 }
 
 const COMMANDS: &str =
-    r#"lodge s1 {"slip":"p1","votes":[50,40],"blank":2,"spoiled":1} = lodge s1 p1 [50, 40] 2 1
-query s1 {"rev":2,"note":"sum"} = query s1 2 "sum"
-correct s1 {"rev":3,"slip":"p2","votes":[120,120],"blank":0,"spoiled":0} = correct s1 3 p2 [120, 120] 0 0
-close s1 {"rev":1} = close s1 1
-draw c1 {"edition":1,"order":["B","A"]} = draw c1 1: B A
-certify c1 {"edition":2} = certify c1 2
-reopen c1 {"edition":3,"note":"recount"} = reopen c1 3 "recount"
-vacate c1 {"list":"B","place":1,"note":"resigned"} = vacate c1 B 1 "resigned""#;
-
-#[test]
-fn each_route_has_its_command(rt: HostRuntime) -> Result<(), Fail> {
-    let wrong = first_wrong(rt.alloc(), COMMANDS)?;
-    assert!(rt; wrong.is_empty(), "{wrong}");
-    Ok(())
-}
+    r#"lodge s1 {"slip":"p1","votes":[50,40],"blank":2,"spoiled":1} = Lodge { station: "s1", slip: "p1", counts: Counts { votes: [50, 40], blank: 2, spoiled: 1 } }
+query s1 {"rev":2,"note":"sum"} = Query { station: "s1", rev: 2, note: "sum" }
+correct s1 {"rev":3,"slip":"p2","votes":[120,120],"blank":0,"spoiled":0} = Correct { station: "s1", rev: 3, slip: "p2", counts: Counts { votes: [120, 120], blank: 0, spoiled: 0 } }
+close s1 {"rev":1} = Close { station: "s1", rev: 1 }
+draw c1 {"edition":1,"order":["B","A"]} = Draw { con: "c1", edition: 1, order: ["B", "A"] }
+certify c1 {"edition":2} = Certify { con: "c1", edition: 2 }
+reopen c1 {"edition":3,"note":"recount"} = Reopen { con: "c1", edition: 3, note: "recount" }
+vacate c1 {"list":"B","place":1,"note":"resigned"} = Vacate { con: "c1", list: "B", place: 1, note: "resigned" }"#;
 
 // Further keys, other orders of keys, white space and escapes are JSON's own. Of a key given twice the last value
 // counts. A number is any of 32 bits, a note any text and a code any code: what the office takes is looked at later.
-const READ: &str = r#"close s1  { "note" : [null, {"rev": "x"}] , "rev" : 7 }  = close s1 7
-close s1 {"\u0072ev":1} = close s1 1
-close s1 {"rev":0} = close s1 0
-close s1 {"rev":4294967295} = close s1 4294967295
-close s1 {"rev":1,"rev":2} = close s1 2
-close s1 {"rev":"1","rev":2} = close s1 2
-lodge s1 {"spoiled":1,"blank":2,"votes":[],"slip":"\u0070-1_Z"} = lodge s1 p-1_Z [] 2 1
-lodge s1 {"slip":"ABCDEFGHIJKLMNOP","votes":[4294967295,0],"blank":0,"spoiled":0} = lodge s1 ABCDEFGHIJKLMNOP [4294967295, 0] 0 0
-query s1 {"rev":1,"note":""} = query s1 1 ""
-query s1 {"rev":1,"note":"a\tb"} = query s1 1 "a\tb"
-query s1 {"rev":1,"note":"\u00e9 \"x\" \ud83d\ude00"} = query s1 1 "é \"x\" 😀"
-draw c1 {"edition":1,"order":[]} = draw c1 1:
-draw c1 {"edition":1,"order":["b","B","b"]} = draw c1 1: b B b
-vacate c1 {"list":"b","place":0,"note":"x"} = vacate c1 b 0 "x""#;
-
-#[test]
-fn what_json_allows_is_read(rt: HostRuntime) -> Result<(), Fail> {
-    let wrong = first_wrong(rt.alloc(), READ)?;
-    assert!(rt; wrong.is_empty(), "{wrong}");
-    Ok(())
-}
+const READ: &str =
+    r#"close s1  { "note" : [null, {"rev": "x"}] , "rev" : 7 }  = Close { station: "s1", rev: 7 }
+close s1 {"\u0072ev":1} = Close { station: "s1", rev: 1 }
+close s1 {"rev":0} = Close { station: "s1", rev: 0 }
+close s1 {"rev":4294967295} = Close { station: "s1", rev: 4294967295 }
+close s1 {"rev":1,"rev":2} = Close { station: "s1", rev: 2 }
+close s1 {"rev":"1","rev":2} = Close { station: "s1", rev: 2 }
+lodge s1 {"spoiled":1,"blank":2,"votes":[],"slip":"\u0070-1_Z"} = Lodge { station: "s1", slip: "p-1_Z", counts: Counts { votes: [], blank: 2, spoiled: 1 } }
+lodge s1 {"slip":"ABCDEFGHIJKLMNOP","votes":[4294967295,0],"blank":0,"spoiled":0} = Lodge { station: "s1", slip: "ABCDEFGHIJKLMNOP", counts: Counts { votes: [4294967295, 0], blank: 0, spoiled: 0 } }
+query s1 {"rev":1,"note":""} = Query { station: "s1", rev: 1, note: "" }
+query s1 {"rev":1,"note":"a\tb"} = Query { station: "s1", rev: 1, note: "a\tb" }
+query s1 {"rev":1,"note":"\u00e9 \"x\" \ud83d\ude00"} = Query { station: "s1", rev: 1, note: "é \"x\" 😀" }
+draw c1 {"edition":1,"order":[]} = Draw { con: "c1", edition: 1, order: [] }
+draw c1 {"edition":1,"order":["b","B","b"]} = Draw { con: "c1", edition: 1, order: ["b", "B", "b"] }
+vacate c1 {"list":"b","place":0,"note":"x"} = Vacate { con: "c1", list: "b", place: 0, note: "x" }"#;
 
 const NO_NUMBERS: &str = r#"close s1 {} = bad body
 close s1 {"Rev":1} = bad body
@@ -156,97 +130,21 @@ close s1 {"rev" 1} = bad body
 close s1 {"rev":1}// = bad body
 close s1 rev=1 = bad body"#;
 
-#[test]
-fn anything_else_is_a_bad_body(rt: HostRuntime) -> Result<(), Fail> {
-    for lines in [NO_NUMBERS, NO_LISTS_AND_TEXTS, NO_OBJECTS] {
-        let wrong = first_wrong(rt.alloc(), lines)?;
-        assert!(rt; wrong.is_empty(), "{wrong}");
-    }
-    Ok(())
-}
-
-// Bytes that no line of text can hold, as the body of Close.
-const BYTES: [(&[u8], &str); 8] = [
-    (b" \t\r\n{\"rev\":\n1}\r\n", "close s1 1"),
-    (b"{\"rev\":1}\x00", "bad body"),
-    (b"\xef\xbb\xbf{\"rev\":1}", "bad body"),
-    (b"\xff", "bad body"),
-    (b"{\"rev\":1,\"note\":\"\xff\"}", "bad body"),
-    (b"{\"rev\":1,\"note\":\"\xed\xa0\x80\"}", "bad body"),
-    (b"{\"rev\":1,\"note\":\"\n\"}", "bad body"),
-    (b"{\"rev\":1,\"note\":\"\x7f\"}", "close s1 1"),
-];
+const WITHOUT_COMMAND: &str =
+    r#"con c1 {"rev":1,"edition":1,"slip":"p1","votes":[1],"blank":0,"spoiled":0,"order":["A"],"list":"A","place":1,"note":"x"} = bad body
+import c1 {"rev":1,"edition":1,"slip":"p1","votes":[1],"blank":0,"spoiled":0,"order":["A"],"list":"A","place":1,"note":"x"} = bad body"#;
 
 #[test]
-fn bytes_that_are_no_utf8_are_no_body(rt: HostRuntime) -> Result<(), Fail> {
-    for (body, wanted) in BYTES {
-        let told = told(rt.alloc(), Route::Close, code("s1")?, body)?;
-        assert!(rt; told.as_str() == wanted, "{told}");
-    }
-    Ok(())
-}
-
-/// Arrays, one in another.
-fn nested(alloc: Global, arrays: usize) -> Result<String, Fail> {
-    let open = "[".repeat(alloc, arrays)?;
-    let close = "]".repeat(alloc, arrays)?;
-    Ok(format!(in alloc; "{open}{close}")?)
-}
-
-/// What Close is with such arrays under a key that is passed over.
-fn closed_beside(alloc: Global, arrays: usize) -> Result<String, Fail> {
-    let value = nested(alloc, arrays)?;
-    let body = format!(in alloc; "{{\"rev\":1,\"more\":{value}}}")?;
-    told(alloc, Route::Close, code("s1")?, body.as_bytes())
-}
-
-#[test]
-fn values_nest_at_most_127_deep(rt: HostRuntime) -> Result<(), Fail> {
-    let alloc = rt.alloc();
-    let deep = nested(alloc, 128)?;
-    let told = told(alloc, Route::Close, code("s1")?, deep.as_bytes())?;
-    assert!(rt; told.as_str() == "bad body");
-    assert!(rt; closed_beside(alloc, 126)?.as_str() == "close s1 1");
-    assert!(rt; closed_beside(alloc, 127)?.as_str() == "bad body");
-    Ok(())
-}
-
-#[test]
-fn a_note_of_any_length_is_read(rt: HostRuntime) -> Result<(), Fail> {
-    let alloc = rt.alloc();
-    let note = "n".repeat(alloc, 201)?;
-    let body = format!(in alloc; "{{\"rev\":1,\"note\":\"{note}\"}}")?;
-    let told = told(alloc, Route::Query, code("s1")?, body.as_bytes())?;
-    let wanted = format!(in alloc; "query s1 1 \"{note}\"")?;
-    assert!(rt; told.as_str() == wanted.as_str());
-    Ok(())
-}
-
-const ALL_KEYS: &[u8] =
-    b"{\"rev\":1,\"edition\":1,\"slip\":\"p1\",\"votes\":[1],\"blank\":0,\"spoiled\":0,\
-    \"order\":[\"A\"],\"list\":\"A\",\"place\":1,\"note\":\"x\"}";
-
-const WITHOUT_COMMAND: [Route; 13] = [
-    Route::Progress,
-    Route::Station,
-    Route::Con,
-    Route::Tally,
-    Route::Seats,
-    Route::Quotients,
-    Route::Awards,
-    Route::Quota,
-    Route::Short,
-    Route::Holders,
-    Route::Past,
-    Route::Import,
-    Route::ImportSemicolon,
-];
-
-#[test]
-fn reports_and_imports_have_no_command(rt: HostRuntime) -> Result<(), Fail> {
-    for route in WITHOUT_COMMAND {
-        let told = told(rt.alloc(), route, code("c1")?, ALL_KEYS)?;
-        assert!(rt; told.as_str() == "bad body", "{told}");
+fn a_body_is_a_command_or_a_bad_body(rt: HostRuntime) -> Result<(), Fail> {
+    for lines in [
+        COMMANDS,
+        READ,
+        NO_NUMBERS,
+        NO_LISTS_AND_TEXTS,
+        NO_OBJECTS,
+        WITHOUT_COMMAND,
+    ] {
+        check_each(rt.alloc(), lines)?;
     }
     Ok(())
 }

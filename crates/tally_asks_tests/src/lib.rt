@@ -5,6 +5,6 @@
 #[cfg(test)]
 mod bodies;
 #[cfg(test)]
-mod commands;
+mod lines;
 #[cfg(test)]
 mod targets;
