@@ -217,7 +217,7 @@ def test_examples_are_of_their_schemas():
 def test_answers_stand_in_the_tests_of_the_desk():
     for name, status, kind, _, value in answers():
         if kind != "application/json":
-            assert value.rstrip("\n") in TESTED, f"{name}: {value}"
+            assert f"{status} {PHRASES[status]}|" + value.replace("\n", "|") in TESTED, f"{name}: {value}"
         elif set(value) != {"word"}:
             line = re.escape(f"{status} {PHRASES[status]}|") + r"(\d+\|)?" + re.escape(compact(value))
             assert re.search(line, TESTED), f"{name}: {compact(value)}"

@@ -1,11 +1,12 @@
 //! Connections whose reads or writes fail, after each number of bytes in turn.
 
-use crate::lines::{answer_to_line, cut, json_answer, message, office_after};
-use crate::offices::{Office, ROOM, Stored, answer_to, exchange};
-use crate::reports::CERTIFIED;
-use std::alloc::Global;
+use crate::lines::{answer, cut, message, office_after};
+use crate::offices::{Office, ROOM, Stored, connection, exchange};
+use crate::scripts::CERTIFIED;
+use std::alloc::{AllocError, Global};
 use std::test::*;
 use tally_core::{Book, Keeper};
+use tally_desk::{MemoryDoor, serve};
 use tally_scripts::TWIN_TOWN;
 
 // Two lists of 100 votes each, and a lot by which B is first.
@@ -55,154 +56,187 @@ const CASES: [(&str, &str, &str); 7] = [
 
 // What shows all that these messages change.
 const LOOKS: [&str; 4] = [
-    "GET /progress",
-    "GET /station/s1",
-    "GET /con/c1",
-    "GET /con/c1/past",
+    "GET /progress HTTP/1.1\r\n\r\n",
+    "GET /station/s1 HTTP/1.1\r\n\r\n",
+    "GET /con/c1 HTTP/1.1\r\n\r\n",
+    "GET /con/c1/past HTTP/1.1\r\n\r\n",
 ];
 
 // What an office shows.
 fn shown<K: Keeper>(alloc: Global, office: &mut K) -> Result<String, Fail> {
     let mut text = String::new(alloc);
     for look in LOOKS {
-        text.push_str(answer_to_line(alloc, office, look)?.as_str())?;
+        let (_, answer) = exchange(alloc, office, look, None, ROOM)?;
+        text.push_str(answer.as_str())?;
     }
     Ok(text)
 }
 
-// What a message of which a read fails after so many bytes did, where that is anything; or nothing.
-fn wrong_read<K: Keeper>(
-    alloc: Global,
-    office: &mut K,
-    text: &str,
-    count: usize,
-    before: &str,
-) -> Result<String, Fail> {
-    let told = exchange(alloc, office, text, Some(count), ROOM)?;
-    let now = shown(alloc, office)?;
-    if told.as_str() == "answered 0 failed 1: " && now.as_str() == before {
-        return Ok(String::new(alloc));
-    }
-    Ok(format!(in alloc; "after {count} bytes of {text}\n{told}\n{now}")?)
-}
-
-// The same for each number of bytes; and then the message, sent whole, where its answer is another.
-fn first_wrong_read<K: Keeper>(
-    alloc: Global,
-    office: &mut K,
-    text: &str,
-    want: &str,
-) -> Result<String, Fail> {
-    let before = shown(alloc, office)?;
+// Fails where a connection does not fail, or something is written to it, though a read of the message fails after each
+// number of bytes in turn.
+fn check_reads<K: Keeper>(alloc: Global, office: &mut K, text: &str) -> Result<(), Fail> {
     for count in 0..text.len() {
-        let wrong = wrong_read(alloc, office, text, count, before.as_str())?;
-        if !wrong.is_empty() {
-            return Ok(wrong);
+        let (failed, written) = exchange(alloc, office, text, Some(count), ROOM)?;
+        if failed != 1 || !written.is_empty() {
+            return Err(Fail::from(written));
         }
     }
-    let got = answer_to(alloc, office, text)?;
-    if got.as_str() == want {
-        return Ok(String::new(alloc));
-    }
-    Ok(format!(in alloc; "{text}\n{got}")?)
-}
-
-fn first_wrong_read_of_all<K: Office>(alloc: Global) -> Result<String, Fail> {
-    for (before, line, _) in CASES {
-        let (said, want) = cut(line, " = ");
-        let (text, want) = (message(alloc, said)?, json_answer(alloc, want)?);
-        let mut office = office_after::<K>(alloc, TWIN_TOWN, before)?;
-        let wrong = first_wrong_read(alloc, &mut office, text.as_str(), want.as_str())?;
-        if !wrong.is_empty() {
-            return Ok(wrong);
-        }
-    }
-    Ok(String::new(alloc))
-}
-
-#[test]
-fn where_a_read_fails_nothing_is_written_and_nothing_changes(rt: HostRuntime) -> Result<(), Fail> {
-    let wrong = first_wrong_read_of_all::<Book>(rt.alloc())?;
-    assert!(rt; wrong.is_empty(), "{wrong}");
-    let wrong = first_wrong_read_of_all::<Stored>(rt.alloc())?;
-    assert!(rt; wrong.is_empty(), "in a database: {wrong}");
     Ok(())
+}
+
+// The same, and where the office shows another thing after it than before.
+fn check_case_of_reads<K: Office>(alloc: Global, before: &str, text: &str) -> Result<(), Fail> {
+    let mut office = office_after::<K>(alloc, TWIN_TOWN, before)?;
+    let first = shown(alloc, &mut office)?;
+    check_reads(alloc, &mut office, text)?;
+    let last = shown(alloc, &mut office)?;
+    if first.as_str() == last.as_str() {
+        return Ok(());
+    }
+    Err(Fail::from(last))
 }
 
 // A message, its answer, what an office shows after it, and the answer to the same message again.
 #[derive(Clone, Copy)]
 struct Case<'a> {
-    before: &'a str,
     text: &'a str,
     want: &'a str,
     after: &'a str,
     again: &'a str,
 }
 
-// What is other than in this case where only so many bytes of the answer are taken; or nothing.
-fn wrong_write<K: Office>(alloc: Global, case: Case<'_>, room: usize) -> Result<String, Fail> {
-    let mut office = office_after::<K>(alloc, TWIN_TOWN, case.before)?;
-    let told = exchange(alloc, &mut office, case.text, None, room)?;
-    let (taken, _) = case.want.split_at_checked(room).ok_or("no such part")?;
-    let want = format!(in alloc; "answered 0 failed 1: {taken}")?;
-    let after = shown(alloc, &mut office)?;
-    let again = answer_to(alloc, &mut office, case.text)?;
-    let is_right = told.as_str() == want.as_str();
-    if is_right && after.as_str() == case.after && again.as_str() == case.again {
-        return Ok(String::new(alloc));
+// Fails where something is other than in this case though the connection takes only so many bytes of the answer.
+fn check_write<K: Keeper>(
+    alloc: Global,
+    office: &mut K,
+    case: Case<'_>,
+    room: usize,
+) -> Result<(), Fail> {
+    let (failed, taken) = exchange(alloc, office, case.text, None, room)?;
+    if failed != 1 || taken.len() != room || !case.want.starts_with(taken.as_str()) {
+        return Err(Fail::from(taken));
     }
-    Ok(format!(in alloc; "room for {room} bytes\n{told}\n{after}\n{again}")?)
+    let after = shown(alloc, office)?;
+    if after.as_str() != case.after {
+        return Err(Fail::from(after));
+    }
+    let (_, again) = exchange(alloc, office, case.text, None, ROOM)?;
+    if again.as_str() != case.again {
+        return Err(Fail::from(again));
+    }
+    Ok(())
 }
 
-// The same for each number of bytes up to one less than the answer's.
-fn first_wrong_write<K: Office>(alloc: Global, case: Case<'_>) -> Result<String, Fail> {
+// The same for each number of bytes up to one less than the answer's, each time of an office after these lines.
+fn check_writes<K: Office>(alloc: Global, before: &str, case: Case<'_>) -> Result<(), Fail> {
     for room in 0..case.want.len() {
-        let wrong = wrong_write::<K>(alloc, case, room)?;
-        if !wrong.is_empty() {
-            return Ok(wrong);
-        }
+        let mut office = office_after::<K>(alloc, TWIN_TOWN, before)?;
+        check_write(alloc, &mut office, case, room)?;
     }
-    Ok(String::new(alloc))
+    Ok(())
 }
 
 // What an office shows after a message whose answer was written whole.
 fn shown_after<K: Office>(alloc: Global, before: &str, text: &str) -> Result<String, Fail> {
     let mut office = office_after::<K>(alloc, TWIN_TOWN, before)?;
-    answer_to(alloc, &mut office, text)?;
+    exchange(alloc, &mut office, text, None, ROOM)?;
     shown(alloc, &mut office)
 }
 
-fn first_wrong_write_of_all<K: Office>(alloc: Global) -> Result<String, Fail> {
-    for (before, line, again) in CASES {
-        let (said, want) = cut(line, " = ");
-        let (text, want) = (message(alloc, said)?, json_answer(alloc, want)?);
-        let after = shown_after::<K>(alloc, before, text.as_str())?;
-        let again = json_answer(alloc, again)?;
-        let case = Case {
-            before,
-            text: text.as_str(),
-            want: want.as_str(),
-            after: after.as_str(),
-            again: again.as_str(),
-        };
-        let wrong = first_wrong_write::<K>(alloc, case)?;
-        if !wrong.is_empty() {
-            return Ok(wrong);
-        }
-    }
-    Ok(String::new(alloc))
+fn check_case<K: Office>(alloc: Global, before: &str, line: &str, again: &str) -> Result<(), Fail> {
+    let (said, want) = cut(line, " = ");
+    let (text, want) = (message(alloc, said)?, answer(alloc, want)?);
+    check_case_of_reads::<K>(alloc, before, text.as_str())?;
+    let after = shown_after::<K>(alloc, before, text.as_str())?;
+    let again = answer(alloc, again)?;
+    let case = Case {
+        text: text.as_str(),
+        want: want.as_str(),
+        after: after.as_str(),
+        again: again.as_str(),
+    };
+    check_writes::<K>(alloc, before, case)
 }
 
-#[test]
-fn where_a_write_fails_all_was_done(rt: HostRuntime) -> Result<(), Fail> {
-    let wrong = first_wrong_write_of_all::<Book>(rt.alloc())?;
-    assert!(rt; wrong.is_empty(), "{wrong}");
+fn check_cases<K: Office>(alloc: Global) -> Result<(), Fail> {
+    for (before, line, again) in CASES {
+        check_case::<K>(alloc, before, line, again)?;
+    }
     Ok(())
 }
 
+// Where a read fails nothing is written and nothing changes; where a write fails all was done.
 #[test]
-fn where_a_write_fails_all_was_done_in_a_database(rt: HostRuntime) -> Result<(), Fail> {
-    let wrong = first_wrong_write_of_all::<Stored>(rt.alloc())?;
-    assert!(rt; wrong.is_empty(), "{wrong}");
+fn a_message_is_answered_or_nothing_changes(rt: HostRuntime) -> Result<(), Fail> {
+    check_cases::<Book>(rt.alloc())?;
+    check_cases::<Stored>(rt.alloc())
+}
+
+const LODGE: &str = "POST /station/s1/lodge HTTP/1.1\r
+Content-Length: 51\r
+\r
+{\"slip\":\"p1\",\"votes\":[50,40],\"blank\":2,\"spoiled\":1}";
+
+const LODGED: &str = "HTTP/1.1 200 OK\r
+Content-Type: application/json\r
+Content-Length: 23\r
+Connection: close\r
+\r
+{\"ok\":\"lodged\",\"rev\":1}";
+
+const SAME: &str = "HTTP/1.1 200 OK\r
+Content-Type: application/json\r
+Content-Length: 21\r
+Connection: close\r
+\r
+{\"ok\":\"same\",\"rev\":1}";
+
+// Two connections that give the same message: the first takes so many bytes, of the second a read may fail.
+fn two_connections(
+    alloc: Global,
+    room: usize,
+    read_fails: Option<usize>,
+) -> Result<MemoryDoor, AllocError> {
+    let mut conns = Vec::new(alloc);
+    conns.push(connection(alloc, LODGE, None, room)?)?;
+    conns.push(connection(alloc, LODGE, read_fails, ROOM)?)?;
+    Ok(MemoryDoor::new(conns))
+}
+
+fn is_written(door: &MemoryDoor, place: usize, text: &str) -> bool {
+    match door.conns().get(place) {
+        Some(conn) => conn.written() == text.as_bytes(),
+        None => false,
+    }
+}
+
+// Fails where not one of the two was answered and one failed, or another thing was written to them.
+fn check_two<K: Office>(
+    alloc: Global,
+    room: usize,
+    read_fails: Option<usize>,
+    first: &str,
+    second: &str,
+) -> Result<(), Fail> {
+    let mut office = K::made(alloc, TWIN_TOWN)?;
+    let mut door = two_connections(alloc, room, read_fails)?;
+    let served = serve(alloc, &mut office, &mut door, 2);
+    let is_one = served.answered == 1 && served.failed == 1;
+    if is_one && is_written(&door, 0, first) && is_written(&door, 1, second) {
+        return Ok(());
+    }
+    Err(Fail::from("another answer"))
+}
+
+// The second connection's read fails at once, or the first one's writes after ten bytes.
+#[test]
+fn one_of_two_connections_fails(rt: HostRuntime) -> Result<(), Fail> {
+    for (room, read_fails, first, second) in [
+        (ROOM, Some(0), LODGED, ""),
+        (10, None, "HTTP/1.1 2", SAME),
+    ] {
+        check_two::<Book>(rt.alloc(), room, read_fails, first, second)?;
+        check_two::<Stored>(rt.alloc(), room, read_fails, first, second)?;
+    }
     Ok(())
 }

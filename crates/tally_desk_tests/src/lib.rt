@@ -3,16 +3,10 @@
 #![tactic(auto)]
 
 #[cfg(test)]
-mod commands;
-#[cfg(test)]
 mod failures;
-#[cfg(test)]
-mod imports;
 #[cfg(test)]
 mod lines;
 #[cfg(test)]
-mod messages;
-#[cfg(test)]
 mod offices;
 #[cfg(test)]
-mod reports;
+mod scripts;

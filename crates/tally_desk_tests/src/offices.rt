@@ -58,27 +58,6 @@ pub(crate) fn connection(
     MemoryConn::new(alloc, input, read_fails, room)
 }
 
-/// What was written to the connections of a door, with a line `--` behind each.
-pub(crate) fn written(alloc: Global, door: &MemoryDoor) -> Result<String, Fail> {
-    let mut text = Vec::new(alloc);
-    for conn in door.conns() {
-        text.extend_from_slice(conn.written())?;
-        text.extend_from_slice(b"\n--\n")?;
-    }
-    Ok(String::from_utf8_lossy(alloc, &text)?)
-}
-
-fn door_of(
-    alloc: Global,
-    text: &str,
-    read_fails: Option<usize>,
-    room: usize,
-) -> Result<MemoryDoor, AllocError> {
-    let mut conns = Vec::new(alloc);
-    conns.push(connection(alloc, text, read_fails, room)?)?;
-    Ok(MemoryDoor::new(conns))
-}
-
 fn first_written(alloc: Global, door: &MemoryDoor) -> Result<String, Fail> {
     match door.conns().first() {
         Some(conn) => Ok(String::from_utf8_lossy(alloc, conn.written())?),
@@ -86,29 +65,18 @@ fn first_written(alloc: Global, door: &MemoryDoor) -> Result<String, Fail> {
     }
 }
 
-/// What an office writes to a connection that gives a text.
-pub(crate) fn answer_to<K: Keeper>(
-    alloc: Global,
-    office: &mut K,
-    text: &str,
-) -> Result<String, Fail> {
-    let mut door = door_of(alloc, text, None, ROOM)?;
-    serve(alloc, office, &mut door, 1);
-    first_written(alloc, &door)
-}
-
-/// How many connections were answered and how many failed where a read or a write of one fails, and what was written
-/// to it.
+/// How many connections failed, and what was written, where an office serves one connection that gives a text.
 pub(crate) fn exchange<K: Keeper>(
     alloc: Global,
     office: &mut K,
     text: &str,
     read_fails: Option<usize>,
     room: usize,
-) -> Result<String, Fail> {
-    let mut door = door_of(alloc, text, read_fails, room)?;
+) -> Result<(u32, String), Fail> {
+    let mut conns = Vec::new(alloc);
+    conns.push(connection(alloc, text, read_fails, room)?)?;
+    let mut door = MemoryDoor::new(conns);
     let served = serve(alloc, office, &mut door, 1);
-    let (answered, failed) = (served.answered, served.failed);
     let written = first_written(alloc, &door)?;
-    Ok(format!(in alloc; "answered {answered} failed {failed}: {written}")?)
+    Ok((served.failed, written))
 }
