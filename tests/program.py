@@ -19,6 +19,7 @@ import shutil
 import signal
 import socket
 import sqlite3
+import struct
 import subprocess
 import sys
 import tempfile
@@ -268,6 +269,38 @@ def test_the_check_of_the_examples():
     same(office("check", given=returns), Ran(0, wanted, ""))
     same(office("check", "--semicolon", given=returns.replace(",", ";")), Ran(0, wanted, ""))
     only()
+
+
+def check(text, **streams):
+    """A check of a text or of a stream, and the streams that it writes on."""
+    given = {"input": text} if isinstance(text, bytes) else {"stdin": text}
+    ran = subprocess.run([PROGRAM, "check"], **given, **{"stdout": subprocess.PIPE, "stderr": subprocess.PIPE, **streams}, timeout=60)
+    return ran.returncode, ran.stdout, ran.stderr
+
+
+def test_a_check_over_streams_that_fail():
+    """The first read fails, or one in the middle, or a write: the status says so, also where standard error takes nothing."""
+    returns = (ROOT / "examples/returns.csv").read_bytes()
+    os.mkdir("folder")
+    folder = os.open("folder", os.O_RDONLY)
+    same(check(folder), (3, b"", b"failed: read\n"))
+    os.close(folder)
+    with socket.create_server(("127.0.0.1", 0)) as listener:
+        there = socket.create_connection(listener.getsockname(), timeout=60)
+        here, _ = listener.accept()
+        there.sendall(returns[:len(returns) // 2])
+        reset(there)
+        same(check(here), (3, b"", b"failed: read\n"))
+        here.close()
+    with open("/dev/full", "wb") as full:
+        same(check(returns, stdout=full), (3, None, b"failed: write\n"))
+        same(check(b"", stderr=full), (1, b"", None))
+        same(subprocess.run([PROGRAM], stderr=full, stdout=subprocess.PIPE, timeout=60).returncode, 2)
+    only("folder")
+
+
+def test_a_check_of_too_many_rows():
+    same(office("check", given="station,slip,blank,spoiled,A\n" + "x\n" * 20001), Ran(1, "", "refused: too_long\n"))
 
 
 def test_a_report_of_a_constituency_wants_one():
@@ -899,6 +932,12 @@ class Desk:
         return Ran(self.process.returncode, out.decode(), err.decode())
 
 
+def reset(connection):
+    """The connection ends at once: a read at its other end fails."""
+    connection.setsockopt(socket.SOL_SOCKET, socket.SO_LINGER, struct.pack("ii", 1, 0))
+    connection.close()
+
+
 @contextlib.contextmanager
 def serving(db, count, failed=0):
     desk = Desk(db, count)
@@ -973,6 +1012,27 @@ def test_messages_that_are_refused():
             head, _, body = desk.send(message).partition(b"\r\n\r\n")
             same((int(head.split()[1]), json.loads(body)["word"]), (status, word))
     same(rows()["returns"], [])
+
+
+def test_bodies_that_are_read():
+    """Of bytes that are no line of text, values one in another, and a long note: the body is bad, or its command is looked at."""
+    new()
+    nested = {arrays: b'{"rev":1,"more":' + b"[" * arrays + b"]" * arrays + b"}" for arrays in (126, 127)}
+    cases = (
+        (b' \t\r\n{"rev":\n1}\r\n', 404, "no_return"), (b'{"rev":1}\x00', 400, "bad_body"), (b'\xef\xbb\xbf{"rev":1}', 400, "bad_body"),
+        (b"\xff", 400, "bad_body"), (b'{"rev":1,"note":"\xff"}', 400, "bad_body"), (b'{"rev":1,"note":"\xed\xa0\x80"}', 400, "bad_body"),
+        (b'{"rev":1,"note":"\n"}', 400, "bad_body"), (b'{"rev":1,"note":"\x7f"}', 404, "no_return"),
+        (nested[126], 404, "no_return"), (nested[127], 400, "bad_body"),
+    )
+    with serving("office.db", len(cases) + 3) as desk:
+        for body, status, word in cases:
+            found, _, text = desk.ask("POST", "/station/s1/close", body)
+            same((found, json.loads(text)["word"]), (status, word))
+        # The longest body: the return, and spaces behind it.
+        body = LODGE[LODGE.index(b"{"):].ljust(1048576)
+        same(desk.ask("POST", "/station/s1/lodge", body)[::2], (200, '{"ok":"lodged","rev":1}'))
+        for note, answer in (("n" * 201, (400, '{"refused":5,"word":"bad_note"}')), ("n" * 200, (200, '{"ok":"moved","rev":2}'))):
+            same(desk.ask("POST", "/station/s1/query", json.dumps({"rev": 1, "note": note}))[::2], answer)
 
 
 def test_how_clients_send():
@@ -1143,6 +1203,19 @@ def test_every_beginning_of_a_message():
             status, value = answered(LODGE[:length], desk)
             same((status, value["word"]), (400, "bad_head" if length < LODGE.index(b"{") else "ended_early"))
             stands(desk, None)
+        desk.get("/progress", PROGRESS)
+    recount()
+
+
+def test_a_connection_that_is_reset_at_every_byte():
+    """Nothing is answered, nothing comes of it, and the next one is served."""
+    new()
+    with serving("office.db", len(LODGE) + 2, failed=len(LODGE)) as desk:
+        for length in range(len(LODGE)):
+            it = socket.create_connection(("127.0.0.1", desk.port), timeout=60)
+            it.sendall(LODGE[:length])
+            reset(it)
+        stands(desk, None)
         desk.get("/progress", PROGRESS)
     recount()
 
@@ -1323,6 +1396,35 @@ def test_each_example_of_the_document():
             else:
                 same(rows("copy.db"), before)
     assert not wrong, "\n" + "\n".join(wrong)
+
+
+def test_what_is_shown_of_a_constituency():
+    """As it opens, closed, certified, with a candidate gone, and reopened."""
+    for state, text in (
+        ("new", '{"blank":0,"certified":false,"closed":0,"con":"c1","edition":1,"gone":[],"lot":[],"note":"","seats":[],"spoiled":0,"stations":1,"votes":[0,0]}'),
+        ("closed", '{"blank":0,"certified":false,"closed":1,"con":"c1","edition":1,"gone":[],"lot":[],"note":"","seats":[],"spoiled":0,"stations":1,"votes":[100,100]}'),
+        ("certified", '{"blank":0,"certified":true,"closed":1,"con":"c1","edition":3,"gone":[],"lot":["B","A"],"note":"","seats":[1,2],"spoiled":0,"stations":1,"votes":[100,100]}'),
+        ("vacated", '{"blank":0,"certified":true,"closed":1,"con":"c1","edition":3,"gone":[{"list":"B","note":"resigned","place":1}],"lot":["B","A"],"note":"","seats":[1,2],"spoiled":0,"stations":1,"votes":[100,100]}'),
+        ("reopened", '{"blank":0,"certified":false,"closed":1,"con":"c1","edition":4,"gone":[{"list":"B","note":"resigned","place":1}],"lot":["B","A"],"note":"recount","seats":[],"spoiled":0,"stations":1,"votes":[100,100]}'),
+    ):
+        with serving(lead_to(state), 1) as desk:
+            same(desk.ask("GET", "/con/c1")[::2], (200, text))
+
+
+def test_what_is_shown_of_a_return():
+    """Received, queried with a note that needs escapes, and corrected."""
+    new()
+    text = '{"blank":%d,"note":"%s","rev":%d,"slip":"%s","spoiled":%d,"station":"s1","status":"%s","votes":[%s]}'
+    note = '"4\\5" de caña'
+    with serving("office.db", 6) as desk:
+        for path, body, shown in (
+            ("lodge", WORKED[1], (2, "", 1, "p1", 1, "received", "50,40")),
+            ("query", {"rev": 1, "note": note}, (2, '\\"4\\\\5\\" de caña', 2, "p1", 1, "queried", "50,40")),
+            ("correct", {"rev": 2, "slip": "p-_9", "votes": [1, 1], "blank": 0, "spoiled": 0},
+             (0, '\\"4\\\\5\\" de caña', 3, "p-_9", 0, "corrected", "1,1")),
+        ):
+            same(desk.ask("POST", f"/station/s1/{path}", json.dumps(body))[0], 200)
+            same(desk.ask("GET", "/station/s1")[::2], (200, text % shown))
 
 
 def test_what_is_answered_where_the_disk_is_full():
