@@ -1,7 +1,6 @@
 //! The texts of the reports, byte for byte.
 
-use crate::views::{PROVINCE, THREE_LISTS, TWIN_TOWN, shown, told};
-use std::alloc::Global;
+use crate::views::{PROVINCE, THREE_LISTS, TWIN_TOWN, check, check_text};
 use std::test::*;
 use tally_machine::ProgressRow;
 use tally_report::progress_text;
@@ -141,92 +140,76 @@ E                        571   57.10 in  E
 F                          0    0.00 out F
 ";
 
+// A report, the setup, the view, and the text or the number of the fault.
+const REPORTS: [(&str, &str, &str, &str); 23] = [
+    ("tally", TWIN_TOWN, OPEN, TALLY),
+    ("seats", TWIN_TOWN, CERTIFIED, SEATS),
+    ("quotients", TWIN_TOWN, CERTIFIED, QUOTIENTS),
+    ("awards", TWIN_TOWN, CERTIFIED, AWARDS),
+    ("holders", TWIN_TOWN, VACATED, HOLDERS),
+    ("short", TWIN_TOWN, CERTIFIED, SHORT),
+    ("past", TWIN_TOWN, REOPENED, PAST),
+    ("past", TWIN_TOWN, REOPENED_TWICE, PAST_TWICE),
+    ("past", TWIN_TOWN, OPEN, "PAST c1 Twin Town\n"),
+    ("quota", PROVINCE, LOREG, QUOTA),
+    ("quotients", THREE_LISTS, FIFTHS, FIFTHS_QUOTIENTS),
+    ("awards", THREE_LISTS, FIFTHS, FIFTHS_AWARDS),
+    ("short", THREE_LISTS, FIFTHS, FIFTHS_SHORT),
+    (
+        "tally",
+        PROVINCE,
+        "1 6 7: 300 29 30 0 571 0: 70 5: : : ",
+        SHARES,
+    ),
+    ("seats", TWIN_TOWN, OPEN, "fault 1"),
+    ("holders", TWIN_TOWN, OPEN, "fault 1"),
+    ("quota", TWIN_TOWN, OPEN, "fault 1"),
+    ("quota", TWIN_TOWN, CERTIFIED, "fault 2"),
+    ("quotients", PROVINCE, LOREG, "fault 2"),
+    ("awards", PROVINCE, LOREG, "fault 2"),
+    ("short", TWIN_TOWN, OPEN, "fault 1"),
+    ("short", PROVINCE, LOREG, "fault 2"),
+    (
+        "awards",
+        PROVINCE,
+        "1 0 1: 0 0 0 0 0 0: 0 0: : : ",
+        "fault 1",
+    ),
+];
+
+const BY_DIVISORS: &str = "2 1 1: 168000 104000 72000 64000 40000 32000: 0 0: 4 2 1 1 0 0: : ";
+
+const BELOW_THE_THRESHOLD: &str = "2 1 1: 900 29 71 0 0 0: 0 0: 8 0 0 0 0 0: : ";
+
 #[test]
 fn the_texts_of_a_constituency(rt: HostRuntime) -> Result<(), Fail> {
-    for (report, setup, view, want) in [
-        ("tally", TWIN_TOWN, OPEN, TALLY),
-        ("seats", TWIN_TOWN, CERTIFIED, SEATS),
-        ("quotients", TWIN_TOWN, CERTIFIED, QUOTIENTS),
-        ("awards", TWIN_TOWN, CERTIFIED, AWARDS),
-        ("holders", TWIN_TOWN, VACATED, HOLDERS),
-        ("short", TWIN_TOWN, CERTIFIED, SHORT),
-        ("past", TWIN_TOWN, REOPENED, PAST),
-        ("past", TWIN_TOWN, REOPENED_TWICE, PAST_TWICE),
-        ("past", TWIN_TOWN, OPEN, "PAST c1 Twin Town\n"),
-        ("quota", PROVINCE, LOREG, QUOTA),
-        ("quotients", THREE_LISTS, FIFTHS, FIFTHS_QUOTIENTS),
-        ("awards", THREE_LISTS, FIFTHS, FIFTHS_AWARDS),
-        ("short", THREE_LISTS, FIFTHS, FIFTHS_SHORT),
-        (
-            "tally",
-            PROVINCE,
-            "1 6 7: 300 29 30 0 571 0: 70 5: : : ",
-            SHARES,
-        ),
-        ("seats", TWIN_TOWN, OPEN, "fault 1"),
-        ("holders", TWIN_TOWN, OPEN, "fault 1"),
-        ("quota", TWIN_TOWN, OPEN, "fault 1"),
-        ("quota", TWIN_TOWN, CERTIFIED, "fault 2"),
-        ("quotients", PROVINCE, LOREG, "fault 2"),
-        ("awards", PROVINCE, LOREG, "fault 2"),
-        ("short", TWIN_TOWN, OPEN, "fault 1"),
-        ("short", PROVINCE, LOREG, "fault 2"),
-        (
-            "awards",
-            PROVINCE,
-            "1 0 1: 0 0 0 0 0 0: 0 0: : : ",
-            "fault 1",
-        ),
-    ] {
-        let got = shown(rt.alloc(), setup, report, view)?;
-        assert!(rt; got.as_str() == want, "{report} of {view}\n{got}");
-    }
-    Ok(())
-}
-
-#[test]
-fn votes_short_of_one_more_seat(rt: HostRuntime) -> Result<(), Fail> {
     let alloc = rt.alloc();
-    let two_seats = changed(alloc, TWIN_TOWN, "seats = 3", "seats = 2")?;
-    let by_divisors = changed(alloc, PROVINCE, "hare", "dhondt")?;
-    for (setup, view, want) in [
-        (&two_seats, "3 1 1: 200 100: 0 0: 2 0: : ", TWO_SEATS_SHORT),
-        (
-            &by_divisors,
-            "2 1 1: 168000 104000 72000 64000 40000 32000: 0 0: 4 2 1 1 0 0: : ",
-            PROVINCE_SHORT,
-        ),
-        (
-            &by_divisors,
-            "2 1 1: 900 29 71 0 0 0: 0 0: 8 0 0 0 0 0: : ",
-            ELIGIBLE_SHORT,
-        ),
-    ] {
-        let got = shown(alloc, setup, "short", view)?;
-        assert!(rt; got.as_str() == want, "{view}\n{got}");
+    for (report, setup, view, want) in REPORTS {
+        check(alloc, report, setup, view, want)?;
     }
-    Ok(())
+    let setup = TWIN_TOWN.replace(alloc, "seats = 3", "seats = 2")?;
+    let view = "3 1 1: 200 100: 0 0: 2 0: : ";
+    check(alloc, "short", setup.as_str(), view, TWO_SEATS_SHORT)?;
+    let setup = PROVINCE.replace(alloc, "hare", "dhondt")?;
+    check(alloc, "short", setup.as_str(), BY_DIVISORS, PROVINCE_SHORT)?;
+    check(
+        alloc,
+        "short",
+        setup.as_str(),
+        BELOW_THE_THRESHOLD,
+        ELIGIBLE_SHORT,
+    )
 }
 
-/// The setup with one word in the place of another.
-fn changed(alloc: Global, setup: &str, old: &str, new: &str) -> Result<String, Fail> {
-    let (before, after) = setup.split_once(old).ok_or("no such word")?;
-    Ok(format!(in alloc; "{before}{new}{after}")?)
-}
+// A number of ten digits is wider than its column of seven, and is printed whole.
+const TWO_ROWS: &str = "c1                    1      1      0      0      0      0      1 open
+c2              42949672954294967295      0      0      0      0      1 certified
+";
 
 #[test]
 fn the_progress_of_constituencies(rt: HostRuntime) -> Result<(), Fail> {
-    let alloc = rt.alloc();
-    let text = told(
-        alloc,
-        progress_text(alloc, &[row("c1", 1, false)?, row("c2", u32::MAX, true)?]),
-    )?;
-    // A number of ten digits is wider than its column of seven, and is printed whole.
-    let want = "c1                    1      1      0      0      0      0      1 open
-c2              42949672954294967295      0      0      0      0      1 certified
-";
-    assert!(rt; text.as_str() == want, "{text}");
-    Ok(())
+    let rows = [row("c1", 1, false)?, row("c2", u32::MAX, true)?];
+    check_text(&progress_text(rt.alloc(), &rows), TWO_ROWS)
 }
 
 fn row(con: &str, stations: u32, certified: bool) -> Result<ProgressRow, Fail> {

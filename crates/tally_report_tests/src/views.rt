@@ -1,13 +1,13 @@
 //! Setups and views as text, and the reports of them.
 
-use std::alloc::Global;
+use std::alloc::{AllocError, Global};
 use std::test::Fail;
 use tally_machine::{ConView, Gone, Past};
 use tally_report::{
     ReportFault, awards_text, holders_text, past_text, quota_text, quotients_text, seats_text,
     short_text, tally_text,
 };
-use tally_rules::read_setup;
+use tally_rules::{Constituency, read_setup};
 
 /// One constituency of two lists and one station, by D'Hondt.
 pub(crate) const TWIN_TOWN: &str = r#"[[profile]]
@@ -118,32 +118,80 @@ code = "s1"
 electors = 500000
 "#;
 
-/// A report of the first constituency of a setup and the view of a line, or the number of its fault.
-pub(crate) fn shown(alloc: Global, setup: &str, report: &str, line: &str) -> Result<String, Fail> {
-    let setup = read_setup(alloc, setup.as_bytes()).ok().ok_or("no setup")?;
-    let con = setup.cons().first().ok_or("no constituency")?;
-    let view = view_of(alloc, line)?;
+/// Fails where a text is another, or another fault than that of a number such as `fault 1`.
+pub(crate) fn check_text(
+    text: &Result<String, ReportFault>,
+    want: &'static str,
+) -> Result<(), Fail> {
+    let told = match text {
+        Ok(text) => text.as_str(),
+        Err(fault) => match fault.number() {
+            1 => "fault 1",
+            2 => "fault 2",
+            _ => "out of memory",
+        },
+    };
+    if told == want {
+        return Ok(());
+    }
+    Err(Fail::from(want))
+}
+
+fn check_view(
+    alloc: Global,
+    con: &Constituency,
+    view: &ConView,
+    report: &str,
+    want: &'static str,
+) -> Result<(), Fail> {
     if !view.fits(con) {
         return Err(Fail::from("a view that does not fit"));
     }
     let text = match report {
-        "tally" => tally_text(alloc, con, &view),
-        "seats" => seats_text(alloc, con, &view),
-        "quotients" => quotients_text(alloc, con, &view),
-        "awards" => awards_text(alloc, con, &view),
-        "quota" => quota_text(alloc, con, &view),
-        "holders" => holders_text(alloc, con, &view),
-        "short" => short_text(alloc, con, &view),
-        "past" => past_text(alloc, con, &view),
+        "tally" => tally_text(alloc, con, view),
+        "seats" => seats_text(alloc, con, view),
+        "quotients" => quotients_text(alloc, con, view),
+        "awards" => awards_text(alloc, con, view),
+        "quota" => quota_text(alloc, con, view),
+        "holders" => holders_text(alloc, con, view),
+        "short" => short_text(alloc, con, view),
+        "past" => past_text(alloc, con, view),
         _ => return Err(Fail::from("no report")),
     };
-    told(alloc, text)
+    check_text(&text, want)
 }
 
-pub(crate) fn told(alloc: Global, text: Result<String, ReportFault>) -> Result<String, Fail> {
-    match text {
-        Ok(text) => Ok(text),
-        Err(fault) => Ok(format!(in alloc; "fault {}", fault.number())?),
+/// Fails where a report of the first constituency of a setup and the view of a line is another.
+pub(crate) fn check(
+    alloc: Global,
+    report: &str,
+    setup: &str,
+    line: &str,
+    want: &'static str,
+) -> Result<(), Fail> {
+    let view = view_of(alloc, line)?;
+    let setup = read_setup(alloc, setup.as_bytes()).ok().ok_or("no setup")?;
+    let con = setup.cons().first().ok_or("no constituency")?;
+    check_view(alloc, con, &view, report, want)
+}
+
+fn opening(alloc: Global) -> ConView {
+    ConView {
+        edition: 1,
+        certified: false,
+        note: String::new(alloc),
+        lot: Vec::new(alloc),
+        stations: 0,
+        received: 0,
+        queried: 0,
+        corrected: 0,
+        closed: 0,
+        votes: Vec::new(alloc),
+        blank: 0,
+        spoiled: 0,
+        seats: Vec::new(alloc),
+        gone: Vec::new(alloc),
+        past: Vec::new(alloc),
     }
 }
 
@@ -151,72 +199,95 @@ pub(crate) fn told(alloc: Global, text: Result<String, ReportFault>) -> Result<S
 /// closed and how many there are; the votes of the lists; the blank and the spoiled votes; the seats
 /// where it is certified; the lot; a list and a candidate of it who is gone. What follows after `past`,
 /// such as `past 3 1 2; 7 2 1`, are the editions and seats of the certificates that were reopened.
-fn view_of(alloc: Global, line: &str) -> Result<ConView, Fail> {
-    let (standing, past) = line.split_once("past").unwrap_or((line, ""));
-    let (stations, rest) = standing.split_once(":").ok_or("no votes")?;
-    let (votes, rest) = rest.split_once(":").ok_or("no blank votes")?;
-    let (others, rest) = rest.split_once(":").ok_or("no seats")?;
-    let (seats, rest) = rest.split_once(":").ok_or("no lot")?;
-    let (lot, gone) = rest.split_once(":").ok_or("nobody gone")?;
-    let stations = places(alloc, stations)?;
-    let others = numbers(alloc, others)?;
-    let seats = places(alloc, seats)?;
-    Ok(ConView {
-        edition: *stations.first().ok_or("no edition")?,
-        certified: !seats.is_empty(),
-        note: String::new(alloc),
-        lot: places(alloc, lot)?,
-        stations: *stations.get(2).ok_or("no stations")?,
-        received: 0,
-        queried: 0,
-        corrected: 0,
-        closed: *stations.get(1).ok_or("none closed")?,
-        votes: numbers(alloc, votes)?,
-        blank: *others.first().ok_or("no blank votes")?,
-        spoiled: *others.get(1).ok_or("no spoiled votes")?,
-        seats,
-        gone: gone_of(alloc, gone)?,
-        past: past_of(alloc, past)?,
+fn view_of(alloc: Global, line: &str) -> Result<ConView, AllocError> {
+    let mut view = opening(alloc);
+    for (place, part) in line.split(":").enumerate() {
+        set_part(alloc, &mut view, place, part.trim())?;
+    }
+    Ok(view)
+}
+
+fn set_part(alloc: Global, view: &mut ConView, place: usize, part: &str) -> Result<(), AllocError> {
+    match place {
+        0 => set_standing(view, part),
+        1 => view.votes = numbers(alloc, part)?,
+        2 => set_others(view, part),
+        3 => {
+            view.certified = !part.is_empty();
+            view.seats = places(alloc, part)?;
+        }
+        4 => view.lot = places(alloc, part)?,
+        _ => set_gone_and_past(alloc, view, part)?,
+    }
+    Ok(())
+}
+
+fn set_standing(view: &mut ConView, part: &str) {
+    let (edition, stations) = cut(part, " ");
+    let (closed, all) = cut(stations, " ");
+    view.edition = number(edition);
+    view.closed = number(closed);
+    view.stations = number(all);
+}
+
+fn set_others(view: &mut ConView, part: &str) {
+    let (blank, spoiled) = cut(part, " ");
+    view.blank = u64::from(number(blank));
+    view.spoiled = u64::from(number(spoiled));
+}
+
+fn set_gone_and_past(alloc: Global, view: &mut ConView, part: &str) -> Result<(), AllocError> {
+    let (gone, past) = cut(part, "past ");
+    if !gone.is_empty() {
+        view.gone.push(gone_of(alloc, gone.trim())?)?;
+    }
+    if !past.is_empty() {
+        for certificate in past.split("; ") {
+            view.past.push(past_of(alloc, certificate)?)?;
+        }
+    }
+    Ok(())
+}
+
+fn gone_of(alloc: Global, text: &str) -> Result<Gone, AllocError> {
+    let (list, place) = cut(text, " ");
+    Ok(Gone {
+        list: number(list),
+        place: number(place),
+        note: String::from_str(alloc, "resigned")?,
     })
 }
 
-fn past_of(alloc: Global, text: &str) -> Result<Vec<Past>, Fail> {
-    let mut past = Vec::new(alloc);
-    for certificate in text.split(";") {
-        let mut seats = places(alloc, certificate)?;
-        if !seats.is_empty() {
-            let edition = seats.remove(0);
-            past.push(Past { edition, seats })?;
-        }
-    }
-    Ok(past)
+fn past_of(alloc: Global, text: &str) -> Result<Past, AllocError> {
+    let (edition, seats) = cut(text, " ");
+    Ok(Past {
+        edition: number(edition),
+        seats: places(alloc, seats)?,
+    })
 }
 
-fn gone_of(alloc: Global, text: &str) -> Result<Vec<Gone>, Fail> {
-    let mut gone = Vec::new(alloc);
-    let places = places(alloc, text)?;
-    if let (Some(list), Some(place)) = (places.first(), places.get(1)) {
-        gone.push(Gone {
-            list: *list,
-            place: *place,
-            note: String::from_str(alloc, "resigned")?,
-        })?;
-    }
-    Ok(gone)
+/// The texts before a mark and behind it; where there is no mark, the whole text and an empty one.
+fn cut<'a>(text: &'a str, mark: &str) -> (&'a str, &'a str) {
+    text.split_once(mark).unwrap_or((text, ""))
 }
 
-fn places(alloc: Global, text: &str) -> Result<Vec<u32>, Fail> {
+/// The number of a text; of one that is none 0, so that the test that has it fails.
+fn number(text: &str) -> u32 {
+    text.parse::<u32>().unwrap_or(0)
+}
+
+fn places(alloc: Global, text: &str) -> Result<Vec<u32>, AllocError> {
     let mut places = Vec::new(alloc);
     for word in text.split_whitespace() {
-        places.push(word.parse::<u32>().ok().ok_or("no place")?)?;
+        places.push(number(word))?;
     }
     Ok(places)
 }
 
-fn numbers(alloc: Global, text: &str) -> Result<Vec<u64>, Fail> {
+fn numbers(alloc: Global, text: &str) -> Result<Vec<u64>, AllocError> {
     let mut numbers = Vec::new(alloc);
     for word in text.split_whitespace() {
-        numbers.push(word.parse::<u64>().ok().ok_or("no number")?)?;
+        numbers.push(u64::from(number(word)))?;
     }
     Ok(numbers)
 }
