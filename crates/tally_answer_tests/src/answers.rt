@@ -1,22 +1,22 @@
 //! Answers of lines of text.
 
-use crate::imports::import_answer;
+use crate::imports::{IMPORTS, import_answer};
 use crate::lines::cut;
-use crate::outcomes::told;
-use crate::shown::{con_answer, return_answer};
+use crate::outcomes::{OUTCOMES, outcome_answer};
+use crate::words::{WORDS, word_answer};
 use std::alloc::{AllocError, Global};
-use std::test::Fail;
+use std::test::*;
 
 /// The whole of an answer in JSON, of a line such as `200 OK|23|{"ok":"lodged","rev":1}`: its status with the phrase,
 /// the length of its body, and the body.
-pub(crate) fn json_answer(alloc: Global, line: &str) -> Result<String, AllocError> {
+fn json_answer(alloc: Global, line: &str) -> Result<String, AllocError> {
     let (status, rest) = cut(line, "|");
     let (length, body) = cut(rest, "|");
-    let mut text = format!(in alloc; "HTTP/1.1 {status}\r\nContent-Type: application/json\r\n")?;
-    write!(
-        text,
-        "Content-Length: {length}\r\nConnection: close\r\n\r\n"
-    )?;
+    let mut text = String::from_str(alloc, "HTTP/1.1 ")?;
+    text.push_str(status)?;
+    text.push_str("\r\nContent-Type: application/json\r\nContent-Length: ")?;
+    text.push_str(length)?;
+    text.push_str("\r\nConnection: close\r\n\r\n")?;
     text.push_str(body)?;
     Ok(text)
 }
@@ -24,27 +24,38 @@ pub(crate) fn json_answer(alloc: Global, line: &str) -> Result<String, AllocErro
 fn answered(alloc: Global, line: &str) -> Result<String, Fail> {
     let (kind, said) = cut(line, " ");
     match kind {
+        "word" => word_answer(alloc, said),
         "import" => import_answer(alloc, said),
-        "return" => return_answer(alloc, said),
-        "con" => con_answer(alloc, said),
-        _ => told(alloc, line),
+        _ => outcome_answer(alloc, line),
     }
 }
 
-/// Whether a text is the answer of a line.
-pub(crate) fn is_answer(alloc: Global, text: &str, line: &str) -> Result<bool, AllocError> {
+/// Fails where a text is not the answer of a line.
+pub(crate) fn check_answer(alloc: Global, got: String, line: &str) -> Result<(), Fail> {
     let want = json_answer(alloc, line)?;
-    Ok(want.as_str() == text)
+    if got.as_str() == want.as_str() {
+        return Ok(());
+    }
+    Err(Fail::from(got))
 }
 
-/// The first of these lines whose answer is another, with that answer; or nothing.
-pub(crate) fn first_wrong(alloc: Global, lines: &str) -> Result<String, Fail> {
+fn check(alloc: Global, line: &str) -> Result<(), Fail> {
+    let (said, want) = cut(line, " = ");
+    check_answer(alloc, answered(alloc, said)?, want)
+}
+
+/// Fails at the first of these lines whose answer is another, with that answer.
+fn check_each(alloc: Global, lines: &str) -> Result<(), Fail> {
     for line in lines.lines() {
-        let (said, want) = cut(line, " = ");
-        let got = answered(alloc, said)?;
-        if !is_answer(alloc, got.as_str(), want)? {
-            return Ok(format!(in alloc; "{line}, and not {got}")?);
-        }
+        check(alloc, line)?;
     }
-    Ok(String::new(alloc))
+    Ok(())
+}
+
+#[test]
+fn each_has_its_answer(rt: HostRuntime) -> Result<(), Fail> {
+    for lines in [OUTCOMES, IMPORTS, WORDS] {
+        check_each(rt.alloc(), lines)?;
+    }
+    Ok(())
 }

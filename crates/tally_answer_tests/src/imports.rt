@@ -1,14 +1,13 @@
 //! The answers to imports.
 
-use crate::answers::first_wrong;
 use crate::lines::{cut, number};
 use std::alloc::Global;
-use std::test::*;
+use std::test::Fail;
 use tally_answer::{ANSWER_ROOM, BODY_ROOM, FirstOther, Imported, write_import};
 
 // Rows that are bad, differ, were lodged, were refused and were there already; then the first row that was neither
 // lodged nor there already, with the number of its refusal.
-const IMPORTS: &str =
+pub(crate) const IMPORTS: &str =
     r#"import 0 1 0 0 2: 2 7 = 200 OK|81|{"bad":0,"differs":1,"first":[2,7],"lodged":0,"ok":"import","refused":0,"same":2}
 import 0 0 3 0 0: = 200 OK|80|{"bad":0,"differs":0,"first":null,"lodged":3,"ok":"import","refused":0,"same":0}
 import 2 0 1 0 0: 2 0 = 200 OK|81|{"bad":2,"differs":0,"first":[2,0],"lodged":1,"ok":"import","refused":0,"same":0}
@@ -44,11 +43,4 @@ pub(crate) fn import_answer(alloc: Global, line: &str) -> Result<String, Fail> {
     let mut body = Vec::with_capacity(alloc, BODY_ROOM)?;
     write_import(&mut out, &mut body, &imported(line));
     Ok(String::from_utf8_lossy(alloc, &out)?)
-}
-
-#[test]
-fn an_import_is_answered_with_its_counts(rt: HostRuntime) -> Result<(), Fail> {
-    let wrong = first_wrong(rt.alloc(), IMPORTS)?;
-    assert!(rt; wrong.is_empty(), "{wrong}");
-    Ok(())
 }

@@ -12,24 +12,11 @@ pub(crate) fn number(text: &str) -> u32 {
     text.parse::<u32>().unwrap_or(0)
 }
 
-/// A number that may have more than 32 bits.
-pub(crate) fn sum(text: &str) -> u64 {
-    text.parse::<u64>().unwrap_or(0)
-}
-
-/// The numbers of a text such as `2 1`, or of an empty one none.
-pub(crate) fn numbers(alloc: Global, text: &str) -> Result<Vec<u32>, AllocError> {
-    let mut found = Vec::new(alloc);
-    for word in text.split_whitespace() {
-        found.push(number(word))?;
-    }
-    Ok(found)
-}
-
+/// The numbers of a text such as `100 50`.
 pub(crate) fn sums(alloc: Global, text: &str) -> Result<Vec<u64>, AllocError> {
     let mut found = Vec::new(alloc);
     for word in text.split_whitespace() {
-        found.push(sum(word))?;
+        found.push(u64::from(number(word)))?;
     }
     Ok(found)
 }

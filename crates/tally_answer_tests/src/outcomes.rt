@@ -1,26 +1,18 @@
 //! The answers to commands.
 
-use crate::answers::{first_wrong, is_answer};
 use crate::groups::need_of;
 use crate::lines::{cut, number};
 use crate::setups::setup;
-use std::alloc::{AllocError, Global};
-use std::test::*;
+use std::alloc::Global;
+use std::test::Fail;
 use tally_answer::{ANSWER_ROOM, BODY_ROOM, write_outcome};
 use tally_returns::{Refusal, Reply, Status};
 use tally_rules::{ListEntry, Setup};
 
-// The first answer of the desk, to a return that was lodged.
-const LODGED: &str = "HTTP/1.1 200 OK\r
-Content-Type: application/json\r
-Content-Length: 23\r
-Connection: close\r
-\r
-{\"ok\":\"lodged\",\"rev\":1}";
-
-// A reply with its number, or a refusal with what it says; of a lot the seats and the votes of the lists among which
-// it is needed by D'Hondt.
-const OUTCOMES: &str = r#"lodged 1 = 200 OK|23|{"ok":"lodged","rev":1}
+// A reply with its number, or a refusal with what it says: of a lot the seats for which it is missing, and the seats
+// and the votes of the lists among which it is needed by D'Hondt. In the last lines the constituency has other lists
+// than A, B and C: one, and sixty with codes of sixteen characters.
+pub(crate) const OUTCOMES: &str = r#"lodged 1 = 200 OK|23|{"ok":"lodged","rev":1}
 same 1 = 200 OK|21|{"ok":"same","rev":1}
 moved 2 = 200 OK|22|{"ok":"moved","rev":2}
 moved 9999 = 200 OK|25|{"ok":"moved","rev":9999}
@@ -48,14 +40,16 @@ refused 15 = 409 Conflict|35|{"refused":15,"word":"no_eligible"}
 refused 16 = 409 Conflict|34|{"refused":16,"word":"lot_stands"}
 refused 17 = 409 Conflict|38|{"refused":17,"word":"lot_not_needed"}
 refused 18 3: 100 100 = 409 Conflict|57|{"group":["A","B"],"refused":18,"word":"lot_wrong_group"}
-refused 19 3: 100 100 = 409 Conflict|63|{"group":["A","B"],"refused":19,"seats":1,"word":"lot_missing"}
-refused 19 2: 100 100 100 = 409 Conflict|67|{"group":["A","B","C"],"refused":19,"seats":2,"word":"lot_missing"}
-refused 19 1: 100 50 100 = 409 Conflict|63|{"group":["A","C"],"refused":19,"seats":1,"word":"lot_missing"}
-refused 19 1: 50 100 100 = 409 Conflict|63|{"group":["B","C"],"refused":19,"seats":1,"word":"lot_missing"}
+refused 19 1 of 3: 100 100 = 409 Conflict|63|{"group":["A","B"],"refused":19,"seats":1,"word":"lot_missing"}
+refused 19 2 of 2: 100 100 100 = 409 Conflict|67|{"group":["A","B","C"],"refused":19,"seats":2,"word":"lot_missing"}
+refused 19 1 of 1: 100 50 100 = 409 Conflict|63|{"group":["A","C"],"refused":19,"seats":1,"word":"lot_missing"}
+refused 19 1 of 1: 50 100 100 = 409 Conflict|63|{"group":["B","C"],"refused":19,"seats":1,"word":"lot_missing"}
 refused 20 = 409 Conflict|36|{"refused":20,"word":"already_gone"}
 refused 21 = 409 Conflict|34|{"refused":21,"word":"not_holder"}
 refused 22 = 503 Service Unavailable|22|{"word":"unavailable"}
-refused 23 = 503 Service Unavailable|22|{"word":"unavailable"}"#;
+refused 23 = 503 Service Unavailable|22|{"word":"unavailable"}
+among ROBLE; refused 18 1: 100 100 = 409 Conflict|57|{"group":["ROBLE"],"refused":18,"word":"lot_wrong_group"}
+among sixteen-long--10 sixteen-long--11 sixteen-long--12 sixteen-long--13 sixteen-long--14 sixteen-long--15 sixteen-long--16 sixteen-long--17 sixteen-long--18 sixteen-long--19 sixteen-long--20 sixteen-long--21 sixteen-long--22 sixteen-long--23 sixteen-long--24 sixteen-long--25 sixteen-long--26 sixteen-long--27 sixteen-long--28 sixteen-long--29 sixteen-long--30 sixteen-long--31 sixteen-long--32 sixteen-long--33 sixteen-long--34 sixteen-long--35 sixteen-long--36 sixteen-long--37 sixteen-long--38 sixteen-long--39 sixteen-long--40 sixteen-long--41 sixteen-long--42 sixteen-long--43 sixteen-long--44 sixteen-long--45 sixteen-long--46 sixteen-long--47 sixteen-long--48 sixteen-long--49 sixteen-long--50 sixteen-long--51 sixteen-long--52 sixteen-long--53 sixteen-long--54 sixteen-long--55 sixteen-long--56 sixteen-long--57 sixteen-long--58 sixteen-long--59 sixteen-long--60 sixteen-long--61 sixteen-long--62 sixteen-long--63 sixteen-long--64 sixteen-long--65 sixteen-long--66 sixteen-long--67 sixteen-long--68 sixteen-long--69; refused 19 4294967295 of 1: 100 100 100 100 100 100 100 100 100 100 100 100 100 100 100 100 100 100 100 100 100 100 100 100 100 100 100 100 100 100 100 100 100 100 100 100 100 100 100 100 100 100 100 100 100 100 100 100 100 100 100 100 100 100 100 100 100 100 100 100 = 409 Conflict|1204|{"group":["sixteen-long--10","sixteen-long--11","sixteen-long--12","sixteen-long--13","sixteen-long--14","sixteen-long--15","sixteen-long--16","sixteen-long--17","sixteen-long--18","sixteen-long--19","sixteen-long--20","sixteen-long--21","sixteen-long--22","sixteen-long--23","sixteen-long--24","sixteen-long--25","sixteen-long--26","sixteen-long--27","sixteen-long--28","sixteen-long--29","sixteen-long--30","sixteen-long--31","sixteen-long--32","sixteen-long--33","sixteen-long--34","sixteen-long--35","sixteen-long--36","sixteen-long--37","sixteen-long--38","sixteen-long--39","sixteen-long--40","sixteen-long--41","sixteen-long--42","sixteen-long--43","sixteen-long--44","sixteen-long--45","sixteen-long--46","sixteen-long--47","sixteen-long--48","sixteen-long--49","sixteen-long--50","sixteen-long--51","sixteen-long--52","sixteen-long--53","sixteen-long--54","sixteen-long--55","sixteen-long--56","sixteen-long--57","sixteen-long--58","sixteen-long--59","sixteen-long--60","sixteen-long--61","sixteen-long--62","sixteen-long--63","sixteen-long--64","sixteen-long--65","sixteen-long--66","sixteen-long--67","sixteen-long--68","sixteen-long--69"],"refused":19,"seats":4294967295,"word":"lot_missing"}"#;
 
 const WITHOUT_MEMBERS: [Refusal; 17] = [
     Refusal::NoStation,
@@ -119,10 +113,11 @@ fn wrong_group(alloc: Global, line: &str) -> Result<Refusal, Fail> {
 }
 
 fn lot_missing(alloc: Global, line: &str) -> Result<Refusal, Fail> {
-    let need = need_of(alloc, line)?;
+    let (seats, poll) = cut(line, " of ");
+    let need = need_of(alloc, poll)?;
     Ok(Refusal::LotMissing {
         group: need.group,
-        seats: need.seats,
+        seats: number(seats),
     })
 }
 
@@ -136,7 +131,7 @@ fn without_members(number: u32) -> Refusal {
 }
 
 /// A status of a return by its word.
-pub(crate) fn status(word: &str) -> Status {
+fn status(word: &str) -> Status {
     match word {
         "received" => Status::Received,
         "queried" => Status::Queried,
@@ -180,86 +175,12 @@ fn answer_among(
     written_in(alloc, &setup, outcome)
 }
 
-/// The answer to the outcome of a line, in a constituency with three lists.
-pub(crate) fn told(alloc: Global, line: &str) -> Result<String, Fail> {
+/// The answer to the outcome of a line, in a constituency with three lists or with those that it names.
+pub(crate) fn outcome_answer(alloc: Global, line: &str) -> Result<String, Fail> {
+    let (lists, line) = match line.strip_prefix("among ") {
+        Some(rest) => cut(rest, "; "),
+        None => ("A B C", line),
+    };
     let outcome = outcome_of(alloc, line)?;
-    answer_among(alloc, "A B C", &outcome)
-}
-
-#[test]
-fn an_outcome_has_its_status_and_its_members(rt: HostRuntime) -> Result<(), Fail> {
-    let wrong = first_wrong(rt.alloc(), OUTCOMES)?;
-    assert!(rt; wrong.is_empty(), "{wrong}");
-    Ok(())
-}
-
-#[test]
-fn an_answer_has_these_bytes(rt: HostRuntime) -> Result<(), Fail> {
-    let got = told(rt.alloc(), "lodged 1")?;
-    assert!(rt; got.as_str() == LODGED, "{got}");
-    Ok(())
-}
-
-// The codes of 60 lists, of sixteen characters each.
-fn sixty_codes(alloc: Global) -> Result<String, AllocError> {
-    let mut codes = String::from_str(alloc, "sixteen-long--10")?;
-    for list in 11..70 {
-        write!(codes, " sixteen-long--{list}")?;
-    }
-    Ok(codes)
-}
-
-// A lot that is missing among 60 lists, for the greatest number of seats that a refusal can have.
-fn lot_of_sixty(alloc: Global) -> Result<Result<Reply, Refusal>, Fail> {
-    let mut line = String::from_str(alloc, "1:")?;
-    for _ in 0..60 {
-        line.push_str(" 100")?;
-    }
-    let need = need_of(alloc, line.as_str())?;
-    Ok(Err(Refusal::LotMissing {
-        group: need.group,
-        seats: u32::MAX,
-    }))
-}
-
-fn greatest_answer(alloc: Global) -> Result<String, Fail> {
-    let codes = sixty_codes(alloc)?;
-    let outcome = lot_of_sixty(alloc)?;
-    answer_among(alloc, codes.as_str(), &outcome)
-}
-
-// The line of that answer.
-fn greatest_line(alloc: Global) -> Result<String, AllocError> {
-    let front = "409 Conflict|1204|{\"group\":[\"sixteen-long--10\"";
-    let mut line = String::from_str(alloc, front)?;
-    for list in 11..70 {
-        write!(line, ",\"sixteen-long--{list}\"")?;
-    }
-    line.push_str("],\"refused\":19,\"seats\":4294967295,\"word\":\"lot_missing\"}")?;
-    Ok(line)
-}
-
-#[test]
-fn a_group_of_sixty_lists_has_room(rt: HostRuntime) -> Result<(), Fail> {
-    let got = greatest_answer(rt.alloc())?;
-    let line = greatest_line(rt.alloc())?;
-    assert!(rt;
-        is_answer(rt.alloc(), got.as_str(), line.as_str())?,
-        "{got}"
-    );
-    Ok(())
-}
-
-const OF_ONE: &str = r#"409 Conflict|57|{"group":["ROBLE"],"refused":18,"word":"lot_wrong_group"}"#;
-
-fn group_of_one(alloc: Global) -> Result<String, Fail> {
-    let outcome = outcome_of(alloc, "refused 18 1: 100 100")?;
-    answer_among(alloc, "ROBLE", &outcome)
-}
-
-#[test]
-fn a_group_of_one_list_has_no_comma(rt: HostRuntime) -> Result<(), Fail> {
-    let got = group_of_one(rt.alloc())?;
-    assert!(rt; is_answer(rt.alloc(), got.as_str(), OF_ONE)?, "{got}");
-    Ok(())
+    answer_among(alloc, lists, &outcome)
 }

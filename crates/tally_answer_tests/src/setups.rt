@@ -24,8 +24,9 @@ electors = 300
 fn text_of(alloc: Global, lists: &str) -> Result<String, AllocError> {
     let mut text = String::from_str(alloc, WITHOUT_LISTS)?;
     for list in lists.split(" ") {
-        write!(text, "\n[[constituency.list]]\ncode = \"{list}\"\n")?;
-        text.push_str("name = \"List\"\ncandidates = [\"a\", \"b\"]\n")?;
+        text.push_str("\n[[constituency.list]]\ncode = \"")?;
+        text.push_str(list)?;
+        text.push_str("\"\nname = \"List\"\ncandidates = [\"a\", \"b\"]\n")?;
     }
     Ok(text)
 }

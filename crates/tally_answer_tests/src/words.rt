@@ -1,12 +1,54 @@
 //! The answers that are a word alone, and those of a text.
 
-use crate::answers::is_answer;
-use crate::lines::cut;
 use std::alloc::Global;
 use std::test::*;
 use tally_answer::{
     AnswerStatus, BodyType, WORD_ROOM, Word, answer_of, unavailable_text, write_word,
 };
+
+pub(crate) const WORDS: &str = r#"word bad_head = 400 Bad Request|19|{"word":"bad_head"}
+word head_too_long = 400 Bad Request|24|{"word":"head_too_long"}
+word length_required = 411 Length Required|26|{"word":"length_required"}
+word bad_length = 400 Bad Request|21|{"word":"bad_length"}
+word body_too_long = 400 Bad Request|24|{"word":"body_too_long"}
+word ended_early = 400 Bad Request|22|{"word":"ended_early"}
+word no_route = 404 Not Found|19|{"word":"no_route"}
+word bad_body = 400 Bad Request|19|{"word":"bad_body"}
+word bad_header = 400 Bad Request|21|{"word":"bad_header"}
+word too_long = 400 Bad Request|19|{"word":"too_long"}
+word not_certified = 409 Conflict|24|{"word":"not_certified"}
+word other_method = 409 Conflict|23|{"word":"other_method"}
+word unavailable = 503 Service Unavailable|22|{"word":"unavailable"}"#;
+
+fn word_named(text: &str) -> Result<Word, Fail> {
+    match text {
+        "bad_head" => Ok(Word::BadHead),
+        "head_too_long" => Ok(Word::HeadTooLong),
+        "length_required" => Ok(Word::LengthRequired),
+        "bad_length" => Ok(Word::BadLength),
+        "body_too_long" => Ok(Word::BodyTooLong),
+        "ended_early" => Ok(Word::EndedEarly),
+        "no_route" => Ok(Word::NoRoute),
+        "bad_body" => Ok(Word::BadBody),
+        "bad_header" => Ok(Word::BadHeader),
+        "too_long" => Ok(Word::TooLong),
+        "not_certified" => Ok(Word::NotCertified),
+        "other_method" => Ok(Word::OtherMethod),
+        "unavailable" => Ok(Word::Unavailable),
+        _ => Err(Fail::from("no word")),
+    }
+}
+
+fn answered(alloc: Global, word: Word) -> Result<String, Fail> {
+    let mut out = Vec::with_capacity(alloc, WORD_ROOM)?;
+    write_word(&mut out, word);
+    Ok(String::from_utf8_lossy(alloc, &out)?)
+}
+
+/// The answer with a word.
+pub(crate) fn word_answer(alloc: Global, text: &str) -> Result<String, Fail> {
+    answered(alloc, word_named(text)?)
+}
 
 const UNAVAILABLE: &str = "HTTP/1.1 503 Service Unavailable\r
 Content-Type: application/json\r
@@ -31,6 +73,20 @@ Connection: close\r
 \r
 {\"word\":\"no_method\"}";
 
+#[test]
+fn answers_with_a_word_have_these_bytes(rt: HostRuntime) -> Result<(), Fail> {
+    for (word, want) in [
+        (Word::GetOnly, GET_ONLY),
+        (Word::PostOnly, POST_ONLY),
+        (Word::Unavailable, UNAVAILABLE),
+    ] {
+        let got = answered(rt.alloc(), word)?;
+        assert!(rt; got.as_str() == want);
+    }
+    assert!(rt; unavailable_text() == UNAVAILABLE.as_bytes());
+    Ok(())
+}
+
 // The progress of one constituency, and the answer that has it.
 const LINE: &str = "c1                    1      1      0      0      0      0      1 open\n";
 
@@ -41,61 +97,6 @@ Connection: close\r
 \r
 c1                    1      1      0      0      0      0      1 open
 ";
-
-fn answered(alloc: Global, word: Word) -> Result<String, Fail> {
-    let mut out = Vec::with_capacity(alloc, WORD_ROOM)?;
-    write_word(&mut out, word);
-    Ok(String::from_utf8_lossy(alloc, &out)?)
-}
-
-// Whether the answer with a word is that of its status, the length of its body and the word.
-fn is_said(alloc: Global, word: Word, line: &str) -> Result<bool, Fail> {
-    let (head, rest) = cut(line, "|");
-    let (length, said) = cut(rest, "|");
-    let line = format!(in alloc; "{head}|{length}|{{\"word\":\"{said}\"}}")?;
-    let got = answered(alloc, word)?;
-    Ok(is_answer(alloc, got.as_str(), line.as_str())?)
-}
-
-#[test]
-fn each_word_has_its_status(rt: HostRuntime) -> Result<(), Fail> {
-    let alloc = rt.alloc();
-    for (word, want) in [
-        (Word::BadHead, "400 Bad Request|19|bad_head"),
-        (Word::HeadTooLong, "400 Bad Request|24|head_too_long"),
-        (
-            Word::LengthRequired,
-            "411 Length Required|26|length_required",
-        ),
-        (Word::BadLength, "400 Bad Request|21|bad_length"),
-        (Word::BodyTooLong, "400 Bad Request|24|body_too_long"),
-        (Word::EndedEarly, "400 Bad Request|22|ended_early"),
-        (Word::NoRoute, "404 Not Found|19|no_route"),
-        (Word::BadBody, "400 Bad Request|19|bad_body"),
-        (Word::BadHeader, "400 Bad Request|21|bad_header"),
-        (Word::TooLong, "400 Bad Request|19|too_long"),
-        (Word::NotCertified, "409 Conflict|24|not_certified"),
-        (Word::OtherMethod, "409 Conflict|23|other_method"),
-    ] {
-        assert!(rt; is_said(alloc, word, want)?, "{want}");
-    }
-    Ok(())
-}
-
-#[test]
-fn another_method_is_told_which_is_allowed(rt: HostRuntime) -> Result<(), Fail> {
-    let alloc = rt.alloc();
-    assert!(rt; answered(alloc, Word::GetOnly)?.as_str() == GET_ONLY);
-    assert!(rt; answered(alloc, Word::PostOnly)?.as_str() == POST_ONLY);
-    Ok(())
-}
-
-#[test]
-fn what_was_not_accepted_is_unavailable(rt: HostRuntime) -> Result<(), Fail> {
-    assert!(rt; answered(rt.alloc(), Word::Unavailable)?.as_str() == UNAVAILABLE);
-    assert!(rt; unavailable_text() == UNAVAILABLE.as_bytes());
-    Ok(())
-}
 
 #[test]
 fn a_report_is_plain_text(rt: HostRuntime) -> Result<(), Fail> {
