@@ -1,9 +1,8 @@
-//! What command lines over a text, and over streams that fail, come to.
+//! What command lines over a text come to. Streams that fail are tried from outside, in `tests/program.py`.
 
 use std::alloc::{AllocError, Global};
-use std::io::{self, ErrorKind, Read, Write};
-use std::test::Fail;
-use tally_program::{FAILED, REFUSED, USAGE, perform};
+use std::test::*;
+use tally_program::{REFUSED, USAGE, perform};
 
 const RETURNS: &str = "\
 station,slip,blank,spoiled,A,B
@@ -16,7 +15,7 @@ s4,p4,0,0,900000,200000
 ";
 
 const CHECKED: &str = "\
-0 [lodged 2
+lodged 2
 same 1
 differs 1
 refused 1
@@ -26,12 +25,12 @@ blank 2
 spoiled 1
 A 80
 B 100
-] []";
+";
 
 const SEMICOLONS: &str = "station;slip;blank;spoiled;A\ns1;p1;1;2;3\n";
 
 const ADDED: &str = "\
-0 [lodged 1
+lodged 1
 same 0
 differs 0
 refused 0
@@ -40,42 +39,28 @@ first -
 blank 1
 spoiled 2
 A 3
-] []";
+";
+
+const BAD_HEADER: &str = "refused: bad_header\n";
 
 const UNKNOWN: &str = "\
-2 [] [error: unrecognized subcommand 'frobnicate'
+error: unrecognized subcommand 'frobnicate'
 
 Usage: office <COMMAND>
 
 For more information, try '--help'.
-]";
+";
 
-/// Gives its text and then fails.
-#[derive(Drop)]
-struct Broken<'a>(&'a [u8]);
-
-impl Read for Broken<'_> {
-    fn read(&mut self, buf: &mut [u8]) -> io::Result<usize> {
-        if self.0.is_empty() {
-            return Err(io::Error::from(ErrorKind::BrokenPipe));
-        }
-        self.0.read(buf)
-    }
-}
-
-/// Takes nothing.
-#[derive(Drop)]
-struct Full;
-
-impl Write for Full {
-    fn write(&mut self, _buf: &[u8]) -> io::Result<usize> {
-        Err(io::Error::from(ErrorKind::BrokenPipe))
-    }
-
-    fn flush(&mut self) -> io::Result<()> {
-        Ok(())
-    }
-}
+// A line, the text, the status, and what is written on the output and on standard error.
+const LINES: [(&str, &str, u8, &str, &str); 7] = [
+    ("office check", RETURNS, 0, CHECKED, ""),
+    ("office check --semicolon", SEMICOLONS, 0, ADDED, ""),
+    ("office check", SEMICOLONS, REFUSED, "", BAD_HEADER),
+    ("office check --semicolon", RETURNS, REFUSED, "", BAD_HEADER),
+    ("office check", "", REFUSED, "", BAD_HEADER),
+    ("office --version", RETURNS, USAGE, "", "office 0.1.0\n"),
+    ("office frobnicate", RETURNS, USAGE, "", UNKNOWN),
+];
 
 /// The words of a line, at its spaces.
 fn words_of(alloc: Global, line: &str) -> Result<Vec<String>, AllocError> {
@@ -86,99 +71,32 @@ fn words_of(alloc: Global, line: &str) -> Result<Vec<String>, AllocError> {
     Ok(words)
 }
 
-/// The status that a line over a text is answered with.
-fn status<W: Write, E: Write>(
+/// Fails where the status or what is written is another.
+fn check(
     rt: &HostRuntime,
-    line: &str,
+    line: &'static str,
     text: &str,
-    output: &mut W,
-    errors: &mut E,
-) -> Result<u8, AllocError> {
+    wanted: u8,
+    on_output: &str,
+    on_errors: &str,
+) -> Result<(), Fail> {
     let words = words_of(rt.alloc(), line)?;
     let mut input = text.as_bytes();
-    Ok(perform(rt, words.as_slice(), &mut input, output, errors))
-}
-
-/// A status, and what was written on the output and on standard error.
-fn told(alloc: Global, status: u8, output: &[u8], errors: &[u8]) -> Result<String, Fail> {
-    let output = String::from_utf8_lossy(alloc, output)?;
-    let errors = String::from_utf8_lossy(alloc, errors)?;
-    Ok(format!(in alloc; "{status} [{output}] [{errors}]")?)
-}
-
-/// What a line over a text is answered.
-fn answered(rt: &HostRuntime, line: &str, text: &str) -> Result<String, Fail> {
-    let mut output = Vec::new(rt.alloc());
-    let mut errors = Vec::new(rt.alloc());
-    let status = status(rt, line, text, &mut output, &mut errors)?;
-    told(rt.alloc(), status, &output, &errors)
-}
-
-#[test]
-fn what_a_command_line_over_a_text_answers(rt: HostRuntime) -> Result<(), Fail> {
-    let bad_header = "1 [] [refused: bad_header\n]";
-    for (line, text, wanted) in [
-        ("office check", RETURNS, CHECKED),
-        ("office check --semicolon", SEMICOLONS, ADDED),
-        ("office check", SEMICOLONS, bad_header),
-        ("office check --semicolon", RETURNS, bad_header),
-        ("office check", "", bad_header),
-        ("office --version", RETURNS, "2 [] [office 0.1.0\n]"),
-        ("office frobnicate", RETURNS, UNKNOWN),
-    ] {
-        let told = answered(&rt, line, text)?;
-        assert!(rt; told.as_str() == wanted, "{line}: {told}");
-    }
-    Ok(())
-}
-
-/// A text of so many rows.
-fn rows(alloc: Global, count: u32) -> Result<String, AllocError> {
-    let mut text = String::from_str(alloc, "station,slip,blank,spoiled,A\n")?;
-    for _ in 0..count {
-        text.push_str("x\n")?;
-    }
-    Ok(text)
-}
-
-#[test]
-fn a_text_of_too_many_rows_is_refused(rt: HostRuntime) -> Result<(), Fail> {
-    let text = rows(rt.alloc(), 20_001)?;
-    let told = answered(&rt, "office check", text.as_str())?;
-    assert!(rt; told.as_str() == "1 [] [refused: too_long\n]", "{told}");
-    Ok(())
-}
-
-/// What a check of an input that breaks off is answered.
-fn answered_of_broken(rt: &HostRuntime) -> Result<String, Fail> {
-    let words = words_of(rt.alloc(), "office check")?;
-    let mut input = Broken(RETURNS.as_bytes());
     let mut output = Vec::new(rt.alloc());
     let mut errors = Vec::new(rt.alloc());
     let status = perform(rt, words.as_slice(), &mut input, &mut output, &mut errors);
-    told(rt.alloc(), status, &output, &errors)
+    let is_written = output.as_slice() == on_output.as_bytes()
+        && errors.as_slice() == on_errors.as_bytes();
+    if status == wanted && is_written {
+        return Ok(());
+    }
+    Err(Fail::from(line))
 }
 
 #[test]
-fn a_read_or_a_write_that_fails(rt: HostRuntime) -> Result<(), Fail> {
-    let told_of_broken = answered_of_broken(&rt)?;
-    assert!(rt;
-        told_of_broken.as_str() == "3 [] [failed: read\n]",
-        "{told_of_broken}"
-    );
-    let mut errors = Vec::new(rt.alloc());
-    let status = status(&rt, "office check", RETURNS, &mut Full, &mut errors)?;
-    assert!(rt; status == FAILED);
-    assert!(rt; errors.as_slice() == "failed: write\n".as_bytes());
-    Ok(())
-}
-
-#[test]
-fn a_write_of_the_errors_that_fails_is_passed_over(rt: HostRuntime) -> Result<(), Fail> {
-    for (line, wanted) in [("office check", REFUSED), ("office", USAGE)] {
-        let mut output = Vec::new(rt.alloc());
-        let status = status(&rt, line, "", &mut output, &mut Full)?;
-        assert!(rt; status == wanted && output.is_empty(), "{line}");
+fn command_lines_over_a_text(rt: HostRuntime) -> Result<(), Fail> {
+    for (line, text, status, output, errors) in LINES {
+        check(&rt, line, text, status, output, errors)?;
     }
     Ok(())
 }
