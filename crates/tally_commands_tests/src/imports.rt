@@ -1,7 +1,7 @@
 //! Imports.
 
-use crate::lines::{outcome, told};
-use crate::offices::office;
+use crate::lines::{check_outcome, check_trouble};
+use crate::offices::fresh;
 use std::alloc::Global;
 use std::test::*;
 use tally_commands::{Sep, find_con, import_rows};
@@ -21,61 +21,62 @@ electors = 300
 const RETURNS: &str =
     "station,slip,blank,spoiled,A,B\ns1,p1,0,0,10,20\ns2,p2,1,0,x,40\ns3,p3,0,2,50,60\n";
 
-const AGAIN: &str =
-    "station,slip,blank,spoiled,A,B\ns1,p1,0,0,10,20\ns2,p2,1,0,30,40\ns3,p3,0,2,51,60\n";
+const COUNTED: &str = "lodged 2\nsame 0\ndiffers 0\nrefused 0\nbad 1\nfirst 2 0\n";
 
 const WITH_SEMICOLONS: &str = "station;slip;blank;spoiled;A;B\ns2;p2;1;0;30;40\n";
 
+const ONE_LODGED: &str = "lodged 1\nsame 0\ndiffers 0\nrefused 0\nbad 0\nfirst -\n";
+
+const AGAIN: &str =
+    "station,slip,blank,spoiled,A,B\ns1,p1,0,0,10,20\ns2,p2,1,0,30,40\ns3,p3,0,2,51,60\n";
+
+const ONE_DIFFERS: &str = "lodged 0\nsame 2\ndiffers 1\nrefused 0\nbad 0\nfirst 3 7\n";
+
 const OTHER_LISTS: &str = "station,slip,blank,spoiled,B,A\ns2,p2,1,0,30,40\n";
 
-/// What an import into a constituency comes to.
-fn imported(
+// A constituency, what is between fields, a text, the status, and the counts or the line of the trouble.
+const IMPORTS: [(&str, Sep, &str, u8, &str); 6] = [
+    ("zz", Sep::Comma, RETURNS, 1, "refused: no_constituency\n"),
+    ("c1", Sep::Comma, OTHER_LISTS, 1, "refused: bad_header\n"),
+    (
+        "c1",
+        Sep::Comma,
+        WITH_SEMICOLONS,
+        1,
+        "refused: bad_header\n",
+    ),
+    ("c1", Sep::Comma, RETURNS, 0, COUNTED),
+    ("c1", Sep::Semicolon, WITH_SEMICOLONS, 0, ONE_LODGED),
+    ("c1", Sep::Comma, AGAIN, 0, ONE_DIFFERS),
+];
+
+fn check_import(
     alloc: Global,
     office: &mut Book,
-    con: &str,
+    code: &str,
     sep: Sep,
     text: &str,
-) -> Result<String, Fail> {
-    match find_con(alloc, office.setup(), con) {
-        Ok(con) => outcome(
+    status: u8,
+    want: &'static str,
+) -> Result<(), Fail> {
+    match find_con(alloc, office.setup(), code) {
+        Ok(con) => check_outcome(
             alloc,
             &import_rows(alloc, office, con, sep, text.as_bytes()),
+            status,
+            want,
         ),
-        Err(trouble) => told(alloc, &trouble),
+        Err(trouble) => check_trouble(alloc, &trouble, status, want),
     }
 }
 
 #[test]
 fn imports_are_counted_or_refused(rt: HostRuntime) -> Result<(), Fail> {
-    let wanted = [
-        ("zz", Sep::Comma, RETURNS, "1 refused: no_constituency\n"),
-        ("c1", Sep::Comma, OTHER_LISTS, "1 refused: bad_header\n"),
-        ("c1", Sep::Comma, WITH_SEMICOLONS, "1 refused: bad_header\n"),
-        (
-            "c1",
-            Sep::Comma,
-            RETURNS,
-            "lodged 2\nsame 0\ndiffers 0\nrefused 0\nbad 1\nfirst 2 0\n",
-        ),
-        (
-            "c1",
-            Sep::Semicolon,
-            WITH_SEMICOLONS,
-            "lodged 1\nsame 0\ndiffers 0\nrefused 0\nbad 0\nfirst -\n",
-        ),
-        (
-            "c1",
-            Sep::Comma,
-            AGAIN,
-            "lodged 0\nsame 2\ndiffers 1\nrefused 0\nbad 0\nfirst 3 7\n",
-        ),
-    ];
-    let alloc = rt.alloc();
-    let setup = format!(in alloc; "{TWIN_TOWN}{OTHER_STATIONS}")?;
-    let mut office = office(alloc, setup.as_str(), "")?;
-    for (con, sep, text, want) in wanted {
-        let told = imported(alloc, &mut office, con, sep, text)?;
-        assert!(rt; told.as_str() == want, "{text}: {told}");
+    let mut setup = String::from_str(rt.alloc(), TWIN_TOWN)?;
+    setup.push_str(OTHER_STATIONS)?;
+    let mut office = fresh(rt.alloc(), setup.as_str())?;
+    for (code, sep, text, status, want) in IMPORTS {
+        check_import(rt.alloc(), &mut office, code, sep, text, status, want)?;
     }
     Ok(())
 }

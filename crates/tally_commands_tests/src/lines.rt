@@ -1,21 +1,37 @@
-//! Outcomes as text.
+//! Outcomes, and the lines of troubles.
 
 use std::alloc::Global;
 use std::test::Fail;
 use tally_commands::Trouble;
 
-/// The status of a trouble and its line.
-pub(crate) fn told(alloc: Global, trouble: &Trouble) -> Result<String, Fail> {
-    let mut line = Vec::new(alloc);
-    let status = trouble.report(&mut line);
-    let line = String::from_utf8_lossy(alloc, &line)?;
-    Ok(format!(in alloc; "{status} {line}")?)
+/// Fails where a trouble has another status or another line.
+pub(crate) fn check_trouble(
+    alloc: Global,
+    trouble: &Trouble,
+    status: u8,
+    line: &'static str,
+) -> Result<(), Fail> {
+    let mut told = Vec::new(alloc);
+    if trouble.report(&mut told) == status && told.as_slice() == line.as_bytes() {
+        return Ok(());
+    }
+    Err(Fail::from(line))
 }
 
-/// A text, or the trouble in its place.
-pub(crate) fn outcome(alloc: Global, outcome: &Result<String, Trouble>) -> Result<String, Fail> {
+/// Fails where the outcome is another text or has another line. The status of a text is 0.
+pub(crate) fn check_outcome(
+    alloc: Global,
+    outcome: &Result<String, Trouble>,
+    status: u8,
+    want: &'static str,
+) -> Result<(), Fail> {
     match outcome {
-        Ok(text) => Ok(String::from_str(alloc, text.as_str())?),
-        Err(trouble) => told(alloc, trouble),
+        Ok(text) => {
+            if status == 0 && text.as_str() == want {
+                return Ok(());
+            }
+            Err(Fail::from(want))
+        }
+        Err(trouble) => check_trouble(alloc, trouble, status, want),
     }
 }

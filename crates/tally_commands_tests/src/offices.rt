@@ -5,12 +5,16 @@ use std::test::Fail;
 use tally_core::Book;
 use tally_scripts::{first_wrong, setup};
 
-/// An office of the setup of a text, after commands whose answers are given.
-pub(crate) fn office(alloc: Global, text: &str, script: &str) -> Result<Book, Fail> {
-    let mut office = Book::new(alloc, setup(alloc, text)?)?;
-    let wrong = first_wrong(alloc, &mut office, script)?;
+/// A new office of the setup of a text.
+pub(crate) fn fresh(alloc: Global, text: &str) -> Result<Book, Fail> {
+    Ok(Book::new(alloc, setup(alloc, text)?)?)
+}
+
+/// Fails at the first line of a script that an office answers otherwise.
+pub(crate) fn go_on(alloc: Global, office: &mut Book, script: &str) -> Result<(), Fail> {
+    let wrong = first_wrong(alloc, office, script)?;
     if wrong.is_empty() {
-        return Ok(office);
+        return Ok(());
     }
     Err(Fail::from(wrong))
 }
