@@ -2,7 +2,7 @@
 //! files show what they showed before the step that was stopped, or what they show after it.
 
 use crate::deeds::Deed;
-use crate::disks::{Contents, are_same, crossed, disks, have_stopped, synced, torn, written};
+use crate::disks::{Contents, MIXTURES, are_same, disks, have_stopped, mixed, synced, written};
 use crate::runs::{Done, carried_out, told};
 use std::alloc::Global;
 use std::test::Fail;
@@ -26,34 +26,43 @@ fn check(alloc: Global, case: &Case<'_>, left: &Contents, steps: usize) -> Resul
     if shown.as_str() == before.as_str() || shown.as_str() == after.as_str() {
         return Ok(());
     }
-    Err(Fail::from(format!(in alloc; "after {steps} steps {shown}")?))
+    Err(Fail::from(shown))
 }
 
-/// What a crash may leave: all that was written, what was synced, the one of the log and the other of the
-/// database file, or sectors of both in turn.
-fn check_left(alloc: Global, case: &Case<'_>, done: Done) -> Result<(), Fail> {
-    let Done { files, steps, .. } = done;
-    let written = written(alloc, &files)?;
-    let synced = synced(alloc, files)?;
-    check(alloc, case, &written, steps)?;
-    if are_same(&written, &synced) {
+/// What a crash may leave of what was written and what was synced of it.
+fn check_left(
+    alloc: Global,
+    case: &Case<'_>,
+    written: &Contents,
+    synced: &Contents,
+    steps: usize,
+) -> Result<(), Fail> {
+    check(alloc, case, written, steps)?;
+    if are_same(written, synced) {
         return Ok(());
     }
-    check(alloc, case, &synced, steps)?;
-    check(alloc, case, &crossed(alloc, &written, &synced)?, steps)?;
-    check(alloc, case, &crossed(alloc, &synced, &written)?, steps)?;
-    check(alloc, case, &torn(alloc, &written, &synced)?, steps)
+    for mixture in MIXTURES {
+        let left = mixed(alloc, written, synced, mixture)?;
+        check(alloc, case, &left, steps)?;
+    }
+    Ok(())
 }
 
 /// Whether a file stops in a run where the files let these numbers of calls through.
 fn stops(alloc: Global, case: &Case<'_>, calls: (u64, u64)) -> Result<bool, Fail> {
     let files = disks(alloc, &case.contents, calls)?;
-    let mut done = carried_out(alloc, files, case.deed)?;
-    let has_stopped = have_stopped(&mut done.files);
-    if !has_stopped && done.steps.saturating_add(1) != case.shows.len() {
+    let Done {
+        mut files,
+        steps,
+        ..
+    } = carried_out(alloc, files, case.deed)?;
+    let has_stopped = have_stopped(&mut files);
+    if !has_stopped && steps.saturating_add(1) != case.shows.len() {
         return Err(Fail::from("a refusal without a stop"));
     }
-    check_left(alloc, case, done)?;
+    let written = written(alloc, &files)?;
+    let synced = synced(alloc, files)?;
+    check_left(alloc, case, &written, &synced, steps)?;
     Ok(has_stopped)
 }
 
@@ -73,12 +82,9 @@ fn counted(alloc: Global, case: &Case<'_>, of_log: bool, more: u64) -> Result<u6
     Err(Fail::from("no run without a stop"))
 }
 
-/// The same for the log.
-pub(crate) fn log_counted(alloc: Global, case: &Case<'_>, more: u64) -> Result<u64, Fail> {
-    counted(alloc, case, true, more)
-}
-
-/// For the database file.
-pub(crate) fn db_counted(alloc: Global, case: &Case<'_>, more: u64) -> Result<u64, Fail> {
-    counted(alloc, case, false, more)
+/// Whether each file stops in some run, and all runs leave what they may.
+pub(crate) fn is_whole(alloc: Global, case: &Case<'_>, more: u64) -> Result<bool, Fail> {
+    let log = counted(alloc, case, true, more)?;
+    let db = counted(alloc, case, false, more)?;
+    Ok(log > 0 && db > 0)
 }

@@ -1,6 +1,6 @@
 //! What is done to a database until its store refuses, over any store.
 
-use crate::looks::{looked, values};
+use crate::looks::push_looked;
 use sqlite::{Alter, Connection};
 use std::alloc::Global;
 use std::test::Fail;
@@ -20,12 +20,8 @@ pub(crate) enum Deed<'a> {
     Answer(&'a str),
     /// It lodges the rows of this text.
     Import(&'a str),
-    /// These statements run.
-    Run(&'a str),
     /// These statements run, and the log is not copied into the database file.
     Leave(&'a str),
-    /// The first values of a SELECT are shown.
-    Read(&'a str),
     /// All that an office shows is shown.
     Look,
 }
@@ -94,7 +90,7 @@ fn create<S: Alter + Drop>(
     match made(alloc, conn, text) {
         Ok(office) => Ok(ended(alloc, office.close(), 1)),
         Err((conn, CreateFault::Store)) => Ok(stopped(alloc, conn, 0)),
-        Err((_conn, fault)) => Err(Fail::from(format!(in alloc; "{fault}")?)),
+        Err(_) => Err(Fail::from("another fault")),
     }
 }
 
@@ -171,17 +167,8 @@ fn opened<S: Alter + Drop>(
     match open(alloc, conn) {
         Ok(office) => in_office(alloc, office, deed),
         Err((conn, OpenFault::Store)) => Ok(stopped(alloc, conn, 0)),
-        Err((_conn, fault)) => Err(Fail::from(format!(in alloc; "{fault}")?)),
+        Err(_) => Err(Fail::from("another fault")),
     }
-}
-
-fn run<S: Alter + Drop>(
-    alloc: Global,
-    mut conn: Connection<S>,
-    statements: &str,
-) -> Result<Work<S>, Fail> {
-    conn.execute_batch(statements)?;
-    Ok(ended(alloc, conn, 1))
 }
 
 fn leave<S: Alter + Drop>(
@@ -193,21 +180,9 @@ fn leave<S: Alter + Drop>(
     Ok(stopped(alloc, conn, 1))
 }
 
-fn read<S: Alter + Drop>(
-    alloc: Global,
-    mut conn: Connection<S>,
-    select: &str,
-) -> Result<Work<S>, Fail> {
-    let told = values(alloc, &mut conn, select)?;
-    Ok(Work {
-        left: Left::Conn(conn),
-        steps: 1,
-        told,
-    })
-}
-
 fn look<S: Alter + Drop>(alloc: Global, conn: Connection<S>) -> Result<Work<S>, Fail> {
-    let (conn, told) = looked(alloc, conn)?;
+    let mut told = String::new(alloc);
+    let conn = push_looked(alloc, &mut told, conn)?;
     Ok(Work {
         left: Left::Conn(conn),
         steps: 1,
@@ -223,9 +198,7 @@ pub(crate) fn carry_out<S: Alter + Drop>(
 ) -> Result<Work<S>, Fail> {
     match deed {
         Deed::Create(text) => create(alloc, conn, text),
-        Deed::Run(statements) => run(alloc, conn, statements),
         Deed::Leave(statements) => leave(alloc, conn, statements),
-        Deed::Read(select) => read(alloc, conn, select),
         Deed::Look => look(alloc, conn),
         _ => opened(alloc, conn, deed),
     }

@@ -97,12 +97,17 @@ pub(crate) fn files_of(left: Left<Stored>) -> Disks {
     }
 }
 
+/// Copies of these bytes.
+fn copies(alloc: Global, log: &[u8], db: &[u8]) -> Result<Contents, Fail> {
+    Ok(Contents {
+        log: copied(alloc, log)?,
+        db: copied(alloc, db)?,
+    })
+}
+
 /// What was written to files, synced or not.
 pub(crate) fn written(alloc: Global, files: &Disks) -> Result<Contents, Fail> {
-    Ok(Contents {
-        log: copied(alloc, files.log.inner().bytes())?,
-        db: copied(alloc, files.db.inner().bytes())?,
-    })
+    copies(alloc, files.log.inner().bytes(), files.db.inner().bytes())
 }
 
 /// What was synced of it.
@@ -112,8 +117,28 @@ pub(crate) fn synced(alloc: Global, mut files: Disks) -> Result<Contents, Fail> 
     written(alloc, &files)
 }
 
+/// What a crash may leave beside all that was written.
+#[derive(Clone, Copy)]
+pub(crate) enum Mixture {
+    /// What was synced.
+    Synced,
+    /// What was written to the log, and what was synced of the database file.
+    WrittenLog,
+    /// What was synced of the log, and what was written to the database file.
+    WrittenDatabase,
+    /// Sectors of both in turn.
+    Sectors,
+}
+
+pub(crate) const MIXTURES: [Mixture; 4] = [
+    Mixture::Synced,
+    Mixture::WrittenLog,
+    Mixture::WrittenDatabase,
+    Mixture::Sectors,
+];
+
 /// A sector of what was written, one of what was synced, and so on in turn.
-fn torn_file(alloc: Global, written: &[u8], synced: &[u8]) -> Result<Vec<u8>, Fail> {
+fn sectors(alloc: Global, written: &[u8], synced: &[u8]) -> Result<Vec<u8>, Fail> {
     let mut mixed = copied(alloc, written)?;
     for at in 0..mixed.len() {
         if at / SECTOR % 2 == 1 {
@@ -123,19 +148,23 @@ fn torn_file(alloc: Global, written: &[u8], synced: &[u8]) -> Result<Vec<u8>, Fa
     Ok(mixed)
 }
 
-pub(crate) fn torn(alloc: Global, written: &Contents, synced: &Contents) -> Result<Contents, Fail> {
-    Ok(Contents {
-        log: torn_file(alloc, written.log.as_slice(), synced.log.as_slice())?,
-        db: torn_file(alloc, written.db.as_slice(), synced.db.as_slice())?,
-    })
-}
-
-/// The log of the one and the database file of the other.
-pub(crate) fn crossed(alloc: Global, one: &Contents, other: &Contents) -> Result<Contents, Fail> {
-    Ok(Contents {
-        log: copied(alloc, one.log.as_slice())?,
-        db: copied(alloc, other.db.as_slice())?,
-    })
+pub(crate) fn mixed(
+    alloc: Global,
+    written: &Contents,
+    synced: &Contents,
+    mixture: Mixture,
+) -> Result<Contents, Fail> {
+    let (written_log, synced_log) = (written.log.as_slice(), synced.log.as_slice());
+    let (written_db, synced_db) = (written.db.as_slice(), synced.db.as_slice());
+    match mixture {
+        Mixture::Synced => copies(alloc, synced_log, synced_db),
+        Mixture::WrittenLog => copies(alloc, written_log, synced_db),
+        Mixture::WrittenDatabase => copies(alloc, synced_log, written_db),
+        Mixture::Sectors => Ok(Contents {
+            log: sectors(alloc, written_log, synced_log)?,
+            db: sectors(alloc, written_db, synced_db)?,
+        }),
+    }
 }
 
 pub(crate) fn are_same(one: &Contents, other: &Contents) -> bool {

@@ -14,5 +14,3 @@ mod looks;
 mod runs;
 #[cfg(test)]
 mod stops;
-#[cfg(test)]
-mod texts;

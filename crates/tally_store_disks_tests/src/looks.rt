@@ -20,102 +20,120 @@ pub(crate) const FORMER_TABLES: &str =
 pub(crate) const TABLES: &str =
     "version 2, tables cons counts gone lots past returns seats setup totals\n";
 
-/// What a keeper answers, as text.
-fn shown<K: Keeper>(alloc: Global, keeper: &mut K, ask: &Ask) -> Result<String, Fail> {
+/// Adds what a keeper answers, as a line.
+fn push_answer<K: Keeper>(
+    alloc: Global,
+    text: &mut String,
+    keeper: &mut K,
+    ask: &Ask,
+) -> Result<(), Fail> {
     let answer = keeper.answer(ask);
-    told(alloc, &answer)
+    text.push_str(told(alloc, &answer)?.as_str())?;
+    text.push_str("\n")?;
+    Ok(())
 }
 
-/// What a keeper shows: these returns, the constituency, and the progress.
-fn answers<K: Keeper>(alloc: Global, keeper: &mut K) -> Result<String, Fail> {
-    let mut text = String::new(alloc);
+/// Adds what a keeper shows: these returns, the constituency, and the progress.
+fn push_answers<K: Keeper>(alloc: Global, text: &mut String, keeper: &mut K) -> Result<(), Fail> {
     for line in SHOWN {
         let ask = command(alloc, line)?;
-        text.push_str(shown(alloc, keeper, &ask)?.as_str())?;
-        text.push_str("\n")?;
+        push_answer(alloc, text, keeper, &ask)?;
     }
-    text.push_str(shown(alloc, keeper, &Ask::ShowProgress)?.as_str())?;
-    Ok(text)
+    push_answer(alloc, text, keeper, &Ask::ShowProgress)
 }
 
-/// Adds a value. What is not in UTF-8 is replaced.
-fn push_value(alloc: Global, text: &mut String, value: &Value) -> Result<(), Fail> {
+/// Adds a value.
+fn push_value(text: &mut String, value: &Value) -> Result<(), Fail> {
     match value {
         Value::Int(number) => write!(text, " {number}")?,
         Value::Text(bytes) => {
-            let bytes = String::from_utf8_lossy(alloc, bytes.as_slice())?;
-            write!(text, " {}", bytes.as_str())?;
+            text.push_str(" ")?;
+            let bytes = std::str::from_utf8(bytes.as_slice());
+            text.push_str(bytes.ok().ok_or("UTF-8")?)?;
         }
         _ => text.push_str(" ?")?,
     }
     Ok(())
 }
 
-/// The first value of each row that a SELECT shows, or `none`.
-pub(crate) fn values<S: Alter + Drop>(
-    alloc: Global,
+/// Adds the first value of each row that a SELECT shows, or `none`.
+fn push_values<S: Alter + Drop>(
+    text: &mut String,
     conn: &mut Connection<S>,
     select: &str,
-) -> Result<String, Fail> {
+) -> Result<(), Fail> {
     let Ok(rows) = conn.query_all(select, &[]) else {
-        return Ok(String::from_str(alloc, " none")?);
+        return Ok(text.push_str(" none")?);
     };
-    let mut text = String::new(alloc);
     for row in &rows {
-        push_value(alloc, &mut text, &row.get::<Value>(0)?)?;
+        push_value(text, &row.get::<Value>(0)?)?;
     }
-    Ok(text)
+    Ok(())
 }
 
-/// The version and the tables.
-fn outline<S: Alter + Drop>(alloc: Global, conn: &mut Connection<S>) -> Result<String, Fail> {
-    let version = values(alloc, conn, "SELECT version FROM setup")?;
+/// Adds the version and the tables.
+fn push_outline<S: Alter + Drop>(text: &mut String, conn: &mut Connection<S>) -> Result<(), Fail> {
+    text.push_str("version")?;
+    push_values(text, conn, "SELECT version FROM setup")?;
+    text.push_str(", tables")?;
     let tables = "SELECT name FROM sqlite_schema WHERE type = 'table' ORDER BY name";
-    let tables = values(alloc, conn, tables)?;
-    Ok(format!(in alloc; "version{version}, tables{tables}\n")?)
+    push_values(text, conn, tables)?;
+    text.push_str("\n")?;
+    Ok(())
 }
 
-/// What the office of a database shows, or why there is none.
-fn opened<S: Alter + Drop>(
+/// Adds what the office of a database shows, or why there is none.
+fn push_opened<S: Alter + Drop>(
     alloc: Global,
+    text: &mut String,
     conn: Connection<S>,
-) -> Result<(Connection<S>, String), Fail> {
+) -> Result<Connection<S>, Fail> {
     match open(alloc, conn) {
         Ok(mut office) => {
-            let answers = answers(alloc, &mut office)?;
-            Ok((office.close(), answers))
+            push_answers(alloc, text, &mut office)?;
+            Ok(office.close())
         }
         Err((conn, fault)) => {
-            let fault = format!(in alloc; "{fault}")?;
-            Ok((conn, fault))
+            write!(text, "{fault}")?;
+            Ok(conn)
         }
     }
 }
 
-/// What a database shows: the version, the tables, and the office's answers.
-pub(crate) fn looked<S: Alter + Drop>(
+/// Adds what a database shows: the version, the tables, and the office's answers.
+pub(crate) fn push_looked<S: Alter + Drop>(
     alloc: Global,
+    text: &mut String,
     mut conn: Connection<S>,
-) -> Result<(Connection<S>, String), Fail> {
-    let outline = outline(alloc, &mut conn)?;
-    let (conn, opened) = opened(alloc, conn)?;
-    let text = format!(in alloc; "{outline}{opened}")?;
-    Ok((conn, text))
+) -> Result<Connection<S>, Fail> {
+    push_outline(text, &mut conn)?;
+    push_opened(alloc, text, conn)
 }
 
-/// What an office in memory shows that has answered these lines.
-fn shown_in_memory(alloc: Global, text: &str, lines: &str) -> Result<String, Fail> {
-    let mut book = Book::new(alloc, setup(alloc, text)?)?;
-    let wrong = first_wrong(alloc, &mut book, lines)?;
+/// Adds what a keeper shows that has answered these lines.
+fn push_answered<K: Keeper>(
+    alloc: Global,
+    text: &mut String,
+    keeper: &mut K,
+    lines: &str,
+) -> Result<(), Fail> {
+    let wrong = first_wrong(alloc, keeper, lines)?;
     if !wrong.is_empty() {
         return Err(Fail::from(wrong));
     }
-    answers(alloc, &mut book)
+    push_answers(alloc, text, keeper)
 }
 
 /// What a database is to show of these tables, where the office has answered these lines: as an office in
 /// memory shows it.
-pub(crate) fn wanted(alloc: Global, tables: &str, text: &str, lines: &str) -> Result<String, Fail> {
-    let answers = shown_in_memory(alloc, text, lines)?;
-    Ok(format!(in alloc; "{tables}{answers}")?)
+pub(crate) fn wanted(
+    alloc: Global,
+    tables: &str,
+    setup_text: &str,
+    lines: &str,
+) -> Result<String, Fail> {
+    let mut book = Book::new(alloc, setup(alloc, setup_text)?)?;
+    let mut text = String::from_str(alloc, tables)?;
+    push_answered(alloc, &mut text, &mut book, lines)?;
+    Ok(text)
 }

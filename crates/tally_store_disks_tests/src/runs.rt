@@ -67,15 +67,11 @@ pub(crate) fn contents_after(
     written(alloc, &done.files)
 }
 
-/// The contents of the files of an office of this setup that has answered these lines.
-pub(crate) fn office_contents(alloc: Global, text: &str, lines: &str) -> Result<Contents, Fail> {
-    let made = contents_after(alloc, &no_contents(alloc), Deed::Create(text))?;
-    contents_after(alloc, &made, Deed::Answer(lines))
-}
-
-/// The same in tables of version 1. Part of them stands in the log alone.
+/// The contents of the files of an office of this setup that has answered these lines, in tables of version
+/// 1. Part of them stands in the log alone.
 pub(crate) fn former_contents(alloc: Global, text: &str, lines: &str) -> Result<Contents, Fail> {
-    let contents = office_contents(alloc, text, lines)?;
+    let made = contents_after(alloc, &no_contents(alloc), Deed::Create(text))?;
+    let office = contents_after(alloc, &made, Deed::Answer(lines))?;
     let change = "DROP TABLE past; UPDATE setup SET version = 1";
-    contents_after(alloc, &contents, Deed::Leave(change))
+    contents_after(alloc, &office, Deed::Leave(change))
 }

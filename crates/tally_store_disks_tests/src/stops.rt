@@ -1,6 +1,6 @@
 //! What a stop of a file leaves of an office that is made, opened, asked or imported into.
 
-use crate::counts::{Case, db_counted, log_counted};
+use crate::counts::{Case, is_whole};
 use crate::deeds::Deed;
 use crate::disks::no_contents;
 use crate::looks::{FORMER_TABLES, NO_TABLES, TABLES, wanted};
@@ -118,44 +118,28 @@ fn answering(alloc: Global, lines: &str) -> Result<Case<'_>, Fail> {
 #[test]
 fn an_office_is_made_whole_or_not_at_all(rt: HostRuntime) -> Result<(), Fail> {
     let case = making(rt.alloc())?;
-    let log = log_counted(rt.alloc(), &case, MORE)?;
-    let db = db_counted(rt.alloc(), &case, MORE)?;
-    assert!(rt; log > 0 && db > 0);
+    assert!(rt; is_whole(rt.alloc(), &case, MORE)?);
     Ok(())
 }
 
 #[test]
 fn an_office_is_taken_over_whole_or_not_at_all(rt: HostRuntime) -> Result<(), Fail> {
     let case = taking_over(rt.alloc())?;
-    let log = log_counted(rt.alloc(), &case, MORE)?;
-    let db = db_counted(rt.alloc(), &case, MORE)?;
-    assert!(rt; log > 0 && db > 0);
+    assert!(rt; is_whole(rt.alloc(), &case, MORE)?);
     Ok(())
 }
 
 #[test]
 fn all_rows_are_lodged_or_none(rt: HostRuntime) -> Result<(), Fail> {
     let case = importing(rt.alloc())?;
-    let log = log_counted(rt.alloc(), &case, MORE)?;
-    let db = db_counted(rt.alloc(), &case, MORE)?;
-    assert!(rt; log > 0 && db > 0);
+    assert!(rt; is_whole(rt.alloc(), &case, MORE)?);
     Ok(())
 }
 
 #[test]
-fn a_step_is_whole_where_the_log_stops(rt: HostRuntime) -> Result<(), Fail> {
+fn a_step_is_whole_or_not_taken(rt: HostRuntime) -> Result<(), Fail> {
     let lines = steps(rt.alloc())?;
     let case = answering(rt.alloc(), lines.as_str())?;
-    let log = log_counted(rt.alloc(), &case, MORE)?;
-    assert!(rt; log > 0);
-    Ok(())
-}
-
-#[test]
-fn a_step_is_whole_where_the_database_file_stops(rt: HostRuntime) -> Result<(), Fail> {
-    let lines = steps(rt.alloc())?;
-    let case = answering(rt.alloc(), lines.as_str())?;
-    let db = db_counted(rt.alloc(), &case, MORE)?;
-    assert!(rt; db > 0);
+    assert!(rt; is_whole(rt.alloc(), &case, MORE)?);
     Ok(())
 }
