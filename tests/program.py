@@ -1001,7 +1001,8 @@ def test_messages_that_are_refused():
         (close + b"Content-Length: x\r\n\r\n", 400, "bad_length"), (close + b"Content-Length: +1\r\n\r\nx", 400, "bad_length"),
         (close + b"Content-Length: 1\r\nContent-Length: 1\r\n\r\nx", 400, "bad_length"),
         (close + b"Content-Length: 1048577\r\n\r\n", 400, "body_too_long"), (close + b"Content-Length: 9\r\n\r\n{}", 400, "ended_early"),
-        (b"GET /nothing HTTP/1.1\r\n\r\n", 404, "no_route"), (b"PUT /progress HTTP/1.1\r\n\r\n", 405, "no_method"),
+        (b"GET /nothing HTTP/1.1\r\n\r\n", 404, "no_route"), ("GET /caña HTTP/1.1\r\n\r\n".encode(), 404, "no_route"),
+        (b"GET /ca\xf1a HTTP/1.1\r\n\r\n", 400, "bad_head"), (b"PUT /progress HTTP/1.1\r\n\r\n", 405, "no_method"),
         (b"GET /con/zz/tally HTTP/1.1\r\n\r\n", 404, "no_constituency"), (b"GET /station/zz HTTP/1.1\r\n\r\n", 404, "no_station"),
         (b"GET /station/s1 HTTP/1.1\r\n\r\n", 404, "no_return"),
         *((close + f"Content-Length: {len(body)}\r\n\r\n{body}".encode(), 400, "bad_body")
