@@ -164,13 +164,6 @@ show c1 = certified 6 1/1 [120, 120] [1, 2] [2, 1] recount 2.1 resigned
 lodge s1 p1 100,100 = differs 5
 lodge s1 p2 120,120 = same 5";
 
-// A return that is queried and corrected in turn. 12 is Exhausted.
-const LAST_REVISION: &str = "query s1 9997 sum = moved 9998
-correct s1 9998 p1 1,1 = moved 9999
-query s1 9999 sum = refused 12
-close s1 9999 = refused 12
-return s1 = 9999 p1 Corrected [1, 1] 0 0 sum";
-
 /// What is wrong in a script, line by line, where a database was changed by these statements before.
 fn wrong_after<S: Alter + Drop>(
     alloc: Global,
@@ -183,20 +176,57 @@ fn wrong_after<S: Alter + Drop>(
 }
 
 #[test]
-fn offices_whose_tables_were_changed_go_on(rt: HostRuntime) -> Result<(), Fail> {
+fn offices_of_version_1_go_on(rt: HostRuntime) -> Result<(), Fail> {
     let alloc = rt.alloc();
     for (before, statements, after) in [
         (CERTIFIED, FORMER, REOPENED),
         (COUNTED_AGAIN, FORMER, CERTIFIED_AGAIN),
-        (
-            "lodge s1 p1 1,1 = lodged 1\nquery s1 1 sum = moved 2\ncorrect s1 2 p1 1,1 = moved 3",
-            "UPDATE returns SET rev = 9997",
-            LAST_REVISION,
-        ),
     ] {
         let conn = database(alloc, TWIN_TOWN, before)?;
         let wrong = wrong_after(alloc, conn, statements, after)?;
         assert!(rt; wrong.is_empty(), "{wrong}");
     }
+    Ok(())
+}
+
+// 12 is Exhausted.
+const LAST_REVISION: &str = "query s1 9999 sum = refused 12
+close s1 9999 = refused 12
+return s1 = 9999 p1 Corrected [1, 1] 0 0 sum";
+
+/// A script of a return that is queried and corrected in turn, up to its last revision.
+fn to_the_last_revision(alloc: Global) -> Result<String, Fail> {
+    let mut script = String::from_str(alloc, "lodge s1 p1 1,1 = lodged 1\n")?;
+    for turn in 0..4_999u32 {
+        let rev = 2 * turn + 1;
+        let (next, after) = (rev + 1, rev + 2);
+        writeln!(script, "query s1 {rev} sum = moved {next}")?;
+        writeln!(script, "correct s1 {next} p1 1,1 = moved {after}")?;
+    }
+    script.push_str(LAST_REVISION)?;
+    Ok(script)
+}
+
+/// The first wrong line of a script, or of its end where the office was closed and opened again.
+fn wrong_at_the_end<S: Alter + Drop>(
+    alloc: Global,
+    mut office: Store<S>,
+    script: &str,
+    end: &str,
+) -> Result<String, Fail> {
+    let wrong = first_wrong(alloc, &mut office, script)?;
+    if !wrong.is_empty() {
+        return Ok(wrong);
+    }
+    wrong_at_once(alloc, reopened_the_same(alloc, office)?, end)
+}
+
+// `rt try --test` is slower by far than the test that `rt test` builds, and needs `--seconds` for the 9,998 commands.
+#[test]
+fn a_return_at_its_last_revision(rt: HostRuntime) -> Result<(), Fail> {
+    let script = to_the_last_revision(rt.alloc())?;
+    let office = made(rt.alloc(), TWIN_TOWN)?;
+    let wrong = wrong_at_the_end(rt.alloc(), office, script.as_str(), LAST_REVISION)?;
+    assert!(rt; wrong.is_empty(), "{wrong}");
     Ok(())
 }
