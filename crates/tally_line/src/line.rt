@@ -1,7 +1,7 @@
 //! The command line.
 
 ghost use Rattle.std.specs.Prelude.{◌≡◌, ◌≤◌, IfOk, IfErr, Some, true, false, codes, is_some, map, option_map, string_bytes};
-ghost use Rattle.clap.specs.Words.{app_of, first_of, found_of, kind_of, rows_of, rule_of, with_rule, with_subcommand};
+ghost use Rattle.clap.specs.Words.{app_of, first_of, found_of, kind_of, new_app, rows_of, rule_of, with_rule, with_subcommand};
 ghost use Rattle.clap.specs.declared.builder.command.Command.TheViews.{out-Command};
 ghost use Rattle.clap.specs.declared.error.ErrorKind.TheVariants.{InvalidValue};
 ghost use Rattle.tally_line.specs.Line.{IsRefusal, IsWithinLimits, check_app, import_app, import_line, is_set, line_of, line_of_command};
@@ -343,25 +343,42 @@ fn add_show_and_serve<'a>(alloc: Global, office: Command<'a>) -> Result<Command<
         .subcommand(serve_command(alloc)?)
 }
 
+// A command without arguments: its name, and the texts of its help.
+fn described_command<'a>(
+    alloc: Global,
+    name: &'a str,
+    about: &'a str,
+    long: &'a str,
+    example: &'a str,
+) -> Command<'a>
+    ensures app { app_of result ≡ new_app name.now }
+    ensures local { (out-Command result).has_globals ≡ false }
+{
+    Command::new(alloc, name)
+        .about(about)
+        .long_about(long)
+        .after_long_help(example)
+}
+
 fn check_command<'a>(alloc: Global) -> Result<Command<'a>, AllocError>
     ensures app { IfOk result (λ c. app_of c ≡ check_app) }
     ensures local { IfOk result (λ c. (out-Command c).has_globals ≡ false) }
 {
-    Command::new(alloc, CHECK)
-        .about(help::CHECK)
-        .long_about(help::CHECK_LONG)
-        .after_long_help(help::CHECK_EXAMPLE)
-        .arg(semicolon_arg(alloc))
+    described_command(
+        alloc,
+        CHECK,
+        help::CHECK,
+        help::CHECK_LONG,
+        help::CHECK_EXAMPLE,
+    )
+    .arg(semicolon_arg(alloc))
 }
 
 fn new_command<'a>(alloc: Global) -> Result<Command<'a>, AllocError>
     ensures app { IfOk result (λ c. app_of c ≡ new_office_app) }
     ensures local { IfOk result (λ c. (out-Command c).has_globals ≡ false) }
 {
-    Command::new(alloc, NEW)
-        .about(help::NEW)
-        .long_about(help::NEW_LONG)
-        .after_long_help(help::NEW_EXAMPLE)
+    described_command(alloc, NEW, help::NEW, help::NEW_LONG, help::NEW_EXAMPLE)
         .arg(wanted_arg(alloc, DB, "FILE", help::NEW_DB))?
         .arg(wanted_arg(alloc, SETUP, "FILE", help::SETUP))
 }
@@ -370,12 +387,15 @@ fn import_command<'a>(alloc: Global) -> Result<Command<'a>, AllocError>
     ensures app { IfOk result (λ c. app_of c ≡ import_app) }
     ensures local { IfOk result (λ c. (out-Command c).has_globals ≡ false) }
 {
-    let import = Command::new(alloc, IMPORT)
-        .about(help::IMPORT)
-        .long_about(help::IMPORT_LONG)
-        .after_long_help(help::IMPORT_EXAMPLE)
-        .arg(wanted_arg(alloc, DB, "FILE", help::DB))?
-        .arg(wanted_arg(alloc, CON, "CODE", help::IMPORT_CON))?;
+    let import = described_command(
+        alloc,
+        IMPORT,
+        help::IMPORT,
+        help::IMPORT_LONG,
+        help::IMPORT_EXAMPLE,
+    )
+    .arg(wanted_arg(alloc, DB, "FILE", help::DB))?
+    .arg(wanted_arg(alloc, CON, "CODE", help::IMPORT_CON))?;
     add_csv(alloc, import)
 }
 
@@ -393,10 +413,7 @@ fn show_command<'a>(alloc: Global) -> Result<Command<'a>, AllocError>
     ensures app { IfOk result (λ c. app_of c ≡ show_app) }
     ensures local { IfOk result (λ c. (out-Command c).has_globals ≡ false) }
 {
-    Command::new(alloc, SHOW)
-        .about(help::SHOW)
-        .long_about(help::SHOW_LONG)
-        .after_long_help(help::SHOW_EXAMPLE)
+    described_command(alloc, SHOW, help::SHOW, help::SHOW_LONG, help::SHOW_EXAMPLE)
         .arg(wanted_arg(alloc, DB, "FILE", help::DB))?
         .arg(wanted_arg(alloc, REPORT, "NAME", help::REPORT))?
         .arg(value_arg(alloc, CON, "CODE", help::SHOW_CON))
@@ -406,13 +423,16 @@ fn serve_command<'a>(alloc: Global) -> Result<Command<'a>, AllocError>
     ensures app { IfOk result (λ c. app_of c ≡ serve_app) }
     ensures local { IfOk result (λ c. (out-Command c).has_globals ≡ false) }
 {
-    Command::new(alloc, SERVE)
-        .about(help::SERVE)
-        .long_about(help::SERVE_LONG)
-        .after_long_help(help::SERVE_EXAMPLE)
-        .arg(wanted_arg(alloc, DB, "FILE", help::DB))?
-        .arg(number_arg(alloc, PORT, MOST_PORT, help::PORT))?
-        .arg(number_arg(alloc, COUNT, MOST_COUNT, help::COUNT))
+    described_command(
+        alloc,
+        SERVE,
+        help::SERVE,
+        help::SERVE_LONG,
+        help::SERVE_EXAMPLE,
+    )
+    .arg(wanted_arg(alloc, DB, "FILE", help::DB))?
+    .arg(number_arg(alloc, PORT, MOST_PORT, help::PORT))?
+    .arg(number_arg(alloc, COUNT, MOST_COUNT, help::COUNT))
 }
 
 fn semicolon_arg<'a>(alloc: Global) -> Arg<'a>
