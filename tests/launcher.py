@@ -289,8 +289,8 @@ def written_over(file):
 def what_it_is_not_made_of_builds_nothing(copy):
     copy.run("check")
     crates = copy.root / "crates"
-    append(crates / "tally_rules_tests/src/lib.rt")
-    append(crates / "tally_import_tests/src/lib.rt")
+    append(crates / "tally_report_tests/src/lib.rt")
+    append(crates / "tally_core_tests/src/lib.rt")
     (crates / "tally_frac/README.md").write_text("changed\n")
     os.utime(crates / "tally_frac/src/share.rt")
     assert copy.run("check")[2] == "an error\n" and copy.runs() == 1

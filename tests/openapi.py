@@ -17,7 +17,7 @@ FORMATS = (ROOT / "docs/FORMATS.md").read_text(encoding="utf-8")
 ROUTES = (ROOT / "crates/tally_asks/src/routes.rt").read_text(encoding="utf-8")
 TESTED = "\n".join(
     path.read_text(encoding="utf-8")
-    for crate in ("tally_desk_tests", "tally_answer_tests")
+    for crate in ("tally_desk_tests", "tally_http_tests")
     for path in sorted((ROOT / "crates" / crate / "src").glob("*.rt"))
 ).replace('\\"', '"')
 PHRASES = {

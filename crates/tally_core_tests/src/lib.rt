@@ -1,6 +1,5 @@
-//! Tests of `tally_core` and of the crates that its names come from (`tally_machine` among them), which
-//! over their finished proofs are checked once. Public is the keeper `Frail` alone, which fails as a disk
-//! does.
+//! Tests of `tally_core`, of the crates that its names come from (`tally_machine` among them), and of `tally_import`,
+//! which over their finished proofs are checked once. Public is the keeper `Frail` alone, which fails as a disk does.
 #![tactic(auto)]
 
 #[cfg(test)]
@@ -8,12 +7,18 @@ mod book;
 #[cfg(test)]
 mod certification;
 #[cfg(test)]
+mod check;
+#[cfg(test)]
 mod decide;
 pub mod frail;
 #[cfg(test)]
 mod import;
 #[cfg(test)]
 mod lodge;
+#[cfg(test)]
+mod readers;
+#[cfg(test)]
+mod return_rows;
 #[cfg(test)]
 mod rows;
 #[cfg(test)]

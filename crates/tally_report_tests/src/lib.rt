@@ -1,8 +1,23 @@
-//! Tests of `tally_report`, which over its finished proofs are checked once. Nothing here is public, so
-//! there are no must-fail edits.
+//! Tests of `tally_report` and of the crates below it that have the rules: `tally_frac`, `tally_rules` and
+//! `tally_allot`. Over their finished proofs they are checked once. Nothing here is public, so there are no must-fail
+//! edits.
 #![tactic(auto)]
 
 #[cfg(test)]
+mod answers;
+#[cfg(test)]
+mod codes;
+#[cfg(test)]
+mod fractions;
+#[cfg(test)]
+mod polls;
+#[cfg(test)]
 mod reports;
 #[cfg(test)]
+mod setup;
+#[cfg(test)]
+mod threshold;
+#[cfg(test)]
 mod views;
+#[cfg(test)]
+mod worked;

@@ -1,6 +1,6 @@
 //! The lines of troubles. Those that `tests/program.py` does not bring about are all here.
 
-use crate::lines::check_trouble;
+use crate::outcomes::check_trouble;
 use std::test::*;
 use tally_commands::Trouble;
 use tally_core::ImportFault;

@@ -1,6 +1,6 @@
 //! Which command a body is.
 
-use crate::lines::check_each;
+use crate::asked::check_each;
 use std::alloc::Global;
 use std::test::*;
 use tally_asks::{Route, ask_in};

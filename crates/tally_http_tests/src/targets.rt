@@ -1,6 +1,6 @@
 //! Which route and code a target names, and which methods its route takes.
 
-use crate::lines::check_each;
+use crate::asked::check_each;
 use http::Method;
 use std::alloc::Global;
 use std::test::*;

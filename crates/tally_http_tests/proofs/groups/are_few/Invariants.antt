@@ -1,5 +1,5 @@
 use Rattle.std.proofs.Common.{◌≡◌, ◌+◌, take, sum}
-use Rattle.tally_answer_tests.proofs.groups.are_few.Given as goal
+use Rattle.tally_http_tests.proofs.groups.are_few.Given as goal
 
 -- what is left is what the lists so far have not taken
 abbrev pub invariant-loop-list : goal.invariant-loop-list

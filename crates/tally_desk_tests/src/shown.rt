@@ -1,7 +1,7 @@
 //! Reports, and the progress.
 
-use crate::lines::check_outcome;
-use crate::offices::{fresh, go_on};
+use crate::books::{fresh, go_on};
+use crate::outcomes::check_outcome;
 use std::alloc::Global;
 use std::test::*;
 use tally_commands::{Report, constituencies_text, show_progress, show_report};

@@ -1,7 +1,7 @@
 //! Imports.
 
-use crate::lines::{check_outcome, check_trouble};
-use crate::offices::fresh;
+use crate::books::fresh;
+use crate::outcomes::{check_outcome, check_trouble};
 use std::alloc::Global;
 use std::test::*;
 use tally_commands::{Sep, find_con, import_rows};

@@ -1,6 +1,0 @@
-//! Tests of `tally_line`, which over its finished proofs are checked once. Nothing here is public, so there are no
-//! must-fail edits.
-#![tactic(auto)]
-
-#[cfg(test)]
-mod lines;
