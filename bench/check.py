@@ -126,6 +126,7 @@ WORKLOADS = {
 HOSTILE = {
     "an unclosed quote": lambda: b'"' + b"x" * (MOST_BYTES - 1),
     "a quote over lines": lambda: b'"' + (b"x" * 63 + b"\n") * (MOST_BYTES // 64 - 1),
+    "a quote over longer lines": lambda: b'"' + (b"x" * 79 + b"\n") * (MOST_BYTES // 80 - 1),
     "one field": lambda: b"x" * MOST_BYTES,
     "commas": lambda: b"," * MOST_BYTES,
 }
@@ -187,7 +188,7 @@ def compare(office, rust, path, rounds):
 def hold(office, rust, alone, path, rounds):
     """Prints the time and the memory on texts of one long record, which are refused."""
     print(
-        "\nhostile text          MiB   office ms   Rust ms   ratio   csv ms   office / csv"
+        "\nhostile text                 MiB   office ms   Rust ms   ratio   csv ms   office / csv"
         "   office MiB   a byte   Rust MiB   csv MiB"
     )
     for name, make in HOSTILE.items():
@@ -197,7 +198,7 @@ def hold(office, rust, alone, path, rounds):
         (bare,) = medians([alone], path, rounds)
         low, least, little = (peak_of(command, path) for command in (office, rust, alone))
         print(
-            f"{name:18} {size:6.2f} {own:11.1f} {fast:9.1f} {fast / own:7.2f} {bare:8.1f} {own / bare:14.2f}"
+            f"{name:25} {size:6.2f} {own:11.1f} {fast:9.1f} {fast / own:7.2f} {bare:8.1f} {own / bare:14.2f}"
             f" {told(low):>12} {told(low and low / size):>8} {told(least):>10} {told(little):>9}"
         )
 

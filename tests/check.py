@@ -199,5 +199,14 @@ def test_lines_within_quotes_where_the_input_is_cut():
         counted(text, "1, 0, 0, 0, 18001, 1 0, 0, 0, 1, 2")
 
 
+def test_rows_behind_a_long_record():
+    # What comes behind a record longer than what is read at once is held in parts; a part may end anywhere in a row.
+    count = 19000
+    rows = "".join(f"station-{n:08d},slip-{n:011d},000000000,000000000,000000001,000000002\n" for n in range(count))
+    for longer in range(15):
+        text = HEADER + '"' + "x\n" * 150000 + "x" * 5 * longer + '"\n' + rows
+        counted(text, f"{count}, 0, 0, 0, 1, 1 0, 0, 0, {count}, {2 * count}")
+
+
 if __name__ == "__main__":
     sys.exit(program.main(globals()))

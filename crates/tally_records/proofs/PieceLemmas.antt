@@ -1,6 +1,6 @@
 -- What a piece of a text tells of the text's records.
 use Rattle.std.proofs.Common.{◌≡◌, ◌<◌, ◌≤◌, ◌+◌, ◌-◌, ◌++◌, ◌∷◌, ◌∙◌, ℕ, zero, suc, List, [], Bool, true, false, Option, Some, None, length, take, drop, get_or, refl, sym, ap, subst, arith, add-one, length-append}
-use Rattle.std.specs.Prelude.{◌==◌, ◌||◌, ◌⊎◌, if◌then◌else◌, is_some, nat_le}
+use Rattle.std.specs.Prelude.{◌==◌, ◌||◌, ◌⊎◌, if◌then◌else◌, nat_le}
 use Rattle.std.proofs.Common.{inl, inr}
 use Rattle.std.proofs.lemmas.Bool.{eqb-true, leb-true}
 use Rattle.std.proofs.lemmas.Bool.Decides.{nat_tests}
@@ -12,8 +12,7 @@ use Rattle.csv.specs.declared.parser.Config.{Config}
 use Rattle.csv.specs.declared.parser.State.{State}
 use Rattle.csv.specs.declared.parser.State.TheVariants as st
 use Rattle.csv.specs.declared.parser.Terminator.TheVariants as term
-use Rattle.tally_records.specs.Pieces.{is_line_end, ends_line, IsPiece}
-use Rattle.tally_records.specs.declared.end.End.{End}
+use Rattle.tally_records.specs.Pieces.{is_line_end, ends_line}
 use Rattle.tally_records.specs.Separator.{separator, config}
 use Rattle.tally_records.specs.declared.separator.Sep.{Sep}
 use Rattle.tally_records.specs.declared.separator.Sep.TheVariants.{Comma, Semicolon}
@@ -503,9 +502,8 @@ ends_line-take (c ∷ bytes) zero within line = line
 ends_line-take (c ∷ []) (suc n) within line = absurd (omega (arith, within))
 ends_line-take (c ∷ d ∷ bytes) (suc n) within line = ends_line-take (d ∷ bytes) n (omega (arith, within)) line
 
-pub IsPiece-open : (end : Option End) (bytes : List ℕ) (n k : ℕ) → is_some end ≡ false → n < length bytes → is_line_end (get_or bytes n 0) ≡ true → k ≡ n + 1 → IsPiece end bytes k
-IsPiece-open (Some end) bytes n k more within line at = cc
-IsPiece-open None bytes n k more within line at = ap (λ j. ends_line (take j bytes)) (at ∙ add-one n) ∙ ends_line-take bytes n within line
+pub ends_line-found : (bytes : List ℕ) (n : ℕ) → n < length bytes → is_line_end (get_or bytes n 0) ≡ true → ends_line (take (n + 1) bytes) ≡ true
+ends_line-found bytes n within line = ap (λ j. ends_line (take j bytes)) (add-one n) ∙ ends_line-take bytes n within line
 
 -- the last line ends where no byte behind ends one
 pub last-line : (bytes : List ℕ) (n size : ℕ) → ((k : ℕ) → n ≤ k → k < length bytes → is_line_end (get_or bytes k 0) ≡ false)

@@ -2,7 +2,8 @@
 use Rattle.std.proofs.Common.{◌≡◌, ◌+◌, ◌∷◌, ◌∙◌, ℕ, List, [], Bool, true, false, Option, Some, None, length, refl, sym, ap, subst, arith, add-one}
 use Rattle.std.specs.Prelude.{if◌then◌else◌, IsSome}
 use Rattle.std.proofs.Common.{inl}
-use Rattle.tally_records.specs.Reading.{Text, text_left}
+use Rattle.tally_records.specs.Text.{text_left}
+use Rattle.tally_records.specs.declared.text.Text.{Text}
 use Rattle.csv.specs.Machine.{Read, ends_at_end, next_record}
 use Rattle.csv.specs.Reading.{ReadRecord, ReadsNext, NextIs, pending_of, records_from, records_next}
 use Rattle.csv.specs.declared.parser.Config.{Config}

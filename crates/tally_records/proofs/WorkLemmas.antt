@@ -1,16 +1,18 @@
 -- The records of an input at work.
 use Rattle.std.proofs.Common.{◌≡◌, ◌<◌, ◌≤◌, ◌+◌, ◌++◌, ◌∷◌, ◌∙◌, ℕ, List, [], Bool, true, false, Option, Some, None, Result, Ok, Err, length, take, drop, refl, sym, ap, subst, arith, length-append, length-drop, append_assoc}
-use Rattle.std.specs.Prelude.{if◌then◌else◌, IfOk, is_none}
+use Rattle.std.specs.Prelude.{if◌then◌else◌, IfOk, Vec, is_none}
 use Rattle.std.specs.Io.KnownBytes.{Consumes}
-use Rattle.std.proofs.lemmas.List.{append-nil, take-append-drop, take-append-le, length-take-le, take-take}
+use Rattle.std.proofs.lemmas.List.{append-nil, flat_map_more, take-append-drop, take-append-le, length-take, length-take-le, take-take, take_all}
 use Rattle.csv.specs.Machine.{next_record}
 use Rattle.csv.specs.Reading.{records, records_from, strip_bom}
 use Rattle.csv.specs.Records.{fields_of}
 use Rattle.tally_records.specs.Input.{AreAll, Gave, complete_records, without_last}
 use Rattle.tally_records.specs.Given.{Came, HasGiven, MayCome, to_come}
-use Rattle.tally_records.specs.Pieces.{Begun, Fills, HasGivenAt, IsLast, IsPiece, IsWorking, IsRest, IsSpent, ends_line, is_whole, piece_rows}
+use Rattle.tally_records.specs.Pieces.{Begun, Fills, HasGivenAt, IsBegunIn, IsLast, IsPiece, IsWorking, IsRest, IsSpent, bytes_at, bytes_of, ends_line, is_whole, piece_rows, text_rows}
 use Rattle.tally_records.specs.Reading.{IsReading, rows_left}
 use Rattle.tally_records.specs.Separator.{separator, config}
+use Rattle.tally_records.specs.Text.{joined}
+use Rattle.std.specs.declared.alloc.Global.{Global}
 use Rattle.tally_records.specs.declared.end.Stop.{Stop}
 use Rattle.tally_records.specs.declared.end.Stop.TheVariants.{TooLong, Read}
 use Rattle.tally_records.specs.declared.end.End.{End}
@@ -75,13 +77,13 @@ HasGiven-next text left given old rest fields behind reading is has = (
   has.1,
   λ more stop may.
       has.2 more stop may
-      ∙ ap (λ l. given ++ l) (gives-next old.sep old.end old.bytes.value.items old.piece old.given (fields_of old.rest.ahead) fields behind more stop reading.piece
+      ∙ ap (λ l. given ++ l) (gives-next old.sep old.end (bytes_of old) old.piece old.given (fields_of old.rest.ahead) fields behind more stop reading.piece
       (rows (is_whole old.end) reading.rest) may)
       ∙ sym (append_assoc given (given_record (is_whole old.end) (fields_of old.rest.ahead) fields ∷ []) _),
 )
   where
-    rows : (whole : Bool) → IsRest whole (drop old.given (piece_rows old.sep old.end (take old.piece old.bytes.value.items))) old.rest
-        → drop old.given (piece_rows old.sep old.end (take old.piece old.bytes.value.items))
+    rows : (whole : Bool) → IsRest whole (drop old.given (piece_rows old.sep old.end (take old.piece (bytes_of old)))) old.rest
+        → drop old.given (piece_rows old.sep old.end (take old.piece (bytes_of old)))
         ≡ (if whole then fields ∷ behind else fields_of old.rest.ahead ∷ fields ∷ behind)
     rows true same = same ∙ is
     rows false same = same ∙ ap (λ l. fields_of old.rest.ahead ∷ l) is
@@ -111,8 +113,8 @@ pub HasGiven-all : (text left : Option (List ℕ)) (given : List (List (List ℕ
 HasGiven-all None left given r end spent is has = tt
 HasGiven-all (Some t) left given r end spent is has =
     let may : MayCome r.end [] end.stop = subst (λ e. MayCome e [] end.stop) (sym is) (refl, refl) in
-    let none = spent-none r.sep end r.bytes.value.items r.piece r.given r.rest (subst (λ e. IsPiece e r.bytes.value.items r.piece) is spent.piece)
-    (subst (λ e. IsLast (is_whole e) (drop r.given (piece_rows r.sep e (take r.piece r.bytes.value.items))) r.rest) is spent.last) in (
+    let none = spent-none r.sep end (bytes_of r) r.piece r.given r.rest (subst (λ e. IsPiece e (bytes_of r) r.piece) is spent.piece)
+    (subst (λ e. IsLast (is_whole e) (drop r.given (piece_rows r.sep e (take r.piece (bytes_of r)))) r.rest) is spent.last) in (
       has.0,
       subst (Came (Some t) left has.0 r.held.taken) is has.1,
       ap (λ b. complete_records r.sep b end.stop) (sym (append-nil has.0)) ∙ has.2 [] end.stop may ∙ ap (λ l. given ++ l) none ∙ append-nil given,
@@ -120,8 +122,29 @@ HasGiven-all (Some t) left given r end spent is has =
 
 -- ---- more of the input
 
+-- where the input goes on, what it gave is held
+pub bytes_of-open : (r : Work) → r.end ≡ None → r.held.bytes.items ≡ bytes_of r
+bytes_of-open r goes = ap (λ end. bytes_at end r.held r.last.value) (sym goes)
+
+-- parts, and one more behind them
+pub joined-more : (parts : List (Vec ℕ Global)) (part : Vec ℕ Global) → joined (parts ++ part ∷ []) ≡ joined parts ++ part.items
+joined-more parts part = sym (flat_map_more (λ (p : Vec ℕ Global). p.items) [] parts part)
+
+-- what came behind nothing, and what came behind that
+pub Fills-on : (old_left left new_left : Option (List ℕ)) (taken more most : ℕ) (bytes came : List ℕ) (end : Option End)
+    → Fills old_left left [] taken bytes more None → Fills left new_left [] more came most end
+    → Fills old_left new_left [] taken (bytes ++ came) most end
+Fills-on old_left left new_left taken more most bytes came end one two = (
+  bytes ++ came,
+  refl,
+  λ text before given counted.
+      let first = subst (λ b. Came text left (before ++ b) more None) (sym one.1) (one.2 text before given counted) in
+      subst (λ b. Came text new_left b most end) (append_assoc before bytes came)
+      (subst (λ b. Came text new_left ((before ++ bytes) ++ b) most end) (sym two.1) (two.2 text (before ++ bytes) first.0 first.1)),
+)
+
 pub HasGiven-grown : (text old_left left : Option (List ℕ)) (given : List (List (List ℕ))) (old new : Work)
-    → old.end ≡ None → Fills old_left left old.bytes.value.items old.held.taken new.bytes.value.items new.held.taken new.end → new.sep ≡ old.sep → new.given ≡ old.given
+    → old.end ≡ None → Fills old_left left (bytes_of old) old.held.taken (bytes_of new) new.held.taken new.end → new.sep ≡ old.sep → new.given ≡ old.given
     → HasGivenAt text old_left given old → HasGivenAt text left given new
 HasGiven-grown text old_left left given old new goes fills sep same has =
     let came = subst (Came text old_left has.0 old.held.taken) goes has.1 in (
@@ -132,9 +155,9 @@ HasGiven-grown text old_left left given old new goes fills sep same has =
           ∙ ap (λ b. complete_records old.sep b stop) (append_assoc has.0 fills.0 more)
           ∙ has.2 (fills.0 ++ more) stop (subst (λ e. MayCome e (fills.0 ++ more) stop) (sym goes) tt)
           ∙ ap (λ b. given ++ drop old.given (complete_records old.sep b stop))
-          (sym (append_assoc old.bytes.value.items fills.0 more) ∙ ap (λ b. b ++ more) (sym fills.1))
-          ∙ ap (λ k. given ++ drop k (complete_records old.sep (new.bytes.value.items ++ more) stop)) (sym same)
-          ∙ ap (λ s. given ++ drop new.given (complete_records s (new.bytes.value.items ++ more) stop)) (sym sep),
+          (sym (append_assoc (bytes_of old) fills.0 more) ∙ ap (λ b. b ++ more) (sym fills.1))
+          ∙ ap (λ k. given ++ drop k (complete_records old.sep (bytes_of new ++ more) stop)) (sym same)
+          ∙ ap (λ s. given ++ drop new.given (complete_records s (bytes_of new ++ more) stop)) (sym sep),
     )
 
 anew-at : (sep : Sep) (piece : List ℕ) (k : ℕ) (rest : List ℕ) (stop : Option Stop)
@@ -144,14 +167,14 @@ anew-at sep [] k rest stop some line is = absurd (omega (arith, some))
 anew-at sep (c ∷ ys) k rest stop some line is = anew sep c ys k rest stop line is
 
 pub HasGiven-dropped : (text old_left left : Option (List ℕ)) (given : List (List (List ℕ))) (old new : Work) (middle : Held) (done : ℕ)
-    → old.end ≡ None → 0 < done → done ≤ length old.bytes.value.items
-    → ends_line (take done old.bytes.value.items) ≡ true → drop old.given (piece_rows old.sep None (take done old.bytes.value.items)) ≡ nothing ∷ []
-    → middle.bytes.items ≡ 10 ∷ drop done old.bytes.value.items → middle.taken ≡ old.held.taken
-    → Fills old_left left middle.bytes.items middle.taken new.bytes.value.items new.held.taken new.end → new.sep ≡ old.sep → new.given ≡ 0
+    → old.end ≡ None → 0 < done → done ≤ length (bytes_of old)
+    → ends_line (take done (bytes_of old)) ≡ true → drop old.given (piece_rows old.sep None (take done (bytes_of old))) ≡ nothing ∷ []
+    → middle.bytes.items ≡ 10 ∷ drop done (bytes_of old) → middle.taken ≡ old.held.taken
+    → Fills old_left left middle.bytes.items middle.taken (bytes_of new) new.held.taken new.end → new.sep ≡ old.sep → new.given ≡ 0
     → HasGivenAt text old_left given old → HasGivenAt text left given new
 HasGiven-dropped text old_left left given old new middle done goes some within line rows front taken fills sep none has =
     let came = subst (Came text old_left has.0 old.held.taken) goes has.1 in
-    let bytes = old.bytes.value.items in
+    let bytes = bytes_of old in
     let size : 0 < length (take done bytes) = omega (arith, length-take-le done bytes within, some) in (
       has.0 ++ fills.0,
       fills.2 text has.0 came.0 (taken ∙ came.1),
@@ -163,8 +186,8 @@ HasGiven-dropped text old_left left given old new middle done goes some within l
           ∙ ap (λ b. given ++ drop old.given (complete_records old.sep b stop)) (append_assoc (take done bytes) (drop done bytes) (fills.0 ++ more))
           ∙ ap (λ l. given ++ l) (anew-at old.sep (take done bytes) old.given (drop done bytes ++ (fills.0 ++ more)) stop size line rows)
           ∙ ap (λ b. given ++ complete_records old.sep b stop) (ap (λ l. 10 ∷ l) (sym (append_assoc (drop done bytes) fills.0 more)) ∙ ap (λ b. b ++ more) (ap (λ b. b ++ fills.0) (sym front) ∙ sym fills.1))
-          ∙ ap (λ k. given ++ drop k (complete_records old.sep (new.bytes.value.items ++ more) stop)) (sym none)
-          ∙ ap (λ s. given ++ drop new.given (complete_records s (new.bytes.value.items ++ more) stop)) (sym sep),
+          ∙ ap (λ k. given ++ drop k (complete_records old.sep (bytes_of new ++ more) stop)) (sym none)
+          ∙ ap (λ s. given ++ drop new.given (complete_records s (bytes_of new ++ more) stop)) (sym sep),
     )
 
 -- ---- room for the records that were given
@@ -199,29 +222,51 @@ Begun-room sep end bytes came all given piece begun is last = (some, whole)
         (subst (λ t. given ≤ length (records (config sep) (strip_bom t))) (sym split)
         (as-many sep (take size bytes) given begun.1 (drop size (take piece all)) TooLong begun.4))
 
+-- the same for the last piece, which is all that there is, as the reader gets it
+pub IsBegunIn-room : (sep : Sep) (end : End) (all text : List ℕ) (given : ℕ)
+    → IsBegunIn sep all given → text ≡ (if is_whole (Some end) then all else all ++ separator sep ∷ [])
+    → (is_whole (Some end) ≡ false → given < length (text_rows sep text))
+    × (is_whole (Some end) ≡ true → given ≤ length (text_rows sep text))
+IsBegunIn-room sep end all text given begun is =
+    let room = Begun-room sep (Some end) begun.0 begun.1 all given (length all) begun.3 begun.2 (λ size within line. within) in
+    let rows : length (piece_rows sep (Some end) (take (length all) all)) ≡ length (text_rows sep text) =
+    ap (λ t. length (piece_rows sep (Some end) t)) (take_all (length all) all (omega arith)) ∙ ap (λ t. length (text_rows sep t)) (sym is) in (
+      λ not. subst (λ n. given < n) rows (room.0 not),
+      λ whole. subst (λ n. given ≤ n) rows (room.1 whole),
+    )
+
+-- what is left of it, as what is left of the last piece
+pub IsRest-last : (sep : Sep) (end : End) (all text : List ℕ) (piece given : ℕ) (rest : Rest)
+    → length all ≤ piece → text ≡ (if is_whole (Some end) then all else all ++ separator sep ∷ [])
+    → IsRest (is_whole (Some end)) (drop given (text_rows sep text)) rest
+    → IsRest (is_whole (Some end)) (drop given (piece_rows sep (Some end) (take piece all))) rest
+IsRest-last sep end all text piece given rest within is left =
+    subst (λ rows. IsRest (is_whole (Some end)) (drop given rows) rest)
+    (ap (text_rows sep) is ∙ ap (piece_rows sep (Some end)) (sym (take_all piece all within))) left
+
 -- before anything is held nothing was given
 pub Begun-none : (sep : Sep) (bytes : List ℕ) → Begun sep bytes 0
 unfolding strip_bom records_from next_record
 Begun-none Comma bytes = (0, nothing, omega arith, refl, refl)
 Begun-none Semicolon bytes = (0, nothing, omega arith, refl, refl)
 
-pub Begun-spent : (r : Work) → IsSpent r → r.end ≡ None → Begun r.sep r.bytes.value.items r.given
+pub Begun-spent : (r : Work) → IsSpent r → r.end ≡ None → Begun r.sep (bytes_of r) r.given
 Begun-spent r spent goes = (
   r.piece,
   fields_of r.rest.ahead,
-  spent.within,
-  subst (λ e. IsPiece e r.bytes.value.items r.piece) goes spent.piece,
-  subst (λ e. IsLast (is_whole e) (drop r.given (piece_rows r.sep e (take r.piece r.bytes.value.items))) r.rest) goes spent.last,
+  spent.within goes,
+  subst (λ e. IsPiece e (bytes_of r) r.piece) goes spent.piece,
+  subst (λ e. IsLast (is_whole e) (drop r.given (piece_rows r.sep e (take r.piece (bytes_of r)))) r.rest) goes spent.last,
 )
 
 pub HasGiven-new : (old_left left : Option (List ℕ)) (held : Held) (r : Work)
-    → held.bytes.items ≡ [] → held.taken ≡ 0 → Fills old_left left held.bytes.items held.taken r.bytes.value.items r.held.taken r.end → r.given ≡ 0 → HasGivenAt old_left left [] r
+    → held.bytes.items ≡ [] → held.taken ≡ 0 → Fills old_left left held.bytes.items held.taken (bytes_of r) r.held.taken r.end → r.given ≡ 0 → HasGivenAt old_left left [] r
 HasGiven-new old_left left held r none taken fills given = (
   fills.0,
   fills.2 old_left [] (consumes old_left) taken,
   λ more stop may.
       ap (λ b. complete_records r.sep (b ++ more) stop) (sym (fills.1 ∙ ap (λ b. b ++ fills.0) none))
-      ∙ ap (λ k. drop k (complete_records r.sep (r.bytes.value.items ++ more) stop)) (sym given),
+      ∙ ap (λ k. drop k (complete_records r.sep (bytes_of r ++ more) stop)) (sym given),
 )
   where
     consumes : (text : Option (List ℕ)) → Consumes text text []
@@ -242,30 +287,29 @@ pub IsReadingOn-next : (old : Work) (rest : Rest) (fields : List (List ℕ))
     → IsWorking (record old { given = old.given + 1; rest = rest })
 IsReadingOn-next old rest fields reading reader is ahead = record {
   reading = reader;
-  rest = rows-next (is_whole old.end) old.given (piece_rows old.sep old.end (take old.piece old.bytes.value.items)) old.rest rest fields reading.rest is ahead;
+  rest = rows-next (is_whole old.end) old.given (piece_rows old.sep old.end (take old.piece (bytes_of old))) old.rest rest fields reading.rest is ahead;
   piece = reading.piece;
   within = reading.within;
   limit = reading.limit;
-  held = reading.held;
   few = reading.few;
 }
 
 -- no more records were given than bytes are held, but for two
 pub given-few : (r : Work) (fields : List (List ℕ)) (left : List (List (List ℕ))) → IsWorking r → rows_left r.rest.reader.value ≡ fields ∷ left
-    → r.given ≤ length r.bytes.value.items + 2
+    → r.given ≤ length (bytes_of r) + 2
 given-few r fields left reading is = go (is_whole r.end) reading.rest
   where
     piece : List ℕ
-    piece = take r.piece r.bytes.value.items
+    piece = take r.piece (bytes_of r)
 
     text : Bool → List ℕ
     text whole = if whole then piece else piece ++ separator r.sep ∷ []
 
-    few : (whole : Bool) → length (text whole) ≤ length r.bytes.value.items + 1
-    few true = omega (arith, length-take-le r.piece r.bytes.value.items reading.within, reading.within)
-    few false = omega (arith, length-take-le r.piece r.bytes.value.items reading.within, reading.within, length-append piece (separator r.sep ∷ []))
+    few : (whole : Bool) → length (text whole) ≤ length (bytes_of r) + 1
+    few true = omega (arith, length-take r.piece (bytes_of r))
+    few false = omega (arith, length-take r.piece (bytes_of r), length-append piece (separator r.sep ∷ []))
 
-    go : (whole : Bool) → IsRest whole (drop r.given (records (config r.sep) (strip_bom (text whole)))) r.rest → r.given ≤ length r.bytes.value.items + 2
+    go : (whole : Bool) → IsRest whole (drop r.given (records (config r.sep) (strip_bom (text whole)))) r.rest → r.given ≤ length (bytes_of r) + 2
     go true rest = omega (arith, few true, records-few r.sep (text true), ap length (rest ∙ is), length-drop r.given (records (config r.sep) (strip_bom (text true))))
     go false rest = omega (arith, few false, records-few r.sep (text false), ap length rest, length-drop r.given (records (config r.sep) (strip_bom (text false))))
 

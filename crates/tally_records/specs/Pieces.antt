@@ -1,14 +1,15 @@
 -- A text that is read by pieces.
-use Rattle.std.specs.Prelude.{◌≡◌, ◌≤◌, ◌+◌, ◌-◌, ◌*◌, ◌==◌, ◌||◌, ◌++◌, if◌then◌else◌, ℕ, Bool, true, false, List, [], ◌∷◌, take, drop, length, Option, Some, None, is_none, IfSome, ⊤}
+use Rattle.std.specs.Prelude.{◌≡◌, ◌≤◌, ◌+◌, ◌-◌, ◌*◌, ◌==◌, ◌||◌, ◌++◌, if◌then◌else◌, ℕ, Bool, true, false, List, [], ◌∷◌, take, drop, length, Option, Some, None, is_none}
 use Rattle.std.specs.Io.KnownBytes.{Consumes}
 use Rattle.csv.specs.Reading.{records, strip_bom}
 use Rattle.csv.specs.Records.{fields_of}
-use Rattle.tally_records.specs.Input.{Gave, complete_records, size_limit}
+use Rattle.tally_records.specs.Input.{size_limit}
 use Rattle.tally_records.specs.Reading.{IsReading, rows_left}
 use Rattle.tally_records.specs.Separator.{separator, config}
-use Rattle.tally_records.specs.Watch.{IsEnd}
-use Rattle.tally_records.specs.declared.end.Stop.{Stop}
+use Rattle.tally_records.specs.Text.{bytes_left}
 use Rattle.tally_records.specs.declared.end.End.{End}
+use Rattle.tally_records.specs.declared.held.Held.{Held}
+use Rattle.tally_records.specs.declared.text.Text.{Text}
 use Rattle.tally_records.specs.declared.work.Work.{Work}
 use Rattle.tally_records.specs.Given.{Came, HasGiven}
 use Rattle.tally_records.specs.RecordsValue.{Records}
@@ -57,15 +58,22 @@ abbrev pub IsPiece : Option End → List ℕ → ℕ → Type 0
 IsPiece None bytes piece = ends_line (take piece bytes) ≡ true
 IsPiece (Some end) bytes piece = take piece bytes ≡ bytes
 
+-- the bytes that are held, or that were as the input ended
+abbrev pub bytes_at : Option End → Held → Text → List ℕ
+bytes_at None held last = held.bytes.items
+bytes_at (Some end) held last = bytes_left last
+
+abbrev pub bytes_of : Work → List ℕ
+bytes_of r = bytes_at r.end r.held r.last.value
+
 -- the records of an input, at work
 pub record IsWorking (r : Work) : Type 0 where
   pub reading : IsReading r.rest.reader.value
-  pub rest : IsRest (is_whole r.end) (drop r.given (piece_rows r.sep r.end (take r.piece r.bytes.value.items))) r.rest
-  pub piece : IsPiece r.end r.bytes.value.items r.piece
-  pub within : r.piece ≤ length r.bytes.value.items
+  pub rest : IsRest (is_whole r.end) (drop r.given (piece_rows r.sep r.end (take r.piece (bytes_of r)))) r.rest
+  pub piece : IsPiece r.end (bytes_of r) r.piece
+  pub within : r.end ≡ None → r.piece ≤ length (bytes_of r)
   pub limit : r.end ≡ None → r.held.taken ≤ size_limit
-  pub held : r.end ≡ None → r.held.bytes.items ≡ r.bytes.value.items
-  pub few : length r.bytes.value.items ≤ r.held.taken + 1
+  pub few : length (bytes_of r) ≤ r.held.taken + 1
 
 -- What is left where the reader gives no more: the record ahead, or nothing where the input ended of itself.
 abbrev pub IsLast : Bool → List (List (List ℕ)) → Rest → Type 0
@@ -74,17 +82,20 @@ IsLast false rows rest = rows ≡ fields_of rest.ahead ∷ []
 
 -- the records of an input, behind all that their piece has
 pub record IsSpent (r : Work) : Type 0 where
-  pub last : IsLast (is_whole r.end) (drop r.given (piece_rows r.sep r.end (take r.piece r.bytes.value.items))) r.rest
-  pub piece : IsPiece r.end r.bytes.value.items r.piece
-  pub within : r.piece ≤ length r.bytes.value.items
+  pub last : IsLast (is_whole r.end) (drop r.given (piece_rows r.sep r.end (take r.piece (bytes_of r)))) r.rest
+  pub piece : IsPiece r.end (bytes_of r) r.piece
+  pub within : r.end ≡ None → r.piece ≤ length (bytes_of r)
   pub limit : r.end ≡ None → r.held.taken ≤ size_limit
-  pub held : r.end ≡ None → r.held.bytes.items ≡ r.bytes.value.items
-  pub few : length r.bytes.value.items ≤ r.held.taken + 1
+  pub few : length (bytes_of r) ≤ r.held.taken + 1
 
 -- These bytes are held since the last line behind which nothing was given, and so many of their records were given: another one is begun behind those.
 abbrev pub Begun : Sep → List ℕ → ℕ → Type 0
 Begun sep bytes given = (piece : ℕ) × (last : List (List ℕ)) × (piece ≤ length bytes) × (ends_line (take piece bytes) ≡ true)
     × (drop given (piece_rows sep None (take piece bytes)) ≡ last ∷ [])
+
+-- The same of the first of these bytes: the others came behind them.
+abbrev pub IsBegunIn : Sep → List ℕ → ℕ → Type 0
+IsBegunIn sep bytes given = (front : List ℕ) × (came : List ℕ) × (bytes ≡ front ++ came) × Begun sep front given
 
 -- It falls with each piece, and is 0 at the end.
 abbrev pub size_left : Option End → ℕ → ℕ → ℕ
@@ -98,7 +109,7 @@ left_size r = size_left r.end r.held.taken (length r.held.bytes.items)
 
 -- the records, and whether more of them can be asked for
 abbrev pub shown : Work → Bool → Records
-shown work at_work = record { sep = work.sep; bytes = work.bytes.value.items; given = work.given; taken = work.held.taken; end = work.end; at_work = at_work }
+shown work at_work = record { sep = work.sep; bytes = bytes_of work; given = work.given; taken = work.held.taken; end = work.end; at_work = at_work }
 
 abbrev pub HasGivenAt : Option (List ℕ) → Option (List ℕ) → List (List (List ℕ)) → Work → Type 0
 HasGivenAt text left given work = HasGiven text left given (shown work true)

@@ -1,20 +1,11 @@
 -- What a reader of a text in memory still gives.
-use Rattle.std.specs.Prelude.{◌≡◌, ◌+◌, ℕ, true, false, List, [], length, Option, Some, None, IsSome, Vec}
-use Rattle.std.specs.Io.Cursor.{cursor_remaining}
-use Rattle.std.specs.declared.alloc.Global.{Global}
-use Rattle.std.specs.declared.io.Cursor.{Cursor}
+use Rattle.std.specs.Prelude.{◌≡◌, ◌+◌, ℕ, true, false, List, [], length, Option, Some, None, IsSome}
 use Rattle.csv.specs.Machine.{ends_at_end}
 use Rattle.csv.specs.Reading.{Ready, source_of, is_flexible, reader_config, reader_state, reader_trim, records_from}
 use Rattle.csv.specs.declared.reader.Reader.{Reader}
 use Rattle.csv.specs.declared.reader.Trim.TheVariants as trim
-
--- a text in memory
-abbrev pub Text : Type 0
-Text = Cursor (Vec ℕ Global)
-
--- the bytes that a text in memory has left
-abbrev pub text_left : Text → Option (List ℕ)
-text_left = cursor_remaining (λ (bytes : Vec ℕ Global). Some bytes.items)
+use Rattle.tally_records.specs.Text.{text_left}
+use Rattle.tally_records.specs.declared.text.Text.{Text}
 
 -- the bytes that it reads from
 abbrev pub unread : Reader Text → Option (List ℕ)

@@ -1,14 +1,16 @@
 //! Where an input is cut into pieces.
 
-ghost use Rattle.std.specs.Prelude.{◌≡◌, ◌≤◌, ◌<◌, ◌++◌, ◌∷◌, [], List, ℕ, None, Some, true, false, drop, take, length, IfOk, if◌then◌else◌};
+ghost use Rattle.std.specs.Prelude.{◌≡◌, ◌≤◌, ◌<◌, ◌++◌, ◌∷◌, [], ℕ, None, true, drop, take, length, IfOk, if◌then◌else◌};
 ghost use Rattle.csv.specs.Records.{fields_of};
 ghost use Rattle.tally_records.specs.Separator.{separator};
-ghost use Rattle.tally_records.specs.Pieces.{IsPiece, ends_line, is_line_end, is_whole, piece_rows};
+ghost use Rattle.tally_records.specs.Pieces.{ends_line, is_line_end, is_whole, piece_rows};
+ghost use Rattle.tally_records.specs.Text.{bytes_left};
 
 use crate::end::End;
 use crate::fields::field;
 use crate::reading::{next_record, pass_over, records_in};
 use crate::separator::Sep;
+use crate::text::Text;
 use csv::ByteRecord;
 use memchr::memrchr2;
 use std::alloc::{AllocError, Global};
@@ -23,17 +25,13 @@ pub(crate) fn ended_itself(end: Option<End>) -> bool
     }
 }
 
-/// How many of these bytes stand in a piece: those up to their last line end, or all of them where
-/// no more come.
-pub(crate) fn piece_size(bytes: &[u8], end: Option<End>) -> usize
+/// How many of these bytes stand in a piece behind which more may come: those up to their last line
+/// end.
+pub(crate) fn piece_size(bytes: &[u8]) -> usize
     ensures within { result ≤ length bytes.now }
-    ensures piece { IsPiece end bytes.now result }
+    ensures piece { ends_line (take result bytes.now) ≡ true }
     ensures last { (size : ℕ) → size ≤ length bytes.now → ends_line (take size bytes.now) ≡ true → size ≤ result }
 {
-    let len = bytes.len();
-    if end.is_some() {
-        return len;
-    }
     match memrchr2(b'\r', b'\n', bytes) {
         Some(place) => place + 1,
         None => 0,
@@ -105,14 +103,18 @@ pub(crate) fn piece_text(alloc: Global, piece: &[u8], sep: Sep) -> Result<Vec<u8
 
 /// The text of the last piece, of which no copy is made: a field is begun behind it unless the
 /// input ended of itself.
-pub(crate) fn last_text(mut bytes: Vec<u8>, sep: Sep, is_whole: bool) -> Result<Vec<u8>, AllocError>
-    ensures { IfOk result (λ text. text.items ≡ (if is_whole then bytes.items else bytes.items ++ separator sep ∷ [])) }
+pub(crate) fn last_text(
+    alloc: Global,
+    mut text: Text,
+    sep: Sep,
+    is_whole: bool,
+) -> Result<Text, AllocError>
+    ensures { IfOk result (λ last. bytes_left last ≡ (if is_whole then bytes_left text else bytes_left text ++ separator sep ∷ [])) }
 {
-    if is_whole {
-        return Ok(bytes);
+    if !is_whole {
+        text.push(alloc, sep.byte())?;
     }
-    bytes.push(sep.byte())?;
-    Ok(bytes)
+    Ok(text)
 }
 
 /// Whether the first `given` records of a text are all that it has, and a line ended behind them.
@@ -120,7 +122,7 @@ fn is_given(alloc: Global, front: &[u8], sep: Sep, given: usize) -> Result<bool,
     ensures given { IfOk result (λ all. all ≡ true → drop given (piece_rows sep None front.now) ≡ ([] ∷ [] ∷ []) ∷ []) }
     ensures found { IfOk result (λ all. drop given (piece_rows sep None front.now) ≡ ([] ∷ [] ∷ []) ∷ [] → all ≡ true) }
 {
-    let mut reader = records_in(alloc, piece_text(alloc, front, sep)?, sep)?;
+    let mut reader = records_in(alloc, Text::of(alloc, piece_text(alloc, front, sep)?), sep)?;
     let mut record = ByteRecord::new(alloc);
     if !pass_over(&mut reader, &mut record, given)? {
         return Ok(false);

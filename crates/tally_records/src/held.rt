@@ -5,6 +5,7 @@ ghost use Rattle.std.specs.Prelude.{◌≡◌, ◌+◌, ◌<◌, ◌≤◌, ◌�
 use crate::end::{End, Stop};
 use crate::watch::Watch;
 use std::alloc::{AllocError, Global};
+use std::collections::VecDeque;
 use std::io::Read;
 
 /// The most bytes that an input may have: 16 MiB.
@@ -12,6 +13,10 @@ const SIZE_LIMIT: usize = 16_777_216;
 
 /// How many bytes are asked for at a time. They come by way of the stack.
 const READ_SIZE: usize = 16_384;
+
+/// The most bytes of a part of what is read to the end of the input. A part is longer than a piece and
+/// the text made of it, since an allocator may keep room of a size that was given back before.
+const PART: usize = 524_288;
 
 /// The room that is made for the bytes which are held on.
 const ROOM: usize = 262_146;
@@ -28,6 +33,7 @@ pub(crate) struct Held {
 
 impl Held {
     ghost use Rattle.tally_records.specs.Pieces.{Fills};
+    ghost use Rattle.tally_records.specs.Text.{joined};
     ghost use Rattle.tally_records.specs.Watch.{IsEnd, has_failed};
 
     /// No byte.
@@ -55,6 +61,7 @@ impl Held {
         ensures size { IfOk result (λ end. end ≡ None → size ≤ length self.new.bytes.items) }
         ensures count { IfOk result (λ end. end ≡ None → self.new.taken + length self.old.bytes.items ≡ self.old.taken + length self.new.bytes.items) }
         ensures limit { IfOk result (λ end. end ≡ None → self.new.taken ≤ 16777216) }
+        ensures few { OnOk result (self.old.taken + length self.new.bytes.items ≤ self.new.taken + length self.old.bytes.items) }
         ensures failed { IfOk result (λ end. IsEnd end (has_failed watch.new)) }
     {
         let missing = size.saturating_sub(self.bytes.len());
@@ -85,6 +92,35 @@ impl Held {
         Ok(Some(End {
             stop: Some(Stop::TooLong),
         }))
+    }
+
+    /// Reads all that still comes, in parts, so that each can be given back by itself. An input that
+    /// goes on past 16 MiB is stopped there.
+    pub(crate) fn read_rest<R: Read>(
+        &mut self,
+        alloc: Global,
+        input: &mut R,
+        watch: &mut Watch<R>,
+    ) -> Result<(VecDeque<Vec<u8>>, End), AllocError>
+        requires { self.old.taken ≤ 16777216 }
+        ensures fills { IfOk result (λ rest. Fills (R.remaining input.old) (R.remaining input.new) [] self.old.taken (joined rest.0.items) self.new.taken (Some rest.1)) }
+        ensures bytes { OnOk result (self.new.bytes ≡ self.old.bytes) }
+        ensures few { IfOk result (λ rest. self.old.taken + length (joined rest.0.items) ≤ self.new.taken) }
+        ensures failed { IfOk result (λ rest. IsEnd (Some rest.1) (has_failed watch.new)) }
+    {
+        let mut parts = VecDeque::new(alloc);
+        loop {
+            let mut part = Held {
+                bytes: Vec::new(alloc),
+                taken: self.taken,
+            };
+            let end = part.fill(input, watch, PART)?;
+            self.taken = part.taken;
+            parts.push_back(part.bytes)?;
+            if let Some(end) = end {
+                return Ok((parts, end));
+            }
+        }
     }
 
     /// Puts a line feed in place of so many bytes at the front.

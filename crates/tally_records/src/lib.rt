@@ -10,6 +10,7 @@ mod piece;
 mod reading;
 mod records;
 mod separator;
+mod text;
 mod watch;
 mod work;
 

@@ -1,37 +1,37 @@
 //! A piece of an input, and the records in it.
 
-ghost use Rattle.std.specs.Prelude.{◌≡◌, ◌≤◌, ◌<◌, ◌&&◌, ◌++◌, ◌∷◌, [], List, ℕ, None, Some, true, false, drop, take, length, IfOk, OnOk, if◌then◌else◌};
-ghost use Rattle.csv.specs.Records.{fields_of};
+ghost use Rattle.std.specs.Prelude.{◌≡◌, ◌≤◌, ◌<◌, true, false, drop, length, IfOk};
 ghost use Rattle.tally_records.specs.Reading.{IsReading};
 
 use crate::reading::{next_record, pass_over, records_in};
 use crate::separator::Sep;
+use crate::text::Text;
 use csv::{ByteRecord, Reader};
 use std::alloc::{AllocError, Global};
-use std::io::Cursor;
 
 /// The records of a piece that are left: the one ahead, and those that a reader still gives.
 #[derive(Drop)]
 pub(crate) struct Rest {
     pub(crate) ahead: ByteRecord,
-    pub(crate) reader: Box<Reader<Cursor<Vec<u8>>>>,
+    pub(crate) reader: Box<Reader<Text>>,
 }
 
 impl Rest {
     ghost use Rattle.tally_records.specs.Pieces.{IsRest, text_rows};
+    ghost use Rattle.tally_records.specs.Text.{bytes_left};
 
     /// The records of a piece's text behind the first `given`, which it has.
     pub(crate) fn new(
         alloc: Global,
-        text: Vec<u8>,
+        text: Text,
         sep: Sep,
         is_whole: bool,
         given: usize,
     ) -> Result<Rest, AllocError>
-        requires some { is_whole ≡ false → given < length (text_rows sep text.items) }
-        requires whole { is_whole ≡ true → given ≤ length (text_rows sep text.items) }
+        requires some { is_whole ≡ false → given < length (text_rows sep (bytes_left text)) }
+        requires whole { is_whole ≡ true → given ≤ length (text_rows sep (bytes_left text)) }
         ensures reading { IfOk result (λ rest. IsReading rest.reader.value) }
-        ensures rest { IfOk result (IsRest is_whole (drop given (text_rows sep text.items))) }
+        ensures rest { IfOk result (IsRest is_whole (drop given (text_rows sep (bytes_left text)))) }
     {
         let mut reader = records_in(alloc, text, sep)?;
         let mut ahead = ByteRecord::new(alloc);

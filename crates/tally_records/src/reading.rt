@@ -5,29 +5,30 @@ ghost use Rattle.csv.specs.Reading.{records, strip_bom};
 ghost use Rattle.csv.specs.Records.{fields_of};
 ghost use Rattle.tally_records.specs.Reading.{IsReading, rows_left};
 ghost use Rattle.tally_records.specs.Separator.{config};
+ghost use Rattle.tally_records.specs.Text.{bytes_left};
 
 use crate::separator::Sep;
+use crate::text::Text;
 use csv::{ByteRecord, Reader, ReaderBuilder};
 use std::alloc::{AllocError, Global};
-use std::io::Cursor;
 
 /// A reader of a text's records, of any length, as they stand in it. It is on the heap, since it has
 /// some 16 KiB. Its header row is set to be empty, since a reader that has none yet keeps copies of
 /// the first record.
 pub(crate) fn records_in(
     alloc: Global,
-    text: Vec<u8>,
+    text: Text,
     sep: Sep,
-) -> Result<Box<Reader<Cursor<Vec<u8>>>>, AllocError>
+) -> Result<Box<Reader<Text>>, AllocError>
     ensures reading { IfOk result (λ reader. IsReading reader.value) }
-    ensures rows { IfOk result (λ reader. rows_left reader.value ≡ records (config sep) (strip_bom text.items)) }
+    ensures rows { IfOk result (λ reader. rows_left reader.value ≡ records (config sep) (strip_bom (bytes_left text))) }
 {
     let mut reader = Box::new(
         alloc,
         ReaderBuilder::new()
             .delimiter(sep.byte())
             .flexible(true)
-            .from_reader(alloc, Cursor::new(text)),
+            .from_reader(alloc, text),
     )?;
     if reader.set_byte_headers(ByteRecord::new(alloc)).is_err() {
         return Err(AllocError);
@@ -38,7 +39,7 @@ pub(crate) fn records_in(
 /// Reads the next record, if there is one. A text in memory can always be read, and its records
 /// may have any length and any bytes, so the reader refuses only where it is out of memory.
 pub(crate) fn next_record(
-    reader: &mut Reader<Cursor<Vec<u8>>>,
+    reader: &mut Reader<Text>,
     into: &mut ByteRecord,
 ) -> Result<bool, AllocError>
     requires { IsReading reader.old }
@@ -53,7 +54,7 @@ pub(crate) fn next_record(
 
 /// Passes over so many records, and answers whether there are so many.
 pub(crate) fn pass_over(
-    reader: &mut Reader<Cursor<Vec<u8>>>,
+    reader: &mut Reader<Text>,
     row: &mut ByteRecord,
     count: usize,
 ) -> Result<bool, AllocError>

@@ -1,8 +1,7 @@
 //! The records of an input at work, with one piece of it in memory.
 
-ghost use Rattle.std.specs.Prelude.{◌≡◌, ◌≤◌, ◌<◌, ◌+◌, ◌++◌, ◌∷◌, [], length, take, List, ℕ, Option, Some, None, true, false, IfOk, OnOk};
+ghost use Rattle.std.specs.Prelude.{◌≡◌, ◌≤◌, ◌<◌, ◌+◌, ◌++◌, ◌∷◌, [], length, List, ℕ, Option, Some, None, true, false, IfOk, OnOk};
 ghost use Rattle.csv.specs.Records.{fields_of};
-ghost use Rattle.tally_records.specs.Pieces.{IsPiece, piece_rows, text_rows};
 
 use crate::cut::{ended_itself, given_size, last_text, piece_size, piece_text};
 use crate::end::End;
@@ -10,9 +9,11 @@ use crate::held::Held;
 use crate::piece::Rest;
 use crate::reading::next_record;
 use crate::separator::Sep;
+use crate::text::Text;
 use crate::watch::Watch;
 use csv::ByteRecord;
 use std::alloc::{AllocError, Global};
+use std::collections::VecDeque;
 use std::io::Read;
 use std::mem;
 use std::snapshot::Snapshot;
@@ -20,20 +21,18 @@ use std::snapshot::Snapshot;
 /// How many bytes of an input are held, where no record is longer.
 const PIECE: usize = 262_144;
 
-/// How many more are asked for where one record is longer: all that still come.
-const ALL: usize = 16_777_217;
-
 /// The records of an input that is read by pieces.
 #[derive(Drop)]
 pub(crate) struct Work {
     sep: Sep,
     /// The bytes that are held, unless the input ended: then the reader of the last piece has them.
     held: Held,
-    /// The bytes that are held, or were as the input ended, for clauses alone.
-    bytes: Snapshot<Vec<u8>>,
+    /// For clauses alone: once the input ended, the text of the last piece, which is all that was held.
+    last: Snapshot<Text>,
     /// How the input ended, once it did.
     end: Option<End>,
-    /// How many of the bytes that are held stand in the piece.
+    /// How many of the bytes that are held stand in the piece; more than there are, where it is the
+    /// last.
     piece: usize,
     /// How many records of the piece were given.
     given: usize,
@@ -43,7 +42,8 @@ pub(crate) struct Work {
 
 impl Work {
     ghost use Rattle.tally_records.specs.Input.{AreAll};
-    ghost use Rattle.tally_records.specs.Pieces.{Begun, Fills, HasGivenAt, IsWorking, IsSpent, left_size};
+    ghost use Rattle.tally_records.specs.Pieces.{Begun, Fills, HasGivenAt, IsBegunIn, IsWorking, IsSpent, bytes_of, left_size};
+    ghost use Rattle.tally_records.specs.Text.{joined};
     ghost use Rattle.tally_records.specs.Watch.{IsEnd, has_failed};
 
     /// The records of an input, whose first piece is read.
@@ -58,41 +58,99 @@ impl Work {
         ensures given { IfOk result (HasGivenAt (R.remaining input.old) (R.remaining input.new) []) }
         ensures failed { IfOk result (λ records. IsEnd records.end (has_failed watch.new)) }
     {
-        Work::read(alloc, Held::new(alloc), input, watch, sep, PIECE, 0)
+        Work::read(alloc, Held::new(alloc), input, watch, sep)
     }
 
-    // Reads until so many bytes are held or the input ends, and takes up a piece of them, the first
-    // `given` records of which were given.
+    // Reads until 256 KiB are held or the input ends, and takes up a piece of them, of which no record
+    // was given.
     fn read<R: Read>(
         alloc: Global,
         mut held: Held,
         input: &mut R,
         watch: &mut Watch<R>,
         sep: Sep,
-        size: usize,
+    ) -> Result<Work, AllocError>
+        requires { held.taken ≤ 16777216 }
+        ensures reading { IfOk result IsWorking }
+        ensures fills { IfOk result (λ r. Fills (R.remaining input.old) (R.remaining input.new) held.bytes.items held.taken (bytes_of r) r.held.taken r.end) }
+        ensures size { IfOk result (λ r. r.end ≡ None → 262144 ≤ length r.held.bytes.items) }
+        ensures count { IfOk result (λ r. r.end ≡ None → r.held.taken + length held.bytes.items ≡ held.taken + length r.held.bytes.items) }
+        ensures sep { IfOk result (λ r. r.sep ≡ sep) }
+        ensures given { IfOk result (λ r. r.given ≡ 0) }
+        ensures failed { IfOk result (λ r. IsEnd r.end (has_failed watch.new)) }
+    {
+        if let Some(end) = held.fill(input, watch, PIECE)? {
+            return Work::last(alloc, held, VecDeque::new(alloc), end, sep, 0);
+        }
+        let piece = piece_size(held.bytes.as_slice());
+        let text = Text::of(alloc, piece_text(alloc, &held.bytes[..piece], sep)?);
+        let last = Snapshot::of(&text);
+        let rest = Rest::new(alloc, text, sep, false, 0)?;
+        Ok(Work {
+            sep,
+            held,
+            last,
+            end: None,
+            piece,
+            given: 0,
+            rest,
+        })
+    }
+
+    // Reads to the end of the input, where one record is longer than a piece, and takes up what is
+    // held with all that came.
+    fn read_all<R: Read>(
+        alloc: Global,
+        mut held: Held,
+        input: &mut R,
+        watch: &mut Watch<R>,
+        sep: Sep,
         given: usize,
     ) -> Result<Work, AllocError>
         requires limit { held.taken ≤ 16777216 }
+        requires few { length held.bytes.items ≤ held.taken + 1 }
         requires begun { Begun sep held.bytes.items given }
         ensures reading { IfOk result IsWorking }
-        ensures fills { IfOk result (λ r. Fills (R.remaining input.old) (R.remaining input.new) held.bytes.items held.taken r.bytes.value.items r.held.taken r.end) }
-        ensures size { IfOk result (λ r. r.end ≡ None → size ≤ length r.held.bytes.items) }
-        ensures count { IfOk result (λ r. r.end ≡ None → r.held.taken + length held.bytes.items ≡ held.taken + length r.held.bytes.items) }
+        ensures fills { IfOk result (λ r. Fills (R.remaining input.old) (R.remaining input.new) held.bytes.items held.taken (bytes_of r) r.held.taken r.end) }
+        ensures ended { IfOk result (λ r. left_size r ≡ 0) }
         ensures sep { IfOk result (λ r. r.sep ≡ sep) }
         ensures given { IfOk result (λ r. r.given ≡ given) }
         ensures failed { IfOk result (λ r. IsEnd r.end (has_failed watch.new)) }
     {
-        let end = held.fill(input, watch, size)?;
-        let piece = piece_size(held.bytes.as_slice(), end);
-        let bytes = Snapshot::of(&held.bytes);
-        let text = text_of(alloc, &mut held, piece, sep, end)?;
-        let rest = Rest::new(alloc, text, sep, ended_itself(end), given)?;
+        let (more, end) = held.read_rest(alloc, input, watch)?;
+        Work::last(alloc, held, more, end, sep, given)
+    }
+
+    // Takes up all that is held, and what stands behind it, as the last piece. No copy is made of it.
+    fn last(
+        alloc: Global,
+        mut held: Held,
+        more: VecDeque<Vec<u8>>,
+        end: End,
+        sep: Sep,
+        given: usize,
+    ) -> Result<Work, AllocError>
+        requires few { length (held.bytes.items ++ joined more.items) ≤ held.taken + 1 }
+        requires begun { IsBegunIn sep (held.bytes.items ++ joined more.items) given }
+        ensures reading { IfOk result IsWorking }
+        ensures bytes { IfOk result (λ r. bytes_of r ≡ held.bytes.items ++ joined more.items) }
+        ensures taken { IfOk result (λ r. r.held.taken ≡ held.taken) }
+        ensures end { IfOk result (λ r. r.end ≡ Some end) }
+        ensures sep { IfOk result (λ r. r.sep ≡ sep) }
+        ensures given { IfOk result (λ r. r.given ≡ given) }
+    {
+        let bytes = mem::replace(&mut held.bytes, Vec::new(alloc));
+        let text = Text::new(bytes, more);
+        let last = Snapshot::of(&text);
+        let is_whole = ended_itself(Some(end));
+        let text = last_text(alloc, text, sep, is_whole)?;
+        let rest = Rest::new(alloc, text, sep, is_whole, given)?;
         Ok(Work {
             sep,
             held,
-            bytes,
-            end,
-            piece,
+            last,
+            end: Some(end),
+            piece: usize::MAX,
             given,
             rest,
         })
@@ -169,36 +227,13 @@ impl Work {
         if done > 1 {
             held.drop_front(alloc, done)?;
             let held = mem::replace(held, Held::new(alloc));
-            *self = Work::read(alloc, held, input, watch, self.sep, PIECE, 0)?;
+            *self = Work::read(alloc, held, input, watch, self.sep)?;
             return Ok(());
         }
-        let size = held.bytes.len() + ALL;
-        // what was read of the record that goes on is read again with it
-        self.rest.ahead = ByteRecord::new(alloc);
+        // The record that goes on is given back, as far as it was read, only when all is read: an
+        // allocator may keep room of a size that was given back before, and so the parts.
         let held = mem::replace(held, Held::new(alloc));
-        *self = Work::read(alloc, held, input, watch, self.sep, size, self.given)?;
+        *self = Work::read_all(alloc, held, input, watch, self.sep, self.given)?;
         Ok(())
     }
-}
-
-/// The text of the piece that so many bytes are. Where the input goes on, the bytes stay held; else
-/// they are the text, and none is held on.
-fn text_of(
-    alloc: Global,
-    held: &mut Held,
-    piece: usize,
-    sep: Sep,
-    end: Option<End>,
-) -> Result<Vec<u8>, AllocError>
-    requires within { piece ≤ length held.old.bytes.items }
-    requires piece { IsPiece end held.old.bytes.items piece }
-    ensures rows { IfOk result (λ text. text_rows sep text.items ≡ piece_rows sep end (take piece held.old.bytes.items)) }
-    ensures held { end ≡ None → held.new.bytes.items ≡ held.old.bytes.items }
-    ensures taken { held.new.taken ≡ held.old.taken }
-{
-    let Some(end) = end else {
-        return piece_text(alloc, &held.bytes[..piece], sep);
-    };
-    let bytes = mem::replace(&mut held.bytes, Vec::new(alloc));
-    last_text(bytes, sep, ended_itself(Some(end)))
 }

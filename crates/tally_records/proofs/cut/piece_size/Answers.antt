@@ -1,11 +1,10 @@
-use Rattle.std.proofs.Common.{◌+◌, ◌∙◌, None, length, refl, sym, subst}
-use Rattle.memchr.specs.Find.{IsLastByte, is_byte2}
-use Rattle.tally_records.proofs.PieceLemmas.{IsPiece-open, last-line, no-line_end}
+use Rattle.std.proofs.Common.{◌+◌}
+use Rattle.tally_records.proofs.PieceLemmas.{ends_line-found, last-line, no-line_end}
 use Rattle.tally_records.proofs.cut.piece_size.Goals as goal
 
 pub returns-in-Some-clause-piece : goal.returns-in-Some-clause-piece
 returns-in-Some-clause-piece c =
-    IsPiece-open c.args.end c.args.bytes.now c.in-Some.place _ (sym c.is_some.ensures ∙ c.if-is_some.false) c.in-Some.ensures.0.high c.in-Some.ensures.1 refl
+    ends_line-found c.args.bytes.now c.in-Some.place c.in-Some.ensures.0.high c.in-Some.ensures.1
 
 pub returns-in-Some-clause-last : goal.returns-in-Some-clause-last
 returns-in-Some-clause-last c size within line =

@@ -1,6 +1,7 @@
-use Rattle.std.proofs.Common.{◌≡◌, ◌∙◌, [], false, ap, length, drop, sym, arith, length-drop}
+use Rattle.std.proofs.Common.{◌≡◌, ◌∙◌, [], ap, length, drop, sym, arith, length-drop}
 use Rattle.tally_records.specs.Pieces.{text_rows}
 use Rattle.tally_records.specs.Reading.{rows_left}
+use Rattle.tally_records.specs.Text.{bytes_left}
 use Rattle.tally_records.proofs.piece.Rest.new.Goals as goal
 
 pub unreachable-requires-then-not-branch-2 : goal.unreachable-requires-then-not-branch-2
@@ -8,5 +9,5 @@ unreachable-requires-then-not-branch-2 c =
     let rows = rows_left c.deref_mut.result.now in
     let none : drop c.args.given rows ≡ [] =
     sym (c.in_ok-pass_over.ensures.rows c.if-not-branch.false) ∙ ap rows_left (sym c.deref_mut-2.ensures.value) ∙ rw c.if-not-branch-2.true at c.in_ok-next_record.ensures.record in
-    let same : rows ≡ text_rows c.args.sep c.args.text.items = ap rows_left c.deref_mut.ensures.value ∙ c.in_ok-reader.ensures.rows in
+    let same : rows ≡ text_rows c.args.sep (bytes_left c.args.text) = ap rows_left c.deref_mut.ensures.value ∙ c.in_ok-reader.ensures.rows in
     omega (arith, ap length none, length-drop c.args.given rows, c.requires.some c.if-is_whole.false, ap length same)

@@ -1,7 +1,12 @@
-use Rattle.std.proofs.Common.{◌∙◌, ap, subst, sym}
+use Rattle.std.proofs.Common.{subst, sym}
 use Rattle.tally_records.specs.Given.{HasGiven, sep_of}
 use Rattle.tally_records.specs.Input.{AreAll}
 use Rattle.tally_records.proofs.records.Records.next.Goals as goal
+
+pub returns-clause-record : goal.returns-clause-record
+returns-clause-record g c none text given has =
+    let old = g.R.Read.remaining c.args.input.now in
+    c.in_ok-end.ensures.record none text given (subst (λ r. HasGiven text old given r) (sym c.self.view_is) has)
 
 pub returns-clause-all : goal.returns-clause-all
 returns-clause-all g c e is text given has =

@@ -1,8 +1,5 @@
-use Rattle.tally_records.proofs.WorkLemmas.{Begun-none, HasGiven-new, IfOk-both}
+use Rattle.tally_records.proofs.WorkLemmas.{HasGiven-new, IfOk-both}
 use Rattle.tally_records.proofs.work.Work.new.Goals as goal
-
-pub read-requires-clause-begun : goal.read-requires-clause-begun
-read-requires-clause-begun g c = Begun-none _ _
 
 pub returns-clause-given : goal.returns-clause-given
 returns-clause-given g c =

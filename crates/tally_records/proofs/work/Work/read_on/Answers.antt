@@ -1,36 +1,34 @@
 use Rattle.std.proofs.Common.{◌≡◌, ◌<◌, ◌≤◌, ◌∙◌, ◌∷◌, [], None, true, length, take, drop, sym, ap, subst, arith}
 use Rattle.std.proofs.lemmas.List.{length-take-le, take-take}
-use Rattle.tally_records.specs.Pieces.{Begun, Fills, ends_line, piece_rows}
+use Rattle.tally_records.specs.Pieces.{Begun, Fills, bytes_of, ends_line, piece_rows}
 use Rattle.tally_records.specs.declared.held.Held.{Held}
 use Rattle.tally_records.proofs.PieceLemmas.{nothing}
-use Rattle.tally_records.proofs.WorkLemmas.{Begun-none, Begun-spent, HasGiven-dropped, HasGiven-grown}
+use Rattle.tally_records.proofs.WorkLemmas.{Begun-spent, HasGiven-dropped, HasGiven-grown, bytes_of-open}
 use Rattle.tally_records.proofs.work.Work.read_on.Goals as goal
 
-pub read-requires-clause-begun : goal.read-requires-clause-begun
-read-requires-clause-begun g c = Begun-none c.args.self.now.sep _
-
-pub read-requires-2-clause-begun : goal.read-requires-2-clause-begun
-read-requires-2-clause-begun g c =
+pub read_all-requires-clause-begun : goal.read_all-requires-clause-begun
+read_all-requires-clause-begun g c =
     let old = c.args.self.now in
     subst (λ (h : Held). Begun old.sep h.bytes.items old.given) (sym c.replace-held-2.ensures.value)
-    (subst (λ bytes. Begun old.sep bytes old.given) (sym (c.requires.spent.held c.requires.more)) (Begun-spent old c.requires.spent c.requires.more))
+    (subst (λ bytes. Begun old.sep bytes old.given) (sym (bytes_of-open old c.requires.more)) (Begun-spent old c.requires.spent c.requires.more))
 
 pub returns-then-done-gt1-clause-given : goal.returns-then-done-gt1-clause-given
 returns-then-done-gt1-clause-given g c text given has =
     let old = c.args.self.now in
     let new = c.in_ok-self.field-0 in
     let done = c.in_ok-done.done in
-    let bytes = old.bytes.value.items in
-    let same : old.held.bytes.items ≡ bytes = c.requires.spent.held c.requires.more in
+    let bytes = bytes_of old in
+    let same : old.held.bytes.items ≡ bytes = bytes_of-open old c.requires.more in
+    let inside : old.piece ≤ length bytes = c.requires.spent.within c.requires.more in
     let some : 0 < done = omega (arith, c.if-done-gt1.true) in
     let slice = ap (take old.piece) (c.deref.ensures.value ∙ same) in
     let within : done ≤ length (take old.piece bytes) = subst (λ l. done ≤ length l) slice c.in_ok-done.ensures.within in
-    let size = length-take-le old.piece bytes c.requires.spent.within in
+    let size = length-take-le old.piece bytes inside in
     let front : take done (take old.piece bytes) ≡ take done bytes = take-take done old.piece bytes (omega (arith, within, size)) in
     let is = ap (take done) slice ∙ front in
     let done_rows = c.in_ok-done.ensures.given some in
     HasGiven-dropped text (g.R.Read.remaining c.args.input.now) (g.R.Read.remaining c.read.new.input) given old new c.replace-held.result done
-    c.requires.more some (omega (arith, within, size, c.requires.spent.within))
+    c.requires.more some (omega (arith, within, size, inside))
     (subst (λ l. ends_line l ≡ true) is done_rows.0)
     (subst (λ l. drop old.given (piece_rows old.sep None l) ≡ nothing ∷ []) is done_rows.1)
     (ap (λ (h : Held). h.bytes.items) c.replace-held.ensures.value ∙ c.in_ok-drop_front.ensures.bytes ∙ ap (λ l. 10 ∷ drop done l) same)
@@ -42,8 +40,8 @@ returns-clause-given g c text given has =
     let old = c.args.self.now in
     let new = c.in_ok-self-2.field-0 in
     let old_left = g.R.Read.remaining c.args.input.now in
-    let left = g.R.Read.remaining c.read-2.new.input in
+    let left = g.R.Read.remaining c.read_all.new.input in
     HasGiven-grown text old_left left given old new c.requires.more
-    (subst (λ l. Fills old_left left l old.held.taken new.bytes.value.items new.held.taken new.end) (c.requires.spent.held c.requires.more)
-    (subst (λ (h : Held). Fills old_left left h.bytes.items h.taken new.bytes.value.items new.held.taken new.end) c.replace-held-2.ensures.value c.in_ok-self-2.ensures.fills))
+    (subst (λ l. Fills old_left left l old.held.taken (bytes_of new) new.held.taken new.end) (bytes_of-open old c.requires.more)
+    (subst (λ (h : Held). Fills old_left left h.bytes.items h.taken (bytes_of new) new.held.taken new.end) c.replace-held-2.ensures.value c.in_ok-self-2.ensures.fills))
     c.in_ok-self-2.ensures.sep c.in_ok-self-2.ensures.given has

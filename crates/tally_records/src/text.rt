@@ -1,0 +1,68 @@
+//! A text in memory.
+
+ghost use Rattle.std.specs.Prelude.{◌≡◌, ◌++◌, ◌∷◌, [], IsOk, OnOk};
+ghost use Rattle.std.specs.Io.{ReadsAtMost};
+ghost use Rattle.std.specs.Io.KnownBytes.{ReadConsumes};
+ghost use Rattle.tally_records.specs.Text.{bytes_left, joined, text_left};
+
+use std::alloc::{AllocError, Global};
+use std::collections::VecDeque;
+use std::io;
+use std::io::{Cursor, Read};
+
+/// A text in parts, from the place up to which it is read. A part that is read is given back once the
+/// next one is begun.
+#[derive(Drop)]
+pub(crate) struct Text {
+    front: Cursor<Vec<u8>>,
+    behind: VecDeque<Vec<u8>>,
+}
+
+impl Text {
+    /// A text of this part and of those behind it.
+    pub(crate) fn new(front: Vec<u8>, behind: VecDeque<Vec<u8>>) -> Text
+        ensures { bytes_left result ≡ front.items ++ joined behind.items }
+    {
+        Text {
+            front: Cursor::new(front),
+            behind,
+        }
+    }
+
+    /// A text of one part.
+    pub(crate) fn of(alloc: Global, bytes: Vec<u8>) -> Text
+        ensures { bytes_left result ≡ bytes.items }
+    {
+        Text::new(bytes, VecDeque::new(alloc))
+    }
+
+    /// Puts a byte behind the text.
+    pub(crate) fn push(&mut self, alloc: Global, byte: u8) -> Result<(), AllocError>
+        ensures { OnOk result (bytes_left self.new ≡ bytes_left self.old ++ byte ∷ []) }
+    {
+        let mut part = Vec::new(alloc);
+        part.push(byte)?;
+        self.behind.push_back(part)?;
+        Ok(())
+    }
+}
+
+impl Read for Text {
+    ghost remaining = { text_left };
+
+    fn read(&mut self, buf: &mut [u8]) -> io::Result<usize>
+        ensures bound { ReadsAtMost result buf.new }
+        ensures bytes { ReadConsumes (text_left self.old) (text_left self.new) result buf.new }
+        ensures ok { IsOk result }
+    {
+        let mut count = self.front.read(buf)?;
+        while count == 0 && !buf.is_empty() {
+            let Some(next) = self.behind.pop_front() else {
+                break;
+            };
+            self.front = Cursor::new(next);
+            count = self.front.read(buf)?;
+        }
+        Ok(count)
+    }
+}
