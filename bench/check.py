@@ -157,9 +157,10 @@ def told(number):
     return "-" if number is None else f"{number:.1f}"
 
 
-def medians(commands, path, rounds, status=0):
-    """The median time of each command, run in turn on one file."""
-    times = [[] for _ in commands]
+def in_turn(commands, path, rounds, status=0, beside=()):
+    """The times of each command, run in turn on one file, and then of those beside them, which write
+    something else and end with status 0."""
+    times = [[] for _ in (*commands, *beside)]
     for _ in range(rounds):
         outputs = set()
         for command, taken in zip(commands, times):
@@ -168,7 +169,14 @@ def medians(commands, path, rounds, status=0):
             outputs.add(output)
         if len(outputs) != 1:
             sys.exit("the programs write different texts")
-    return [statistics.median(taken) for taken in times]
+        for command, taken in zip(beside, times[len(commands) :]):
+            taken.append(run(command, path)[0])
+    return times
+
+
+def medians(commands, path, rounds):
+    """The median time of each command, run in turn on one file."""
+    return [statistics.median(taken) for taken in in_turn(commands, path, rounds)]
 
 
 def compare(office, rust, path, rounds):
@@ -186,19 +194,22 @@ def compare(office, rust, path, rounds):
 
 
 def hold(office, rust, alone, path, rounds):
-    """Prints the time and the memory on texts of one long record, which are refused."""
+    """Prints the time and the memory on texts of one long record, which are refused. The ratio to `csv`
+    is that of the medians, and then that of the least times."""
     print(
-        "\nhostile text                 MiB   office ms   Rust ms   ratio   csv ms   office / csv"
+        "\nhostile text                 MiB   office ms   Rust ms   ratio   csv ms   office / csv    least"
         "   office MiB   a byte   Rust MiB   csv MiB"
     )
     for name, make in HOSTILE.items():
         path.write_bytes(make())
         size = path.stat().st_size / 2**20
-        own, fast = medians([office, rust], path, rounds, status=1)
-        (bare,) = medians([alone], path, rounds)
+        times = in_turn([office, rust], path, rounds, status=1, beside=[alone])
+        own, fast, bare = (statistics.median(taken) for taken in times)
+        least_own, _, least_bare = (min(taken) for taken in times)
         low, least, little = (peak_of(command, path) for command in (office, rust, alone))
         print(
             f"{name:25} {size:6.2f} {own:11.1f} {fast:9.1f} {fast / own:7.2f} {bare:8.1f} {own / bare:14.2f}"
+            f" {least_own / least_bare:8.2f}"
             f" {told(low):>12} {told(low and low / size):>8} {told(least):>10} {told(little):>9}"
         )
 
