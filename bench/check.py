@@ -158,8 +158,8 @@ def told(number):
 
 
 def in_turn(commands, path, rounds, status=0, beside=()):
-    """The times of each command, run in turn on one file, and then of those beside them, which write
-    something else and end with status 0."""
+    """The times of each command, run in turn on one file, followed by those of the programs beside
+    them, which write other texts and end with status 0."""
     times = [[] for _ in (*commands, *beside)]
     for _ in range(rounds):
         outputs = set()
@@ -206,11 +206,11 @@ def hold(office, rust, alone, path, rounds):
         times = in_turn([office, rust], path, rounds, status=1, beside=[alone])
         own, fast, bare = (statistics.median(taken) for taken in times)
         least_own, _, least_bare = (min(taken) for taken in times)
-        low, least, little = (peak_of(command, path) for command in (office, rust, alone))
+        low, much, little = (peak_of(command, path) for command in (office, rust, alone))
         print(
             f"{name:25} {size:6.2f} {own:11.1f} {fast:9.1f} {fast / own:7.2f} {bare:8.1f} {own / bare:14.2f}"
             f" {least_own / least_bare:8.2f}"
-            f" {told(low):>12} {told(low and low / size):>8} {told(least):>10} {told(little):>9}"
+            f" {told(low):>12} {told(low and low / size):>8} {told(much):>10} {told(little):>9}"
         )
 
 

@@ -421,7 +421,10 @@ store: CREATE INDEX by_con ON returns (con)
 store: DROP TABLE gone; CREATE TABLE gone (con TEXT NOT NULL) STRICT
 bad_tables: UPDATE setup SET version = 1
 bad_tables: UPDATE setup SET version = 3
+bad_tables: UPDATE setup SET id = 0
 bad_tables: UPDATE setup SET id = 2
+bad_tables: UPDATE setup SET id = 9223372036854775807
+bad_tables: UPDATE setup SET version = 9223372036854775807
 bad_tables: DELETE FROM setup
 bad_setup: UPDATE setup SET text = 'x'
 bad_setup: UPDATE setup SET text = 'x'; DELETE FROM cons
@@ -468,6 +471,8 @@ def test_several_changes_at_once():
     made(SETUP, ONE_TOWN)
     same(answered(""), "opened")
     each_answered(CHANGED)
+    for column in ("id", "version"):
+        same(answered(f"UPDATE setup SET {column} = 'x'"), None)
     ends()
 
 
