@@ -11,7 +11,7 @@ joined parts = flat_map (λ (part : Vec ℕ Global). part.items) parts
 
 -- the bytes that are not read yet
 abbrev pub bytes_left : Text → List ℕ
-bytes_left text = drop (cursor_position text.front) (cursor_inner text.front).items ++ joined text.behind.items
+bytes_left text = drop (cursor_position text.front) (cursor_inner text.front).items ++ joined text.behind.value.items
 
 -- the same, as the contract of `Read` has them: they are always known
 abbrev pub text_left : Text → Option (List ℕ)

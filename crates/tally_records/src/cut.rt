@@ -122,7 +122,8 @@ fn is_given(alloc: Global, front: &[u8], sep: Sep, given: usize) -> Result<bool,
     ensures given { IfOk result (λ all. all ≡ true → drop given (piece_rows sep None front.now) ≡ ([] ∷ [] ∷ []) ∷ []) }
     ensures found { IfOk result (λ all. drop given (piece_rows sep None front.now) ≡ ([] ∷ [] ∷ []) ∷ [] → all ≡ true) }
 {
-    let mut reader = records_in(alloc, Text::of(alloc, piece_text(alloc, front, sep)?), sep)?;
+    let text = Text::of(alloc, piece_text(alloc, front, sep)?)?;
+    let mut reader = records_in(alloc, text, sep)?;
     let mut record = ByteRecord::new(alloc);
     if !pass_over(&mut reader, &mut record, given)? {
         return Ok(false);

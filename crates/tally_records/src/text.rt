@@ -1,6 +1,6 @@
 //! A text in memory.
 
-ghost use Rattle.std.specs.Prelude.{◌≡◌, ◌++◌, ◌∷◌, [], IsOk, OnOk};
+ghost use Rattle.std.specs.Prelude.{◌≡◌, ◌++◌, ◌∷◌, [], IfOk, IsOk, OnOk};
 ghost use Rattle.std.specs.Io.{ReadsAtMost};
 ghost use Rattle.std.specs.Io.KnownBytes.{ReadConsumes};
 ghost use Rattle.tally_records.specs.Text.{bytes_left, joined, text_left};
@@ -11,29 +11,34 @@ use std::io;
 use std::io::{Cursor, Read};
 
 /// A text in parts, from the place up to which it is read. A part that is read is given back once the
-/// next one is begun.
+/// next one is begun. The parts behind it are on the heap: with them inside, a reader of `csv`, which has
+/// some 16 KiB, was moved onto the stack to be dropped.
 #[derive(Drop)]
 pub(crate) struct Text {
     front: Cursor<Vec<u8>>,
-    behind: VecDeque<Vec<u8>>,
+    behind: Box<VecDeque<Vec<u8>>>,
 }
 
 impl Text {
     /// A text of this part and of those behind it.
-    pub(crate) fn new(front: Vec<u8>, behind: VecDeque<Vec<u8>>) -> Text
-        ensures { bytes_left result ≡ front.items ++ joined behind.items }
+    pub(crate) fn new(
+        alloc: Global,
+        front: Vec<u8>,
+        behind: VecDeque<Vec<u8>>,
+    ) -> Result<Text, AllocError>
+        ensures { IfOk result (λ text. bytes_left text ≡ front.items ++ joined behind.items) }
     {
-        Text {
+        Ok(Text {
             front: Cursor::new(front),
-            behind,
-        }
+            behind: Box::new(alloc, behind)?,
+        })
     }
 
     /// A text of one part.
-    pub(crate) fn of(alloc: Global, bytes: Vec<u8>) -> Text
-        ensures { bytes_left result ≡ bytes.items }
+    pub(crate) fn of(alloc: Global, bytes: Vec<u8>) -> Result<Text, AllocError>
+        ensures { IfOk result (λ text. bytes_left text ≡ bytes.items) }
     {
-        Text::new(bytes, VecDeque::new(alloc))
+        Text::new(alloc, bytes, VecDeque::new(alloc))
     }
 
     /// Puts a byte behind the text.

@@ -83,7 +83,7 @@ impl Work {
             return Work::last(alloc, held, VecDeque::new(alloc), end, sep, 0);
         }
         let piece = piece_size(held.bytes.as_slice());
-        let text = Text::of(alloc, piece_text(alloc, &held.bytes[..piece], sep)?);
+        let text = Text::of(alloc, piece_text(alloc, &held.bytes[..piece], sep)?)?;
         let last = Snapshot::of(&text);
         let rest = Rest::new(alloc, text, sep, false, 0)?;
         Ok(Work {
@@ -140,7 +140,7 @@ impl Work {
         ensures given { IfOk result (λ r. r.given ≡ given) }
     {
         let bytes = mem::replace(&mut held.bytes, Vec::new(alloc));
-        let text = Text::new(bytes, more);
+        let text = Text::new(alloc, bytes, more)?;
         let last = Snapshot::of(&text);
         let is_whole = ended_itself(Some(end));
         let text = last_text(alloc, text, sep, is_whole)?;
