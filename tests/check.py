@@ -7,6 +7,7 @@ The program and the last line are those of `tests/program.py`. In tables of rows
 feed, `~` for a carriage return, and `!` and `?` for bytes that no text in UTF-8 has there.
 """
 
+import resource
 import subprocess
 import sys
 
@@ -206,6 +207,16 @@ def test_rows_behind_a_long_record():
     for longer in range(15):
         text = HEADER + '"' + "x\n" * 150000 + "x" * 5 * longer + '"\n' + rows
         counted(text, f"{count}, 0, 0, 0, 1, 1 0, 0, 0, {count}, {2 * count}")
+
+
+def test_a_small_stack():
+    def limited():
+        resource.setrlimit(resource.RLIMIT_STACK, (96 * 1024, 96 * 1024))
+
+    for text, status in ((EXAMPLE, 0), ('"' + "x" * 2000000, 1), ('"' + "x\n" * 1000000, 1)):
+        words = [program.PROGRAM, "check"]
+        ran = subprocess.run(words, input=text.encode(), capture_output=True, timeout=120, env={}, preexec_fn=limited)
+        assert ran.returncode == status, (text[:9], ran)
 
 
 if __name__ == "__main__":
