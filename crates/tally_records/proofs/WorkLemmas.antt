@@ -70,7 +70,7 @@ gives-next sep (Some end) bytes piece k ahead fields left more stop line is may 
         rw (may.1, same) here
 
 pub HasGiven-next : (text left : Option (List ℕ)) (given : List (List (List ℕ))) (old : Work) (rest : Rest) (fields : List (List ℕ)) (behind : List (List (List ℕ)))
-    → IsWorking old → rows_left old.rest.reader.value ≡ fields ∷ behind → HasGivenAt text left given old
+    → IsWorking old → rows_left old.rest.reader.reader.value ≡ fields ∷ behind → HasGivenAt text left given old
     → HasGivenAt text left (given ++ given_record (is_whole old.end) (fields_of old.rest.ahead) fields ∷ []) (record old { given = old.given + 1; rest = rest })
 HasGiven-next text left given old rest fields behind reading is has = (
   has.0,
@@ -276,14 +276,14 @@ HasGiven-new old_left left held r none taken fills given = (
 -- ---- the reader's next record
 
 rows-next : (whole : Bool) (k : ℕ) (rows : List (List (List ℕ))) (old new : Rest) (fields : List (List ℕ))
-    → IsRest whole (drop k rows) old → rows_left old.reader.value ≡ fields ∷ rows_left new.reader.value → (whole ≡ false → fields_of new.ahead ≡ fields)
+    → IsRest whole (drop k rows) old → rows_left old.reader.reader.value ≡ fields ∷ rows_left new.reader.reader.value → (whole ≡ false → fields_of new.ahead ≡ fields)
     → IsRest whole (drop (k + 1) rows) new
 rows-next true k rows old new fields rest is ahead = drop-next k rows fields _ (rest ∙ is)
 rows-next false k rows old new fields rest is ahead =
-    drop-next k rows (fields_of old.ahead) _ (rest ∙ ap (λ l. fields_of old.ahead ∷ l) (is ∙ ap (λ f. f ∷ rows_left new.reader.value) (sym (ahead refl))))
+    drop-next k rows (fields_of old.ahead) _ (rest ∙ ap (λ l. fields_of old.ahead ∷ l) (is ∙ ap (λ f. f ∷ rows_left new.reader.reader.value) (sym (ahead refl))))
 
 pub IsReadingOn-next : (old : Work) (rest : Rest) (fields : List (List ℕ))
-    → IsWorking old → IsReading rest.reader.value → rows_left old.rest.reader.value ≡ fields ∷ rows_left rest.reader.value → (is_whole old.end ≡ false → fields_of rest.ahead ≡ fields)
+    → IsWorking old → IsReading rest.reader.reader.value → rows_left old.rest.reader.reader.value ≡ fields ∷ rows_left rest.reader.reader.value → (is_whole old.end ≡ false → fields_of rest.ahead ≡ fields)
     → IsWorking (record old { given = old.given + 1; rest = rest })
 IsReadingOn-next old rest fields reading reader is ahead = record {
   reading = reader;
@@ -295,7 +295,7 @@ IsReadingOn-next old rest fields reading reader is ahead = record {
 }
 
 -- no more records were given than bytes are held, but for two
-pub given-few : (r : Work) (fields : List (List ℕ)) (left : List (List (List ℕ))) → IsWorking r → rows_left r.rest.reader.value ≡ fields ∷ left
+pub given-few : (r : Work) (fields : List (List ℕ)) (left : List (List (List ℕ))) → IsWorking r → rows_left r.rest.reader.reader.value ≡ fields ∷ left
     → r.given ≤ length (bytes_of r) + 2
 given-few r fields left reading is = go (is_whole r.end) reading.rest
   where

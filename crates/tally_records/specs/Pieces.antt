@@ -50,8 +50,8 @@ piece_rows sep end piece = records (config sep) (strip_bom (if is_whole end then
 
 -- what is left of records: the one ahead, which is not known to be complete, and those behind it
 abbrev pub IsRest : Bool → List (List (List ℕ)) → Rest → Type 0
-IsRest true rows rest = rows ≡ rows_left rest.reader.value
-IsRest false rows rest = rows ≡ fields_of rest.ahead ∷ rows_left rest.reader.value
+IsRest true rows rest = rows ≡ rows_left rest.reader.reader.value
+IsRest false rows rest = rows ≡ fields_of rest.ahead ∷ rows_left rest.reader.reader.value
 
 -- more may come behind the piece, which ends with a line; or the input ended behind it
 abbrev pub IsPiece : Option End → List ℕ → ℕ → Type 0
@@ -68,7 +68,7 @@ bytes_of r = bytes_at r.end r.held r.last.value
 
 -- the records of an input, at work
 pub record IsWorking (r : Work) : Type 0 where
-  pub reading : IsReading r.rest.reader.value
+  pub reading : IsReading r.rest.reader.reader.value
   pub rest : IsRest (is_whole r.end) (drop r.given (piece_rows r.sep r.end (take r.piece (bytes_of r)))) r.rest
   pub piece : IsPiece r.end (bytes_of r) r.piece
   pub within : r.end ≡ None → r.piece ≤ length (bytes_of r)

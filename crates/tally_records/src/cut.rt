@@ -125,11 +125,11 @@ fn is_given(alloc: Global, front: &[u8], sep: Sep, given: usize) -> Result<bool,
     let text = Text::of(alloc, piece_text(alloc, front, sep)?)?;
     let mut reader = records_in(alloc, text, sep)?;
     let mut record = ByteRecord::new(alloc);
-    if !pass_over(&mut reader, &mut record, given)? {
+    if !pass_over(&mut reader.reader, &mut record, given)? {
         return Ok(false);
     }
-    if !next_record(&mut reader, &mut record)? || !is_nothing(&record) {
+    if !next_record(&mut reader.reader, &mut record)? || !is_nothing(&record) {
         return Ok(false);
     }
-    Ok(!next_record(&mut reader, &mut record)?)
+    Ok(!next_record(&mut reader.reader, &mut record)?)
 }

@@ -3,17 +3,17 @@
 ghost use Rattle.std.specs.Prelude.{◌≡◌, ◌≤◌, ◌<◌, true, false, drop, length, IfOk};
 ghost use Rattle.tally_records.specs.Reading.{IsReading};
 
-use crate::reading::{next_record, pass_over, records_in};
+use crate::reading::{TextReader, next_record, pass_over, records_in};
 use crate::separator::Sep;
 use crate::text::Text;
-use csv::{ByteRecord, Reader};
+use csv::ByteRecord;
 use std::alloc::{AllocError, Global};
 
 /// The records of a piece that are left: the one ahead, and those that a reader still gives.
 #[derive(Drop)]
 pub(crate) struct Rest {
     pub(crate) ahead: ByteRecord,
-    pub(crate) reader: Box<Reader<Text>>,
+    pub(crate) reader: TextReader,
 }
 
 impl Rest {
@@ -30,18 +30,18 @@ impl Rest {
     ) -> Result<Rest, AllocError>
         requires some { is_whole ≡ false → given < length (text_rows sep (bytes_left text)) }
         requires whole { is_whole ≡ true → given ≤ length (text_rows sep (bytes_left text)) }
-        ensures reading { IfOk result (λ rest. IsReading rest.reader.value) }
+        ensures reading { IfOk result (λ rest. IsReading rest.reader.reader.value) }
         ensures rest { IfOk result (IsRest is_whole (drop given (text_rows sep (bytes_left text)))) }
     {
         let mut reader = records_in(alloc, text, sep)?;
         let mut ahead = ByteRecord::new(alloc);
-        if !pass_over(&mut reader, &mut ahead, given)? {
+        if !pass_over(&mut reader.reader, &mut ahead, given)? {
             unreachable!();
         }
         if is_whole {
             return Ok(Rest { ahead, reader });
         }
-        if !next_record(&mut reader, &mut ahead)? {
+        if !next_record(&mut reader.reader, &mut ahead)? {
             unreachable!();
         }
         Ok(Rest { ahead, reader })

@@ -12,28 +12,38 @@ use crate::text::Text;
 use csv::{ByteRecord, Reader, ReaderBuilder};
 use std::alloc::{AllocError, Global};
 
-/// A reader of a text's records, of any length, as they stand in it. It is on the heap, since it has
-/// some 16 KiB. Its header row is set to be empty, since a reader that has none yet keeps copies of
-/// the first record.
-pub(crate) fn records_in(
-    alloc: Global,
-    text: Text,
-    sep: Sep,
-) -> Result<Box<Reader<Text>>, AllocError>
-    ensures reading { IfOk result (λ reader. IsReading reader.value) }
-    ensures rows { IfOk result (λ reader. rows_left reader.value ≡ records (config sep) (strip_bom (bytes_left text))) }
+/// A reader of a text's records. It is on the heap, since it has some 16 KiB. To be dropped it is moved
+/// onto the stack, in a function of its own, so that no other has room for it.
+pub(crate) struct TextReader {
+    pub(crate) reader: Box<Reader<Text>>,
+}
+
+impl Drop for TextReader {
+    #[inline(never)]
+    fn drop(self) {
+        let Self { reader: _ } = self;
+    }
+}
+
+/// A reader of a text's records, of any length, as they stand in it. Its header row is set to be empty,
+/// since a reader that has none yet keeps copies of the first record.
+pub(crate) fn records_in(alloc: Global, text: Text, sep: Sep) -> Result<TextReader, AllocError>
+    ensures reading { IfOk result (λ it. IsReading it.reader.value) }
+    ensures rows { IfOk result (λ it. rows_left it.reader.value ≡ records (config sep) (strip_bom (bytes_left text))) }
 {
-    let mut reader = Box::new(
-        alloc,
-        ReaderBuilder::new()
-            .delimiter(sep.byte())
-            .flexible(true)
-            .from_reader(alloc, text),
-    )?;
-    if reader.set_byte_headers(ByteRecord::new(alloc)).is_err() {
+    let mut it = TextReader {
+        reader: Box::new(
+            alloc,
+            ReaderBuilder::new()
+                .delimiter(sep.byte())
+                .flexible(true)
+                .from_reader(alloc, text),
+        )?,
+    };
+    if it.reader.set_byte_headers(ByteRecord::new(alloc)).is_err() {
         return Err(AllocError);
     }
-    Ok(reader)
+    Ok(it)
 }
 
 /// Reads the next record, if there is one. A text in memory can always be read, and its records

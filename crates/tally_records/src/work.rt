@@ -195,7 +195,7 @@ impl Work {
         ensures sep { self.new.sep ≡ self.old.sep }
         ensures end { self.new.end ≡ self.old.end }
     {
-        if !next_record(&mut self.rest.reader, into)? {
+        if !next_record(&mut self.rest.reader.reader, into)? {
             return Ok(false);
         }
         self.given += 1;
