@@ -11,8 +11,10 @@ import contextlib
 import shutil
 import sqlite3
 import sys
+import tomllib
 from pathlib import Path
 
+import openapi
 import program
 from program import RETURNS, SETUP, THREE_STATIONS, imports, new, only, rows, same, serving, show, take
 
@@ -75,10 +77,60 @@ def made(setup, script, db="good.db", constituencies=1):
 # ---- openings
 
 
+def stored(db):
+    """What is to be answered to GET of each constituency, of its past and of each station, by the rows of a database."""
+    answers = {}
+    with program.database(db) as it:
+
+        def select(sql, *values):
+            return it.execute(sql, values).fetchall()
+
+        setup = tomllib.loads(select("SELECT text FROM setup")[0][0])
+        for con in setup["constituency"]:
+            code, lists = con["code"], [one["code"] for one in con["list"]]
+            [(edition, certified, note)] = select("SELECT edition, certified, note FROM cons WHERE con = ?", code)
+            [(closed,)] = select("SELECT count(*) FROM returns WHERE con = ? AND status = 4", code)
+            gone = select("SELECT list, place, note FROM gone WHERE con = ? ORDER BY list, place", code)
+            answers[f"/con/{code}"] = 200, openapi.compact({
+                "con": code, "edition": edition, "certified": certified == 1, "note": note, "closed": closed, "stations": len(con["station"]),
+                **named(select("SELECT item, n FROM totals WHERE con = ? ORDER BY item", code)),
+                "lot": [lists[n - 1] for (n,) in select("SELECT list FROM lots WHERE con = ? ORDER BY place", code)],
+                "seats": [n for (n,) in select("SELECT n FROM seats WHERE con = ? ORDER BY list", code)],
+                "gone": [{"list": lists[n - 1], "place": place, "note": note} for n, place, note in gone],
+            })
+            past = f"PAST {code} {con['name']}\n"
+            for (before,) in select("SELECT DISTINCT edition FROM past WHERE con = ? ORDER BY edition", code):
+                past += f"edition {before}\n"
+                for n, seats in select("SELECT list, n FROM past WHERE con = ? AND edition = ? ORDER BY list", code, before):
+                    past += f"{lists[n - 1]:16}{seats:5} {con['list'][n - 1]['name']}\n"
+            answers[f"/con/{code}/past"] = 200, past
+            for station in con["station"]:
+                answers[f"/station/{station['code']}"] = 404, '{"refused":8,"word":"no_return"}'
+        for station, rev, slip, status, note in select("SELECT station, rev, slip, status, note FROM returns"):
+            word = ("received", "queried", "corrected", "closed")[status - 1]
+            counts = named(select("SELECT item, n FROM counts WHERE station = ? ORDER BY item", station))
+            answers[f"/station/{station}"] = 200, openapi.compact(
+                {"station": station, "rev": rev, "slip": slip, "status": word, "note": note, **counts})
+    return answers
+
+
+def named(items):
+    """The numbers of a return, or sums of such, by the names that they have in an answer."""
+    (_, blank), *votes, (_, spoiled) = items
+    return {"blank": blank, "votes": [n for _, n in votes], "spoiled": spoiled}
+
+
+def shown(db):
+    """What is answered to the same."""
+    paths = list(stored(db))
+    with serving(db, len(paths)) as desk:
+        return {path: desk.ask("GET", path)[::2] for path in paths}
+
+
 def answered(statements, good="good.db"):
     """What the program answers to a copy of an office after these statements: `opened` or a word; None where a table refuses them.
 
-    Whatever it answers, it leaves each byte of the database as it was."""
+    Where it opens, it shows what the rows say. Whatever it answers, it leaves each byte of the database as it was."""
     shutil.copy(good, "office.db")
     with contextlib.closing(sqlite3.connect("office.db", isolation_level=None)) as it:
         it.execute("PRAGMA synchronous = OFF")
@@ -88,10 +140,12 @@ def answered(statements, good="good.db"):
             return None
     before = Path("office.db").read_bytes()
     ran = show("progress", con=None)
+    if ran.status == 0:
+        assert ran.out.startswith("c1 ") and not ran.err, (statements, ran)
+        same((statements, shown("office.db")), (statements, stored("office.db")))
     assert Path("office.db").read_bytes() == before, statements
     only(good, "office.db")
     if ran.status == 0:
-        assert ran.out.startswith("c1 ") and not ran.err, (statements, ran)
         return "opened"
     kind, word = ran.err.removesuffix("\n").split(": ")
     same((ran.status, ran.out, kind), (3, "", "failed") if word == "store" else (1, "", "refused"))

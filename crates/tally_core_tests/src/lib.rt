@@ -10,6 +10,8 @@ mod certification;
 mod check;
 #[cfg(test)]
 mod decide;
+#[cfg(test)]
+mod failing;
 pub mod frail;
 #[cfg(test)]
 mod import;

@@ -4,22 +4,30 @@ use crate::looks::push_looked;
 use sqlite::{Alter, Connection};
 use std::alloc::Global;
 use std::test::Fail;
-use tally_core::{ImportFault, Keeper};
+use tally_core::{ImportCount, ImportFault, Keeper};
 use tally_import::{ReturnRows, Sep};
 use tally_scripts::{code, first_wrong};
 use tally_store::{CreateFault, OpenFault, Store};
 
+/// Rows of a text, and what their import comes to.
+#[derive(Clone, Copy)]
+pub(crate) struct Rows<'a> {
+    pub(crate) text: &'a str,
+    pub(crate) sep: Sep,
+    pub(crate) want: Result<ImportCount, ImportFault>,
+}
+
 /// What is done. The first four have steps, each of which is carried out or not.
 #[derive(Clone, Copy)]
 pub(crate) enum Deed<'a> {
-    /// An office of this setup is made.
+    /// An office of this setup is made. Another fault than that of the store is shown.
     Create(&'a str),
     /// It is opened.
     Open,
     /// It answers these lines, a step each.
     Answer(&'a str),
-    /// It lodges the rows of this text.
-    Import(&'a str),
+    /// It lodges these rows.
+    Import(Rows<'a>),
     /// These statements run, and the log is not copied into the database file.
     Leave(&'a str),
     /// All that an office shows is shown.
@@ -90,7 +98,11 @@ fn create<S: Alter + Drop>(
     match made(alloc, conn, text) {
         Ok(office) => Ok(ended(alloc, office.close(), 1)),
         Err((conn, CreateFault::Store)) => Ok(stopped(alloc, conn, 0)),
-        Err(_) => Err(Fail::from("another fault")),
+        Err((conn, fault)) => {
+            let mut work = ended(alloc, conn, 1);
+            write!(work.told, "{fault}")?;
+            Ok(work)
+        }
     }
 }
 
@@ -122,25 +134,27 @@ fn answer<S: Alter + Drop>(
     Ok(stopped(alloc, office.close(), steps))
 }
 
-/// Whether an office lodges the three rows of a text; else its store refuses.
-fn imported<K: Keeper>(alloc: Global, office: &mut K, text: &str) -> Result<bool, Fail> {
+/// Whether an import of rows comes to what it should; else the store refuses.
+fn imported<K: Keeper>(alloc: Global, office: &mut K, rows: Rows<'_>) -> Result<bool, Fail> {
     let found = office.setup().con(code("c1")?).ok_or("c1")?;
     let con = found.try_copy(alloc)?;
-    let mut rows = ReturnRows::new(alloc, text.as_bytes(), Sep::Comma, con);
-    match office.lodge_from(&mut rows) {
-        Ok(count) if count.lodged == 3 => Ok(true),
-        Ok(_) => Err(Fail::from("not three rows")),
+    let mut source = ReturnRows::new(alloc, rows.text.as_bytes(), rows.sep, con);
+    let came = office.lodge_from(&mut source);
+    if came == rows.want {
+        return Ok(true);
+    }
+    match came {
         Err(ImportFault::Store) => Ok(false),
-        Err(_) => Err(Fail::from("another fault")),
+        _ => Err(Fail::from("another count or fault")),
     }
 }
 
 fn import<S: Alter + Drop>(
     alloc: Global,
     mut office: Store<S>,
-    text: &str,
+    rows: Rows<'_>,
 ) -> Result<Work<S>, Fail> {
-    if imported(alloc, &mut office, text)? {
+    if imported(alloc, &mut office, rows)? {
         return Ok(ended(alloc, office.close(), 1));
     }
     Ok(stopped(alloc, office.close(), 0))
@@ -154,7 +168,7 @@ fn in_office<S: Alter + Drop>(
 ) -> Result<Work<S>, Fail> {
     match deed {
         Deed::Answer(lines) => answer(alloc, office, lines),
-        Deed::Import(text) => import(alloc, office, text),
+        Deed::Import(rows) => import(alloc, office, rows),
         _ => Ok(ended(alloc, office.close(), 1)),
     }
 }

@@ -13,4 +13,6 @@ mod looks;
 #[cfg(test)]
 mod runs;
 #[cfg(test)]
+mod scripts;
+#[cfg(test)]
 mod stops;

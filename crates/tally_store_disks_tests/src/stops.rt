@@ -1,12 +1,14 @@
 //! What a stop of a file leaves of an office that is made, opened, asked or imported into.
 
 use crate::counts::{Case, is_whole};
-use crate::deeds::Deed;
+use crate::deeds::{Deed, Rows};
 use crate::disks::no_contents;
 use crate::looks::{FORMER_TABLES, NO_TABLES, TABLES, wanted};
 use crate::runs::{contents_after, former_contents};
+use crate::scripts::{LODGED, MORE_STATIONS, RETURNS, count};
 use std::alloc::Global;
 use std::test::*;
+use tally_import::Sep;
 use tally_scripts::{RECOUNT, TWIN_TOWN};
 
 /// By how many calls each run lets more through than the one before. With 1 each call of a file is stopped
@@ -16,24 +18,6 @@ const MORE: u64 = 1;
 
 /// How many steps of the script are taken: up to the second closing, behind which is only what came before.
 const STEPS: usize = 20;
-
-const MORE_STATIONS: &str = r#"
-[[constituency.station]]
-code = "s2"
-electors = 300
-
-[[constituency.station]]
-code = "s3"
-electors = 300
-"#;
-
-const RETURNS: &str =
-    "station,slip,blank,spoiled,A,B\ns1,p1,0,0,10,20\ns2,p2,1,0,30,40\ns3,p3,0,2,50,60\n";
-
-// The same as requests.
-const LODGED: &str = "lodge s1 p1 10,20 = lodged 1
-lodge s2 p2 30,40 1 = lodged 1
-lodge s3 p3 50,60 0 2 = lodged 1";
 
 // What was done to the office that is taken over.
 const FORMER: &str = "lodge s1 p1 100,100 = lodged 1
@@ -75,7 +59,11 @@ fn importing(alloc: Global) -> Result<Case<'static>, Fail> {
     let after = wanted(alloc, TABLES, text.as_str(), LODGED)?;
     Ok(Case {
         contents: contents_after(alloc, &no_contents(alloc), Deed::Create(text.as_str()))?,
-        deed: Deed::Import(RETURNS),
+        deed: Deed::Import(Rows {
+            text: RETURNS,
+            sep: Sep::Comma,
+            want: count([3, 0, 0, 0, 0], None),
+        }),
         shows: pair(alloc, before, after)?,
     })
 }

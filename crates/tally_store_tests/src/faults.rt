@@ -81,3 +81,16 @@ fn an_office_is_made_in_an_empty_database_alone(rt: HostRuntime) -> Result<(), F
     }
     Ok(())
 }
+
+#[test]
+fn an_office_is_made_once_and_found_where_it_was_made(rt: HostRuntime) -> Result<(), Fail> {
+    let alloc = rt.alloc();
+    let again = making(alloc, database(alloc, TWIN_TOWN, "")?, "", TWIN_TOWN)?;
+    assert!(rt; again.as_str() == "the database has such tables", "{again}");
+    let nowhere = opening(alloc, empty(alloc)?, "")?;
+    assert!(rt;
+        nowhere.as_str() == "the database lacks a table",
+        "{nowhere}"
+    );
+    Ok(())
+}

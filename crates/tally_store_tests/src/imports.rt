@@ -22,8 +22,22 @@ code = "s3"
 electors = 300
 "#;
 
+const HEADER: &str = "station,slip,blank,spoiled,A,B\n";
+
 const RETURNS: &str =
     "station,slip,blank,spoiled,A,B\ns1,p1,0,0,10,20\ns2,p2,1,0,30,40\ns3,p3,0,2,50,60\n";
+
+// The same as a spreadsheet saves it, behind a byte order mark.
+const QUOTED: &str = "\u{feff}\
+\"station\";\"slip\";\"blank\";\"spoiled\";\"A\";\"B\"\r
+\"s1\";\"p1\";\"0\";\"0\";\"10\";\"20\"\r
+\"s2\";\"p2\";\"1\";\"0\";\"30\";\"40\"\r
+\"s3\";\"p3\";\"0\";\"2\";\"50\";\"60\"\r
+";
+
+// Its second row has no number for the votes of A.
+const NO_NUMBER: &str =
+    "station,slip,blank,spoiled,A,B\ns1,p1,0,0,10,20\ns2,p2,1,0,x,40\ns3,p3,0,2,50,60\n";
 
 // Behind the row of s1 a read fails.
 const CUT: &str = "station,slip,blank,spoiled,A,B\ns1,p1,0,0,10,20\ns2,p2,1,0,30,";
@@ -54,11 +68,12 @@ impl Read for Text<'_> {
     }
 }
 
-/// A text, the bytes that a read gives, whether a read fails behind it, what its import comes to, and lines
-/// with their answers.
+/// A text, what separates its fields, the bytes that a read gives, whether a read fails behind it, what its
+/// import comes to, and lines with their answers.
 #[derive(Clone, Copy)]
 struct Case<'a> {
     text: &'a str,
+    sep: Sep,
     piece: usize,
     fails: bool,
     want: Result<ImportCount, ImportFault>,
@@ -74,7 +89,7 @@ fn rows<'a>(alloc: Global, setup: &Setup, case: &Case<'a>) -> Result<ReturnRows<
         piece: case.piece,
         fails: case.fails,
     };
-    Ok(ReturnRows::new(alloc, text, Sep::Comma, con))
+    Ok(ReturnRows::new(alloc, text, case.sep, con))
 }
 
 /// What an import of these rows comes to.
@@ -99,7 +114,7 @@ fn first_wrong_import<S: Alter + Drop>(
 ) -> Result<String, Fail> {
     for case in cases {
         if !is_as_wanted(alloc, &mut office, case)? {
-            return Ok(String::from_str(alloc, case.text)?);
+            return Ok(format!(in alloc; "not {:?}: {}", case.want, case.text)?);
         }
         office = opened(alloc, office.close())?;
         let wrong = first_wrong(alloc, &mut office, case.lines)?;
@@ -108,6 +123,12 @@ fn first_wrong_import<S: Alter + Drop>(
         }
     }
     Ok(String::new(alloc))
+}
+
+/// The same in a new office of three stations.
+fn first_wrong_in_new(alloc: Global, cases: &[Case<'_>]) -> Result<String, Fail> {
+    let setup = format!(in alloc; "{TWIN_TOWN}{MORE_STATIONS}")?;
+    first_wrong_import(alloc, made(alloc, setup.as_str())?, cases)
 }
 
 /// How many rows were lodged, the same, differing, refused and bad, and the first that was none of the former
@@ -127,10 +148,10 @@ fn count(numbers: [u32; 5], first: Option<(u32, u32)>) -> Result<ImportCount, Im
 #[test]
 fn imports_one_after_the_other(rt: HostRuntime) -> Result<(), Fail> {
     let alloc = rt.alloc();
-    let setup = format!(in alloc; "{TWIN_TOWN}{MORE_STATIONS}")?;
     let cases = [
         Case {
             text: CUT,
+            sep: Sep::Comma,
             piece: 7,
             fails: true,
             want: Err(ImportFault::Read),
@@ -138,6 +159,7 @@ fn imports_one_after_the_other(rt: HostRuntime) -> Result<(), Fail> {
         },
         Case {
             text: TOO_MANY,
+            sep: Sep::Comma,
             piece: 4_096,
             fails: false,
             want: count([1, 0, 0, 1, 0], Some((1, 6))),
@@ -145,6 +167,7 @@ fn imports_one_after_the_other(rt: HostRuntime) -> Result<(), Fail> {
         },
         Case {
             text: RETURNS,
+            sep: Sep::Comma,
             piece: 1,
             fails: false,
             want: count([2, 1, 0, 0, 0], None),
@@ -152,6 +175,7 @@ fn imports_one_after_the_other(rt: HostRuntime) -> Result<(), Fail> {
         },
         Case {
             text: RETURNS,
+            sep: Sep::Comma,
             piece: 4_096,
             fails: true,
             want: Err(ImportFault::Read),
@@ -159,6 +183,7 @@ fn imports_one_after_the_other(rt: HostRuntime) -> Result<(), Fail> {
         },
         Case {
             text: RETURNS,
+            sep: Sep::Comma,
             piece: 2,
             fails: false,
             want: count([0, 3, 0, 0, 0], None),
@@ -166,6 +191,7 @@ fn imports_one_after_the_other(rt: HostRuntime) -> Result<(), Fail> {
         },
         Case {
             text: DIFFERING,
+            sep: Sep::Comma,
             piece: 4_096,
             fails: false,
             want: count([0, 1, 1, 0, 1], Some((2, 7))),
@@ -173,13 +199,95 @@ fn imports_one_after_the_other(rt: HostRuntime) -> Result<(), Fail> {
         },
         Case {
             text: "station,slip,blank,spoiled,B,A\ns1,p1,0,0,20,10\n",
+            sep: Sep::Comma,
             piece: 4_096,
             fails: false,
             want: Err(ImportFault::BadHeader),
             lines: "show c1 = open 1 3/3 [90, 120] [] []",
         },
     ];
-    let wrong = first_wrong_import(alloc, made(alloc, setup.as_str())?, &cases)?;
+    let wrong = first_wrong_in_new(alloc, &cases)?;
     assert!(rt; wrong.is_empty(), "{wrong}");
+    Ok(())
+}
+
+// What is answered in a new office where all three returns were lodged, all but that of s2, and none. 8 is
+// NoReturn.
+const ALL_LODGED: &str = "return s1 = 1 p1 Received [10, 20] 0 0 \n\
+return s2 = 1 p2 Received [30, 40] 1 0 \n\
+return s3 = 1 p3 Received [50, 60] 0 2 ";
+
+const TWO_LODGED: &str = "return s1 = 1 p1 Received [10, 20] 0 0 \n\
+return s2 = refused 8
+return s3 = 1 p3 Received [50, 60] 0 2 ";
+
+const NONE_LODGED: &str = "return s1 = refused 8
+return s2 = refused 8
+return s3 = refused 8
+show c1 = open 1 0/3 [0, 0] [] []";
+
+/// The three returns, by reads of so many bytes.
+fn returns_by(piece: usize) -> Case<'static> {
+    Case {
+        text: RETURNS,
+        sep: Sep::Comma,
+        piece,
+        fails: false,
+        want: count([3, 0, 0, 0, 0], None),
+        lines: ALL_LODGED,
+    }
+}
+
+/// One record more than an import takes. The first is a return, the others are bad.
+fn too_long(alloc: Global) -> Result<String, Fail> {
+    let bad = "x\n".repeat(alloc, 20_000)?;
+    Ok(format!(in alloc; "{HEADER}s1,p1,0,0,10,20\n{bad}")?)
+}
+
+#[test]
+fn imports_each_into_a_new_office(rt: HostRuntime) -> Result<(), Fail> {
+    let alloc = rt.alloc();
+    let long = too_long(alloc)?;
+    let cases = [
+        Case {
+            text: QUOTED,
+            sep: Sep::Semicolon,
+            piece: 4_096,
+            fails: false,
+            want: count([3, 0, 0, 0, 0], None),
+            lines: ALL_LODGED,
+        },
+        Case {
+            text: NO_NUMBER,
+            sep: Sep::Comma,
+            piece: 4_096,
+            fails: false,
+            want: count([2, 0, 0, 0, 1], Some((2, 0))),
+            lines: TWO_LODGED,
+        },
+        Case {
+            text: "",
+            sep: Sep::Comma,
+            piece: 4_096,
+            fails: false,
+            want: Err(ImportFault::BadHeader),
+            lines: NONE_LODGED,
+        },
+        Case {
+            text: long.as_str(),
+            sep: Sep::Comma,
+            piece: 4_096,
+            fails: false,
+            want: Err(ImportFault::TooLong),
+            lines: NONE_LODGED,
+        },
+        returns_by(1),
+        returns_by(2),
+        returns_by(7),
+    ];
+    for case in cases {
+        let wrong = first_wrong_in_new(alloc, &[case])?;
+        assert!(rt; wrong.is_empty(), "{wrong}");
+    }
     Ok(())
 }

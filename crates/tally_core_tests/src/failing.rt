@@ -1,0 +1,129 @@
+//! Scripts and imports over a keeper that fails as a disk does. While it has turns it answers as other keepers do, and
+//! from then on it refuses everything. 23 is Store.
+
+use crate::frail::Frail;
+use crate::setups::fresh;
+use std::alloc::Global;
+use std::test::*;
+use tally_core::Keeper;
+use tally_import::{ReturnRows, Sep};
+use tally_scripts::{
+    ALTERNATING, HARE, LIFE, RECOUNT, RIVERS, TWIN_TOWN, VACANCIES, first_wrong, twin_town, with,
+};
+
+/// A new keeper that takes so many requests and imports.
+fn frail(alloc: Global, setup: &str, turns: u32) -> Result<Frail, Fail> {
+    Ok(Frail {
+        book: fresh(alloc, setup)?,
+        turns,
+        shut: false,
+        clean: true,
+    })
+}
+
+/// Fails where the first wrong line of a script, with the answer to it, is not this one. It is empty where no line is
+/// wrong.
+fn check_wrong<K: Keeper>(
+    alloc: Global,
+    keeper: &mut K,
+    script: &str,
+    wanted: &str,
+) -> Result<(), Fail> {
+    let wrong = first_wrong(alloc, keeper, script)?;
+    if wrong.as_str() == wanted {
+        return Ok(());
+    }
+    Err(Fail::from(wrong))
+}
+
+/// The commands of a script, each of them refused.
+fn all_refused(alloc: Global, script: &str) -> Result<String, Fail> {
+    let mut refused = String::new(alloc);
+    for line in script.lines() {
+        let (ask, _answer) = line.split_once(" = ").ok_or("no answer")?;
+        writeln!(refused, "{ask} = refused 23")?;
+    }
+    Ok(refused)
+}
+
+/// Fails where for a keeper with so many turns the first wrong line of a script is not this one, or where afterwards it
+/// does not refuse each of its commands.
+fn check_turns(
+    alloc: Global,
+    setup: &str,
+    script: &str,
+    turns: u32,
+    wanted: &str,
+) -> Result<(), Fail> {
+    let mut keeper = frail(alloc, setup, turns)?;
+    check_wrong(alloc, &mut keeper, script, wanted)?;
+    let refused = all_refused(alloc, script)?;
+    check_wrong(alloc, &mut keeper, refused.as_str(), "")
+}
+
+/// Fails where a keeper with turns for the first lines of a script, from none of them to all, does not answer just
+/// those.
+fn check_each_turn(alloc: Global, setup: &str, script: &str) -> Result<(), Fail> {
+    let mut turns = 0u32;
+    for line in script.lines() {
+        let wanted = format!(in alloc; "{line}, and not refused 23")?;
+        check_turns(alloc, setup, script, turns, wanted.as_str())?;
+        turns = turns.checked_add(1).ok_or("too many lines")?;
+    }
+    check_turns(alloc, setup, script, turns, "")
+}
+
+#[test]
+fn scripts_with_turns_enough_and_too_few(rt: HostRuntime) -> Result<(), Fail> {
+    let alloc = rt.alloc();
+    let one_seat = twin_town(alloc, "dhondt", 1)?;
+    let rule = "base = \"valid\"\nlot = \"alternating\"";
+    let alternating = with(alloc, TWIN_TOWN, "base = \"valid\"", rule)?;
+    for (setup, script) in [
+        (TWIN_TOWN, LIFE),
+        (TWIN_TOWN, RECOUNT),
+        (RIVERS, HARE),
+        (one_seat.as_str(), VACANCIES),
+        (alternating.as_str(), ALTERNATING),
+    ] {
+        check_wrong(alloc, &mut frail(alloc, setup, u32::MAX)?, script, "")?;
+        check_each_turn(alloc, setup, script)?;
+    }
+    Ok(())
+}
+
+const RETURNS: &[u8] = b"station,slip,blank,spoiled,A,B\ns1,p1,0,0,100,100\n";
+
+const LODGED: &str =
+    "Ok(ImportCount { lodged: 1, same: 0, differs: 0, refused: 0, bad: 0, first: None })";
+
+/// What an import of these returns comes to, as text.
+fn imported<K: Keeper>(alloc: Global, keeper: &mut K) -> Result<String, Fail> {
+    let con = keeper.setup().cons().first().ok_or("no constituency")?;
+    let con = con.try_copy(alloc)?;
+    let mut reader = RETURNS;
+    let mut rows = ReturnRows::new(alloc, &mut reader, Sep::Comma, con);
+    let outcome = keeper.lodge_from(&mut rows);
+    Ok(format!(in alloc; "{outcome:?}")?)
+}
+
+// 8 is NoReturn.
+#[test]
+fn an_import_takes_a_turn(rt: HostRuntime) -> Result<(), Fail> {
+    let alloc = rt.alloc();
+    let told = imported(alloc, &mut fresh(alloc, TWIN_TOWN)?)?;
+    assert!(rt; told.as_str() == LODGED, "{told}");
+    for (turns, wanted, standing) in [
+        (0, "Err(Store)", "return s1 = refused 8"),
+        (1, LODGED, "return s1 = 1 p1 Received [100, 100] 0 0 "),
+    ] {
+        let mut keeper = frail(alloc, TWIN_TOWN, turns)?;
+        let told = imported(alloc, &mut keeper)?;
+        assert!(rt; told.as_str() == wanted, "{told}");
+        let told = imported(alloc, &mut keeper)?;
+        assert!(rt; told.as_str() == "Err(Store)", "{told}");
+        check_wrong(alloc, &mut keeper, "return s1 = refused 23", "")?;
+        check_wrong(alloc, &mut keeper.book, standing, "")?;
+    }
+    Ok(())
+}

@@ -1,0 +1,200 @@
+//! Scripts and imports over files that do not stop: answers and shows are those of an office in memory.
+
+use crate::deeds::{Deed, Rows};
+use crate::disks::{Contents, no_contents};
+use crate::looks::{TABLES, wanted};
+use crate::runs::{contents_after, former_contents, told};
+use std::alloc::Global;
+use std::test::*;
+use tally_core::{FirstRow, ImportCount, ImportFault};
+use tally_import::Sep;
+use tally_scripts::{
+    ALTERNATING, HARE, LIFE, RECOUNT, RIVERS, TWIN_TOWN, VACANCIES, twin_town, with,
+};
+
+pub(crate) const MORE_STATIONS: &str = r#"
+[[constituency.station]]
+code = "s2"
+electors = 300
+
+[[constituency.station]]
+code = "s3"
+electors = 300
+"#;
+
+pub(crate) const RETURNS: &str =
+    "station,slip,blank,spoiled,A,B\ns1,p1,0,0,10,20\ns2,p2,1,0,30,40\ns3,p3,0,2,50,60\n";
+
+// The same as requests.
+pub(crate) const LODGED: &str = "lodge s1 p1 10,20 = lodged 1
+lodge s2 p2 30,40 1 = lodged 1
+lodge s3 p3 50,60 0 2 = lodged 1";
+
+const DIFFERING: &str =
+    "station,slip,blank,spoiled,A,B\ns1,p1,0,0,10,20\ns2,p2,1,0,31,40\ns3,p3,0,2,50,60\n";
+
+const BAD: &str =
+    "station,slip,blank,spoiled,A,B\ns1,p1,0,0,10,20\ns2,p2,1,0,x,40\ns3,p3,0,2,50,60\n";
+
+// Those of the bad text that are lodged.
+const LODGED_OF_BAD: &str = "lodge s1 p1 10,20 = lodged 1
+lodge s3 p3 50,60 0 2 = lodged 1";
+
+const QUOTED: &str = "\u{feff}\"station\";\"slip\";\"blank\";\"spoiled\";\"A\";\"B\"\r
+\"s1\";\"p1\";\"0\";\"0\";\"10\";\"20\"\r
+\"s2\";\"p2\";\"1\";\"0\";\"30\";\"40\"\r
+\"s3\";\"p3\";\"0\";\"2\";\"50\";\"60\"\r
+";
+
+const EXCHANGED: &str = "station,slip,blank,spoiled,B,A\ns1,p1,0,0,20,10\n";
+
+/// How many rows were lodged, the same, differing, refused and bad, and the first that was none of the former
+/// two, with the number of its refusal.
+pub(crate) fn count(
+    numbers: [u32; 5],
+    first: Option<(u32, u32)>,
+) -> Result<ImportCount, ImportFault> {
+    let [lodged, same, differs, refused, bad] = numbers;
+    Ok(ImportCount {
+        lodged,
+        same,
+        differs,
+        refused,
+        bad,
+        first: first.map(|(row, number)| FirstRow { row, number }),
+    })
+}
+
+/// Whether files show what an office in memory shows that has answered these lines.
+fn shows(alloc: Global, contents: &Contents, text: &str, lines: &str) -> Result<bool, Fail> {
+    let shown = told(alloc, contents, Deed::Look)?;
+    let wanted = wanted(alloc, TABLES, text, lines)?;
+    Ok(shown.as_str() == wanted.as_str())
+}
+
+/// Whether a new office of this setup has the answers of these lines, and then shows what one in memory does.
+fn follows(alloc: Global, text: &str, lines: &str) -> Result<bool, Fail> {
+    let made = contents_after(alloc, &no_contents(alloc), Deed::Create(text))?;
+    let after = contents_after(alloc, &made, Deed::Answer(lines))?;
+    shows(alloc, &after, text, lines)
+}
+
+#[test]
+fn scripts_over_files(rt: HostRuntime) -> Result<(), Fail> {
+    let alloc = rt.alloc();
+    let one_seat = twin_town(alloc, "dhondt", 1)?;
+    let rule = "base = \"valid\"\nlot = \"alternating\"";
+    let alternating = with(alloc, TWIN_TOWN, "base = \"valid\"", rule)?;
+    for (setup, script) in [
+        (TWIN_TOWN, LIFE),
+        (TWIN_TOWN, RECOUNT),
+        (RIVERS, HARE),
+        (one_seat.as_str(), VACANCIES),
+        (alternating.as_str(), ALTERNATING),
+    ] {
+        assert!(rt; follows(alloc, setup, script)?, "{script}");
+    }
+    Ok(())
+}
+
+/// The lines of the script up to this one, and those behind it, without those that only show.
+fn cut(alloc: Global, last: &str) -> Result<(String, String), Fail> {
+    let mut before = String::new(alloc);
+    let mut after = String::new(alloc);
+    let mut is_behind = false;
+    for line in RECOUNT.lines().filter(|line| !line.starts_with("show")) {
+        let part = if is_behind { &mut after } else { &mut before };
+        part.push_str(line)?;
+        part.push_str("\n")?;
+        is_behind = is_behind || line == last;
+    }
+    Ok((before, after))
+}
+
+#[test]
+fn an_office_of_version_1_goes_on(rt: HostRuntime) -> Result<(), Fail> {
+    let alloc = rt.alloc();
+    let (before, after) = cut(alloc, "close s1 4 = moved 5")?;
+    let former = former_contents(alloc, TWIN_TOWN, before.as_str())?;
+    let now = contents_after(alloc, &former, Deed::Answer(after.as_str()))?;
+    let shown = told(alloc, &now, Deed::Look)?;
+    let end = "\ncertified 6 1/1 [120, 120] [1, 2] [2, 1] recount 2.1 resigned\n";
+    assert!(rt; shown.as_str().contains(end), "{shown}");
+    Ok(())
+}
+
+/// Whether imports into a new office, one after the other, come to what they should, and it shows after each
+/// what one in memory shows that has answered the lines beside them.
+fn import_in_turn(alloc: Global, text: &str, cases: &[(Rows<'_>, &str)]) -> Result<bool, Fail> {
+    let mut contents = contents_after(alloc, &no_contents(alloc), Deed::Create(text))?;
+    for (rows, lines) in cases {
+        contents = contents_after(alloc, &contents, Deed::Import(*rows))?;
+        if !shows(alloc, &contents, text, lines)? {
+            return Ok(false);
+        }
+    }
+    Ok(true)
+}
+
+fn rows(text: &str, sep: Sep, want: Result<ImportCount, ImportFault>) -> Rows<'_> {
+    Rows { text, sep, want }
+}
+
+#[test]
+fn imports_over_files(rt: HostRuntime) -> Result<(), Fail> {
+    let alloc = rt.alloc();
+    let setup = format!(in alloc; "{TWIN_TOWN}{MORE_STATIONS}")?;
+    let bad_rows = "x\n".repeat(alloc, 20_000)?;
+    let long = format!(in alloc; "station,slip,blank,spoiled,A,B\ns1,p1,0,0,10,20\n{bad_rows}")?;
+    let comma = Sep::Comma;
+    let one_after_the_other = [
+        (rows(long.as_str(), comma, Err(ImportFault::TooLong)), ""),
+        (rows("", comma, Err(ImportFault::BadHeader)), ""),
+        (rows(EXCHANGED, comma, Err(ImportFault::BadHeader)), ""),
+        (rows(RETURNS, comma, count([3, 0, 0, 0, 0], None)), LODGED),
+        (rows(RETURNS, comma, count([0, 3, 0, 0, 0], None)), LODGED),
+        (
+            rows(DIFFERING, comma, count([0, 2, 1, 0, 0], Some((2, 7)))),
+            LODGED,
+        ),
+    ];
+    assert!(rt; import_in_turn(alloc, setup.as_str(), &one_after_the_other)?);
+    let bad = [(
+        rows(BAD, comma, count([2, 0, 0, 0, 1], Some((2, 0)))),
+        LODGED_OF_BAD,
+    )];
+    assert!(rt; import_in_turn(alloc, setup.as_str(), &bad)?);
+    let quoted = [(
+        rows(QUOTED, Sep::Semicolon, count([3, 0, 0, 0, 0], None)),
+        LODGED,
+    )];
+    assert!(rt; import_in_turn(alloc, setup.as_str(), &quoted)?);
+    Ok(())
+}
+
+#[test]
+fn an_office_is_made_once(rt: HostRuntime) -> Result<(), Fail> {
+    let alloc = rt.alloc();
+    let made = contents_after(alloc, &no_contents(alloc), Deed::Create(TWIN_TOWN))?;
+    let told = told(alloc, &made, Deed::Create(TWIN_TOWN))?;
+    assert!(rt; told.as_str() == "the database has such tables", "{told}");
+    let still = contents_after(alloc, &made, Deed::Create(TWIN_TOWN))?;
+    assert!(rt; shows(alloc, &still, TWIN_TOWN, "")?);
+    Ok(())
+}
+
+#[test]
+fn a_moved_seat_over_files(rt: HostRuntime) -> Result<(), Fail> {
+    let alloc = rt.alloc();
+    let certified =
+        "lodge s1 p1 100,100 = lodged 1\nclose s1 1 = moved 2\ndraw c1 1 B,A = edition 2\ncertify c1 2 = edition 3";
+    let made = contents_after(alloc, &no_contents(alloc), Deed::Create(TWIN_TOWN))?;
+    let office = contents_after(alloc, &made, Deed::Answer(certified))?;
+    let moved = contents_after(alloc, &office, Deed::Leave("UPDATE seats SET n = 3 - n"))?;
+    let shown = told(alloc, &moved, Deed::Look)?;
+    assert!(rt;
+        shown.as_str().ends_with("the tables are those of no state"),
+        "{shown}"
+    );
+    Ok(())
+}
