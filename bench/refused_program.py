@@ -6,7 +6,8 @@ through all that a run with ample memory makes; and again so that every request 
 has to end as it does with ample memory, or with status 3 and `failed: memory`. Afterwards the rows of all tables are those
 before the command or those after it, the file is whole (`PRAGMA integrity_check`), and the program opens it again with ample
 memory and leaves those rows. Those after a command that failed may be there only where that took a database of version 1
-over; a `new` that fails leaves no file; of another command a log may be left, and the rows are in the file without it.
+over; a `new` that fails leaves no file, or an empty one that it could not lock; of another command a log may be left, and the
+rows are in the file without it.
 
 A server is refused its memory in the same way, from the request at which it listens on; what it asks for before that is
 what `show` asks for, and has runs of its own. Each message has to get the answer that it gets with ample memory, or status
@@ -249,17 +250,18 @@ class Bench:
 class Command:
     """A command over the files of a folder."""
 
-    def __init__(self, bench, name, words, files, first=1, takes_over=False):
+    def __init__(self, bench, name, words, files, first=1, takes_over=False, opens=True):
         self.bench, self.name, self.files, self.first = bench, name, files, first
         self.words = [bench.program, *words]
-        # Whether it opens a database of version 1, which is then taken over though the command fails behind that.
-        self.takes_over = takes_over
+        # Whether it opens a database of version 1, which is then taken over though the command fails behind that; whether the
+        # database is one that opens.
+        self.takes_over, self.opens = takes_over, opens
 
     def ample(self):
         """Runs it with ample memory: the last request for memory that it makes."""
         self.before = self.bench.judge.state(self.bench.fresh(self.files))
         asked, self.answer, self.after, left = self.run(WHOLE, WHOLE)
-        if self.answer[0] not in (0, 1) or LOG in left or not is_office(self.after):
+        if self.answer[0] not in (0, 1) or LOG in left or is_office(self.after) != self.opens:
             sys.exit(f"{self.name}: with ample memory {self.answer}, {left} and {self.after}")
         return asked
 
@@ -281,6 +283,9 @@ class Command:
             return "did without" + beside, True
         if is_whole and answer == MEMORY and state == self.before and (state or left == sorted(self.files)):
             return "failed: memory, as before" + beside, True
+        is_made_alone = self.before is None and left == sorted([DB, *self.files])
+        if answer == MEMORY and is_made_alone and (self.bench.own.folder / DB).read_bytes() == b"":
+            return "failed: memory, an empty file is left", True
         if is_whole and answer == MEMORY and state == self.after and self.takes_over:
             return "failed: memory, taken over" + beside, True
         return f"{answer}, {self.told(state)}, {left}", False
@@ -424,37 +429,80 @@ def of_version_1(bench):
     return {DB: (folder / DB).read_bytes()}
 
 
+def after_import(bench, files, text):
+    """The database behind an import of a text."""
+    folder = bench.fresh({**files, "returns.csv": text.encode()})
+    words = [bench.program, "import", "--db", DB, "--con", "c1", "--csv", "returns.csv"]
+    subprocess.run(words, cwd=folder, check=True, stdout=subprocess.DEVNULL)
+    return {DB: (folder / DB).read_bytes()}
+
+
+def changed(bench, files, statements):
+    """The database behind statements of C SQLite."""
+    folder = bench.fresh(files)
+    with database(str(folder / DB)) as it:
+        it.executescript(statements)
+    return {DB: (folder / DB).read_bytes()}
+
+
 def show(bench, files, report, con="c1", first=1):
     words = ("show", "--db", DB, "--report", report, "--con", con)
     return Command(bench, f"show {report} of {con}", words, files, first)
 
 
-def opening(bench, files):
-    """A request for memory that `show` makes shortly before the database is open. Where there is no such constituency, it
-    opens the database and closes it, which takes the name of the log."""
-    return show(bench, files, "tally", "zz").ample() - 20
+def imports(bench, name, files, text, con="c1", first=1):
+    words = ("import", "--db", DB, "--con", con, "--csv", "returns.csv")
+    return Command(bench, name, words, {**files, "returns.csv": text.encode()}, first)
+
+
+def imports_into_open(bench, name, files, text):
+    """An import that is refused memory behind the opening."""
+    return imports(bench, name, files, text, first=opening(imports(bench, name, files, text, "zz")))
+
+
+def refused_opening(bench, name, files):
+    words = ("show", "--db", DB, "--report", "progress")
+    return Command(bench, f"show of {name}", words, files, opens=False)
+
+
+def opening(command):
+    """A request for memory that a command makes shortly before the database is open, by this one, which names no constituency
+    that there is: it opens the database and closes it, which takes the name of the log."""
+    return command.ample() - 20
 
 
 def workloads(bench):
     """The workloads. What `show` asks for up to its report is the same for all reports, and is refused with one of them."""
     new, past = ("new", "--db", DB, "--setup", "setup.toml"), ("show", "--db", DB, "--report", "past", "--con", "c1")
-    setup, csv = {"setup.toml": SETUP.encode()}, {"returns.csv": RETURNS.encode()}
+    setup = {"setup.toml": SETUP.encode()}
     one, three, election = made(bench, SETUP), made(bench, THREE_STATIONS), certified(bench)
-    script = [message(path, body) for path, body, _, _ in SCRIPT[:20]]
-    wanted = [(status, text) for _, _, status, text in SCRIPT[:20]]
-    is_open = opening(bench, election)
+    lodged = after_import(bench, three, RETURNS)
+    differing, bad = RETURNS.replace("30,40", "31,40"), RETURNS.replace("30,40", "x,40")
+    script = [message(path, body) for path, body, _, _ in SCRIPT]
+    wanted = [(status, text) for _, _, status, text in SCRIPT]
+    is_open = opening(show(bench, election, "tally", "zz"))
     return [
         Command(bench, "new", new, setup),
         Command(bench, "new in a file without a byte", new, {**setup, DB: b""}),
-        Command(bench, "import", ("import", "--db", DB, "--con", "c1", "--csv", "returns.csv"), {**three, **csv}),
+        Command(bench, "new where an office is", new, {**setup, **one}),
+        imports(bench, "import", three, RETURNS),
+        imports_into_open(bench, "import that is repeated", lodged, RETURNS),
+        imports_into_open(bench, "import that differs", lodged, differing),
+        imports_into_open(bench, "import with a bad row", three, bad),
         show(bench, election, "progress"),
         *(show(bench, election, report, first=is_open) for report in REPORTS),
         show(bench, election, "quota", "h1", is_open),
         Command(bench, "show of version 1", past, of_version_1(bench), takes_over=True),
+        refused_opening(bench, "a file without a byte", {DB: b""}),
+        refused_opening(bench, "a seat that was moved", changed(bench, election, "UPDATE seats SET n = 3 - n WHERE con = 'c1'")),
+        refused_opening(bench, "a table that is not there", changed(bench, election, "DROP TABLE lots")),
         Server(bench, "serve, up to listening", election, [PROGRESS], starts=True),
         Server(bench, "serve a lodge", one, [LODGE]),
         Server(bench, "serve a client that is gone, and a lodge", one, [GONE, LODGE]),
         Server(bench, "serve an import", three, [message("/con/c1/import", RETURNS)]),
+        Server(bench, "serve an import that is repeated", lodged, [message("/con/c1/import", RETURNS)]),
+        Server(bench, "serve an import that differs", lodged, [message("/con/c1/import", differing)]),
+        Server(bench, "serve an import with a bad row", three, [message("/con/c1/import", bad)]),
         Server(bench, "serve each GET", election, [*ROUTES, message("/con/h1/quota")]),
         Server(bench, "serve a script", one, script, wanted),
     ]

@@ -72,11 +72,20 @@ fn shows(alloc: Global, contents: &Contents, text: &str, lines: &str) -> Result<
     Ok(shown.as_str() == wanted.as_str())
 }
 
-/// Whether a new office of this setup has the answers of these lines, and then shows what one in memory does.
+/// Whether a new office of this setup has the answers of these lines, and after each of them, closed and opened
+/// again, shows what one in memory does.
 fn follows(alloc: Global, text: &str, lines: &str) -> Result<bool, Fail> {
-    let made = contents_after(alloc, &no_contents(alloc), Deed::Create(text))?;
-    let after = contents_after(alloc, &made, Deed::Answer(lines))?;
-    shows(alloc, &after, text, lines)
+    let mut contents = contents_after(alloc, &no_contents(alloc), Deed::Create(text))?;
+    let mut done = String::new(alloc);
+    for line in lines.lines() {
+        contents = contents_after(alloc, &contents, Deed::Answer(line))?;
+        done.push_str(line)?;
+        done.push_str("\n")?;
+        if !shows(alloc, &contents, text, done.as_str())? {
+            return Ok(false);
+        }
+    }
+    Ok(true)
 }
 
 #[test]
