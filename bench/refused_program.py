@@ -6,7 +6,7 @@ through all that a run with ample memory makes; and again so that every request 
 has to end as it does with ample memory, or with status 3 and `failed: memory`. Afterwards the rows of all tables are those
 before the command or those after it, the file is whole (`PRAGMA integrity_check`), and the program opens it again with ample
 memory and leaves those rows. Those after a command that failed may be there only where that took a database of version 1
-over; a `new` that fails leaves no file, or an empty one that it could not lock; of another command a log may be left, and the
+over; a `new` that fails leaves no file that it made, but an empty one that it could not lock; else a log may be left, and the
 rows are in the file without it.
 
 A server is refused its memory in the same way, from the request at which it listens on; what it asks for before that is

@@ -1,19 +1,42 @@
 //! What is done to a database until its store refuses, over any store.
 
-use crate::looks::push_looked;
+use crate::looks::{asks, push_looked, push_run};
 use sqlite::{Alter, Connection};
 use std::alloc::Global;
+use std::io::{self, ErrorKind, Read};
 use std::test::Fail;
 use tally_core::{ImportCount, ImportFault, Keeper};
 use tally_import::{ReturnRows, Sep};
 use tally_scripts::{code, first_wrong};
 use tally_store::{CreateFault, OpenFault, Store};
 
-/// Rows of a text, and what their import comes to.
+/// Gives its text by pieces of so many bytes, and then ends or fails.
+#[derive(Drop)]
+struct Text<'a> {
+    text: &'a [u8],
+    piece: usize,
+    fails: bool,
+}
+
+impl Read for Text<'_> {
+    fn read(&mut self, buf: &mut [u8]) -> io::Result<usize> {
+        if self.fails && self.text.is_empty() {
+            return Err(io::Error::from(ErrorKind::BrokenPipe));
+        }
+        let taken = self.piece.min(buf.len()).min(self.text.len());
+        buf[..taken].copy_from_slice(&self.text[..taken]);
+        self.text = &self.text[taken..];
+        Ok(taken)
+    }
+}
+
+/// Rows of a text, the bytes that a read gives, whether a read fails behind it, and what their import comes to.
 #[derive(Clone, Copy)]
 pub(crate) struct Rows<'a> {
     pub(crate) text: &'a str,
     pub(crate) sep: Sep,
+    pub(crate) piece: usize,
+    pub(crate) fails: bool,
     pub(crate) want: Result<ImportCount, ImportFault>,
 }
 
@@ -26,6 +49,8 @@ pub(crate) enum Deed<'a> {
     Open,
     /// It answers these lines, a step each.
     Answer(&'a str),
+    /// It answers these commands and one that shows the progress, in one run, and the answers are shown.
+    Run(&'a str),
     /// It lodges these rows.
     Import(Rows<'a>),
     /// These statements run, and the log is not copied into the database file.
@@ -138,7 +163,12 @@ fn answer<S: Alter + Drop>(
 fn imported<K: Keeper>(alloc: Global, office: &mut K, rows: Rows<'_>) -> Result<bool, Fail> {
     let found = office.setup().con(code("c1")?).ok_or("c1")?;
     let con = found.try_copy(alloc)?;
-    let mut source = ReturnRows::new(alloc, rows.text.as_bytes(), rows.sep, con);
+    let text = Text {
+        text: rows.text.as_bytes(),
+        piece: rows.piece,
+        fails: rows.fails,
+    };
+    let mut source = ReturnRows::new(alloc, text, rows.sep, con);
     let came = office.lodge_from(&mut source);
     if came == rows.want {
         return Ok(true);
@@ -160,6 +190,21 @@ fn import<S: Alter + Drop>(
     Ok(stopped(alloc, office.close(), 0))
 }
 
+fn run_in<S: Alter + Drop>(
+    alloc: Global,
+    mut office: Store<S>,
+    lines: &str,
+) -> Result<Work<S>, Fail> {
+    let asks = asks(alloc, lines)?;
+    let mut told = String::new(alloc);
+    push_run(alloc, &mut told, &mut office, asks.as_slice())?;
+    Ok(Work {
+        left: Left::Conn(office.close()),
+        steps: 1,
+        told,
+    })
+}
+
 /// Carries out what is done to an office.
 fn in_office<S: Alter + Drop>(
     alloc: Global,
@@ -168,6 +213,7 @@ fn in_office<S: Alter + Drop>(
 ) -> Result<Work<S>, Fail> {
     match deed {
         Deed::Answer(lines) => answer(alloc, office, lines),
+        Deed::Run(lines) => run_in(alloc, office, lines),
         Deed::Import(rows) => import(alloc, office, rows),
         _ => Ok(ended(alloc, office.close(), 1)),
     }

@@ -5,11 +5,17 @@ use sqlite::{Alter, Connection};
 use sqlite_value::value::Value;
 use std::alloc::Global;
 use std::test::Fail;
-use tally_core::{Ask, Book, Keeper};
+use tally_core::{Ask, Book, Keeper, Refusal, Reply, run};
 use tally_scripts::{command, first_wrong, setup, told};
 
-/// A station that the setup lacks is refused.
-const SHOWN: [&str; 4] = ["return s1", "return s2", "return s3", "show c1"];
+/// A station or a constituency that the setup lacks is refused.
+const SHOWN: &str = "return s1
+return s2
+return s3
+return r1
+return r2
+show c1
+show h";
 
 /// What is shown of no tables, and the front of what is shown of those of version 1 and of today's.
 pub(crate) const NO_TABLES: &str = "version none, tables\nthe database lacks a table";
@@ -20,26 +26,44 @@ pub(crate) const FORMER_TABLES: &str =
 pub(crate) const TABLES: &str =
     "version 2, tables cons counts gone lots past returns seats setup totals\n";
 
-/// Adds what a keeper answers, as a line.
-fn push_answer<K: Keeper>(
+/// Adds an answer, as a line.
+fn push_told(
     alloc: Global,
     text: &mut String,
-    keeper: &mut K,
-    ask: &Ask,
+    answer: &Result<Reply, Refusal>,
 ) -> Result<(), Fail> {
-    let answer = keeper.answer(ask);
-    text.push_str(told(alloc, &answer)?.as_str())?;
+    text.push_str(told(alloc, answer)?.as_str())?;
     text.push_str("\n")?;
     Ok(())
 }
 
-/// Adds what a keeper shows: these returns, the constituency, and the progress.
-fn push_answers<K: Keeper>(alloc: Global, text: &mut String, keeper: &mut K) -> Result<(), Fail> {
-    for line in SHOWN {
-        let ask = command(alloc, line)?;
-        push_answer(alloc, text, keeper, &ask)?;
+/// Adds what a keeper answers to a run of these commands.
+pub(crate) fn push_run<K: Keeper>(
+    alloc: Global,
+    text: &mut String,
+    keeper: &mut K,
+    asks: &[Ask],
+) -> Result<(), Fail> {
+    for answer in &run(alloc, keeper, asks)? {
+        push_told(alloc, text, answer)?;
     }
-    push_answer(alloc, text, keeper, &Ask::ShowProgress)
+    Ok(())
+}
+
+/// The commands of these lines, and one that shows the progress.
+pub(crate) fn asks(alloc: Global, lines: &str) -> Result<Vec<Ask>, Fail> {
+    let mut asks = Vec::new(alloc);
+    for line in lines.lines() {
+        asks.push(command(alloc, line)?)?;
+    }
+    asks.push(Ask::ShowProgress)?;
+    Ok(asks)
+}
+
+/// Adds what a keeper shows: these returns, the constituencies, and the progress.
+fn push_answers<K: Keeper>(alloc: Global, text: &mut String, keeper: &mut K) -> Result<(), Fail> {
+    let asks = asks(alloc, SHOWN)?;
+    push_run(alloc, text, keeper, asks.as_slice())
 }
 
 /// Adds a value.

@@ -30,6 +30,9 @@ pub(crate) const LODGED: &str = "lodge s1 p1 10,20 = lodged 1
 lodge s2 p2 30,40 1 = lodged 1
 lodge s3 p3 50,60 0 2 = lodged 1";
 
+// The first 60 bytes of the returns.
+const CUT: &str = "station,slip,blank,spoiled,A,B\ns1,p1,0,0,10,20\ns2,p2,1,0,30,";
+
 const DIFFERING: &str =
     "station,slip,blank,spoiled,A,B\ns1,p1,0,0,10,20\ns2,p2,1,0,31,40\ns3,p3,0,2,50,60\n";
 
@@ -146,7 +149,35 @@ fn import_in_turn(alloc: Global, text: &str, cases: &[(Rows<'_>, &str)]) -> Resu
 }
 
 fn rows(text: &str, sep: Sep, want: Result<ImportCount, ImportFault>) -> Rows<'_> {
-    Rows { text, sep, want }
+    Rows {
+        text,
+        sep,
+        piece: 4_096,
+        fails: false,
+        want,
+    }
+}
+
+/// The three returns, by reads of so many bytes.
+fn returns_by(piece: usize) -> Rows<'static> {
+    Rows {
+        text: RETURNS,
+        sep: Sep::Comma,
+        piece,
+        fails: false,
+        want: count([3, 0, 0, 0, 0], None),
+    }
+}
+
+/// The first of them, and a read that fails in the second.
+fn cut_returns() -> Rows<'static> {
+    Rows {
+        text: CUT,
+        sep: Sep::Comma,
+        piece: 7,
+        fails: true,
+        want: Err(ImportFault::Read),
+    }
 }
 
 #[test]
@@ -178,6 +209,23 @@ fn imports_over_files(rt: HostRuntime) -> Result<(), Fail> {
         LODGED,
     )];
     assert!(rt; import_in_turn(alloc, setup.as_str(), &quoted)?);
+    let cut = [(cut_returns(), "")];
+    assert!(rt; import_in_turn(alloc, setup.as_str(), &cut)?);
+    for piece in [1, 2, 7] {
+        let by_pieces = [(returns_by(piece), LODGED)];
+        assert!(rt; import_in_turn(alloc, setup.as_str(), &by_pieces)?);
+    }
+    Ok(())
+}
+
+#[test]
+fn a_run_over_files(rt: HostRuntime) -> Result<(), Fail> {
+    let alloc = rt.alloc();
+    let lines = "lodge s1 p1 100,100\nlodge s1 p1 100,100\nclose s1 1\nclose s1 1";
+    let made = contents_after(alloc, &no_contents(alloc), Deed::Create(TWIN_TOWN))?;
+    let answers = told(alloc, &made, Deed::Run(lines))?;
+    let wanted = "lodged 1\nsame 1\nmoved 2\nstale 2\nprogress c1 1: 0 0 0 1 1 false\n";
+    assert!(rt; answers.as_str() == wanted, "{answers}");
     Ok(())
 }
 

@@ -62,6 +62,8 @@ fn importing(alloc: Global) -> Result<Case<'static>, Fail> {
         deed: Deed::Import(Rows {
             text: RETURNS,
             sep: Sep::Comma,
+            piece: 4_096,
+            fails: false,
             want: count([3, 0, 0, 0, 0], None),
         }),
         shows: pair(alloc, before, after)?,
