@@ -1,0 +1,130 @@
+"""A browser without a window, driven over the WebDriver protocol (W3C) with Python alone: Chromium and its driver."""
+
+import base64
+import contextlib
+import http.client
+import json
+import os
+import shutil
+import socket
+import subprocess
+import time
+
+DRIVER, CHROMIUM = shutil.which("chromedriver"), shutil.which("chromium") or shutil.which("chromium-browser")
+KEY = "element-6066-11e4-a52e-4f735466cecf"  # the name of an element's number in the protocol
+
+
+class Failed(Exception):
+    """The browser could not do what it was asked to."""
+
+
+class Browser:
+    def __init__(self, port, session=None):
+        self.port, self.session = port, session
+
+    def ask(self, method, path, body=None):
+        connection = http.client.HTTPConnection("127.0.0.1", self.port, timeout=60)
+        with contextlib.closing(connection):
+            connection.request(method, path, None if body is None else json.dumps(body), {"Content-Type": "application/json"})
+            answer = connection.getresponse()
+            value = json.loads(answer.read())["value"]
+        if answer.status != 200:
+            raise Failed(f"{path}: {value['error']}: {value['message'].splitlines()[0]}")
+        return value
+
+    def of_session(self, method, path, body=None):
+        return self.ask(method, f"/session/{self.session}{path}", body)
+
+    def open(self, url):
+        self.of_session("POST", "/url", {"url": url})
+
+    def run(self, script, *arguments):
+        """What a function's body returns in the page."""
+        return self.of_session("POST", "/execute/sync", {"script": script, "args": list(arguments)})
+
+    def command(self, name, **parameters):
+        """A command of the browser's own protocol."""
+        return self.of_session("POST", "/goog/cdp/execute", {"cmd": name, "params": parameters})
+
+    def find(self, css):
+        return self.of_session("POST", "/element", {"using": "css selector", "value": css})[KEY]
+
+    def click(self, css):
+        self.of_session("POST", f"/element/{self.find(css)}/click", {})
+
+    def type(self, css, text):
+        found = self.find(css)
+        self.of_session("POST", f"/element/{found}/clear", {})
+        self.of_session("POST", f"/element/{found}/value", {"text": text})
+
+    def text(self, css):
+        return self.of_session("GET", f"/element/{self.find(css)}/text")
+
+    def visible(self, css):
+        return self.run("const e = document.querySelector(arguments[0]); return Boolean(e && e.getClientRects().length)", css)
+
+    def accept(self):
+        """Answers the page's question with yes; the question."""
+        text = self.of_session("GET", "/alert/text")
+        self.of_session("POST", "/alert/accept", {})
+        return text
+
+    def wait(self, script, *arguments, seconds=20):
+        """Waits until a function's body returns something that is true."""
+        end = time.monotonic() + seconds
+        while not (found := self.run(script, *arguments)):
+            if time.monotonic() > end:
+                raise Failed(f"waited for {script} {arguments}")
+            time.sleep(0.05)
+        return found
+
+    def size(self, width, height, dark=False):
+        """The size of the page's window, and its colours."""
+        self.command("Emulation.setDeviceMetricsOverride", width=width, height=height, deviceScaleFactor=1, mobile=False)
+        self.command("Emulation.setEmulatedMedia", features=[{"name": "prefers-color-scheme", "value": "dark" if dark else "light"}])
+
+    def picture(self, file, whole=False):
+        shot = self.command("Page.captureScreenshot", format="png", captureBeyondViewport=whole)
+        file.write_bytes(base64.b64decode(shot["data"]))
+
+
+@contextlib.contextmanager
+def browser(folder, *words):
+    """A browser with a profile of its own in the folder; it is ended at the end."""
+    with socket.create_server(("127.0.0.1", 0)) as free:
+        port = free.getsockname()[1]
+    # Both keep files in the folder of temporary ones, which is this one.
+    driver = subprocess.Popen([DRIVER, f"--port={port}"], stdout=subprocess.DEVNULL, stderr=subprocess.DEVNULL,
+                              env={**os.environ, "TMPDIR": str(folder), "HOME": str(folder)}, start_new_session=True)
+    it = Browser(port)
+    try:
+        wait_for_driver(it)
+        it.session = it.ask("POST", "/session", capabilities(words))["sessionId"]
+        yield it
+    finally:
+        if it.session:
+            with contextlib.suppress(Exception):
+                it.of_session("DELETE", "")
+        driver.terminate()
+        driver.wait(timeout=20)
+
+
+def capabilities(words):
+    # As root Chromium has no sandbox of its own; the pages here are this repository's.
+    arguments = ["--headless=new", "--no-sandbox", "--disable-gpu", "--disable-dev-shm-usage", "--hide-scrollbars",
+                 "--no-first-run", "--disable-background-networking", *words]
+    options = {"binary": CHROMIUM, "args": arguments}
+    always = {"browserName": "chrome", "acceptInsecureCerts": True, "goog:chromeOptions": options,
+              "unhandledPromptBehavior": "ignore"}
+    return {"capabilities": {"alwaysMatch": always}}
+
+
+def wait_for_driver(it):
+    end = time.monotonic() + 20
+    while True:
+        try:
+            return it.ask("GET", "/status")
+        except OSError:
+            if time.monotonic() > end:
+                raise
+            time.sleep(0.05)
