@@ -1,4 +1,13 @@
-"""Builds the programs that the benchmarks measure."""
+#!/usr/bin/env python3
+"""Builds the programs that the benchmarks measure; run by itself, records how long a build of the program took.
+
+    python3 bench/building.py            after a first build by ./office: from the ends that it noted
+    python3 bench/building.py ENDS       from a copy of that file, crates/tally_office/out/office.ends
+    python3 bench/building.py --files    from the times of the files that checks left, where there is no such file
+
+It writes bench/crate_seconds.txt, from which ./office tells how long a build takes. Parts of which it finds no whole
+measurement keep their seconds: of a crate that was taken over, or proved over what an earlier build left.
+"""
 
 import argparse
 import json
@@ -11,6 +20,10 @@ from contextlib import contextmanager
 from pathlib import Path
 
 HERE = Path(__file__).resolve().parent
+ROOT = HERE.parent
+PROGRAM = "tally_office"
+RECORD = HERE / "crate_seconds.txt"
+ENDS = ROOT / "crates" / PROGRAM / "out" / "office.ends"
 
 BUILD = """load("@rattle//bazel/rattle:crate.bzl", "rattle_crate")
 
@@ -94,3 +107,113 @@ def processor():
         return "an unknown processor"
     names = [line.partition(":")[2].strip() for line in lines if line.startswith("model name")]
     return (names or ["an unknown processor"])[0]
+
+
+def crates_in_turn():
+    """The crates of the program with those of the repository that each uses, in the order in which `rt` takes them: by how
+    many are below.
+    """
+    lines = [line.partition("#")[0].partition(":") for line in (ROOT / "crates.txt").read_text().splitlines()]
+    all_uses = {name.split()[0]: used.split() for name, _, used in lines if name.strip()}
+    uses, below = {}, {}
+
+    def add(crate):
+        used = [it for it in all_uses[crate] if it in all_uses]
+        for it in used:
+            if it not in uses:
+                add(it)
+        uses[crate] = used
+        below[crate] = {*used}.union(*(below[it] for it in used))
+
+    add(PROGRAM)
+    return {crate: uses[crate] for crate in sorted(uses, key=lambda it: len(below[it]))}
+
+
+def seconds_of_ends(ends):
+    """What each part took, by the times at which the parts ended: a worker begins a crate once those that it uses ended."""
+    lines = [line.split() for line in ends.read_text().splitlines()]
+    workers = next(int(line[1]) for line in lines if line[0] == "workers")
+    ended = {part: int(at) for part, at, *_ in lines}
+    how = {part: came for part, _, *came in lines}
+    if "reading" not in ended:
+        sys.exit(f"no crate of that build ended, by {ends}")
+    took = {"reading": ended["reading"]} if how["reading"] == ["new"] else {}
+    free = [ended["reading"]] * workers
+    for crate, used in crates_in_turn().items():
+        if crate not in ended:
+            continue
+        first = free.index(min(free))
+        begun = max([free[first], *(ended.get(it, 0) for it in used)])
+        free[first] = ended[crate]
+        if how[crate] == ["new"]:
+            took[crate] = ended[crate] - begun
+    if "building" in ended:
+        took["building"] = ended["building"] - ended[PROGRAM]
+    return took
+
+
+def seconds_of_files():
+    """What each crate took, by the times of the files that its check left: the folder of the library is made anew when the
+    check begins, and its stamp is written last. In a copy, whose folders are newer, and for the program itself the first
+    module stands for the folder. A crate that was proved in several goes is left out.
+    """
+    took = {}
+    for crate in crates_in_turn():
+        out = ROOT / "crates" / crate / "out"
+        modules = [it.stat().st_mtime for it in (out / "incremental").rglob("*") if it.is_file()]
+        stamp = out / "rlib" / "stamp"
+        if not modules or (crate != PROGRAM and not stamp.is_file()):
+            continue
+        begun, ended = min(modules), max(modules)
+        if crate != PROGRAM:
+            ended = stamp.stat().st_mtime
+            made = float(subprocess.check_output(["stat", "-c", "%.W", stamp.parent]))
+            if begun < made < ended:
+                continue
+            if made:
+                begun = min(begun, made)
+        took[crate] = round(ended - begun)
+    return took
+
+
+def longest_chain(seconds):
+    """The chain of crates that takes longest, and its seconds."""
+    chains = {}
+    for crate, used in crates_in_turn().items():
+        longest, names = max((chains[it] for it in used), default=(0, []))
+        chains[crate] = longest + seconds.get(crate, 0), [*names, crate]
+    return chains[PROGRAM]
+
+
+def write_record(took):
+    """Writes what parts took into the record, and prints what changes."""
+    lines = RECORD.read_text().splitlines() if RECORD.is_file() else []
+    head = [line for line in lines if line.startswith("#")]
+    old = {part: int(number) for part, number in (line.split() for line in lines if line and line not in head)}
+    parts = ["reading", *sorted(crates_in_turn()), "building"]
+    seconds = {**{part: old[part] for part in parts if part in old}, **took}
+    for part in parts:
+        if part not in took:
+            print(f"{part}: {f'still {old[part]} s' if part in old else 'no seconds'}, not measured")
+        elif took[part] != old.get(part):
+            print(f"{part}: {took[part]} s" + (f", was {old[part]}" if part in old else ""))
+    RECORD.write_text("\n".join([*head, *(f"{it} {seconds[it]}" for it in parts if it in seconds)]) + "\n")
+    longest, chain = longest_chain(seconds)
+    alone = seconds.get("reading", 0) + seconds.get("building", 0)
+    print(f"all crates: {sum(seconds.get(it, 0) for it in crates_in_turn())} s")
+    print(f"the longest chain: {longest} s, {longest + alone} s with reading and building")
+    print(" ".join(f"{it.removeprefix('tally_')} {seconds.get(it, 0)}" for it in chain))
+
+
+def main():
+    parser = argparse.ArgumentParser(description="Records how long each part of a build of the program took.")
+    parser.add_argument("ends", nargs="?", type=Path, default=ENDS, help="when the parts ended, as ./office notes it")
+    parser.add_argument("--files", action="store_true", help="take the times of the files that checks left")
+    args = parser.parse_args()
+    if not args.files and not args.ends.is_file():
+        sys.exit(f"there is no file {args.ends}: ./office writes it while it builds")
+    write_record(seconds_of_files() if args.files else seconds_of_ends(args.ends))
+
+
+if __name__ == "__main__":
+    main()

@@ -7,13 +7,15 @@ that; and again so that every request from the chosen one on is refused. Each ru
 has to end with status 3 and `failed: memory`, with nothing on standard output, or to do without
 what was refused and answer as it does with ample memory.
 
-    bench/refused_memory.py [--program PATH]
+    bench/refused_memory.py [--program PATH] [--every N]
 
-A C compiler is needed, as `cc`.
+With `--every N` only every Nth request is refused, alone and with all behind it. A C compiler is needed, as
+`cc`. The last line is `N passed, M failed, K skipped`: texts, or the script where there is no compiler.
 """
 
 import argparse
 import os
+import shutil
 import subprocess
 import sys
 import tempfile
@@ -133,48 +135,82 @@ class Runs:
         return int(counts[-1]), (process.returncode, output, error)
 
 
-class Checks:
-    """Runs of a check under the library."""
+class NotPromised(Exception):
+    """What came of a refusal that may not come of it."""
 
-    def __init__(self, program, library):
-        self.program = program
+
+class Checks:
+    """Runs of a check under the library, in which every so manyth request is refused."""
+
+    def __init__(self, program, library, every):
+        self.program, self.every = program, every
         self.runs = Runs(library)
 
     def run(self, text, first, last):
         return self.runs.run([self.program, "check"], text.encode(), first, last)
 
-    def refuse_each(self, name, text):
+    def is_done_without(self, text, ample, at, last):
+        """Whether a check with this request refused came to the same as with ample memory. It may fail for want of memory."""
+        count, answer = self.run(text, at, last)
+        if count is None or count < at:
+            raise NotPromised(f"request {at} was not made, or the program was killed: {answer}")
+        if answer not in (ample, (3, b"", b"failed: memory\n")):
+            raise NotPromised(f"with request {at} refused the answer is {answer}")
+        return answer == ample
+
+    def refuse_each(self, text):
+        """What came of the refusals, in words."""
         asked, ample = self.run(text, WHOLE, WHOLE)
-        if ample[0] != 0:
-            sys.exit(f"{name}: with ample memory the status is {ample[0]}")
-        did_without = 0
-        for one_alone in (True, False):
-            at = 1
-            while True:
-                count, answer = self.run(text, at, at if one_alone else WHOLE)
-                if count is None:
-                    sys.exit(f"{name}: with request {at} refused the program was killed: {answer}")
-                if count < at:
-                    break
-                if answer == ample:
-                    did_without += 1
-                elif answer != (3, b"", b"failed: memory\n"):
-                    sys.exit(f"{name}: with request {at} refused the answer is {answer}")
-                at += 1
-            if at != asked + 1:
-                sys.exit(f"{name}: {asked} requests with ample memory, and {at - 1} of them were refused")
-        print(f"{name}: each of {asked} requests refused, alone and with all behind it; {did_without} times the check did without")
+        if ample[0] != 0 or not asked:
+            raise NotPromised(f"with ample memory the answer is {ample}, after {asked} requests")
+        places = range(1, asked + 1, self.every)
+        alone = sum(self.is_done_without(text, ample, at, at) for at in places)
+        with_all = sum(self.is_done_without(text, ample, at, WHOLE) for at in places)
+        return f"{told_of(len(places), asked)}, alone and with all behind it; {alone + with_all} times the check did without"
+
+
+def told_of(refused, asked):
+    """How many requests for memory were refused, in words."""
+    return f"each of {asked} requests refused" if refused == asked else f"{refused} of {asked} requests refused"
+
+
+def each_judged(cases, judge, wrong=NotPromised):
+    """Prints what is found of each case, by its name, and what was not as promised: how many passed, and how many failed."""
+    failed = 0
+    for name, case in cases:
+        try:
+            print(f"{name}: {judge(case)}", flush=True)
+        except wrong as error:
+            failed += 1
+            print(f"{name}: NOT AS PROMISED: {error}", flush=True)
+    return len(cases) - failed, failed
+
+
+def ended(passed, failed, skipped=0):
+    """Prints the last line: the exit status."""
+    print(f"{passed} passed, {failed} failed, {skipped} skipped")
+    return 1 if failed else 0
+
+
+def has_no_compiler():
+    """Says so where there is no C compiler: the script is then skipped."""
+    if shutil.which("cc"):
+        return False
+    print("skipped: there is no C compiler, as `cc`, for the library that refuses memory")
+    return True
 
 
 def main():
     words = argparse.ArgumentParser(description=__doc__.splitlines()[0])
     words.add_argument("--program", type=Path, default=PROGRAM)
+    words.add_argument("--every", type=int, default=1, metavar="N", help="refuse every Nth request alone")
     given = words.parse_args()
+    if has_no_compiler():
+        return ended(0, 0, 1)
     with tempfile.TemporaryDirectory() as folder:
-        checks = Checks(given.program.resolve(), library_in(folder))
-        for name, text in texts().items():
-            checks.refuse_each(name, text)
+        checks = Checks(given.program.resolve(), library_in(folder), given.every)
+        return ended(*each_judged(texts().items(), checks.refuse_each))
 
 
 if __name__ == "__main__":
-    main()
+    sys.exit(main())

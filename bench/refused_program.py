@@ -14,10 +14,11 @@ what `show` asks for, and has runs of its own. Each message has to get the answe
 503. After a 503 the rows are those before the message, and asked once more it gets its own answer; where all memory is
 refused from there on, so is every later message. The server ends with its usual line.
 
-    bench/refused_program.py [--program FILE] [--jobs N] [--stride N] [NAME..]
+    bench/refused_program.py [--program FILE] [--jobs N] [--every N] [NAME..]
 
-With `--stride N` only every Nth request is refused, alone and with all behind it. With parts of names of workloads, only
-those. The last line is `N runs, M not as promised`. A C compiler is needed, as `cc`.
+With `--every N` only every Nth request is refused, alone and with all behind it. With parts of names of workloads, only
+those. A C compiler is needed, as `cc`. The last line is `N passed, M failed, K skipped`: workloads, or the script where there
+is no compiler.
 """
 
 import argparse
@@ -41,7 +42,7 @@ sys.dont_write_bytecode = True
 ROOT = Path(__file__).resolve().parent.parent
 sys.path[:0] = [str(ROOT / "bench"), str(ROOT / "tests")]
 from program import RETURNS, SCRIPT, SETUP, THREE_STATIONS, close_return, database
-from refused_memory import PROGRAM, WHOLE, Runs, library_in
+from refused_memory import PROGRAM, WHOLE, Runs, ended, has_no_compiler, library_in
 
 DB, LOG = "office.db", "office.db-wal"
 
@@ -508,23 +509,23 @@ def workloads(bench):
     ]
 
 
-def ranges(numbers, stride):
+def ranges(numbers, every):
     """Ascending numbers as text, with a dash for those that follow one another in such steps."""
     found = []
     for number in numbers:
-        if found and number == found[-1][1] + stride:
+        if found and number == found[-1][1] + every:
             found[-1][1] = number
         else:
             found.append([number, number])
     return ", ".join(f"{low}" if low == high else f"{low}-{high}" for low, high in found)
 
 
-def refuse_each(work, stride, pool):
+def refuse_each(work, every, pool):
     """Refuses each request of a workload: how many runs there were, and how many were not as promised."""
     last = work.ample()
-    places = range(work.first, last + 1, stride)
+    places = range(work.first, last + 1, every)
     wrong = 0
-    print(f"{work.name}: requests {work.first} to {last}" + (f", every {stride}th" if stride > 1 else ""), flush=True)
+    print(f"{work.name}: requests {work.first} to {last}" + (f", every {every}th" if every > 1 else ""), flush=True)
     for words, end in (("alone", lambda at: at), ("and all behind it", lambda at: WHOLE)):
         came, bad = Counter(), {}
         for at, (what, fine) in zip(places, pool.map(lambda at: work.outcome(at, end(at)), places)):
@@ -534,7 +535,7 @@ def refuse_each(work, stride, pool):
                 bad.setdefault(what, []).append(at)
         print(f"    {words}: " + "; ".join(f"{what}: {count}" for what, count in sorted(came.items())), flush=True)
         for what, numbers in bad.items():
-            print(f"    {words}, NOT AS PROMISED, {len(numbers)} times, at {ranges(numbers, stride)}: {what[:2000]}", flush=True)
+            print(f"    {words}, NOT AS PROMISED, {len(numbers)} times, at {ranges(numbers, every)}: {what[:2000]}", flush=True)
             wrong += len(numbers)
     return 2 * len(places), wrong
 
@@ -544,20 +545,23 @@ def main():
     words.add_argument("names", nargs="*", metavar="NAME", help="parts of names of workloads")
     words.add_argument("--program", type=Path, default=PROGRAM)
     words.add_argument("--jobs", type=int, default=2, help="how many runs at a time")
-    words.add_argument("--stride", type=int, default=1, help="every how manyth request is refused")
+    words.add_argument("--every", type=int, default=1, metavar="N", help="refuse every Nth request alone")
     given = words.parse_args()
-    runs = wrong = 0
+    if has_no_compiler():
+        return ended(0, 0, 1)
+    runs = wrong = passed = failed = 0
     with tempfile.TemporaryDirectory() as folder, ThreadPoolExecutor(given.jobs) as pool:
         bench = Bench(str(given.program.resolve()), folder)
         try:
             for work in workloads(bench):
                 if not given.names or any(name in work.name for name in given.names):
-                    count, bad = refuse_each(work, given.stride, pool)
+                    count, bad = refuse_each(work, given.every, pool)
                     runs, wrong = runs + count, wrong + bad
+                    passed, failed = passed + (count > 0 and bad == 0), failed + (count == 0 or bad > 0)
         finally:
             pool.shutdown(cancel_futures=True)
     print(f"{runs} runs, {wrong} not as promised")
-    return 1 if wrong else 0
+    return ended(passed, failed)
 
 
 if __name__ == "__main__":

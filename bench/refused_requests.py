@@ -10,12 +10,19 @@ refusal, and all answers are those that are given with ample memory, but for one
 shown. Where the program itself is refused what it
 needs, to read its files, to make the requests or to write an answer as text, it ends with an error.
 
-    bench/refused_requests.py
+    bench/refused_requests.py [--program FILE] [--built] [--every N]
 
-A C compiler is needed, as `cc`.
+It builds that program, unless it is given with `--program`, and keeps it in `bench/out` with a checksum of what it
+is made of. That takes some minutes, and more where the crates below it are not proved. With `--built` it is skipped
+where the program kept is not of these sources. With `--every N` only every Nth request is refused. A C compiler is
+needed, as `cc`. The last line is `N passed, M failed, K skipped`: scripts and texts, or the script where it is skipped.
 """
 
+import argparse
+import hashlib
 import re
+import shutil
+import subprocess
 import sys
 import tempfile
 from collections import Counter
@@ -24,9 +31,16 @@ from pathlib import Path
 # What is imported from here is not to be left beside it in compiled form.
 sys.dont_write_bytecode = True
 from building import build_office
-from refused_memory import WHOLE, Runs, library_in
+from refused_memory import WHOLE, NotPromised, Runs, each_judged, ended, has_no_compiler, library_in, told_of
 
-CRATES = Path(__file__).resolve().parent.parent / "crates"
+BENCH = Path(__file__).resolve().parent
+CRATES = BENCH.parent / "crates"
+
+LIBRARIES = ("tally_core", "tally_import", "tally_rules", "tally_scripts")
+
+# The program that was built last, and the checksum of what it was made of.
+KEPT = BENCH / "out" / "refused_office"
+KEPT_SUM = KEPT.with_suffix(".sum")
 
 # The module of the tests that the program has too.
 MODULES = [CRATES / "tally_core_tests" / "src" / "setups.rt"]
@@ -123,23 +137,29 @@ class Imports:
         return counts == "" and states[::2] == self.lines and len(set(states[1::2])) == 1
 
 
-def refuse_each(runs, task, command):
-    """How many requests for memory there were, what came of the refusals of each by how often, and
-    which lines of the task were refused."""
+def refuse_each(runs, every, task, command):
+    """What came of the refusals, and which lines of the task were refused, in words."""
     asked, ample = runs.run(command, b"", WHOLE, WHOLE)
-    if (ample[0], ample[2]) != (0, b"") or not task.is_ample(ample[1].decode()):
-        sys.exit(f"{task.name}: with ample memory the answer is {ample}")
+    if (ample[0], ample[2]) != (0, b"") or not asked or not task.is_ample(ample[1].decode()):
+        raise NotPromised(f"with ample memory the answer is {ample}, after {asked} requests")
     came, places = Counter(), set()
-    for at in range(1, asked + 1):
+    for at in range(1, asked + 1, every):
         count, answer = runs.run(command, b"", at, at)
         if count is None or count < at:
-            sys.exit(f"{task.name}: request {at} for memory was not made, or the program was killed: {answer}")
+            raise NotPromised(f"request {at} for memory was not made, or the program was killed: {answer}")
         what, place = outcome(task, answer, ample)
         if what is None:
-            sys.exit(f"{task.name}: with request {at} for memory refused the answer is {answer}")
+            raise NotPromised(f"with request {at} for memory refused the answer is {answer}")
         came[what] += 1
         places.add(place)
-    return asked, came, places - {None}
+    counts = ", ".join(f"{what}: {count}" for what, count in sorted(came.items()))
+    refused = [line for place, line in enumerate(task.lines) if place in places]
+    if not refused:
+        raise NotPromised(f"nothing was refused its memory; {counts}")
+    words = f"{told_of(came.total(), asked)}; {counts}\n    {len(refused)} of {len(task.lines)} {task.word} were refused"
+    # Of a few refusals most lines have none.
+    never = [line for line in task.lines if line not in refused] if every == 1 else []
+    return words + "".join(f"\n    never: {line}" for line in never)
 
 
 def outcome(task, answer, ample):
@@ -162,25 +182,70 @@ def outcome(task, answer, ample):
     return None, None
 
 
+def crates_below():
+    """The crates that the program is made of."""
+    lines = [line.partition(":") for line in (CRATES.parent / "crates.txt").read_text().splitlines()]
+    below = {name: deps.split() for name, _, deps in lines}
+    found, left = set(), list(LIBRARIES)
+    while left:
+        name = left.pop()
+        if name in below and name not in found:
+            found.add(name)
+            left += below[name]
+    return sorted(found)
+
+
+def sum_of_sources():
+    """A checksum of all that the program is made of: its source, those of the crates below it, and the toolchain, by its name."""
+    found = hashlib.sha256(subprocess.run(["rt", "version"], capture_output=True, check=True).stdout)
+    files = [BENCH / "refused_office.rattle", *MODULES]
+    for crate in crates_below():
+        files += [it for part in ("src", "specs", "proofs") for it in sorted((CRATES / crate / part).rglob("*")) if it.is_file()]
+    for file in files:
+        found.update(f"{file.relative_to(CRATES.parent)}\n".encode() + hashlib.sha256(file.read_bytes()).digest())
+    return found.hexdigest()
+
+
+def is_kept():
+    """Whether a program of these sources is kept."""
+    return shutil.which("rt") and KEPT_SUM.is_file() and KEPT.is_file() and KEPT_SUM.read_text() == sum_of_sources()
+
+
+def built():
+    """The program, which is built where none of these sources is kept."""
+    if not is_kept():
+        sources = sum_of_sources()
+        KEPT.parent.mkdir(exist_ok=True)
+        build_office(KEPT.parent, KEPT.name, [f"//crates/{crate}" for crate in LIBRARIES], MODULES)
+        KEPT_SUM.write_text(sources)
+    return KEPT
+
+
 def main():
-    libraries = [f"//crates/{crate}" for crate in ("tally_core", "tally_import", "tally_rules", "tally_scripts")]
+    words = argparse.ArgumentParser(description=__doc__.splitlines()[0])
+    words.add_argument("--program", type=Path, help="the program that asks, as it was built before")
+    words.add_argument("--built", action="store_true", help="build nothing")
+    words.add_argument("--every", type=int, default=1, metavar="N", help="refuse every Nth request alone")
+    given = words.parse_args()
+    if has_no_compiler():
+        return ended(0, 0, 1)
+    if given.built and not given.program and not is_kept():
+        print("skipped: no program of these sources is kept; bench/refused_requests.py proves and builds one")
+        return ended(0, 0, 1)
+    program = (given.program or built()).resolve()
     with tempfile.TemporaryDirectory() as folder:
         folder = Path(folder)
-        program = str(build_office(folder, "refused_office", libraries, MODULES))
         runs = Runs(library_in(folder))
-        for number, task in enumerate(tasks()):
-            setup, text = folder / f"setup-{number}.toml", folder / f"text-{number}"
+
+        def judged(task):
+            """What came of the refusals of a task."""
+            setup, text = folder / "setup.toml", folder / "text"
             setup.write_text(task.setup)
             text.write_text(task.text)
-            asked, came, places = refuse_each(runs, task, [program, task.word, str(setup), str(text)])
-            if not places:
-                sys.exit(f"{task.name}: nothing was refused its memory")
-            counts = ", ".join(f"{what}: {count}" for what, count in sorted(came.items()))
-            print(f"{task.name}: each of {asked} requests for memory refused; {counts};")
-            print(f"    {len(places)} of {len(task.lines)} {task.word} were refused")
-            never = [line for place, line in enumerate(task.lines) if place not in places]
-            print("".join(f"    never: {line}\n" for line in never), end="")
+            return refuse_each(runs, given.every, task, [str(program), task.word, str(setup), str(text)])
+
+        return ended(*each_judged([(task.name, task) for task in tasks()], judged))
 
 
 if __name__ == "__main__":
-    main()
+    sys.exit(main())

@@ -3,7 +3,7 @@
 
     python3 tests/launcher.py
 
-The last line is `N passed, M failed`. It takes about half a minute, most of it for a stub that says nothing.
+The last line is `N passed, M failed`. It takes about a minute, half of it for a stub that says nothing.
 """
 
 import os
@@ -64,6 +64,15 @@ echo "== tally_rules"
 printf '== summary\\ntally_frac: ok\\n'
 """
 
+# What it says where all sources are read in some seconds and a crate is then proved in none.
+TIMED = """
+sleep {}
+echo "only=0 proved=0"
+echo "== tally_frac"
+echo "logic=proved functions=28 sum=0"
+printf '== summary\\ntally_frac: ok\\n'
+"""
+
 WAITS = "office: another ./office is building the program: waiting for it\n"
 
 # What it says of a function whose contract is not proved.
@@ -86,7 +95,7 @@ exit 1
 
 
 def crates_of_the_program():
-    """How many crates the program is made of: `tally_office`, those that it uses, and those that they use."""
+    """The crates that the program is made of: `tally_office`, those that it uses, and those that they use."""
     lines = (line.partition(":") for line in (ROOT / "crates.txt").read_text().splitlines())
     uses = {name.strip(): used.split() for name, _, used in lines}
     found, left = set(), ["tally_office"]
@@ -95,10 +104,15 @@ def crates_of_the_program():
         if name in uses and name not in found:
             found.add(name)
             left += uses[name]
-    return len(found)
+    return sorted(found)
 
 
-CRATES = crates_of_the_program()
+NAMES = crates_of_the_program()
+CRATES = len(NAMES)
+FORECAST = ROOT / "bench/time_left.awk"
+
+# A record in which two parts take most of the time.
+RECORDED = {"reading": 3, **{name: 20 for name in NAMES}, "tally_frac": 1, "tally_office": 1200, "building": 600}
 
 
 class Copy:
@@ -132,6 +146,19 @@ class Copy:
 
     def version(self, text):
         (self.bin / "version").write_text(text + "\n")
+
+    def record(self, seconds):
+        """Gives the copy a record of a build, and what tells from it how long one takes."""
+        (self.root / "bench").mkdir()
+        shutil.copy(FORECAST, self.root / "bench")
+        (self.root / "bench/crate_seconds.txt").write_text(lines_of(seconds))
+
+    def keep(self, crate):
+        """Leaves what an earlier build leaves of a crate: its proofs, its library and the stamp of that."""
+        out = self.root / "crates" / crate / "out"
+        (out / "incremental").mkdir(parents=True)
+        (out / "rlib" / f"{crate}.rlib").mkdir(parents=True)
+        (out / "rlib" / "stamp").write_text("a sum")
 
     def runs(self):
         runs = self.bin / "runs"
@@ -167,6 +194,15 @@ class Copy:
                 except subprocess.TimeoutExpired:
                     os.killpg(ran.pid, signal.SIGKILL)
                     ran.communicate()
+
+
+def lines_of(parts):
+    return "# a comment\n" + "".join(f"{name} {said}\n" for name, said in parts.items())
+
+
+def minutes_in(line):
+    """Returns the number of minutes that a line says are left."""
+    return int(re.search(r"(?:about|at most) (\d+) min\b", line)[1])
 
 
 def path_without_rt(folder):
@@ -429,6 +465,130 @@ def a_build_says_what_it_needs_and_how_many_crates_are_left(copy):
     ], lines
 
 
+def forecast(copy, record, ended, queue, now=0, workers=1):
+    """Returns what is forecast of a build: `ended` are the times at which parts ended, and how they came."""
+    files = [copy.folder / name for name in ("record", "ended", "queue")]
+    for file, text in zip(files, [lines_of(record), lines_of(ended), queue]):
+        file.write_text(text)
+    words = ["awk", "-v", f"now={now}", "-v", f"workers={workers}", "-f", FORECAST, *files]
+    ran = subprocess.run(words, capture_output=True, text=True, check=True)
+    assert ran.stderr == "", ran.stderr
+    return ran.stdout.strip()
+
+
+def a_forecast_goes_along_the_crates(copy):
+    record = {"reading": 180, "low": 600, "beside": 1200, "high": 600, "building": 120}
+    queue = "reading new\nlow new reading\nbeside new reading\nhigh new reading low\nbuilding new high beside\n"
+    again = queue.replace("low new", "low again").replace("high new", "high again")
+    read = {"reading": "180 new"}
+
+    def says(wanted, record=record, ended={}, queue=queue, **how):
+        said = forecast(copy, record, ended, queue, **how)
+        assert said == wanted, (said, wanted)
+
+    says("about 45 min")
+    says("about 25 min", workers=2)
+    says("about 25 min", workers=9)
+    says("about 17 min", ended=read, now=480, workers=2)
+    says("about 9 min", ended={**read, "low": "780 new"}, now=960, workers=2)
+    says("about 1 min", ended={**read, "low": "780 new", "beside": "1380 new", "high": "1380 new"}, now=1490, workers=2)
+    # A machine that is twice as slow, and one of which that is not known yet since it still reads.
+    says("about 44 min", ended={"reading": "360 new"}, now=360, workers=2)
+    says("about 47 min", now=300, workers=2)
+    # Where a machine takes half the time until `low` is proved, the rest does too.
+    half = {"reading": "90 new", "low": "390 new"}
+    says("about 6 min", ended=half, now=390, workers=2, record={**record, "beside": 600})
+    # A part that takes longer than it should is not said to have ended.
+    late = {**read, "low": "780 new", "beside": "1380 new"}
+    says("about 11 min", ended=late, now=2580, workers=2)
+    # A crate that the record lacks takes the mean.
+    says("about 25 min", record={it: record[it] for it in record if it != "high"}, workers=2)
+    says("about 39 min", record={"reading": 180, "low": 600, "building": 960}, workers=2)
+    says("", record={})
+    # What is kept takes no time, whether that was known or not.
+    says("about 22 min", queue=queue.replace("reading new", "reading kept"), workers=2)
+    says("about 15 min", queue=queue.replace("beside new", "beside kept").replace("low new", "low kept"))
+    says("about 12 min", ended={**read, "low": "180 kept", "beside": "180 kept"}, now=180)
+    # What is proved again has a ratio of its own, of which nothing is known before one has ended.
+    says("at most 45 min", queue=again)
+    says("about 23 min", ended={**read, "low": "240 again"}, queue=again, now=240)
+
+
+def a_build_says_how_many_minutes_are_left(copy):
+    copy.record(RECORDED)
+    copy.plan(TIMED.format(3))
+    lines = copy.run("check")[2].splitlines()
+    said = minutes_in(lines[1])
+    assert lines[1].endswith(f"on a machine as fast as the one where that was measured, about {said} min"), lines
+    assert 32 <= said <= 40, lines
+    now = minutes_in(lines[2])
+    wanted = f"office: tally_frac is proved, 28 functions: {CRATES - 1} of {CRATES} crates and about {now} min left"
+    assert lines[2] == wanted and 0.7 * said <= now <= 1.4 * said, lines
+
+
+def a_machine_that_is_slower_than_the_record_takes_longer(copy):
+    copy.record(RECORDED)
+    copy.plan(TIMED.format(6))
+    lines = copy.run("check")[2].splitlines()
+    assert 1.4 <= minutes_in(lines[2]) / minutes_in(lines[1]) <= 2.6, lines
+
+
+def minutes_left_shrink_as_a_build_goes_on(copy):
+    copy.record({**RECORDED, "tally_rules": 1800, "tally_report": 1200, "tally_door": 1})
+    crates = "".join(f"echo '== {name}'\n" for name in NAMES if name not in ("tally_frac", "tally_office", "tally_door"))
+    door = "echo '== tally_door'\necho 'logic=proved functions=7 sum=0'\n"
+    copy.plan(TIMED.format(3).replace("printf", crates + door + "printf"))
+    lines = copy.run("check")[2].splitlines()
+    assert minutes_in(lines[1]) >= 80 and minutes_in(lines[2]) >= 56, lines
+    assert lines[3] == f"office: {CRATES - 3} of {CRATES} crates were proved before and are taken over", lines
+    assert f"1 of {CRATES} crates" in lines[4] and 15 <= minutes_in(lines[4]) <= 45, lines
+
+
+def what_an_earlier_build_left_is_taken_over(copy):
+    copy.record(RECORDED)
+    kept = ["tally_frac", "tally_rules", "tally_door", "tally_rows"]
+    for crate in kept:
+        copy.keep(crate)
+    taken = f"of {CRATES} crates were proved before and are taken over"
+    copy.plan("".join(f"echo '== {crate}'\n" for crate in [*kept, "tally_schema"]) + "sleep 2; exit 1")
+    lines = copy.run("check")[2].splitlines()
+    assert lines[1] == f"office: 4 {taken}" and "about 3" in lines[2] and lines[3] == f"office: 5 {taken}", lines
+    # What is above a crate that changed is proved again, over what is left of it.
+    append(copy.root / "crates/tally_frac/src/share.rt")
+    copy.plan("exit 1")
+    lines = copy.run("check")[2].splitlines()
+    assert lines[1] == f"office: 2 {taken}" and "at most 3" in lines[2], lines
+    append(copy.root / "crates.txt", "# a comment\n")
+    assert "taken over" not in copy.run("check")[2]
+    # Above a crate that is not proved nothing is taken over.
+    copy.plan("for crate in frac rules law; do echo \"== tally_$crate\"; [ $crate != frac ] || echo logic=not-proved; done; exit 1")
+    assert "taken over" not in copy.run("check")[2]
+    # All but the program is kept, so no sources are read.
+    for crate in NAMES:
+        shutil.rmtree(copy.root / "crates" / crate / "out", ignore_errors=True)
+        if crate != "tally_office":
+            copy.keep(crate)
+    copy.plan(PROVED)
+    lines = copy.run("check")[2].splitlines()
+    assert lines[1] == f"office: {CRATES - 1} {taken}" and minutes_in(lines[2]) == 30, lines
+
+
+def a_build_notes_when_its_parts_ended(copy):
+    copy.plan(TIMED.format(3).replace("printf", "echo '== tally_door'; echo '== tally_office'; echo logic=proved functions=1; printf"))
+    copy.run("check")
+    lines = [line.split() for line in (copy.out / "office.ends").read_text().splitlines()]
+    assert [line[0] for line in lines] == ["workers", "reading", "tally_frac", "tally_door", "tally_office", "building"]
+    assert [line[2] for line in lines[1:]] == ["new", "new", "kept", "new", "new"], lines
+    (copy.root / "bench").mkdir()
+    shutil.copy(ROOT / "bench/building.py", copy.root / "bench")
+    record = copy.root / "bench/crate_seconds.txt"
+    record.write_text("# a comment\nreading 900\ntally_door 40\ntally_gone 7\n")
+    subprocess.run([sys.executable, copy.root / "bench/building.py"], check=True, capture_output=True)
+    written = dict(line.split() for line in record.read_text().splitlines() if not line.startswith("#"))
+    assert [*written] == ["reading", "tally_door", "tally_frac", "tally_office", "building"], written
+    assert written["tally_door"] == "40" and 3 <= int(written["reading"]) <= 8 and int(written["tally_frac"]) <= 3, written
+
+
 def a_build_that_is_silent_is_spoken_of_every_half_minute(copy):
     copy.plan("echo '== tally_frac'; exec sleep 60")
     ran = copy.start("check")
@@ -485,6 +645,12 @@ TESTS = [
     what_fails_is_status_3,
     a_failed_build_shows_the_open_goal_first,
     a_build_says_what_it_needs_and_how_many_crates_are_left,
+    a_forecast_goes_along_the_crates,
+    a_build_says_how_many_minutes_are_left,
+    minutes_left_shrink_as_a_build_goes_on,
+    a_machine_that_is_slower_than_the_record_takes_longer,
+    what_an_earlier_build_left_is_taken_over,
+    a_build_notes_when_its_parts_ended,
     a_launcher_that_is_ended_ends_its_build,
     after_a_build_that_was_ended_the_next_in_line_builds,
     a_launcher_that_changes_during_a_build_goes_on,

@@ -58,7 +58,7 @@ def fits(schema, value):
     """Whether a value is of a schema, in the words of schemas that the document uses."""
     schema = resolved(schema)
     known = {"type", "properties", "required", "additionalProperties", "items", "enum", "oneOf", "nullable"}
-    known |= {"minimum", "maximum", "minLength", "maxLength", "minItems", "maxItems", "description"}
+    known |= {"minimum", "maximum", "minLength", "maxLength", "pattern", "minItems", "maxItems", "description"}
     assert set(schema) <= known, f"a word of schemas that is not known: {set(schema) - known}"
     if "oneOf" in schema:
         return sum(fits(part, value) for part in schema["oneOf"]) == 1
@@ -74,7 +74,7 @@ def fits(schema, value):
         return isinstance(value, int) and not isinstance(value, bool) and low <= value <= high
     if kind == "string":
         low, high = schema.get("minLength", 0), schema.get("maxLength", 1 << 30)
-        return isinstance(value, str) and low <= len(value) <= high
+        return isinstance(value, str) and low <= len(value) <= high and re.search(schema.get("pattern", ""), value) is not None
     if kind == "array":
         low, high = schema.get("minItems", 0), schema.get("maxItems", 1 << 30)
         return isinstance(value, list) and low <= len(value) <= high and all(fits(schema["items"], x) for x in value)

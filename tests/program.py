@@ -8,6 +8,7 @@ The last line is `N passed, M failed, K skipped`. It needs Python 3.11 or later 
 """
 
 import contextlib
+import hashlib
 import http.client
 import itertools
 import json
@@ -27,9 +28,11 @@ import threading
 import time
 import tomllib
 import traceback
+from concurrent.futures import ThreadPoolExecutor
 from fractions import Fraction
 from pathlib import Path
 
+import model
 import openapi
 
 ROOT = Path(__file__).resolve().parent.parent
@@ -370,7 +373,6 @@ def test_a_setup_that_is_no_file():
 
 def test_a_database_that_cannot_be_made():
     write("setup.toml", SETUP)
-    failed("store", "new", "--db", "nowhere/office.db", "--setup", "setup.toml")
     os.mkdir("folder")
     failed("store", "new", "--db", "folder", "--setup", "setup.toml")
     write("text.db", "this is no database, and it is long enough to be looked at as one " * 20)
@@ -378,6 +380,91 @@ def test_a_database_that_cannot_be_made():
     failed("store", "new", "--db", "text.db", "--setup", "setup.toml")
     same(Path("text.db").read_bytes(), before)
     only("folder", "text.db")
+
+
+def opening(db):
+    """The commands that open a database."""
+    return (
+        ("show", "--db", db, "--report", "progress"), ("import", "--db", db, "--con", "c1", "--csv", "returns.csv"),
+        ("serve", "--db", db, "--port", str(free_port()), "--count", "1"),
+    )
+
+
+def making(db):
+    return "new", "--db", db, "--setup", "setup.toml"
+
+
+def held():
+    """All files below this folder, with the length and a checksum of their bytes, and all folders."""
+    sums = {it: None if it.is_dir() else it.read_bytes() for it in Path(".").rglob("*")}
+    return {str(it): "a folder" if text is None else (len(text), hashlib.sha256(text).hexdigest()[:16]) for it, text in sums.items()}
+
+
+def leaves_all(word, *words):
+    """A command fails with this word, and each file and folder is as it was."""
+    before = held()
+    same((words, office(*words)), (words, Ran(3, "", f"failed: {word}\n")))
+    same((words, held()), (words, before))
+
+
+def test_names_that_name_no_file():
+    """SQLite takes these for a database in memory or for a URI. Here nothing is made under such a name, and no office opened."""
+    write("setup.toml", SETUP)
+    write("returns.csv", RETURNS)
+    for name in (":memory:", "file:x", "file:office.db", "file::memory:", "file:x?mode=memory&cache=shared", "file:///x"):
+        leaves_all("store", *making(name))
+        for words in opening(name):
+            ran = office(*words)
+            assert ran in (Ran(1, "", "refused: no_tables\n"), Ran(3, "", "failed: store\n")), (words, ran)
+            only()
+
+
+def test_a_folder_that_is_not_there():
+    """No database there can be opened; in a folder that is there, a file that is not has no tables."""
+    write("setup.toml", SETUP)
+    write("returns.csv", RETURNS)
+    os.mkdir("folder")
+    for db in ("nowhere/office.db", "folder/nowhere/office.db", "setup.toml/office.db"):
+        for words in (making(db), *opening(db)):
+            leaves_all("store", *words)
+    for db in ("office.db", "folder/office.db"):
+        for words in opening(db):
+            refused("no_tables", *words)
+    same(sorted(held()), ["folder", "returns.csv", "setup.toml"])
+
+
+def hot_journal(name):
+    """A rollback journal such as C SQLite leaves where it is stopped in a transaction."""
+    with contextlib.closing(sqlite3.connect("other.db", isolation_level=None)) as it:
+        it.execute("PRAGMA cache_size = 1")
+        it.execute("CREATE TABLE other (text TEXT)")
+        it.execute("BEGIN")
+        it.executemany("INSERT INTO other VALUES (?)", [("x" * 1000,)] * 100)
+        shutil.copy("other.db-journal", name)
+        it.execute("ROLLBACK")
+    os.remove("other.db")
+    # Its magic number, and behind it a number of pages: without one no page would be rolled back.
+    text = Path(name).read_bytes()
+    assert text[:8] == bytes.fromhex("d9d505f920a163d7") and text[8:12] != bytes(4), text[:12]
+
+
+def test_what_lies_beside_a_database():
+    """A folder in the place of the log, a journal of another program: nothing is opened or made, and nothing stays that was not there."""
+    new(db="made.db")
+    write("returns.csv", RETURNS)
+    for name, lay, take_away in (("office.db-wal", os.mkdir, os.rmdir), ("office.db-journal", hot_journal, os.remove)):
+        lay(name)
+        leaves_all("store", *making("office.db"))
+        write("office.db", "")
+        leaves_all("store", *making("office.db"))
+        shutil.copy("made.db", "office.db")
+        for words in (making("office.db"), *opening("office.db")):
+            leaves_all("store", *words)
+        os.remove("office.db")
+        take_away(name)
+        new()
+        only("made.db", "office.db")
+        os.remove("office.db")
 
 
 def test_an_empty_file_stays_where_no_office_is_made_in_it():
@@ -489,17 +576,74 @@ def test_a_bad_row_is_passed_over():
     same([row[0] for row in rows()["returns"]], ["s1", "s3"])
 
 
-def test_a_text_as_a_spreadsheet_saves_it():
-    new(THREE_STATIONS)
-    lines = [";".join(f'"{field}"' for field in line.split(",")) for line in RETURNS.splitlines()]
-    imports({"lodged": 3}, b"\xef\xbb\xbf" + "".join(f"{line}\r\n" for line in lines).encode(), flags=("--semicolon",))
+def quoted(text):
+    return "".join(",".join(f'"{field}"' for field in line.split(",")) + "\n" for line in text.splitlines())
+
+
+def test_texts_as_programs_save_them():
+    """Each has the same three returns: with semicolons, ends of lines as of other systems, quotes, a byte order mark, no last line end."""
+    new(THREE_STATIONS, "new.db")
+    crlf, mark = RETURNS.replace("\n", "\r\n"), "\ufeff"
+    commas = (
+        RETURNS, crlf, RETURNS.replace("\n", "\r"), RETURNS.rstrip(), quoted(RETURNS), quoted(crlf), quoted(RETURNS).rstrip(), mark + RETURNS,
+        mark + quoted(crlf), RETURNS.replace("\n", "\n\r\n"), RETURNS.replace("s2,p2", 's2,"p2"'), RETURNS.replace("30,40", "030,000000040"),
+    )
+    lodged = '{"bad":0,"differs":0,"first":null,"lodged":3,"ok":"import","refused":0,"same":0}'
+    wanted = None
+    for text in commas:
+        for given, flags, path in ((text, (), "import"), (text.replace(",", ";"), ("--semicolon",), "import/semicolon")):
+            shutil.copy("new.db", "office.db")
+            imports({"lodged": 3}, given, flags=flags)
+            wanted = wanted or rows()
+            same((given, rows()), (given, wanted))
+            shutil.copy("new.db", "served.db")
+            with serving("served.db", 1) as desk:
+                same((given, *desk.ask("POST", f"/con/c1/{path}", given.encode())[::2]), (given, 200, lodged))
+            same((given, rows("served.db")), (given, wanted))
+
+
+TOWNS = SETUP + SETUP[SETUP.index("[[constituency]]"):].replace("c1", "c2").replace("s1", "t1").replace("Twin Town", "Other Town")
+
+
+def test_an_import_is_into_the_constituency_that_is_named():
+    """Two have the same lists. A station of the other one makes a row bad."""
+    new(TOWNS, "new.db", constituencies=2)
+    header = RETURNS.splitlines()[0]
+    text = f"{header}\nt1,p1,0,0,10,20\ns1,p2,1,0,30,40\n"
+    for con, station, first in (("c1", "s1", "1 0"), ("c2", "t1", "2 0")):
+        for given, flags, path, other in (
+            (text, (), "import", "/semicolon"), (text.replace(",", ";"), ("--semicolon",), "import/semicolon", ""),
+        ):
+            shutil.copy("new.db", "office.db")
+            imports({"lodged": 1, "bad": 1, "first": first}, given, con, flags=flags)
+            same([row[:2] for row in rows()["returns"]], [(station, con)])
+            shutil.copy("new.db", "served.db")
+            with serving("served.db", 2) as desk:
+                counts = '{"bad":1,"differs":0,"first":[%s],"lodged":1,"ok":"import","refused":0,"same":0}' % first.replace(" ", ",")
+                same(desk.ask("POST", f"/con/{con}/{path}", given)[::2], (200, counts))
+                same(desk.ask("POST", f"/con/{con}/import{other}", given)[::2], (400, '{"word":"bad_header"}'))
+            same(rows("served.db"), rows())
+        # With the wrong separator the header has one field.
+        for given, flags in ((text, ("--semicolon",)), (text.replace(",", ";"), ())):
+            write("returns.csv", given)
+            refused("bad_header", "import", "--db", "office.db", "--con", con, "--csv", "returns.csv", *flags)
 
 
 def test_an_import_of_twenty_thousand_rows():
-    new(THREE_STATIONS)
+    """The most that are taken, with the one good row in front or at the end, and one more."""
     header, row = RETURNS.splitlines(keepends=True)[:2]
-    imports({"lodged": 1, "bad": 19999, "first": "2 0"}, header + row + "s9,p9,0,0,10,20\n" * 19999)
-    same([row[0] for row in rows()["returns"]], ["s1"])
+    bad = "s9,p9,0,0,10,20\n" * 19999
+    for text, first in ((header + row + bad, "2 0"), (header + bad + row, "1 0"), (header + bad + row.rstrip(), "1 0")):
+        new(THREE_STATIONS)
+        imports({"lodged": 1, "bad": 19999, "first": first}, text)
+        same([row[0] for row in rows()["returns"]], ["s1"])
+        os.remove("office.db")
+    new(THREE_STATIONS)
+    before = rows()
+    for text in (header + row + bad + "x\n", header + row * 20001, quoted(header + row * 20001)):
+        write("returns.csv", text)
+        refused("too_long", "import", "--db", "office.db", "--con", "c1", "--csv", "returns.csv")
+        same(rows(), before)
 
 
 def test_imports_that_change_nothing():
@@ -513,7 +657,8 @@ def test_imports_that_change_nothing():
     os.mkdir("folder")
     failed("read", *import_into, "c1", "--csv", "folder")
     for text, word in (
-        ("", "bad_header"), (RETURNS.replace("A,B", "B,A"), "bad_header"), (RETURNS + "x\n" * 19998, "too_long"),
+        ("", "bad_header"), ("\n\r\n", "bad_header"), ("\ufeff", "bad_header"), (RETURNS.replace("A,B", "B,A"), "bad_header"),
+        (RETURNS + "x\n" * 19998, "too_long"),
         (RETURNS + "x" * 16777216, "too_long"),
     ):
         write("returns.csv", text)
@@ -1056,6 +1201,44 @@ def test_how_clients_send():
         assert desk.send(b"GET /progress HTTP/1.1\r\n\r\n").startswith(b"HTTP/1.1 200 OK")
 
 
+def given_up(desk, message):
+    """Sends a byte a second of a message, without end, and gives the seconds until the office ended the connection, unanswered."""
+    with socket.create_connection(("127.0.0.1", desk.port), timeout=1) as it:
+        began = time.monotonic()
+        for number in range(90):
+            with contextlib.suppress(TimeoutError):
+                try:
+                    it.sendall(message[number:number + 1])
+                    found = it.recv(1)
+                except ConnectionError:
+                    found = b""
+                same(found, b"")
+                return time.monotonic() - began
+    raise AssertionError("the connection was not ended")
+
+
+def waits_for(db, message):
+    """What one client sees that keeps the office waiting, while the next one is there already and then gets its answer."""
+    new(db=db)
+    with serving(db, 2, failed=1) as desk, ThreadPoolExecutor(1) as other:
+        waited = other.submit(given_up, desk, message)
+        # So that it is the second in the line.
+        time.sleep(0.5)
+        desk.get("/progress", PROGRESS)
+        return waited.result()
+
+
+def test_clients_that_keep_the_office_waiting():
+    """Ten seconds for a read, thirty for a message in all: a client that sends nothing is given up, and one that sends a byte a second."""
+    for name in ("silent", "slow"):
+        os.mkdir(name)
+    slow = f"GET /progress HTTP/1.1\r\na: {'b' * 200}".encode()
+    with ThreadPoolExecutor(2) as both:
+        silent, slow = both.map(waits_for, ("silent/office.db", "slow/office.db"), (b"", slow))
+    assert 9.5 <= silent <= 14, silent
+    assert 29 <= slow <= 35, slow
+
+
 @contextlib.contextmanager
 def serving_any(db, count):
     """As serving, where it is not known how many connections fail."""
@@ -1160,6 +1343,205 @@ def test_a_recount_beside_a_log():
     recount()
     same((Path("office.db").read_bytes(), Path("office.db-wal").read_bytes()), before)
     shows("seats", SEATS)
+
+
+# ---- large offices, beside one in plain Python
+
+
+def test_the_plain_office():
+    """It gives what the law's own example gives, and ties as they are worked by hand."""
+    loreg = [168000, 104000, 72000, 64000, 40000, 32000]
+
+    def poll(method, seats, votes, blank=0, lot=(), threshold=0):
+        return model.Poll({"method": method, "threshold": threshold, "base": "valid"}, seats, votes, blank, lot)
+
+    dhondt = poll("dhondt", 8, loreg, threshold=300)
+    same(dhondt.awards(), [(0, 1), (1, 1), (0, 2), (2, 1), (3, 1), (0, 3), (1, 2), (0, 4)])
+    same([dhondt.short(n, held) for n, held in enumerate((4, 2, 1, 1, 0, 0))], [92000, 22001, 12001, 20001, 2001, 10001])
+    for method, seats, votes, lot, allotted, group in (
+        ("dhondt", 8, loreg, (), [4, 2, 1, 1, 0, 0], ([], 0)), ("sainte-lague", 8, loreg, (), [3, 2, 1, 1, 1, 0], ([], 0)),
+        ("hare", 8, loreg, (), [3, 2, 1, 1, 1, 0], ([], 0)), ("dhondt", 4, [52, 35], (), [2, 2], ([], 0)),
+        ("dhondt", 2, [200, 100], (), [2, 0], ([], 0)), ("dhondt", 3, [100, 100], (1, 0), [1, 2], ([0, 1], 1)),
+        ("dhondt", 4, [100, 100], (), [2, 2], ([], 0)), ("hare", 1, [50, 50], (1, 0), [0, 1], ([0, 1], 1)),
+    ):
+        same((poll(method, seats, votes, lot=lot).allotted(), poll(method, seats, votes).group()), (allotted, group))
+    same(poll("hare", 3, [70, 10], blank=20).allotted(), [3, 0])
+    for votes, eligible in (([9304, 300, 296], [0, 1]), ([9301, 300, 299], [0, 1])):
+        same(poll("dhondt", 1, votes, blank=100, threshold=300).eligible, eligible)
+
+
+def answered_as(plain, db, requests):
+    """Sends requests to a server: each answer is that of the plain office, which is asked first, so that requests may come of its state."""
+    steps = [(request, plain.ask(*request)) for request in requests]
+    with serving(db, len(steps)) as desk:
+        for (method, path, body), answer in steps:
+            same((path, *desk.ask(method, path, body)[::2]), (path, *answer))
+    return [(path, *answer) for (_, path, _), answer in steps]
+
+
+def shown_as(plain, db, cons, reports):
+    """What is shown of a database is what the plain office shows."""
+    for con, report in itertools.product(cons, reports):
+        status, text = plain.ask("GET", "/progress" if report == "progress" else f"/con/{con}/{report}")
+        wanted = Ran(0, text, "") if status == 200 else Ran(1, "", f"refused: {json.loads(text)['word']}\n")
+        same((con, report, show(report, con, db)), (con, report, wanted))
+
+
+def get(path):
+    return "GET", path, None
+
+
+def post(path, **body):
+    return "POST", path, json.dumps(body)
+
+
+NINE_REPORTS = ("tally", "seats", "quotients", "awards", "quota", "short", "holders", "past", "progress")
+
+# The codes of three constituencies, their methods, thresholds and bases.
+SIXTY_LISTS = (("d", "dhondt", 0, "valid"), ("w", "sainte-lague", 100, "lists"), ("q", "hare", 150, "valid"))
+
+
+def sixty_lists():
+    """A setup of three constituencies with 60 lists, 500 seats and four stations each. Some lists have fewer candidates than seats."""
+    text = "".join(f'[[profile]]\ncode = "{code}"\nmethod = "{method}"\nthreshold = {threshold}\nbase = "{base}"\n'
+                   for code, method, threshold, base in SIXTY_LISTS)
+    candidates = {n: ", ".join(f'"{n}.{m}"' for m in range(1, n * 7 % 40 + 2)) for n in range(1, 61)}
+    lists = ",\n".join(f'{{ code = "L{n}", name = "Lista ñ {n}", candidates = [{names}] }}' for n, names in candidates.items())
+    for code, *_ in SIXTY_LISTS:
+        stations = ", ".join(f'{{ code = "{code}{n}", electors = 1000000 }}' for n in range(4))
+        text += f'[[constituency]]\ncode = "{code}"\nname = "Sixty of {code}"\nseats = 500\nprofile = "{code}"\n'
+        text += f"list = [\n{lists}\n]\nstation = [{stations}]\n"
+    return text
+
+
+def returns_of_sixty_lists(draw):
+    """Of each station the votes for 60 lists. Many lists have the same sum, so that a seat falls among equals; which have it is drawn."""
+    sums = [draw.randrange(500, 60000) for _ in range(20)]
+    wanted = [draw.choice(sums) for _ in range(60)]
+    return [[n // 4 + (n % 4 if station == 0 else 0) for n in wanted] for station in range(4)]
+
+
+def counted_and_certified(con, returns):
+    """The requests that close these returns and certify a constituency, with a lot that has the last lists first, where one is needed."""
+    for station, votes in zip(con.electors, returns):
+        stands = con.returns.get(station)
+        if stands:
+            yield post(f"/station/{station}/query", rev=stands["rev"], note="again")
+            yield post(f"/station/{station}/correct", rev=stands["rev"], slip="p2", votes=votes, blank=7, spoiled=0)
+        else:
+            yield post(f"/station/{station}/lodge", slip="p1", votes=votes, blank=1000, spoiled=9)
+        yield post(f"/station/{station}/close", rev=con.returns[station]["rev"])
+    yield post(f"/con/{con.code}/certify", edition=con.edition)
+    group, _ = con.poll().group()
+    if group:
+        yield post(f"/con/{con.code}/draw", edition=con.edition, order=[con.lists[n] for n in group[1:]])
+        yield post(f"/con/{con.code}/draw", edition=con.edition, order=[con.lists[n] for n in reversed(group)])
+        yield post(f"/con/{con.code}/certify", edition=con.edition)
+
+
+def requests_on_sixty_lists(plain, draw):
+    """Each constituency is certified, some who hold a seat go, it is opened again and certified with other votes, shown at each end."""
+    for con in plain.cons.values():
+        reports = [get("/progress"), *(get(f"/con/{con.code}/{report}") for report in NINE_REPORTS[:-1]), get(f"/con/{con.code}")]
+        yield from counted_and_certified(con, returns_of_sixty_lists(draw))
+        yield from reports
+        for n in (0, 30, 59):
+            for place in (1, 1, 2, len(con.candidates[n]), len(con.candidates[n]) + 1):
+                yield post(f"/con/{con.code}/vacate", list=con.lists[n], place=place, note=f"gone {n}")
+        yield get(f"/con/{con.code}/holders")
+        yield post(f"/con/{con.code}/reopen", edition=con.edition, note="recount")
+        yield from reports
+        yield from counted_and_certified(con, returns_of_sixty_lists(draw))
+        yield from reports
+
+
+def test_sixty_lists_and_five_hundred_seats():
+    """By each rule: all reports, through the server and of the file, are those of the plain office; each rule has to draw a lot."""
+    setup = sixty_lists()
+    plain = model.Office(tomllib.loads(setup))
+    new(setup, constituencies=3)
+    answers = answered_as(plain, "office.db", requests_on_sixty_lists(plain, random.Random(58)))
+    lots = {path.split("/")[2] for path, status, _ in answers if path.endswith("/draw") and status == 200}
+    same(lots, {"d", "w", "q"})
+    shown_as(plain, "office.db", plain.cons, NINE_REPORTS)
+
+
+def five_thousand_stations():
+    stations = ",\n".join(f'{{ code = "s{n}", electors = 1000000 }}' for n in range(5000))
+    lists = ", ".join(f'{{ code = "{code}", name = "{code}", candidates = ["x", "y"] }}' for code in "ABC")
+    profile = SETUP[:SETUP.index("[[constituency]]")]
+    return (f'{profile}[[constituency]]\ncode = "c1"\nname = "Country"\nseats = 500\nprofile = "d0"\nlist = [{lists}]\n'
+            f"station = [\n{stations}\n]\n")
+
+
+# What is looked at between the requests on a constituency of 5,000 stations.
+LOOKS = (get("/progress"), get("/con/c1"), get("/con/c1/tally"), get("/station/s4999"))
+
+NINE_LOOKS = (get("/progress"), *(get(f"/con/c1/{report}") for report in NINE_REPORTS[:-1]))
+
+
+def requests_that_close(con):
+    """Each station is closed; each thousandth is queried first, with requests around it that are refused."""
+    for number, station in enumerate(con.electors):
+        rev = 1
+        if number % 1000 == 0:
+            yield from LOOKS
+            yield post("/con/c1/certify", edition=1)
+            yield post(f"/station/{station}/query", rev=1, note="is it so?")
+            yield post(f"/station/{station}/close", rev=2)
+            yield post(f"/station/{station}/correct", rev=2, slip="p1", votes=[1000000, 0, 0], blank=0, spoiled=0)
+            yield get("/progress")
+            rev = 3
+        yield post(f"/station/{station}/close", rev=rev)
+        if number % 1000 == 0:
+            yield post(f"/station/{station}/close", rev=rev)
+            yield from LOOKS
+
+
+def requests_that_correct(con, text):
+    """Returns of a constituency that is open again are queried, corrected and closed, so that B has a seat; a text is imported with each."""
+    wrong = text.replace("s3,p1,0,0,1000000", "s3,p1,0,0,1000001").replace("s4,p1,0,0", "s4,p1,0,x")
+    corrected = {f"s{n}": [n, 999980, 20 - n] for n in range(12)} | {"s4999": [0, 0, 0]}
+    for station, votes in corrected.items():
+        rev = con.returns[station]["rev"]
+        yield post(f"/station/{station}/query", rev=rev, note="sum")
+        yield from LOOKS
+        yield "POST", "/con/c1/import", text
+        yield post(f"/station/{station}/correct", rev=rev + 1, slip="p2", votes=votes, blank=0, spoiled=0)
+        yield "POST", "/con/c1/import", wrong
+    yield post("/con/c1/certify", edition=con.edition)
+    for station in corrected:
+        yield post(f"/station/{station}/close", rev=con.returns[station]["rev"])
+        yield from LOOKS
+
+
+def requests_on_five_thousand(con):
+    """Returns are imported and closed, the constituency certified, imported into, opened again, corrected and certified again."""
+    text = "station,slip,blank,spoiled,A,B,C\n" + "".join(f"s{n},p1,0,0,1000000,0,0\n" for n in range(5000))
+    yield from LOOKS
+    yield "POST", "/con/c1/import", text
+    yield from requests_that_close(con)
+    yield post("/con/c1/certify", edition=1)
+    yield from NINE_LOOKS
+    yield "POST", "/con/c1/import", text
+    yield post("/station/s1/query", rev=2, note="too late")
+    yield post("/con/c1/vacate", list="A", place=1, note="resigned")
+    yield post("/con/c1/reopen", edition=2, note="recount")
+    yield from requests_that_correct(con, text)
+    yield post("/con/c1/certify", edition=3)
+    yield from NINE_LOOKS
+
+
+def test_an_office_of_five_thousand_stations():
+    """As many as a constituency may have, each with as many votes as it may have, while it is served and after it is opened again."""
+    setup = five_thousand_stations()
+    plain = model.Office(tomllib.loads(setup))
+    new(setup)
+    answers = answered_as(plain, "office.db", requests_on_five_thousand(plain.cons["c1"]))
+    first, second = (text for path, status, text in answers if path == "/con/c1/awards" and status == 200)
+    same(first.splitlines()[-1], " 500 A                500    5000000000   500    10000000")
+    same([line.split()[1] for line in second.splitlines()[1:]].count("B"), 1)
+    shown_as(plain, "office.db", ["c1"], ("progress", "tally", "awards", "past"))
 
 
 # ---- every byte of a message
@@ -1449,14 +1831,41 @@ def test_what_is_answered_where_the_disk_is_full():
     shows("progress", PROGRESS, con=None)
 
 
+def test_nothing_that_is_shown_changes_where_the_disk_is_full():
+    """Each request that would be accepted: what is shown after it, and at the next opening, is what was shown before."""
+    paths = ("/progress", "/con/c1", "/con/c1/past", "/station/s1")
+    shut = (503, '{"word":"unavailable"}')
+    for name, state, message, answer in list(examples()):
+        if not (message.startswith(b"POST") and answer.startswith(b"HTTP/1.1 200 ")):
+            continue
+        if not os.path.exists(f"{state}.db"):
+            lead_to(state)
+        shutil.copy(f"{state}.db", "copy.db")
+        before = rows("copy.db")
+        desk = Desk("copy.db", 2 * len(paths) + 1, restore_signals=False)
+        try:
+            shown = [desk.ask("GET", path)[::2] for path in paths]
+            resource.prlimit(desk.process.pid, resource.RLIMIT_FSIZE, (0, 0))
+            found = desk.send(message)
+            # A return that stands already is the same, and takes no write.
+            assert found.endswith(shut[1].encode()) or found == answer and (b'"ok":"same"' in answer or b'"lodged":0' in answer), (name, found)
+            after = [desk.ask("GET", path)[::2] for path in paths]
+            same((name, [now if then != shut else then for then, now in zip(after, shown)]), (name, after))
+            assert desk.end().status in (0, 3), name
+        finally:
+            desk.process.kill()
+            desk.process.wait()
+        same(show("progress", con=None, db="copy.db"), Ran(0, shown[0][1], ""))
+        same((name, rows("copy.db")), (name, before))
+
+
 # ---- the first page
 
 
-def test_the_first_election_of_the_readme():
-    """Each command as it stands in README.md prints what stands there."""
-    text = (ROOT / "README.md").read_text(encoding="utf-8")
-    part = text[text.index("## A first election"):text.index("## Statuses and spreadsheets")]
-    lines = [line[4:] for line in part.splitlines() if line.startswith("    ")]
+def replay(text):
+    """Each command of a document's text prints what stands under it. Blocks that begin with no command are not replayed."""
+    blocks = [block for block in re.findall(r"(?:^    .*\n)+", text, re.M) if block.startswith("    $ ")]
+    lines = [line[4:] for block in blocks for line in block.splitlines()]
     port = str(free_port())
     commands = [line[2:].replace("8080", port) for line in lines if line[:2] in ("$ ", "> ")]
     wanted = [line for line in lines if line[:2] not in ("$ ", "> ")]
@@ -1475,7 +1884,19 @@ def test_the_first_election_of_the_readme():
     with open("said", "w", encoding="utf-8") as said:
         ran = subprocess.run(["bash", "-c", script], stdout=subprocess.PIPE, stderr=said, env=environment, timeout=120)
     same((ran.returncode, re.findall(r'\{.*?\}|[^{\n]+', ran.stdout.decode())), (0, wanted))
+
+
+def test_the_first_election_of_the_readme():
+    """Each command as it stands in README.md prints what stands there."""
+    text = (ROOT / "README.md").read_text(encoding="utf-8")
+    replay(text[text.index("## A first election"):text.index("## Statuses and spreadsheets")])
     same(Path("closed").read_text(encoding="utf-8"), '{"ok":"moved","rev":2}' * 15)
+
+
+def test_the_evening_of_the_guide():
+    """Each command as it stands in docs/GUIDE.md prints what stands there."""
+    replay((ROOT / "docs/GUIDE.md").read_text(encoding="utf-8"))
+    same(Path("closed").read_text(encoding="utf-8"), '{"ok":"moved","rev":2}' * 14)
 
 
 def command_lines(document):
@@ -1520,11 +1941,15 @@ def starts_to_serve(words):
     assert said.startswith(("listening on ", "refused: ")), (words, said)
 
 
-# A stand-in for `curl -s -d BODY URL`.
+# A stand-in for `curl -s URL` and `curl -s -d BODY URL`.
 CURL = """
-import sys, urllib.request
-_, _, _, body, url = sys.argv
-print(end=urllib.request.urlopen("http://" + url, body.encode()).read().decode())
+import sys, urllib.error, urllib.request
+body = sys.argv[3].encode() if sys.argv[2] == "-d" else None
+try:
+    answer = urllib.request.urlopen("http://" + sys.argv[-1], body)
+except urllib.error.HTTPError as refused:
+    answer = refused
+print(end=answer.read().decode())
 """
 
 

@@ -4,13 +4,13 @@ use Rattle.std.specs.List.{range_with_len}
 use Rattle.std.proofs.lemmas.Bool.{cases_lt, cases_eq}
 use Rattle.std.proofs.lemmas.List.{get_or_past, length-map}
 use Rattle.std.proofs.lemmas.List.FromFn.{get_or-map-range_with_len, length-range_with_len}
-use Rattle.tally_contest.specs.Poll.{Poll, IsEligible, votes_of}
+use Rattle.tally_law.specs.Poll.{Poll, IsEligible, votes_of}
 use Rattle.tally_rules.specs.declared.profile.LotRule.{LotRule}
 use Rattle.tally_rules.specs.declared.profile.LotRule.TheVariants.{Fixed, Alternating}
-use Rattle.tally_contest.specs.Lot.{place_of, is_named, IsTurned, ComesFirst, IsOrderOf}
-use Rattle.tally_contest.specs.Allotment.{Rule, IsAllotment, IsAllotmentByVotes}
-use Rattle.tally_contest.specs.Poll.{HasEligible}
-use Rattle.tally_contest.specs.LotNeed.{IsNeed, IsInGroup}
+use Rattle.tally_law.specs.Lot.{place_of, is_named, IsTurned, ComesFirst, IsOrderOf}
+use Rattle.tally_law.specs.Allotment.{Rule, IsAllotment, IsAllotmentByVotes}
+use Rattle.tally_law.specs.Poll.{HasEligible}
+use Rattle.tally_law.specs.LotNeed.{IsNeed, IsInGroup}
 use Rattle.tally_contest.specs.internal.Race.{IsFair, IsTie, CanHold}
 use Rattle.tally_contest.specs.internal.Sums.{sum_before}
 use Rattle.tally_contest.specs.internal.Terms.{Terms, IsRule, IsSound, IsProperLot, lot_rule_of, vote_race, placed_race}

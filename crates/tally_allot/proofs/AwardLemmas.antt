@@ -4,10 +4,10 @@ use Rattle.std.proofs.lemmas.List.{get_or-map, length-map}
 use Rattle.tally_frac.specs.Rank.{RanksAbove}
 use Rattle.tally_contest.specs.declared.won.Won.{Won}
 use Rattle.tally_allot.specs.declared.award.Award.{Award}
-use Rattle.tally_contest.specs.Poll.{Poll}
+use Rattle.tally_law.specs.Poll.{Poll}
 use Rattle.tally_allot.specs.Awards.{award_of, IsAwardOf, AreAwardsOf, IsAwardAbove}
 use Rattle.tally_rules.specs.declared.profile.LotRule.{LotRule}
-use Rattle.tally_contest.specs.DivisorAllotment.{IsAbove}
+use Rattle.tally_law.specs.DivisorAllotment.{IsAbove}
 use Rattle.tally_contest.specs.internal.Pairs.{pair_of}
 use Rattle.tally_contest.specs.internal.Race.{IsPair}
 use Rattle.tally_contest.specs.internal.Terms.{AreDivisors, IsProperLot, IsSound, placed_divisor_race}

@@ -4,9 +4,9 @@ use Rattle.std.specs.List.{range_with_len}
 use Rattle.std.proofs.lemmas.Bool.{cases_eq, cases_lt, eq-eqb, eqb-true, false≢true}
 use Rattle.std.proofs.lemmas.List.{get_or_past}
 use Rattle.std.proofs.lemmas.List.FromFn.{get_or-map-range_with_len, length-map-range_with_len}
-use Rattle.tally_contest.specs.Allotment.{IsAllotment, Rule}
-use Rattle.tally_contest.specs.LotNeed.{IsDecidedByVotes, IsNeed}
-use Rattle.tally_contest.specs.Poll.{HasEligible, IsEligible, Poll, votes_of}
+use Rattle.tally_law.specs.Allotment.{IsAllotment, Rule}
+use Rattle.tally_law.specs.LotNeed.{IsDecidedByVotes, IsNeed}
+use Rattle.tally_law.specs.Poll.{HasEligible, IsEligible, Poll, votes_of}
 use Rattle.tally_contest.specs.internal.Premises.{IsRule, IsSound}
 use Rattle.tally_contest.specs.internal.Race.{IsFair, IsTie}
 use Rattle.tally_contest.specs.internal.Terms.{IsClassOf, Terms, vote_race}

@@ -7,19 +7,19 @@ use Rattle.std.proofs.lemmas.List.Folds.{Any-from_list_any}
 use Rattle.std.proofs.lemmas.Map.Made.{IsDistinct-from_AllPairs}
 use Rattle.std.proofs.lemmas.Map.Steps.{length-le_from_distinct_below}
 use Rattle.std.specs.List.{list_any}
-use Rattle.tally_contest.specs.ListSet.{has_place}
-use Rattle.tally_contest.specs.Lot.{place_of}
+use Rattle.tally_rules.specs.ListSet.{has_place}
+use Rattle.tally_law.specs.Lot.{place_of}
 use Rattle.tally_contest.specs.internal.NextPairs.{HaveKeys}
 use Rattle.tally_contest.specs.internal.Orders.{MayBeTaken}
 use Rattle.tally_contest.specs.internal.Pairs.{last_place, turns, place_at}
 use Rattle.tally_rules.specs.declared.profile.LotRule.{LotRule}
-use Rattle.tally_contest.specs.Poll.{Poll}
+use Rattle.tally_law.specs.Poll.{Poll}
 use Rattle.tally_contest.specs.internal.Terms.{AreDivisors, IsClassOf, IsSound}
 use Rattle.tally_allot.proofs.LotLaws.{IsPlaced, at_name, at_setup, placed_at}
 use Rattle.tally_contest.proofs.Vectors.{get_or-le-sum}
 
 -- numbers of which no two are equal, all from 1 to n, are at most n
-few_distinct : (n : ℕ) (lot : List ℕ) → ((i : ℕ) → i < length lot → (1 ≤ get_or lot i 0) × (get_or lot i 0 ≤ n)) → ((i j : ℕ) → i < j → j < length lot → get_or lot i 0 ≢ get_or lot j 0) → length lot ≤ n
+pub few_distinct : (n : ℕ) (lot : List ℕ) → ((i : ℕ) → i < length lot → (1 ≤ get_or lot i 0) × (get_or lot i 0 ≤ n)) → ((i j : ℕ) → i < j → j < length lot → get_or lot i 0 ≢ get_or lot j 0) → length lot ≤ n
 few_distinct n lot range once = omega (arith, length-le_from_distinct_below (0 ∷ lot) (n + 1) (IsDistinct-from_AllPairs Decides-eqb (0 ∷ lot) apart) below)
   where
     same : (i : ℕ) (d : ℕ) → i < length lot → get_or lot i d ≡ get_or lot i 0

@@ -8,4 +8,5 @@ pub mod KeyLemmas
 pub mod DecidedOrNeeded
 pub mod ProfileLaws
 pub mod ShortLemmas
+pub mod DivisorRuleLemmas
 pub mod OrderLemmas

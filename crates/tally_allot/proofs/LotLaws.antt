@@ -4,11 +4,11 @@ use Rattle.std.proofs.lemmas.Bool.{cases_lt, cases_Bool, eqb-true, eqb-false, eq
 use Rattle.std.proofs.lemmas.List.{get_or_default}
 use Rattle.std.proofs.lemmas.List.Folds.{Any-from_list_any, list_any_at}
 use Rattle.std.specs.Cmp.{both_ways}
-use Rattle.tally_contest.specs.Poll.{Poll, IsEligible, votes_of}
-use Rattle.tally_contest.specs.ListSet.{has_place}
-use Rattle.tally_contest.specs.Lot.{place_from, place_of, is_named, IsOrderOf}
-use Rattle.tally_contest.specs.Allotment.{IsAllotmentByVotes}
-use Rattle.tally_contest.specs.LotNeed.{IsLotNeeded, IsDecidedByVotes, IsNeed, IsLotTaken, IsLotWrong}
+use Rattle.tally_law.specs.Poll.{Poll, IsEligible, votes_of}
+use Rattle.tally_rules.specs.ListSet.{has_place}
+use Rattle.tally_law.specs.Lot.{place_from, place_of, is_named, IsOrderOf}
+use Rattle.tally_law.specs.Allotment.{IsAllotmentByVotes}
+use Rattle.tally_law.specs.LotNeed.{IsLotNeeded, IsDecidedByVotes, IsNeed, IsLotTaken, IsLotWrong}
 use Rattle.tally_contest.specs.internal.Race.{IsFair, IsTie}
 use Rattle.tally_contest.specs.internal.Terms.{Terms, ArePlacedApart, IsProperLot, vote_race}
 use Rattle.tally_contest.proofs.Vectors.{equal_or_apart}

@@ -1,9 +1,9 @@
 -- Lots that may be taken, going by the votes of the lists that they name: they are proper, and any other is wrong.
 use Rattle.std.proofs.Common.{◌≡◌, ℕ, ◌≢◌, ◌⊎◌, List, [], Bool, true, false, get_or, sym, ◌∙◌, subst, inl, inr}
 use Rattle.std.specs.Cmp.{both_ways}
-use Rattle.tally_contest.specs.Poll.{HasEligible, IsEligible, Poll, votes_of}
-use Rattle.tally_contest.specs.Lot.{place_of, is_named}
-use Rattle.tally_contest.specs.LotNeed.{IsDecidedByVotes, IsLotWrong, IsNeed}
+use Rattle.tally_law.specs.Poll.{HasEligible, IsEligible, Poll, votes_of}
+use Rattle.tally_law.specs.Lot.{place_of, is_named}
+use Rattle.tally_law.specs.LotNeed.{IsDecidedByVotes, IsLotWrong, IsNeed}
 use Rattle.tally_contest.specs.internal.Orders.{MayBeTaken}
 use Rattle.tally_contest.specs.internal.Terms.{AreSound, IsProperLot, Terms}
 use Rattle.tally_allot.proofs.AllotmentLaws.{group_of_votes}

@@ -10,18 +10,18 @@ use Rattle.tally_rules.specs.declared.profile.LotRule.{LotRule}
 use Rattle.tally_rules.specs.declared.profile.Method.{Method}
 use Rattle.tally_rules.specs.declared.profile.Method.TheVariants.{DHondt, SainteLague, ModifiedSainteLague, Hare}
 use Rattle.tally_rules.specs.declared.profile.Profile.{Profile}
-use Rattle.tally_contest.specs.Poll.{Poll, SharesOut}
-use Rattle.tally_contest.specs.Lot.{IsOrderOf}
-use Rattle.tally_contest.specs.Allotment.{Rule, divisors, hare, IsAllotment, IsAllotmentByVotes}
-use Rattle.tally_contest.specs.LotNeed.{IsDecidedByVotes, IsNeed}
-use Rattle.tally_contest.specs.Rules.{rule_by, rule_of, poll_of}
+use Rattle.tally_law.specs.Poll.{Poll, SharesOut}
+use Rattle.tally_law.specs.Lot.{IsOrderOf}
+use Rattle.tally_law.specs.Allotment.{Rule, divisors, hare, IsAllotment, IsAllotmentByVotes}
+use Rattle.tally_law.specs.LotNeed.{IsDecidedByVotes, IsNeed}
+use Rattle.tally_law.specs.Rules.{rule_by, rule_of, poll_of}
 use Rattle.tally_contest.specs.internal.Terms.{IsRule, IsSound}
 use Rattle.tally_contest.proofs.Vectors.{Exchange, equal_or_exchange, get_or-le-sum}
 use Rattle.tally_contest.proofs.Sums.{sum-is}
 use Rattle.tally_contest.proofs.PollLemmas.{sound_under}
 use Rattle.tally_contest.proofs.TermsRace.{are_races, one_allotment}
-use Rattle.tally_allot.specs.Reordering.{IsReordering, reordered}
-use Rattle.tally_allot.specs.LawStatements.{AllotmentsAreUnique, AllotmentsExist, LotsChooseAmongWhatVotesAllow, VotesDecideOrALotIsNeeded, NoLotIsNeededWhereVotesDecide, GroupsAreOfOneNumberOfVotes, EachOrderGivesAChoice, EachChoiceComesFromAnOrder, TheOrderOfTheSetupIsNothingWhereVotesDecide}
+use Rattle.tally_law.specs.Reordering.{IsReordering, reordered}
+use Rattle.tally_law.specs.LawStatements.{AllotmentsAreUnique, AllotmentsExist, LotsChooseAmongWhatVotesAllow, VotesDecideOrALotIsNeeded, NoLotIsNeededWhereVotesDecide, GroupsAreOfOneNumberOfVotes, EachOrderGivesAChoice, EachChoiceComesFromAnOrder, TheOrderOfTheSetupIsNothingWhereVotesDecide}
 use Rattle.tally_allot.proofs.LotLaws.{decided_not_needed, proper_if_taken, proper_without_lot}
 use Rattle.tally_allot.proofs.AllotmentLaws.{exists, by_votes, choice_of_order, group_of_votes}
 use Rattle.tally_allot.proofs.DecidedOrNeeded.{decided-or_need}

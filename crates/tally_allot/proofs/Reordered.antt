@@ -6,16 +6,16 @@ use Rattle.std.proofs.lemmas.List.{get_or-map, length-map, get_or_past}
 use Rattle.std.proofs.lemmas.List.FromFn.{get_or-map-range_with_len, length-range_with_len}
 use Rattle.std.proofs.lemmas.List.Sums.{sum-map}
 use Rattle.std.proofs.lemmas.List.Sorted.{sum_by-IsPermutation, length_permutation}
-use Rattle.tally_contest.specs.Poll.{Poll, IsEligible, votes_of, eligible_votes}
-use Rattle.tally_contest.specs.Allotment.{Rule, divisors, hare, IsAllotment}
-use Rattle.tally_contest.specs.LotNeed.{IsDecidedByVotes}
+use Rattle.tally_law.specs.Poll.{Poll, IsEligible, votes_of, eligible_votes}
+use Rattle.tally_law.specs.Allotment.{Rule, divisors, hare, IsAllotment}
+use Rattle.tally_law.specs.LotNeed.{IsDecidedByVotes}
 use Rattle.tally_contest.specs.internal.Race.{Race, IsFair, IsTie}
-use Rattle.tally_allot.specs.Reordering.{IsReordering, reordered}
+use Rattle.tally_law.specs.Reordering.{IsReordering, reordered}
 use Rattle.tally_contest.specs.internal.Sums.{sum_before}
 use Rattle.tally_contest.specs.internal.Terms.{Terms, IsRule, IsSound, vote_race, placed_race}
 use Rattle.tally_contest.proofs.Vectors.{two-le-sum, Exchange, equal_or_exchange}
 use Rattle.tally_contest.proofs.Race.{one_seat}
-use Rattle.tally_contest.specs.Allotment.{IsAllotmentByVotes}
+use Rattle.tally_law.specs.Allotment.{IsAllotmentByVotes}
 use Rattle.tally_contest.proofs.Sums.{sum-is, sum_before-same, sum_marked-is, marked_at}
 use Rattle.tally_contest.proofs.Ties.{exchange, exchanged, exchanged_at_l}
 use Rattle.tally_contest.proofs.TermsRace.{AreRaces, are_races, fair_by_votes, from_placed}

@@ -7,13 +7,15 @@ use Rattle.tally_frac.specs.Rank.{Pair, IsHigher}
 use Rattle.tally_frac.proofs.FractionLaws.{scaled-greater, scaled-level}
 use Rattle.tally_frac.proofs.RankLaws.{weak-decided, weak-one_way, weak-not_below}
 use Rattle.tally_rules.specs.declared.profile.LotRule.{LotRule}
-use Rattle.tally_contest.specs.Poll.{Poll, IsEligible, votes_of, SharesOut}
-use Rattle.tally_contest.specs.Allotment.{Rule, divisors, IsAllotment}
-use Rattle.tally_contest.specs.DivisorAllotment.{IsDivisorAllotmentByVotes}
-use Rattle.tally_contest.specs.internal.Terms.{AreDivisors, IsSound}
+use Rattle.tally_law.specs.Poll.{Poll, IsEligible, votes_of, SharesOut}
+use Rattle.tally_law.specs.Allotment.{Rule, divisors, IsAllotmentByVotes}
+use Rattle.tally_law.specs.DivisorAllotment.{IsDivisorAllotmentByVotes}
+use Rattle.tally_contest.specs.internal.Terms.{AreDivisors, IsRule, IsSound}
 use Rattle.tally_contest.proofs.Vectors.{sum-cons, equal_or_exchange, Exchange}
 use Rattle.tally_contest.proofs.DivisorRace.{eligible_or_not}
-use Rattle.tally_allot.specs.VotesShort.{with_more_votes, IsSureOfMore, IsVotesShort, IsLeastNumber, HasNoMoreToGain, AreBelow}
+use Rattle.tally_allot.specs.VotesShort.{with_more_votes, IsSureOfMore, IsVotesShort, IsLeastNumber, HasNoMoreToGain, AreVotesShort, AreBelow}
+use Rattle.tally_allot.proofs.AllotmentLaws.{exists, by_votes}
+use Rattle.tally_allot.proofs.LotLaws.{proper_without_lot}
 use Rattle.tally_allot.specs.internal.ShortSteps.{RiseSlowly, VotesRankAbove, IsByVotes, AreFewestAbove, IsLowestOther, IsNumberOf, IsAnswerOf, AreAnswers, AreAnswersOf}
 
 -- ---- Pairs of votes and a divisor
@@ -102,6 +104,31 @@ pub alone : (a : List ℕ) (m : ℕ) → ((p : ℕ) → p ≢ m → get_or a p 0
 alone [] m h = refl
 alone (x ∷ xs) zero h = omega (arith, sum-cons x xs, all_zero xs (λ p. h (suc p) (λ e. absurd (omega arith))))
 alone (x ∷ xs) (suc m) h = omega (arith, sum-cons x xs, h 0 (λ e. absurd (omega arith)), alone xs m (λ p ne. h (suc p) (λ e. ne (omega arith))))
+
+-- ---- More votes
+
+-- the poll with more votes for an eligible list is sound
+sound_with_more : (poll : Poll) (m x : ℕ) → IsSound poll → IsEligible poll m → IsSound (with_more_votes poll m x)
+sound_with_more poll m x s em = record {
+  listed = λ l el. omega (arith, s.listed l el, length-set poll.votes m (votes_of poll m + x));
+  with_votes = λ l el. by_list l el (cases_eq l m);
+}
+  where
+    by_list : (l : ℕ) → IsEligible poll l → (l ≡ m) ⊎ (l ≡ m → ⊥) → 1 ≤ votes_of (with_more_votes poll m x) l
+    by_list l el (inl e) =
+        let own : votes_of (with_more_votes poll m x) m ≡ votes_of poll m + x = get_or-set_same poll.votes m (votes_of poll m + x) 0 (s.listed m em) in
+        omega (arith, ap (votes_of (with_more_votes poll m x)) e, own, s.with_votes m em)
+    by_list l el (inr ne) =
+        let same : votes_of (with_more_votes poll m x) l ≡ votes_of poll l = get_or-set_other poll.votes m l (votes_of poll m + x) 0 ne in
+        omega (arith, same, s.with_votes l el)
+
+-- however many votes are added, there is an allotment by the votes alone
+more_exists : (rule : Rule) (poll : Poll) (seats m : ℕ) → IsRule rule → IsSound poll → 1 ≤ seats → IsEligible poll m → (y : ℕ) → (b : List ℕ) × IsAllotmentByVotes rule (with_more_votes poll m y) seats b
+more_exists rule poll seats m d s some em y =
+    let more = with_more_votes poll m y in
+    let sound = sound_with_more poll m y s em in
+    let w = exists rule more [] seats d sound some (m, em) (proper_without_lot more) in
+    (w.0, by_votes rule more [] seats w.0 d sound some w.1)
 
 -- ---- The number
 
@@ -229,8 +256,12 @@ module _ (nth : ℕ → ℕ) (unit : ℕ) (some_unit : 1 ≤ unit) (lot_rule : L
         least x sure (inl lt) = absurd (omega (arith, sure a (with_unit unit some_unit nth (with_more_votes poll m x) seats a (one_less x lt))))
         least x sure (inr le) = le
 
-    pub least_number : IsLeastNumber (divisors nth unit lot_rule) poll seats (get_or a m 0) m (y - votes_of poll m)
-    least_number = record { one_less = (a, with_unit unit some_unit nth (with_more_votes poll m (y - votes_of poll m - 1)) seats a (one_less (y - votes_of poll m - 1) (omega (arith, more_than_now))), omega arith); this_or_more = this_or_more }
+    pub least_number : 1 ≤ seats → IsLeastNumber (divisors nth unit lot_rule) poll seats (get_or a m 0) m (y - votes_of poll m)
+    least_number some = record {
+      one_less = (a, with_unit unit some_unit nth (with_more_votes poll m (y - votes_of poll m - 1)) seats a (one_less (y - votes_of poll m - 1) (omega (arith, more_than_now))), omega arith);
+      this_or_more = this_or_more;
+      some = more_exists (divisors nth unit lot_rule) poll seats m (d, some_unit) s some em;
+    }
 
     -- The number is below nine times 5,000,000,000.
     module _ (slowly : RiseSlowly nth) (few : (l : ℕ) → votes_of poll l ≤ 5000000000) where
@@ -307,7 +338,7 @@ module _ (nth : ℕ → ℕ) (d : AreDivisors nth) (poll : Poll) (a : List ℕ) 
           eligible = em;
           not_all = not_all;
           short = short nth unit some_unit lot_rule d poll s seats a w m em c r.1 r.2 lowest y f;
-          least = least_number nth unit some_unit lot_rule d poll s seats a w m em c r.1 r.2 lowest y f;
+          least = least_number nth unit some_unit lot_rule d poll s seats a w m em c r.1 r.2 lowest y f (omega (arith, not_all));
           below = omega (arith, below nth unit some_unit lot_rule d poll s seats a w m em c r.1 r.2 lowest y f slowly few);
         }
 
@@ -357,14 +388,14 @@ module _ (rule : Rule) (poll : Poll) (seats : ℕ) (a : List ℕ) where
         by_answer all (Some x) number = absurd (neither all x number)
 
 module _ (rule : Rule) (poll : Poll) (lot : List ℕ) (seats : ℕ) (numbers : List (Option ℕ)) (h : AreAnswersOf rule poll lot seats numbers) where
-  pub none_is : (a : List ℕ) × IsAllotment rule poll lot seats a × ((m : ℕ) → m < length poll.votes → (get_or numbers m None ≡ None) ↔ HasNoMoreToGain poll seats a m)
-  none_is = (h.0, h.1, none_at rule poll seats h.0 (length poll.votes) numbers h.2)
-
-  pub shorts : (a : List ℕ) × IsAllotment rule poll lot seats a × ((m x : ℕ) → get_or numbers m None ≡ Some x → IsVotesShort rule poll seats (get_or a m 0) m x)
-  shorts = (h.0, h.1, λ m x e. (number_at rule poll seats h.0 (length poll.votes) numbers h.2 m x e).short)
-
-  pub leasts : (a : List ℕ) × IsAllotment rule poll lot seats a × ((m x : ℕ) → get_or numbers m None ≡ Some x → IsLeastNumber rule poll seats (get_or a m 0) m x)
-  leasts = (h.0, h.1, λ m x e. (number_at rule poll seats h.0 (length poll.votes) numbers h.2 m x e).least)
+  pub are_short : AreVotesShort rule poll lot seats numbers
+  are_short = record {
+    held = h.0;
+    allotment = h.1;
+    none = none_at rule poll seats h.0 (length poll.votes) numbers h.2;
+    short = λ m x e. (number_at rule poll seats h.0 (length poll.votes) numbers h.2 m x e).short;
+    least = λ m x e. (number_at rule poll seats h.0 (length poll.votes) numbers h.2 m x e).least;
+  }
 
   pub as_many : length numbers ≡ length poll.votes
   as_many = h.2.one_each

@@ -1,8 +1,7 @@
 -- What the tests of an allotment say.
 use Rattle.std.proofs.Common.{◌≡◌, ℕ, List, [], Bool, length, sum, sym, subst, arith}
-use Rattle.tally_contest.specs.Poll.{HasEligible}
-use Rattle.tally_allot.specs.AllotFault.{IsAllotmentUnderLot}
-use Rattle.tally_contest.specs.LotNeed.{IsLotTaken, IsLotWrong, IsNeed}
+use Rattle.tally_law.specs.Poll.{HasEligible}
+use Rattle.tally_law.specs.LotNeed.{IsLotTaken, IsLotWrong, IsNeed, IsAllotmentUnderLot}
 use Rattle.tally_contest.specs.internal.Race.{IsFair}
 use Rattle.tally_contest.specs.internal.Terms.{Terms, AreSound, placed_race}
 use Rattle.tally_contest.proofs.TermsRace.{races, from_placed, to_placed}

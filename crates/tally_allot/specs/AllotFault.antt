@@ -1,8 +1,8 @@
 -- When the seats of a poll are not allotted.
 use Rattle.std.specs.Prelude.{ℕ, ◌≡◌, List, [], Option, MatchOption}
-use Rattle.tally_contest.specs.Poll.{Poll, HasEligible}
-use Rattle.tally_contest.specs.Allotment.{Rule, IsAllotment}
-use Rattle.tally_contest.specs.LotNeed.{IsNeed, IsDecidedByVotes, IsLotTaken, IsLotWrong}
+use Rattle.tally_law.specs.Poll.{Poll, HasEligible}
+use Rattle.tally_law.specs.Allotment.{Rule}
+use Rattle.tally_law.specs.LotNeed.{IsNeed, IsDecidedByVotes, IsLotTaken, IsLotWrong}
 use Rattle.tally_allot.specs.declared.fault.AllotFault.{AllotFault}
 use Rattle.tally_allot.specs.declared.fault.AllotFault.TheVariants.{NoEligible, LotMissing, WrongLot, Memory}
 use Rattle.tally_contest.specs.declared.need.Need.{Need}
@@ -17,6 +17,13 @@ IsFaultOf rule poll seats lot (LotMissing group in_question) =
 IsFaultOf rule poll seats lot WrongLot = HasEligible poll × IsLotWrong rule poll seats lot
 IsFaultOf rule poll seats lot Memory = Unit {0}
 
+-- the number of a fault
+abbrev pub number_of : AllotFault → ℕ
+number_of NoEligible = 1
+number_of (LotMissing group in_question) = 2
+number_of WrongLot = 3
+number_of Memory = 4
+
 -- No lot, where the votes decide, and else the lot that is needed.
 abbrev pub IsNeedOrNone : Rule → Poll → ℕ → Option Need → Type 0
 IsNeedOrNone rule poll seats need =
@@ -28,11 +35,6 @@ IsNeedFaultOf poll NoEligible = ¬ HasEligible poll
 IsNeedFaultOf poll (LotMissing group in_question) = ⊥
 IsNeedFaultOf poll WrongLot = ⊥
 IsNeedFaultOf poll Memory = Unit {0}
-
--- The seats are the allotment, under the lot that is to be taken.
-abbrev pub IsAllotmentUnderLot : Rule → Poll → List ℕ → ℕ → List ℕ → Type 0
-IsAllotmentUnderLot rule poll lot seats a =
-    HasEligible poll × IsLotTaken rule poll seats lot × IsAllotment rule poll lot seats a
 
 -- What a verdict on a lot says.
 abbrev pub IsVerdictOn : Rule → Poll → ℕ → List ℕ → LotVerdict → Type 0

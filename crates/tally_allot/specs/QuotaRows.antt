@@ -2,8 +2,8 @@
 use Rattle.std.specs.Prelude.{ℕ, zero, suc, ◌≡◌, ◌+◌, List, [], ◌∷◌, ◌++◌, false, nat_lt, length, slice_index}
 use Rattle.std.specs.Prelude.{slice_index_or, if◌then◌else◌}
 use Rattle.tally_allot.specs.declared.quota_row.QuotaRow.{QuotaRow}
-use Rattle.tally_contest.specs.Poll.{Poll}
-use Rattle.tally_contest.specs.HareAllotment.{IsHareAllotment, whole_quotas, remainder}
+use Rattle.tally_law.specs.Poll.{Poll}
+use Rattle.tally_law.specs.HareAllotment.{IsHareAllotment, whole_quotas, remainder}
 
 -- the row of list l: its whole quotas and its remainder, and whether it holds more
 abbrev pub quota_row : Poll → ℕ → List ℕ → ℕ → QuotaRow

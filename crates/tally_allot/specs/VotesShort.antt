@@ -2,10 +2,8 @@
 -- 163.1), with ties by votes; the number itself is this project's own term.
 use Rattle.std.specs.Prelude.{ℕ, ◌≡◌, ◌+◌, ◌-◌, ◌<◌, ◌≤◌, ◌⊎◌, ◌↔◌, List, Option, None, Some, length, slice_index}
 use Rattle.std.specs.Prelude.{slice_index_or, slice_set}
-use Rattle.tally_rules.specs.declared.profile.Profile.{Profile}
-use Rattle.tally_contest.specs.Poll.{Poll, IsEligible, votes_of}
-use Rattle.tally_contest.specs.Allotment.{Rule, IsAllotment, IsAllotmentByVotes}
-use Rattle.tally_contest.specs.Rules.{rule_of, poll_of}
+use Rattle.tally_law.specs.Poll.{Poll, IsEligible, votes_of}
+use Rattle.tally_law.specs.Allotment.{Rule, IsAllotment, IsAllotmentByVotes}
 
 -- the poll with x votes more for list m; the other votes and the set of eligible lists are unchanged
 abbrev pub with_more_votes : Poll → ℕ → ℕ → Poll
@@ -22,39 +20,30 @@ pub record IsVotesShort (rule : Rule) (poll : Poll) (seats held m x : ℕ) : Typ
   pub enough : IsSureOfMore rule poll seats held m x
   pub least : (y : ℕ) → 1 ≤ y → IsSureOfMore rule poll seats held m y → x ≤ y
 
--- With one vote less some allotment by the votes alone gives list m no more than it holds; with this or any greater
--- number every one gives it more.
+-- With one vote less some allotment by the votes alone gives list m no more than it holds; with
+-- this or any greater number every one gives it more. However many votes are added, there is one.
 pub record IsLeastNumber (rule : Rule) (poll : Poll) (seats held m x : ℕ) : Type 0 where
   pub one_less : (b : List ℕ) × IsAllotmentByVotes rule (with_more_votes poll m (x - 1)) seats b ×
       (slice_index b m ≤ held)
   pub this_or_more : (y : ℕ) → x ≤ y → IsSureOfMore rule poll seats held m y
+  pub some : (y : ℕ) → (b : List ℕ) × IsAllotmentByVotes rule (with_more_votes poll m y) seats b
 
 -- List m can gain nothing: it is not eligible, or holds all seats.
 abbrev pub HasNoMoreToGain : Poll → ℕ → List ℕ → ℕ → Type 0
-HasNoMoreToGain poll seats a m = (¬ IsEligible poll m) ⊎ (slice_index a m ≡ seats)
+HasNoMoreToGain poll seats held m = (¬ IsEligible poll m) ⊎ (slice_index held m ≡ seats)
 
--- What is said of the seats of the allotment, which is one vector at most.
-abbrev pub OfAllotment : Profile → List ℕ → ℕ → List ℕ → ℕ → (List ℕ → Type 0) → Type 0
-OfAllotment profile votes blank lot seats P =
-    (a : List ℕ) × IsAllotment (rule_of profile) (poll_of profile votes blank) lot seats a × P a
-
--- There is no number exactly where a list has no more to gain.
-abbrev pub IsNoneWhereNoMore : Profile → List ℕ → ℕ → List ℕ → ℕ → List (Option ℕ) → Type 0
-IsNoneWhereNoMore profile votes blank lot seats numbers = OfAllotment profile votes blank lot seats (λ a.
-    (m : ℕ) → m < length votes →
-    (slice_index_or numbers m None ≡ None) ↔ HasNoMoreToGain (poll_of profile votes blank) seats a m)
-
--- Each number is that of its list.
-abbrev pub AreVotesShort : Profile → List ℕ → ℕ → List ℕ → ℕ → List (Option ℕ) → Type 0
-AreVotesShort profile votes blank lot seats numbers = OfAllotment profile votes blank lot seats (λ a.
-    (m x : ℕ) → slice_index_or numbers m None ≡ Some x →
-    IsVotesShort (rule_of profile) (poll_of profile votes blank) seats (slice_index a m) m x)
-
--- Of each number one less is not enough, and any greater is.
-abbrev pub AreLeastNumbers : Profile → List ℕ → ℕ → List ℕ → ℕ → List (Option ℕ) → Type 0
-AreLeastNumbers profile votes blank lot seats numbers = OfAllotment profile votes blank lot seats (λ a.
-    (m x : ℕ) → slice_index_or numbers m None ≡ Some x →
-    IsLeastNumber (rule_of profile) (poll_of profile votes blank) seats (slice_index a m) m x)
+-- The number of each list, beside the seats that the allotment gives it now. There is none exactly
+-- where the list has no more to gain.
+pub record AreVotesShort (rule : Rule) (poll : Poll) (lot : List ℕ) (seats : ℕ)
+    (numbers : List (Option ℕ)) : Type 0 where
+  pub held : List ℕ
+  pub allotment : IsAllotment rule poll lot seats held
+  pub none : (m : ℕ) → m < length poll.votes →
+      (slice_index_or numbers m None ≡ None) ↔ HasNoMoreToGain poll seats held m
+  pub short : (m x : ℕ) → slice_index_or numbers m None ≡ Some x →
+      IsVotesShort rule poll seats (slice_index held m) m x
+  pub least : (m x : ℕ) → slice_index_or numbers m None ≡ Some x →
+      IsLeastNumber rule poll seats (slice_index held m) m x
 
 -- Each number is below a limit.
 abbrev pub AreBelow : ℕ → List (Option ℕ) → Type 0

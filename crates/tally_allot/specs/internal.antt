@@ -1,3 +1,5 @@
 -- Words of private contracts and of proofs. No promise to a caller speaks of them.
 pub mod AwardTable
+pub mod DivisorRules
+pub mod DivisorRuleLaws
 pub mod ShortSteps

@@ -4,16 +4,17 @@ ghost use Rattle.std.specs.Prelude.{◌≡◌, ℕ, ◌≤◌, ◌<◌, ◌↔�
 ghost use Rattle.tally_frac.specs.Limits.{most_lists, most_seats};
 ghost use Rattle.tally_rules.specs.Threshold.{IsWithinVotes};
 ghost use Rattle.tally_contest.specs.internal.KeptPoll.{kept_poll};
-ghost use Rattle.tally_contest.specs.Poll.{IsEligible};
-ghost use Rattle.tally_contest.specs.Allotment.{IsAllotment, divisors as by_divisors, hare};
-ghost use Rattle.tally_allot.specs.Conditions.{AreLimitsKept};
-ghost use Rattle.tally_contest.specs.Poll.{HasEligible};
-ghost use Rattle.tally_allot.specs.AllotFault.{IsAllotmentUnderLot, IsFaultOf, IsNeedFaultOf, IsNeedOrNone};
-ghost use Rattle.tally_contest.specs.LotNeed.{IsDecidedByVotes, IsNeed, IsLotTaken};
-ghost use Rattle.tally_contest.specs.Rules.{rule_of, poll_of};
+ghost use Rattle.tally_law.specs.Poll.{IsEligible};
+ghost use Rattle.tally_law.specs.Allotment.{IsAllotment, divisors as by_divisors, hare};
+ghost use Rattle.tally_law.specs.Conditions.{AreLimitsKept};
+ghost use Rattle.tally_law.specs.Poll.{HasEligible};
+ghost use Rattle.tally_allot.specs.AllotFault.{IsFaultOf, IsNeedFaultOf, IsNeedOrNone};
+ghost use Rattle.tally_law.specs.LotNeed.{IsDecidedByVotes, IsNeed, IsLotTaken, IsAllotmentUnderLot};
+ghost use Rattle.tally_law.specs.Rules.{rule_of, poll_of};
 ghost use Rattle.tally_contest.specs.internal.Race.{IsFair};
 ghost use Rattle.tally_contest.specs.internal.Terms.{AreSound, placed_race};
 
+use crate::divisor_rule::DivisorRule;
 use crate::fault::AllotFault;
 use crate::under_lot::{award_under_lot, seats_by_remainders};
 use crate::verdict::{LotVerdict, verdict_on_lot};
@@ -22,8 +23,8 @@ use tally_contest::{
     Contest, DivisorContest, HareContest, Need, Poll, contested_seats, has_eligible, is_fair,
     need_of,
 };
-use tally_frac::{DHondt, Divisors, ModifiedSainteLague, SainteLague};
-use tally_rules::{LotRule, Method, Profile};
+use tally_frac::Divisors;
+use tally_rules::{LotRule, Profile};
 
 /// The seats of each list, in order of place (LOREG article 163.1). `lot` has the places of the
 /// lists that a lot was drawn among, in its order, and is empty where no lot was drawn. It refuses
@@ -45,15 +46,9 @@ pub fn allot(
     ensures fault { IfErr result (IsFaultOf (rule_of profile.now) (poll_of profile.now votes.now blank) seats lot.now) }
 {
     let poll = Poll::new(profile, votes, blank);
-    match profile.method {
-        Method::DHondt => seats_by_divisors(alloc, DHondt, profile.lot, &poll, seats, lot),
-        Method::SainteLague => {
-            seats_by_divisors(alloc, SainteLague, profile.lot, &poll, seats, lot)
-        }
-        Method::ModifiedSainteLague => {
-            seats_by_divisors(alloc, ModifiedSainteLague, profile.lot, &poll, seats, lot)
-        }
-        Method::Hare => seats_by_quotas(alloc, &poll, seats, lot),
+    match DivisorRule::of(profile.method) {
+        Some(divisors) => seats_by_divisors(alloc, divisors, profile.lot, &poll, seats, lot),
+        None => seats_by_quotas(alloc, &poll, seats, lot),
     }
 }
 
@@ -114,13 +109,9 @@ pub fn lot_need(
     ensures fault { IfErr result (IsNeedFaultOf (poll_of profile.now votes.now blank)) }
 {
     let poll = Poll::new(profile, votes, blank);
-    match profile.method {
-        Method::DHondt => need_by_divisors(alloc, DHondt, profile.lot, &poll, seats),
-        Method::SainteLague => need_by_divisors(alloc, SainteLague, profile.lot, &poll, seats),
-        Method::ModifiedSainteLague => {
-            need_by_divisors(alloc, ModifiedSainteLague, profile.lot, &poll, seats)
-        }
-        Method::Hare => need_by_quotas(alloc, &poll, seats),
+    match DivisorRule::of(profile.method) {
+        Some(divisors) => need_by_divisors(alloc, divisors, profile.lot, &poll, seats),
+        None => need_by_quotas(alloc, &poll, seats),
     }
 }
 
@@ -183,15 +174,11 @@ pub fn is_allotment(
         IsAllotmentUnderLot (rule_of profile.now) (poll_of profile.now votes.now blank) lot.now seats given.now }
 {
     let poll = Poll::new(profile, votes, blank);
-    match profile.method {
-        Method::DHondt => is_allotment_by_divisors(DHondt, profile.lot, &poll, seats, lot, given),
-        Method::SainteLague => {
-            is_allotment_by_divisors(SainteLague, profile.lot, &poll, seats, lot, given)
+    match DivisorRule::of(profile.method) {
+        Some(divisors) => {
+            is_allotment_by_divisors(divisors, profile.lot, &poll, seats, lot, given)
         }
-        Method::ModifiedSainteLague => {
-            is_allotment_by_divisors(ModifiedSainteLague, profile.lot, &poll, seats, lot, given)
-        }
-        Method::Hare => is_allotment_by_quotas(&poll, seats, lot, given),
+        None => is_allotment_by_quotas(&poll, seats, lot, given),
     }
 }
 

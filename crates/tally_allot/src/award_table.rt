@@ -5,24 +5,25 @@ ghost use Rattle.tally_frac.specs.Limits.{most_seats};
 ghost use Rattle.tally_rules.specs.declared.profile.LotRule.{LotRule as rule_of_lots};
 ghost use Rattle.tally_rules.specs.declared.profile.Method.TheVariants.{Hare as by_hare};
 ghost use Rattle.tally_contest.specs.internal.KeptPoll.{kept_poll};
-ghost use Rattle.tally_contest.specs.Allotment.{divisors as by_divisors};
+ghost use Rattle.tally_law.specs.Allotment.{divisors as by_divisors};
 ghost use Rattle.tally_allot.specs.AllotFault.{IsFaultOf};
 ghost use Rattle.tally_allot.specs.Awards as spec;
 ghost use Rattle.tally_allot.specs.Awards.{AreAwards, AreAwardsBy};
 ghost use Rattle.tally_allot.specs.internal.AwardTable.{IsTableOf};
-ghost use Rattle.tally_allot.specs.Conditions.{AreLimitsKept};
-ghost use Rattle.tally_contest.specs.Rules.{poll_of, rule_of};
+ghost use Rattle.tally_law.specs.Conditions.{AreLimitsKept};
+ghost use Rattle.tally_law.specs.Rules.{poll_of, rule_of};
 ghost use Rattle.tally_contest.specs.internal.Won.{AreRows, IsRow};
-ghost use Rattle.tally_contest.specs.LotNeed.{IsLotTaken};
-ghost use Rattle.tally_contest.specs.Poll.{HasEligible};
+ghost use Rattle.tally_law.specs.LotNeed.{IsLotTaken};
+ghost use Rattle.tally_law.specs.Poll.{HasEligible};
 
 use crate::award::Award;
+use crate::divisor_rule::DivisorRule;
 use crate::fault::AllotFault;
 use crate::under_lot::award_under_lot;
 use std::alloc::{AllocError, Global};
 use tally_contest::{Given, Poll, Won};
-use tally_frac::{DHondt, Divisors, ModifiedSainteLague, SainteLague};
-use tally_rules::{LotRule, Method, Profile};
+use tally_frac::Divisors;
+use tally_rules::{LotRule, Profile};
 
 /// The seats in the order of their award, for a profile by a divisor rule (LOREG article 163.1 c)
 /// and d)). Lists of equal votes that no lot decides among follow the setup's order. It refuses as
@@ -45,14 +46,10 @@ pub fn awards(
     ensures fault { IfErr result (IsFaultOf (rule_of profile.now) (poll_of profile.now votes.now blank) seats lot.now) }
 {
     let poll = Poll::new(profile, votes, blank);
-    match profile.method {
-        Method::DHondt => awards_by(alloc, DHondt, profile.lot, &poll, seats, lot),
-        Method::SainteLague => awards_by(alloc, SainteLague, profile.lot, &poll, seats, lot),
-        Method::ModifiedSainteLague => {
-            awards_by(alloc, ModifiedSainteLague, profile.lot, &poll, seats, lot)
-        }
-        Method::Hare => unreachable!(),
-    }
+    let Some(divisors) = DivisorRule::of(profile.method) else {
+        unreachable!()
+    };
+    awards_by(alloc, divisors, profile.lot, &poll, seats, lot)
 }
 
 fn awards_by<D: Divisors + Copy>(

@@ -1,20 +1,21 @@
 //! Why seats are not allotted.
 
 ghost use Rattle.std.specs.Prelude.{◌≡◌};
+ghost use Rattle.tally_allot.specs.AllotFault.{number_of};
 ghost use Rattle.tally_allot.specs.declared.fault.AllotFault.TheVariants.{Memory};
 
 use std::alloc::{AllocError, AllocFailed};
-use tally_contest::ListSet;
+use tally_rules::ListSet;
 use thiserror::Error;
 
 /// Why the seats of a poll are not allotted, in the order in which it is looked at. Memory may
 /// come at any time.
 #[derive(Clone, Copy, Debug, PartialEq, Eq, Error)]
 pub enum AllotFault {
-    /// No list is eligible.
+    /// 1: no list is eligible.
     #[error("no list is eligible")]
     NoEligible,
-    /// A lot is needed and none is given.
+    /// 2: a lot is needed and none is given.
     #[error("a lot is needed and none is given")]
     LotMissing {
         /// The lists among which the lot decides.
@@ -22,13 +23,27 @@ pub enum AllotFault {
         /// The seats that it decides.
         seats: u32,
     },
-    /// A lot is given where the votes decide, or one that does not name each list of the group
+    /// 3: a lot is given where the votes decide, or one that does not name each list of the group
     /// once and no other.
     #[error("the lot is not the one to be taken")]
     WrongLot,
-    /// An allocation was refused.
+    /// 4: an allocation was refused.
     #[error("out of memory")]
     Memory,
+}
+
+impl AllotFault {
+    /// The fault's number.
+    pub fn number(&self) -> u32
+        ensures { result ≡ number_of self.now }
+    {
+        match self {
+            AllotFault::NoEligible => 1,
+            AllotFault::LotMissing { .. } => 2,
+            AllotFault::WrongLot => 3,
+            AllotFault::Memory => 4,
+        }
+    }
 }
 
 impl From<AllocError> for AllotFault {

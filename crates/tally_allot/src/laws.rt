@@ -1,10 +1,10 @@
 //! The laws of allotments and lots. The functions do nothing: each contract is a law.
 
-ghost use Rattle.tally_allot.specs.LawStatements.{AllotmentsAreUnique, AllotmentsExist, EachChoiceComesFromAnOrder};
-ghost use Rattle.tally_allot.specs.LawStatements.{EachOrderGivesAChoice, GroupsAreOfOneNumberOfVotes};
-ghost use Rattle.tally_allot.specs.LawStatements.{LotsChooseAmongWhatVotesAllow, NoLotIsNeededWhereVotesDecide};
-ghost use Rattle.tally_allot.specs.LawStatements.{TheOrderOfTheSetupIsNothingWhereVotesDecide};
-ghost use Rattle.tally_allot.specs.LawStatements.{VotesDecideOrALotIsNeeded};
+ghost use Rattle.tally_law.specs.LawStatements.{AllotmentsAreUnique, AllotmentsExist, EachChoiceComesFromAnOrder};
+ghost use Rattle.tally_law.specs.LawStatements.{EachOrderGivesAChoice, GroupsAreOfOneNumberOfVotes};
+ghost use Rattle.tally_law.specs.LawStatements.{LotsChooseAmongWhatVotesAllow, NoLotIsNeededWhereVotesDecide};
+ghost use Rattle.tally_law.specs.LawStatements.{TheOrderOfTheSetupIsNothingWhereVotesDecide};
+ghost use Rattle.tally_law.specs.LawStatements.{VotesDecideOrALotIsNeeded};
 
 /// Under any lot, at most one vector of seats is the allotment.
 pub fn allotments_are_unique()

@@ -1,10 +1,12 @@
 //! Seat allotment: from the votes of a constituency to the seats of its lists, by D'Hondt, by
-//! Sainte-Laguë or by Hare with the largest remainders, and by a lot where the votes leave a choice.
+//! Sainte-Laguë, by modified Sainte-Laguë or by Hare with the largest remainders, and by a lot
+//! where the votes leave a choice.
 #![tactic(auto)]
 
 mod allotment;
 mod award;
 mod award_table;
+mod divisor_rule;
 mod fault;
 pub mod laws;
 mod quota_row;
@@ -20,4 +22,5 @@ pub use fault::AllotFault;
 pub use quota_row::QuotaRow;
 pub use quota_table::quotas;
 pub use short::votes_short;
-pub use tally_contest::{ListSet, Need};
+pub use tally_contest::Need;
+pub use tally_rules::ListSet;

@@ -5,13 +5,13 @@ ghost use Rattle.tally_rules.specs.declared.profile.Method.TheVariants.{Hare as 
 ghost use Rattle.tally_contest.specs.internal.KeptPoll.{kept_poll};
 ghost use Rattle.tally_contest.specs.internal.ContestTerms.{hare_terms};
 ghost use Rattle.tally_contest.specs.internal.Terms.{AreSound};
-ghost use Rattle.tally_contest.specs.Allotment.{hare};
+ghost use Rattle.tally_law.specs.Allotment.{hare};
 ghost use Rattle.tally_allot.specs.AllotFault.{IsFaultOf};
-ghost use Rattle.tally_allot.specs.Conditions.{AreLimitsKept};
+ghost use Rattle.tally_law.specs.Conditions.{AreLimitsKept};
 ghost use Rattle.tally_allot.specs.QuotaRows.{quota_rows, AreQuotaRows};
-ghost use Rattle.tally_contest.specs.Rules.{poll_of};
-ghost use Rattle.tally_contest.specs.LotNeed.{IsLotTaken};
-ghost use Rattle.tally_contest.specs.Poll.{HasEligible};
+ghost use Rattle.tally_law.specs.Rules.{poll_of};
+ghost use Rattle.tally_law.specs.LotNeed.{IsLotTaken};
+ghost use Rattle.tally_law.specs.Poll.{HasEligible};
 
 use crate::fault::AllotFault;
 use crate::quota_row::QuotaRow;

@@ -5,22 +5,23 @@ ghost use Rattle.tally_frac.specs.Limits.{greatest_divisor, most_seats, most_vot
 ghost use Rattle.tally_rules.specs.declared.profile.LotRule.{LotRule as rule_of_lots};
 ghost use Rattle.tally_rules.specs.declared.profile.Method.TheVariants.{Hare as by_hare};
 ghost use Rattle.tally_contest.specs.internal.KeptPoll.{kept_poll};
-ghost use Rattle.tally_contest.specs.Allotment.{IsAllotment, divisors as by_divisors};
-ghost use Rattle.tally_contest.specs.LotNeed.{IsLotTaken};
-ghost use Rattle.tally_contest.specs.Poll.{HasEligible};
-ghost use Rattle.tally_contest.specs.Rules.{poll_of, rule_of};
+ghost use Rattle.tally_law.specs.Allotment.{IsAllotment, divisors as by_divisors};
+ghost use Rattle.tally_law.specs.LotNeed.{IsLotTaken};
+ghost use Rattle.tally_law.specs.Poll.{HasEligible};
+ghost use Rattle.tally_law.specs.Rules.{poll_of, rule_of};
 ghost use Rattle.tally_allot.specs.AllotFault.{IsFaultOf};
-ghost use Rattle.tally_allot.specs.Conditions.{AreLimitsKept};
+ghost use Rattle.tally_law.specs.Conditions.{AreLimitsKept};
 ghost use Rattle.tally_allot.specs.internal.ShortSteps.{RiseSlowly, VotesRankAbove, IsByVotes, AreFewestAbove};
 ghost use Rattle.tally_allot.specs.internal.ShortSteps.{IsLowestOther, IsAnswerOf, AreAnswers, AreAnswersOf};
-ghost use Rattle.tally_allot.specs.VotesShort.{IsNoneWhereNoMore, AreVotesShort, AreLeastNumbers, AreBelow};
+ghost use Rattle.tally_allot.specs.VotesShort.{AreVotesShort, AreBelow};
 
 use crate::allotment::seats_by_divisors;
+use crate::divisor_rule::DivisorRule;
 use crate::fault::AllotFault;
 use std::alloc::{AllocError, Global};
 use tally_contest::Poll;
-use tally_frac::{DHondt, Divisors, ModifiedSainteLague, SainteLague};
-use tally_rules::{LotRule, Method, Profile};
+use tally_frac::Divisors;
+use tally_rules::{LotRule, Profile};
 
 /// How many more votes each list needs for one seat more than it has now, in order of place, for a
 /// profile by a divisor rule: with so many, whatever lot is drawn, it has more, and with one fewer
@@ -37,9 +38,9 @@ pub fn votes_short(
     requires limits { AreLimitsKept profile.now seats votes.now blank }
     requires by_divisors { profile.now.method ≢ by_hare }
     ensures one_each { IfOk result (λ numbers. length numbers.items ≡ length votes.now) }
-    ensures none { IfOk result (λ numbers. IsNoneWhereNoMore profile.now votes.now blank lot.now seats numbers.items) }
-    ensures numbers { IfOk result (λ numbers. AreVotesShort profile.now votes.now blank lot.now seats numbers.items) }
-    ensures least { IfOk result (λ numbers. AreLeastNumbers profile.now votes.now blank lot.now seats numbers.items) }
+    ensures numbers { IfOk result (λ numbers.
+        AreVotesShort (rule_of profile.now) (poll_of profile.now votes.now blank) lot.now seats
+        numbers.items) }
     ensures below { IfOk result (λ numbers. AreBelow 100000000000 numbers.items) }
     ensures lot_taken { OnOk result
         (IsLotTaken (rule_of profile.now) (poll_of profile.now votes.now blank) seats lot.now) }
@@ -47,14 +48,10 @@ pub fn votes_short(
     ensures fault { IfErr result (IsFaultOf (rule_of profile.now) (poll_of profile.now votes.now blank) seats lot.now) }
 {
     let poll = Poll::new(profile, votes, blank);
-    match profile.method {
-        Method::DHondt => short_by(alloc, DHondt, profile.lot, &poll, seats, lot),
-        Method::SainteLague => short_by(alloc, SainteLague, profile.lot, &poll, seats, lot),
-        Method::ModifiedSainteLague => {
-            short_by(alloc, ModifiedSainteLague, profile.lot, &poll, seats, lot)
-        }
-        Method::Hare => unreachable!(),
-    }
+    let Some(divisors) = DivisorRule::of(profile.method) else {
+        unreachable!()
+    };
+    short_by(alloc, divisors, profile.lot, &poll, seats, lot)
 }
 
 fn short_by<D: Divisors + Copy>(

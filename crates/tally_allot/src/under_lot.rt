@@ -4,11 +4,11 @@ ghost use Rattle.std.specs.Prelude.{◌≡◌, ◌≤◌, IfOk, IfErr, OnOk, len
 ghost use Rattle.tally_frac.specs.Limits.{most_seats};
 ghost use Rattle.tally_allot.specs.AllotFault.{IsFaultOf};
 ghost use Rattle.tally_contest.specs.internal.KeptPoll.{kept_poll};
-ghost use Rattle.tally_contest.specs.Allotment.{IsAllotment, divisors as by_divisors, hare};
+ghost use Rattle.tally_law.specs.Allotment.{IsAllotment, divisors as by_divisors, hare};
 ghost use Rattle.tally_contest.specs.internal.ContestTerms.{divisor_terms, hare_terms};
-ghost use Rattle.tally_contest.specs.LotNeed.{IsLotTaken};
-ghost use Rattle.tally_contest.specs.Poll.{HasEligible};
-ghost use Rattle.tally_contest.specs.DivisorAllotment.{IsDivisorAllotment};
+ghost use Rattle.tally_law.specs.LotNeed.{IsLotTaken};
+ghost use Rattle.tally_law.specs.Poll.{HasEligible};
+ghost use Rattle.tally_law.specs.DivisorAllotment.{IsDivisorAllotment};
 ghost use Rattle.tally_contest.specs.internal.Terms.{AreSound, IsProperLot, placed_divisor_race, placed_race};
 ghost use Rattle.tally_contest.specs.internal.Won.{AreRows, AreWon};
 

@@ -2,14 +2,14 @@
 use Rattle.std.proofs.Common.{◌≡◌, ℕ, List, Option, Some, None, Result, Err, option_map, false, refl, ap, subst, ◌∙◌, inl}
 use Rattle.tally_rules.specs.Constituency.{Constituency}
 use Rattle.tally_returns.specs.State.{State}
-use Rattle.tally_core.specs.Keeper.{Happens, Imports, failed_import}
-use Rattle.tally_core.specs.Source.{Coming, Ending}
-use Rattle.tally_core.specs.declared.import.ImportCount.{ImportCount}
-use Rattle.tally_core.specs.declared.source.ImportFault.{ImportFault}
+use Rattle.tally_keeper.specs.Keeper.{Happens, Imports, failed_import}
+use Rattle.tally_keeper.specs.Source.{Coming, Ending}
+use Rattle.tally_keeper.specs.declared.import.ImportCount.{ImportCount}
+use Rattle.tally_keeper.specs.declared.source.ImportFault.{ImportFault}
 use Rattle.tally_import.specs.ReturnRows.{text_coming}
 use Rattle.tally_import.specs.ReturnRowsValue.{ReturnRows, coming}
 use Rattle.tally_records.specs.declared.separator.Sep.{Sep}
-use Rattle.tally_core.specs.declared.source.ImportFault.TheVariants.{Memory}
+use Rattle.tally_keeper.specs.declared.source.ImportFault.TheVariants.{Memory}
 
 -- memory may run out before anything was read
 pub memory-import : (setup : List Constituency) (old : Option State) (known : Option Coming) → Imports setup old known None (Err Memory) old

@@ -10,8 +10,8 @@ use Rattle.tally_returns.specs.declared.refusal.Refusal.{Refusal}
 use Rattle.tally_returns.specs.declared.refusal.Refusal.TheVariants.{Memory, Store}
 use Rattle.tally_returns.specs.declared.reply.Reply.{Reply}
 use Rattle.tally_returns.specs.declared.reply.Reply.TheVariants as reply
-use Rattle.tally_machine.specs.Step.{Answer, IsConStepSeen, IsNotAccepted, IsReturnStepSeen, con_answer, no_change}
-use Rattle.tally_core.specs.Keeper.{Happens, request}
+use Rattle.tally_steps.specs.Step.{Answer, IsConStepSeen, IsNotAccepted, IsReturnStepSeen, con_answer, no_change}
+use Rattle.tally_keeper.specs.Keeper.{Happens, request}
 use Rattle.tally_report.specs.declared.fault.ReportFault.{ReportFault}
 use Rattle.tally_report.specs.declared.fault.ReportFault.TheVariants as fault
 use Rattle.tally_report.specs.Fault.{IsRefused}

@@ -2,10 +2,10 @@
 use Rattle.std.specs.Prelude.{◌≡◌, ℕ, List, Option, Some, None, Ok, Err}
 use Rattle.tally_rules.specs.Constituency.{Constituency}
 use Rattle.tally_returns.specs.State.{State}
-use Rattle.tally_core.specs.Keeper.{Imports}
-use Rattle.tally_core.specs.Source.{Coming, Ending}
-use Rattle.tally_core.specs.declared.import.ImportCount.{ImportCount}
-use Rattle.tally_core.specs.declared.source.ImportFault.{ImportFault}
+use Rattle.tally_keeper.specs.Keeper.{Imports}
+use Rattle.tally_keeper.specs.Source.{Coming, Ending}
+use Rattle.tally_keeper.specs.declared.import.ImportCount.{ImportCount}
+use Rattle.tally_keeper.specs.declared.source.ImportFault.{ImportFault}
 use Rattle.tally_import.specs.Check.{count_text}
 use Rattle.tally_commands.specs.Trouble.{import_trouble}
 use Rattle.tally_commands.specs.declared.trouble.Trouble.{Trouble}

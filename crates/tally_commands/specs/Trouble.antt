@@ -2,14 +2,14 @@
 use Rattle.std.specs.Prelude.{◌++◌, ℕ, List, codes}
 use Rattle.tally_rules.specs.declared.fault.SetupFault.{SetupFault}
 use Rattle.tally_rules.specs.declared.fault.SetupFault.TheVariants as setup
-use Rattle.tally_core.specs.declared.source.ImportFault.{ImportFault}
-use Rattle.tally_core.specs.declared.source.ImportFault.TheVariants as lodging
+use Rattle.tally_keeper.specs.declared.source.ImportFault.{ImportFault}
+use Rattle.tally_keeper.specs.declared.source.ImportFault.TheVariants as lodging
 use Rattle.tally_report.specs.declared.fault.ReportFault.{ReportFault}
 use Rattle.tally_report.specs.declared.fault.ReportFault.TheVariants as report
-use Rattle.tally_store.specs.declared.fault.CreateFault.{CreateFault}
-use Rattle.tally_store.specs.declared.fault.CreateFault.TheVariants as create
-use Rattle.tally_store.specs.declared.fault.OpenFault.{OpenFault}
-use Rattle.tally_store.specs.declared.fault.OpenFault.TheVariants as opening
+use Rattle.tally_faults.specs.declared.fault.CreateFault.{CreateFault}
+use Rattle.tally_faults.specs.declared.fault.CreateFault.TheVariants as create
+use Rattle.tally_faults.specs.declared.fault.OpenFault.{OpenFault}
+use Rattle.tally_faults.specs.declared.fault.OpenFault.TheVariants as opening
 use Rattle.tally_commands.specs.declared.trouble.Trouble.{Trouble}
 use Rattle.tally_commands.specs.declared.trouble.Trouble.TheVariants.{Setup, NotEmpty, NoTables, BadTables, BadSetup, NoConstituency, BadHeader, TooLong, NotCertified, OtherMethod, Memory, Store, File, Read, Write, Port}
 

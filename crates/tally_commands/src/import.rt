@@ -10,8 +10,8 @@ use crate::room::push_count;
 use crate::trouble::Trouble;
 use std::alloc::Global;
 use std::io::Read;
-use tally_core::Keeper;
 use tally_import::{ReturnRows, Sep};
+use tally_keeper::Keeper;
 use tally_rules::{Constituency, Setup};
 
 /// The most bytes that the counts of an import have as text.

@@ -4,7 +4,7 @@ ghost use Rattle.std.specs.Prelude.{◌≡◌, ◌≤◌, ◌+◌, ◌++◌, len
 ghost use Rattle.tally_import.specs.Check.{count_text, first_text, named_number};
 
 use itoa::Buffer;
-use tally_core::{FirstRow, ImportCount};
+use tally_keeper::{FirstRow, ImportCount};
 
 fn push(text: &mut String, piece: &str)
     requires { string_len text.old + length piece.now ≤ string_capacity text.old }

@@ -1,7 +1,7 @@
 //! What the office shows, as text.
 
 ghost use Rattle.std.specs.Prelude.{◌≡◌, Err, IfErr, IfOk, None, Some, string_bytes};
-ghost use Rattle.tally_machine.specs.Outcome.{IsLawfulView};
+ghost use Rattle.tally_steps.specs.Outcome.{IsLawfulView};
 ghost use Rattle.tally_report.specs.ProgressText.{progress_text};
 ghost use Rattle.tally_returns.specs.View.{FitsView};
 ghost use Rattle.tally_rules.specs.Constituency as value;
@@ -12,8 +12,8 @@ ghost use Rattle.tally_commands.specs.Show.{IsGiven, IsProgressShown, IsProgress
 use crate::named::code_named;
 use crate::trouble::Trouble;
 use std::alloc::Global;
-use tally_core::{ConView, Keeper, ProgressRow, Refusal};
 use tally_desk::{Report, progress_of, report_text, view_of};
+use tally_keeper::{ConView, Keeper, ProgressRow, Refusal};
 use tally_report::progress_text;
 use tally_rules::{Code, Setup};
 

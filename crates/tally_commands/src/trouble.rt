@@ -6,10 +6,10 @@ ghost use Rattle.tally_commands.specs.Trouble.{create_trouble, import_trouble, o
 
 use crate::tell::{tell, tell_named};
 use std::io::Write;
-use tally_core::ImportFault;
+use tally_faults::{CreateFault, OpenFault};
+use tally_keeper::ImportFault;
 use tally_report::ReportFault;
 use tally_rules::SetupFault;
-use tally_store::{CreateFault, OpenFault};
 
 /// The exit status where what was asked is refused.
 pub const REFUSED: u8 = 1;

@@ -8,8 +8,8 @@ use Rattle.std.specs.Cmp.{nat_cmp_is}
 use Rattle.std.specs.Ordering.{nat_cmp, ordering_then, is_lt}
 use Rattle.std.specs.declared.cmp.Ordering.TheVariants.{Less, Equal}
 use Rattle.tally_contest.specs.internal.Claims.{IsClaimOf, claim_cmp, is_by, one_if_more, AreClaims}
-use Rattle.tally_contest.specs.HareAllotment.{Claim, claim_of, ClaimsAbove}
-use Rattle.tally_contest.specs.Poll.{Poll}
+use Rattle.tally_law.specs.HareAllotment.{Claim, claim_of, ClaimsAbove}
+use Rattle.tally_law.specs.Poll.{Poll}
 use Rattle.tally_contest.specs.internal.Race.{IsHighestNext}
 use Rattle.tally_contest.specs.internal.Terms.{placed_remainder_race, quotas_for, most_for}
 use Rattle.tally_contest.specs.declared.remainder_award.SeatClaim.{SeatClaim}

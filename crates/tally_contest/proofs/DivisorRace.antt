@@ -8,10 +8,10 @@ use Rattle.tally_frac.proofs.FractionLaws.{scaled-greater, scaled-level}
 use Rattle.tally_frac.proofs.RankLaws.{weak-decided, weak-one_way, weak-not_below, ties_if_neither, strict-decided, strict-one_way, strict-not_below}
 use Rattle.tally_rules.specs.declared.profile.LotRule.{LotRule}
 use Rattle.tally_rules.specs.declared.profile.LotRule.TheVariants.{Fixed}
-use Rattle.tally_contest.specs.Poll.{Poll, IsEligible, votes_of, SharesOut}
-use Rattle.tally_contest.specs.Lot.{ComesFirst}
+use Rattle.tally_law.specs.Poll.{Poll, IsEligible, votes_of, SharesOut}
+use Rattle.tally_law.specs.Lot.{ComesFirst}
 use Rattle.tally_contest.specs.internal.Pairs.{place_at, pair_of}
-use Rattle.tally_contest.specs.DivisorAllotment.{IsAboveByVotes, IsTiedByVotes, IsAbove, IsDivisorAllotment, IsDivisorAllotmentByVotes}
+use Rattle.tally_law.specs.DivisorAllotment.{IsAboveByVotes, IsTiedByVotes, IsAbove, IsDivisorAllotment, IsDivisorAllotmentByVotes}
 use Rattle.tally_contest.proofs.Vectors.{get_or-le-sum, two-le-sum}
 use Rattle.tally_contest.specs.internal.Race.{IsPair, NotBelow, IsFair, IsTie}
 use Rattle.tally_contest.specs.internal.Terms.{AreDivisors, IsProperLot, IsSound, seats_for, divisor_race, placed_divisor_race}

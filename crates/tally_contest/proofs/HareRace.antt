@@ -1,10 +1,10 @@
 -- Hare's rule as a race: each eligible list has its whole quotas, and runs for one seat more.
 use Rattle.std.proofs.Common.{◌≡◌, ℕ, ◌+◌, ◌*◌, ◌/◌, ◌%◌, ◌<◌, ◌≤◌, ◌≢◌, ◌⊎◌, List, [], Bool, true, false, cond, length, get_or, sum, refl, sym, inl, inr, ap, arith}
 use Rattle.std.proofs.lemmas.Bool.{cases_lt, cases_eq}
-use Rattle.tally_contest.specs.Poll.{Poll, IsEligible, votes_of, SharesOut, eligible_votes}
+use Rattle.tally_law.specs.Poll.{Poll, IsEligible, votes_of, SharesOut, eligible_votes}
 use Rattle.tally_rules.specs.declared.profile.LotRule.TheVariants.{Fixed}
-use Rattle.tally_contest.specs.Lot.{place_of, ComesFirst}
-use Rattle.tally_contest.specs.HareAllotment.{Claim, claim_of, ClaimsAbove, ClaimsAboveByVotes, whole_quotas, remainder, IsHareAllotment, IsHareAllotmentByVotes}
+use Rattle.tally_law.specs.Lot.{place_of, ComesFirst}
+use Rattle.tally_law.specs.HareAllotment.{Claim, claim_of, ClaimsAbove, ClaimsAboveByVotes, whole_quotas, remainder, IsHareAllotment, IsHareAllotmentByVotes}
 use Rattle.tally_contest.specs.internal.Race.{IsPair, NotBelow, IsFair, IsTie}
 use Rattle.tally_contest.specs.internal.Terms.{IsSound, quotas_for, most_for, remainder_race, placed_remainder_race}
 use Rattle.tally_contest.proofs.Race.{IsOrderly}

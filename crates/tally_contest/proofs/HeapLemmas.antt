@@ -13,7 +13,7 @@ use Rattle.tally_frac.specs.RankOrder.{rank_cmp, rank_cmp-less}
 use Rattle.tally_rules.specs.declared.profile.LotRule.{LotRule}
 use Rattle.tally_contest.specs.internal.Pairs.{pair_of}
 use Rattle.tally_contest.specs.internal.NextPairs.{Keyed, keyed, keyed_cmp, HaveKeys, is_of, one_if_eligible, AreNext}
-use Rattle.tally_contest.specs.Poll.{Poll, IsEligible}
+use Rattle.tally_law.specs.Poll.{Poll, IsEligible}
 use Rattle.tally_contest.specs.internal.Race.{IsHighestNext}
 use Rattle.tally_contest.specs.internal.Terms.{placed_divisor_race}
 use Rattle.tally_contest.proofs.DivisorRace.{seats_for-eligible, runs_if_eligible}

@@ -1,7 +1,7 @@
 -- Places and marks.
 use Rattle.std.proofs.Common.{◌≡◌, ℕ, zero, suc, ◌+◌, ◌<◌, List, Bool, false, length, get_or, refl, ap, arith}
 use Rattle.std.proofs.lemmas.List.{get_or_past}
-use Rattle.tally_contest.specs.ListSet.{has_place}
+use Rattle.tally_rules.specs.ListSet.{has_place}
 
 pub has_place-at : (marks : List Bool) (place l : ℕ) → place ≡ l + 1 → has_place marks place ≡ get_or marks l false
 has_place-at marks place l e =

@@ -1,6 +1,6 @@
 -- The need of a lot, seen from seats that the places allow.
 use Rattle.std.proofs.Common.{ℕ, ◌+◌, ◌≤◌, List, Bool, length, get_or, arith}
-use Rattle.tally_contest.specs.LotNeed.{IsDecidedByVotes, IsNeed}
+use Rattle.tally_law.specs.LotNeed.{IsDecidedByVotes, IsNeed}
 use Rattle.tally_contest.specs.internal.Race.{IsPair, IsFair, IsHighestNext, IsLowestLast}
 use Rattle.tally_contest.specs.internal.Sums.{sum_before, holds_at}
 use Rattle.tally_contest.specs.internal.Terms.{Terms, AreSound, IsClassOf, vote_race, placed_race}

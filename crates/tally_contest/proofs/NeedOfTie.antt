@@ -2,9 +2,9 @@
 use Rattle.std.proofs.Common.{◌≡◌, ℕ, ◌+◌, ◌-◌, ◌<◌, ◌≤◌, ◌≢◌, ◌⊎◌, ◌↔◌, List, Bool, true, false, cond, length, get_or, replicate, eqb, refl, sym, ◌∙◌, subst, inl, inr, ap, arith}
 use Rattle.std.proofs.lemmas.Bool.{cases_eq, cases_Bool, false≢true, eq-eqb, ne_eqb}
 use Rattle.std.proofs.lemmas.List.{length-replicate, get_or-replicate}
-use Rattle.tally_contest.specs.Poll.{votes_of, sum_marked}
-use Rattle.tally_contest.specs.Allotment.{IsAllotmentByVotes}
-use Rattle.tally_contest.specs.LotNeed.{IsLotNeeded, IsDecidedByVotes, IsInGroup, IsLeast, IsNeed}
+use Rattle.tally_law.specs.Poll.{votes_of, sum_marked}
+use Rattle.tally_law.specs.Allotment.{IsAllotmentByVotes}
+use Rattle.tally_law.specs.LotNeed.{IsLotNeeded, IsDecidedByVotes, IsInGroup, IsLeast, IsNeed}
 use Rattle.tally_contest.specs.internal.Race.{IsPair, IsFair, IsTie, IsHighestNext, IsLowestLast}
 use Rattle.tally_contest.specs.internal.Terms.{Terms, vote_race}
 use Rattle.tally_contest.proofs.Vectors.{equal_or_apart}

@@ -1,7 +1,7 @@
 -- The places under a lot, from its last entry to its first.
 use Rattle.std.proofs.Common.{◌≡◌, ℕ, ◌+◌, ◌<◌, List, cond, eqb, length, get_or, drop, sym, ap, ◌∙◌, arith}
 use Rattle.std.proofs.lemmas.List.{at_drop_more, at_drop_all}
-use Rattle.tally_contest.specs.Lot.{place_from}
+use Rattle.tally_law.specs.Lot.{place_from}
 
 -- the places as the entries from the i-th on have them
 abbrev pub ArePlaces : List ℕ → ℕ → List ℕ → Type 0

@@ -7,8 +7,8 @@ use Rattle.std.proofs.lemmas.List.FromFn.{get_or-map-range_with_len, length-rang
 use Rattle.std.proofs.lemmas.List.Sums.{sum_by-set}
 use Rattle.std.proofs.lemmas.Nat.{div-add-mod', mod_below}
 use Rattle.std.proofs.Math.Nat.{div-mul-le_self, le_of_mul-le-mul_right}
-use Rattle.tally_contest.specs.Poll.{Poll, IsEligible, votes_of, eligible_votes}
-use Rattle.tally_contest.specs.Allotment.{Rule, divisors, hare}
+use Rattle.tally_law.specs.Poll.{Poll, IsEligible, votes_of, eligible_votes}
+use Rattle.tally_law.specs.Allotment.{Rule, divisors, hare}
 use Rattle.tally_contest.specs.internal.Race.{CanHold}
 use Rattle.tally_contest.specs.internal.Sums.{sum_before}
 use Rattle.tally_contest.specs.internal.Terms.{Terms, AreSound, IsSound, placed_race, seats_for, most_for, quotas_for}

@@ -3,9 +3,9 @@ use Rattle.std.proofs.Common.{◌≡◌, ℕ, ◌+◌, ◌<◌, ◌≤◌, ◌�
 use Rattle.std.proofs.lemmas.Bool.{cases_lt}
 use Rattle.std.proofs.lemmas.List.{get_or_past}
 use Rattle.std.proofs.Math.Nat.{mul-le-mul_right, div-le_of_le-mul}
-use Rattle.tally_contest.specs.Poll.{Poll, IsEligible, votes_of, eligible_votes}
-use Rattle.tally_contest.specs.HareAllotment.{whole_quotas}
-use Rattle.tally_contest.specs.Allotment.{Rule, divisors, hare}
+use Rattle.tally_law.specs.Poll.{Poll, IsEligible, votes_of, eligible_votes}
+use Rattle.tally_law.specs.HareAllotment.{whole_quotas}
+use Rattle.tally_law.specs.Allotment.{Rule, divisors, hare}
 use Rattle.tally_contest.specs.internal.Race.{Race, IsPair, NotBelow, IsWithin, IsFair, IsHighestNext, IsLowestLast, IsHighestBefore, IsLowestBefore}
 use Rattle.tally_contest.specs.internal.Terms.{Terms, AreSound, IsSound, placed_race, most_for}
 use Rattle.tally_contest.proofs.Vectors.{sum-le}

@@ -2,8 +2,8 @@
 use Rattle.std.proofs.Common.{◌≡◌, ◌≢◌, ℕ, zero, suc, ◌+◌, ◌-◌, ◌<◌, ◌≤◌, ◌⊎◌, List, [], ◌∷◌, Bool, true, false, length, get_or, set, inl, inr, refl, sym, ◌∙◌, ap, subst, arith}
 use Rattle.std.proofs.lemmas.Bool.{cases_lt, cases_eq, false≢true}
 use Rattle.std.proofs.lemmas.List.{get_or_past, get_or-set_other}
-use Rattle.tally_contest.specs.ListSet.{has_place}
-use Rattle.tally_contest.specs.Lot.{IsOrderOf}
+use Rattle.tally_rules.specs.ListSet.{has_place}
+use Rattle.tally_law.specs.Lot.{IsOrderOf}
 use Rattle.tally_contest.proofs.ListSetLemmas.{has_place-at}
 
 -- the lists of the group that the first i entries leave; each of these named one that those before it left

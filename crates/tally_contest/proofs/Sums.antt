@@ -1,7 +1,7 @@
 -- Sums over the first lists.
 use Rattle.std.proofs.Common.{◌≡◌, ℕ, zero, suc, ◌+◌, ◌*◌, ◌<◌, ◌≤◌, ◌⊎◌, List, [], ◌∷◌, Bool, true, false, cond, length, get_or, sum, refl, sym, ◌∙◌, inl, inr, ap, arith, add-one}
 use Rattle.std.proofs.lemmas.Bool.{cases_lt, cases_Bool}
-use Rattle.tally_contest.specs.Poll.{sum_marked}
+use Rattle.tally_law.specs.Poll.{sum_marked}
 use Rattle.tally_contest.specs.internal.Sums.{sum_before}
 use Rattle.tally_contest.proofs.Vectors.{sum-cons}
 

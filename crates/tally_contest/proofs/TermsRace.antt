@@ -1,10 +1,10 @@
 -- The races of a rule, whichever it is.
 use Rattle.std.proofs.Common.{◌≡◌, ℕ, ◌+◌, ◌<◌, ◌≤◌, ◌≢◌, ◌⊎◌, List, length, get_or, refl, sym, subst, inl, inr, arith}
 use Rattle.std.proofs.lemmas.Bool.{cases_lt}
-use Rattle.tally_contest.specs.Poll.{Poll, IsEligible, votes_of}
-use Rattle.tally_contest.specs.Lot.{ComesFirst}
+use Rattle.tally_law.specs.Poll.{Poll, IsEligible, votes_of}
+use Rattle.tally_law.specs.Lot.{ComesFirst}
 use Rattle.tally_contest.specs.internal.Pairs.{place_at}
-use Rattle.tally_contest.specs.Allotment.{Rule, divisors, hare, IsAllotment, IsAllotmentByVotes}
+use Rattle.tally_law.specs.Allotment.{Rule, divisors, hare, IsAllotment, IsAllotmentByVotes}
 use Rattle.tally_contest.specs.internal.Race.{Race, IsPair, NotBelow, IsFair, IsTie, IsHighestNext, IsLowestLast, IsWithin}
 use Rattle.tally_contest.specs.internal.Terms.{Terms, AreSound, IsRule, IsSound, IsProperLot, lot_rule_of, vote_race, placed_race}
 use Rattle.tally_contest.proofs.Race.{IsOrderly, IsOneSeat, one_seat}

@@ -3,9 +3,9 @@ use Rattle.std.proofs.Common.{◌≡◌, ℕ, ◌+◌, ◌-◌, ◌%◌, ◌<◌
 use Rattle.std.proofs.lemmas.Bool.{cases_Bool, false≢true, eqb-true, eq-eqb}
 use Rattle.tally_rules.specs.declared.profile.LotRule.{LotRule}
 use Rattle.tally_rules.specs.declared.profile.LotRule.TheVariants.{Fixed, Alternating}
-use Rattle.tally_contest.specs.Lot.{place_from, place_of, is_named, IsTurned, ComesFirst}
+use Rattle.tally_law.specs.Lot.{place_from, place_of, is_named, IsTurned, ComesFirst}
 use Rattle.tally_contest.specs.internal.Pairs.{last_place, place_at}
-use Rattle.tally_contest.specs.Poll.{Poll, IsEligible, votes_of}
+use Rattle.tally_law.specs.Poll.{Poll, IsEligible, votes_of}
 use Rattle.tally_contest.specs.internal.Premises.{IsProperLot}
 
 -- the place of a list that the lot names is one of the lot

@@ -1,9 +1,1 @@
-pub mod Poll
-pub mod Lot
-pub mod ListSet
-pub mod DivisorAllotment
-pub mod HareAllotment
-pub mod Allotment
-pub mod Rules
-pub mod LotNeed
 pub mod internal

@@ -3,7 +3,7 @@
 ghost use Rattle.std.specs.Prelude.{◌≡◌, ℕ, ◌+◌, ◌<◌, ◌≤◌, ◌↔◌, IsTrue, MatchOption, length, slice_index};
 ghost use Rattle.std.specs.Prelude.{slice_index_or, sum, false};
 ghost use Rattle.tally_frac.specs.Limits.{most_lists};
-ghost use Rattle.tally_contest.specs.Poll.{HasEligible, votes_of};
+ghost use Rattle.tally_law.specs.Poll.{HasEligible, votes_of};
 ghost use Rattle.tally_contest.specs.internal.Race.{IsPair, IsWithin, IsFair, IsHighestNext, IsLowestLast};
 ghost use Rattle.tally_contest.specs.internal.Race.{IsHighestBefore, IsLowestBefore, IsLastFair, CanHold};
 ghost use Rattle.tally_contest.specs.internal.Terms.{Terms, AreSound, placed_race, vote_race};

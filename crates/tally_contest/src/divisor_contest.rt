@@ -3,16 +3,15 @@
 ghost use Rattle.std.specs.Prelude.{◌≡◌, ℕ, ◌*◌, ◌<◌, ◌≤◌, ◌⊎◌, ◌↔◌, IsTrue, false, slice_index, slice_index_or};
 ghost use Rattle.tally_frac.specs.Limits.{greatest_divisor, most_lists, most_seats, most_votes};
 ghost use Rattle.tally_contest.specs.internal.KeptPoll.{kept_poll};
-ghost use Rattle.tally_contest.specs.Allotment.{divisors as by_divisors};
-ghost use Rattle.tally_contest.specs.Lot.{place_of};
+ghost use Rattle.tally_law.specs.Allotment.{divisors as by_divisors};
+ghost use Rattle.tally_law.specs.Lot.{place_of};
 ghost use Rattle.tally_contest.specs.internal.Pairs.{place_at, turns};
 
 use crate::contest::Contest;
-use crate::list_set::ListSet;
 use crate::lot::{places_under, turning_under};
 use crate::poll::Poll;
 use tally_frac::{Divisors, MOST_LISTS};
-use tally_rules::LotRule;
+use tally_rules::{ListSet, LotRule};
 
 /// The lists of a poll that contest its seats under a divisor rule (LOREG article 163.1 b) to d)).
 #[derive(Drop)]

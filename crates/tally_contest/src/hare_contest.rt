@@ -2,10 +2,10 @@
 
 ghost use Rattle.std.specs.Prelude.{◌≡◌, ℕ, ◌*◌, ◌<◌, ◌≤◌, ◌⊎◌, ◌↔◌, IsTrue, length, slice_index, slice_index_or};
 ghost use Rattle.tally_frac.specs.Limits.{most_lists, most_seats};
-ghost use Rattle.tally_contest.specs.Poll.{eligible_votes, IsEligible};
-ghost use Rattle.tally_contest.specs.HareAllotment as spec;
-ghost use Rattle.tally_contest.specs.Allotment.{hare};
-ghost use Rattle.tally_contest.specs.Lot.{place_of};
+ghost use Rattle.tally_law.specs.Poll.{eligible_votes, IsEligible};
+ghost use Rattle.tally_law.specs.HareAllotment as spec;
+ghost use Rattle.tally_law.specs.Allotment.{hare};
+ghost use Rattle.tally_law.specs.Lot.{place_of};
 ghost use Rattle.tally_contest.specs.internal.KeptPoll.{kept_poll};
 ghost use Rattle.tally_contest.specs.internal.Quotas.{quota_of};
 ghost use Rattle.tally_contest.specs.declared.quota.Quota.{Quota as row_type};

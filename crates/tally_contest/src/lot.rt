@@ -3,12 +3,11 @@
 ghost use Rattle.std.specs.Prelude.{◌≡◌, ℕ, ◌+◌, ◌<◌, ◌↔◌, ◌==◌, IsTrue, false, length, slice_index};
 ghost use Rattle.std.specs.Prelude.{slice_index_or, if◌then◌else◌};
 ghost use Rattle.tally_frac.specs.Limits.{most_lists};
-ghost use Rattle.tally_contest.specs.Lot as spec;
+ghost use Rattle.tally_law.specs.Lot as spec;
 ghost use Rattle.tally_contest.specs.internal.Pairs.{turns};
 
-use crate::list_set::ListSet;
 use tally_frac::MOST_LISTS;
-use tally_rules::LotRule;
+use tally_rules::{ListSet, LotRule};
 
 /// The places of the lists, by their numbers from 0: in the lot where the lot names them, and else
 /// in the setup.

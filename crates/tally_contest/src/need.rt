@@ -2,15 +2,15 @@
 
 ghost use Rattle.std.specs.Prelude.{◌≡◌, ℕ, ◌<◌, ◌≤◌, ◌↔◌, IsTrue, MatchOption, length, slice_index, sum};
 ghost use Rattle.tally_frac.specs.Limits.{most_lists};
-ghost use Rattle.tally_contest.specs.LotNeed.{IsDecidedByVotes, IsNeed};
+ghost use Rattle.tally_law.specs.LotNeed.{IsDecidedByVotes, IsNeed};
 ghost use Rattle.tally_contest.specs.internal.Orders.{IsOrderOfEquals, MayBeTaken};
 ghost use Rattle.tally_contest.specs.internal.Race.{IsFair};
 ghost use Rattle.tally_contest.specs.internal.Sums.{sum_before, holds_at};
 ghost use Rattle.tally_contest.specs.internal.Terms.{AreSound, HaveVotes, placed_race};
 
 use crate::contest::{Contest, highest_next, lowest_last};
-use crate::list_set::ListSet;
 use crate::lot::is_order_of;
+use tally_rules::ListSet;
 
 /// The lot that is needed where the votes leave a choice (LOREG article 163.1 d)): the lists among
 /// which it decides, and the seats in question.

@@ -3,8 +3,8 @@
 ghost use Rattle.std.specs.Prelude.{◌≡◌, ◌<◌, ◌≤◌, length, sum, slice_index, slice_index_or, false};
 ghost use Rattle.tally_frac.specs.Limits.{most_lists, most_votes};
 ghost use Rattle.tally_rules.specs.Threshold.{IsWithinVotes};
-ghost use Rattle.tally_contest.specs.Poll.{eligible_votes};
-ghost use Rattle.tally_contest.specs.Rules.{poll_of};
+ghost use Rattle.tally_law.specs.Poll.{eligible_votes};
+ghost use Rattle.tally_law.specs.Rules.{poll_of};
 
 use tally_rules::{Profile, base_of, is_eligible};
 

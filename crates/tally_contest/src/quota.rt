@@ -3,7 +3,7 @@
 ghost use Rattle.std.specs.Prelude.{◌≡◌, ℕ, ◌<◌, ◌≤◌, length, slice_index_or};
 ghost use Rattle.tally_frac.specs.Limits.{most_seats};
 ghost use Rattle.tally_contest.specs.internal.KeptPoll.{kept_poll};
-ghost use Rattle.tally_contest.specs.Poll.{eligible_votes};
+ghost use Rattle.tally_law.specs.Poll.{eligible_votes};
 ghost use Rattle.tally_contest.specs.internal.Quotas as spec;
 ghost use Rattle.tally_contest.specs.declared.quota.Quota.{Quota as row_type};
 

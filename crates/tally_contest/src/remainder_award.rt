@@ -3,12 +3,12 @@
 ghost use Rattle.std.specs.Prelude.{◌≡◌, ℕ, ◌+◌, ◌<◌, ◌≤◌, IfOk, IfErr, OnOk, length, slice_index, sum};
 ghost use Rattle.std.specs.BinaryHeap.{IsHeap, heap_items};
 ghost use Rattle.tally_contest.specs.internal.KeptPoll.{kept_poll};
-ghost use Rattle.tally_contest.specs.Allotment.{IsAllotment, hare};
-ghost use Rattle.tally_contest.specs.Poll.{HasEligible};
+ghost use Rattle.tally_law.specs.Allotment.{IsAllotment, hare};
+ghost use Rattle.tally_law.specs.Poll.{HasEligible};
 ghost use Rattle.tally_contest.specs.internal.Claims.{AreClaims, IsClaimOf, claim_cmp};
 ghost use Rattle.tally_contest.specs.internal.ContestTerms.{hare_terms};
-ghost use Rattle.tally_contest.specs.LotNeed.{IsLotTaken};
-ghost use Rattle.tally_contest.specs.Poll.{IsEligible};
+ghost use Rattle.tally_law.specs.LotNeed.{IsLotTaken};
+ghost use Rattle.tally_law.specs.Poll.{IsEligible};
 ghost use Rattle.tally_contest.specs.internal.Race.{IsFair, CanHold};
 ghost use Rattle.tally_contest.specs.internal.Terms.{AreSound, placed_race};
 

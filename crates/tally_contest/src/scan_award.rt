@@ -2,7 +2,7 @@
 
 ghost use Rattle.std.specs.Prelude.{◌≡◌, ◌≤◌, IfOk, sum};
 ghost use Rattle.tally_frac.specs.Limits.{most_seats};
-ghost use Rattle.tally_contest.specs.Poll.{HasEligible};
+ghost use Rattle.tally_law.specs.Poll.{HasEligible};
 ghost use Rattle.tally_contest.specs.internal.Race.{IsFair};
 ghost use Rattle.tally_contest.specs.internal.Terms.{AreSound, placed_race};
 

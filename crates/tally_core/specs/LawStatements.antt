@@ -1,16 +1,16 @@
 -- The laws of what happens to a keeper. Each is proved as a clause of a function of `src/laws.rt`.
 use Rattle.std.specs.Prelude.{◌≡◌, ◌↔◌, ◌⊎◌, ◌<◌, ℕ, All, Bool, List, Option, Some, None, Result, true, false, slice_get}
 use Rattle.std.specs.List.{filter}
-use Rattle.tally_core.specs.Events.{BringsCodes, acts, answers_of, asks_of, lodges, lodge_answers}
-use Rattle.tally_core.specs.Import.{RowAnswer, count_of}
-use Rattle.tally_core.specs.Keeper.{Event, Happen, Happens, IsImport, Runs, whole_import}
-use Rattle.tally_core.specs.declared.import.ImportCount.{ImportCount}
-use Rattle.tally_core.specs.declared.import.Row.{Row}
-use Rattle.tally_machine.specs.Step.{IsView}
-use Rattle.tally_machine.specs.LawfulState.{IsLawfulState}
-use Rattle.tally_machine.specs.Outcome.{IsCertificate}
-use Rattle.tally_machine.specs.Records.{IsOnRecord, IsReopenedIn}
-use Rattle.tally_machine.specs.Runs.{IsRun, is_act, IsSameCommand, kept}
+use Rattle.tally_keeper.specs.Events.{BringsCodes, acts, answers_of, asks_of, lodges, lodge_answers}
+use Rattle.tally_keeper.specs.Import.{RowAnswer, count_of}
+use Rattle.tally_keeper.specs.Keeper.{Event, Happen, Happens, IsImport, Runs, whole_import}
+use Rattle.tally_keeper.specs.declared.import.ImportCount.{ImportCount}
+use Rattle.tally_keeper.specs.declared.import.Row.{Row}
+use Rattle.tally_steps.specs.Step.{IsView}
+use Rattle.tally_steps.specs.LawfulState.{IsLawfulState}
+use Rattle.tally_steps.specs.Outcome.{IsCertificate}
+use Rattle.tally_steps.specs.Records.{IsOnRecord, IsReopenedIn}
+use Rattle.tally_steps.specs.Runs.{IsRun, is_act, IsSameCommand, kept}
 use Rattle.tally_returns.specs.State.{State, con_state}
 use Rattle.tally_returns.specs.View.{View}
 use Rattle.tally_rules.specs.Constituency.{Constituency}

@@ -1,6 +1,1 @@
-pub mod Events
-pub mod Held
-pub mod Import
-pub mod Keeper
 pub mod LawStatements
-pub mod Source

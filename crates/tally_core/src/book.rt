@@ -7,15 +7,12 @@ mod answers;
 mod constituencies;
 mod rows;
 
-use crate::import::ImportCount;
-use crate::keeper::Keeper;
-use crate::source::{ImportFault, RowSource};
 use answers::answer_in;
 use rows::{take_out, take_rows};
 use std::alloc::{AllocError, Global};
 use std::marker::Model;
+use tally_keeper::{Ask, ImportCount, ImportFault, Keeper, Refusal, Reply, RowSource};
 use tally_ledger::Ledger;
-use tally_machine::{Ask, Refusal, Reply};
 use tally_rules::Setup;
 
 /// Keeps the office's state in memory. Nothing of it outlasts the program.
@@ -26,7 +23,7 @@ pub struct Book {
 }
 
 impl Model for Book {
-    ghost use Rattle.tally_core.specs.Held.{Held, IsHeld, held_code};
+    ghost use Rattle.tally_keeper.specs.Held.{Held, IsHeld, held_code};
     ghost use Rattle.tally_ledger.specs.Kept.{state_in};
 
     ghost Value = { Held };

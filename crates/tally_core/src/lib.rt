@@ -1,19 +1,15 @@
-//! Keepers of an electoral office's state, and what an import of returns is answered. The commands
-//! and what is decided of them are those of `tally_machine`.
+//! A keeper of an electoral office's state in memory, and the laws of all keepers. What any keeper
+//! promises, runs and imports are those of `tally_keeper`, what is decided of commands that of
+//! `tally_machine`, whose public names are here too.
 #![tactic(auto)]
 
 mod book;
-mod import;
-mod keeper;
 pub mod laws;
-mod source;
 
 pub use book::Book;
-pub use import::{FirstRow, ImportCount, Row};
-pub use keeper::{Keeper, run};
-pub use source::{ImportFault, ROW_LIMIT, RowSource};
-pub use tally_ledger::moved;
-pub use tally_machine::{
-    Ask, Change, ConView, Counts, Gone, ListSet, LodgeReply, Past, ProgressRow, Refusal, Reply,
-    Return, Status, decide_at, decide_con, decide_lodge, decide_return, holders,
+pub use tally_keeper::{
+    Ask, Change, ConView, Counts, FirstRow, Gone, ImportCount, ImportFault, Keeper, ListSet,
+    LodgeReply, Past, ProgressRow, ROW_LIMIT, Refusal, Reply, Return, Row, RowSource, Status,
+    decide_at, decide_lodge, decide_return, moved, run,
 };
+pub use tally_machine::{decide_con, holders};

@@ -1,6 +1,6 @@
 //! Imports into a keeper in memory.
 
-ghost use Rattle.tally_core.specs.Source.{IsLodgeOrBad};
+ghost use Rattle.tally_keeper.specs.Source.{IsLodgeOrBad};
 
 use crate::setups::{check, fresh};
 use std::alloc::Global;
@@ -18,7 +18,7 @@ struct Script {
 
 impl RowSource for Script {
     ghost use Rattle.std.specs.Prelude.{if◌then◌else◌, Some, None};
-    ghost use Rattle.tally_core.specs.declared.source.ImportFault.TheVariants.{Read};
+    ghost use Rattle.tally_keeper.specs.declared.source.ImportFault.TheVariants.{Read};
 
     ghost coming = { λ _. None };
 

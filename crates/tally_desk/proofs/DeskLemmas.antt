@@ -13,11 +13,11 @@ use Rattle.tally_returns.specs.declared.ask.Ask.{Ask}
 use Rattle.tally_returns.specs.declared.ask.Ask.TheVariants.{ShowCon}
 use Rattle.tally_returns.specs.declared.reply.Reply.TheVariants as reply
 use Rattle.tally_returns.specs.declared.refusal.Refusal.TheVariants.{NoConstituency, NoStation}
-use Rattle.tally_machine.specs.LawStatements.{ViewsAreLawful}
-use Rattle.tally_machine.specs.LawfulState.{IsLawfulState}
-use Rattle.tally_machine.specs.Outcome.{IsLawfulView}
-use Rattle.tally_machine.specs.Step.{IsConStepSeen, con_shown}
-use Rattle.tally_core.specs.Keeper.{Happens, request}
+use Rattle.tally_steps.specs.LawStatements.{ViewsAreLawful}
+use Rattle.tally_steps.specs.LawfulState.{IsLawfulState}
+use Rattle.tally_steps.specs.Outcome.{IsLawfulView}
+use Rattle.tally_steps.specs.Step.{IsConStepSeen, con_shown}
+use Rattle.tally_keeper.specs.Keeper.{Happens, request}
 use Rattle.tally_message.specs.declared.message.Message.{Message}
 use Rattle.tally_asks.specs.declared.routes.Route.{Route}
 use Rattle.tally_asks.specs.Routes.{con_in, station_in}

@@ -13,12 +13,12 @@ use Rattle.tally_returns.specs.declared.refusal.Refusal.{Refusal}
 use Rattle.tally_returns.specs.declared.refusal.Refusal.TheVariants as refusal
 use Rattle.tally_returns.specs.declared.reply.Reply.{Reply}
 use Rattle.tally_returns.specs.declared.reply.Reply.TheVariants as reply
-use Rattle.tally_core.specs.Keeper as keeper
-use Rattle.tally_core.specs.Source.{Ending}
-use Rattle.tally_core.specs.declared.import.FirstRow.{FirstRow}
-use Rattle.tally_core.specs.declared.import.ImportCount.{ImportCount}
-use Rattle.tally_core.specs.declared.source.ImportFault.{ImportFault}
-use Rattle.tally_core.specs.declared.source.ImportFault.TheVariants as cause
+use Rattle.tally_keeper.specs.Keeper as keeper
+use Rattle.tally_keeper.specs.Source.{Ending}
+use Rattle.tally_keeper.specs.declared.import.FirstRow.{FirstRow}
+use Rattle.tally_keeper.specs.declared.import.ImportCount.{ImportCount}
+use Rattle.tally_keeper.specs.declared.source.ImportFault.{ImportFault}
+use Rattle.tally_keeper.specs.declared.source.ImportFault.TheVariants as cause
 use Rattle.tally_records.specs.declared.separator.Sep.{Sep}
 use Rattle.tally_import.specs.ReturnRows.{text_coming}
 use Rattle.tally_report.specs.ProgressText.{progress_text}

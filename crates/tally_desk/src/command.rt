@@ -2,7 +2,7 @@
 
 ghost use Rattle.std.specs.Prelude.{◌≡◌, IfSome, Some, Result};
 ghost use Rattle.tally_rules.specs.Setup.{constituency_with};
-ghost use Rattle.tally_core.specs.Keeper.{Happens, request};
+ghost use Rattle.tally_keeper.specs.Keeper.{Happens, request};
 ghost use Rattle.tally_returns.specs.declared.refusal.Refusal.TheVariants.{NoConstituency, NoStation};
 ghost use Rattle.tally_returns.specs.declared.reply.Reply.{Reply};
 ghost use Rattle.tally_returns.specs.declared.refusal.Refusal.{Refusal};
@@ -16,8 +16,8 @@ use crate::room::Room;
 use std::alloc::Global;
 use tally_answer::{FirstOther, Imported, Word};
 use tally_asks::{Route, ask_in};
-use tally_core::{Ask, FirstRow, ImportCount, ImportFault, Keeper, Refusal};
 use tally_import::{ReturnRows, Sep};
+use tally_keeper::{Ask, FirstRow, ImportCount, ImportFault, Keeper, Refusal};
 use tally_message::Message;
 use tally_rules::{Code, Constituency, Setup};
 

@@ -1,7 +1,7 @@
 //! Reports, and their answers.
 
 ghost use Rattle.std.specs.Prelude.{◌≡◌, Option, Result, IfSome, IfOk, string_bytes};
-ghost use Rattle.tally_machine.specs.Outcome.{IsLawfulView};
+ghost use Rattle.tally_steps.specs.Outcome.{IsLawfulView};
 ghost use Rattle.tally_report.specs.Fault.{IsRefused};
 ghost use Rattle.tally_returns.specs.View.{FitsView};
 ghost use Rattle.tally_desk.specs.Reports.{IsReport, IsReportText, report_fault};
@@ -9,7 +9,7 @@ ghost use Rattle.tally_desk.specs.Reports.{IsReport, IsReportText, report_fault}
 use crate::room::{Room, text_answer};
 use std::alloc::Global;
 use tally_answer::Word;
-use tally_core::ConView;
+use tally_keeper::ConView;
 use tally_report::{
     ReportFault, awards_text, holders_text, past_text, quota_text, quotients_text, seats_text,
     short_text, tally_text,

@@ -14,8 +14,8 @@ use matchit::Router;
 use std::alloc::Global;
 use tally_answer::Word;
 use tally_asks::{Route, route_of, takes, takes_get};
-use tally_core::Keeper;
 use tally_import::Sep;
+use tally_keeper::Keeper;
 use tally_message::{Message, MessageFault};
 
 /// An answer that is a word alone.

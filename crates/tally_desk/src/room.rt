@@ -14,7 +14,7 @@ use tally_answer::{
     ANSWER_ROOM, AnswerStatus, BODY_ROOM, BodyType, Imported, Word, answer_of, write_import,
     write_outcome, write_word,
 };
-use tally_core::{Refusal, Reply};
+use tally_keeper::{Refusal, Reply};
 use tally_rules::ListEntry;
 
 /// Room for an answer, which is reserved before the office is asked: what is written into it takes no memory.

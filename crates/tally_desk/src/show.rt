@@ -1,7 +1,7 @@
 //! Answers to GET.
 
 ghost use Rattle.std.specs.Prelude.{◌≡◌, IfSome, Some};
-ghost use Rattle.tally_machine.specs.Outcome.{IsLawfulView};
+ghost use Rattle.tally_steps.specs.Outcome.{IsLawfulView};
 ghost use Rattle.tally_returns.specs.View.{FitsView};
 ghost use Rattle.tally_rules.specs.Constituency as value;
 ghost use Rattle.tally_rules.specs.Setup.{constituency_with};
@@ -21,7 +21,7 @@ use crate::room::{Room, json_answer, text_answer};
 use crate::shown::{progress_of, return_of, view_of};
 use std::alloc::Global;
 use tally_answer::{con_text, return_text};
-use tally_core::{ConView, Keeper, ProgressRow, Refusal, Return};
+use tally_keeper::{ConView, Keeper, ProgressRow, Refusal, Return};
 use tally_message::Message;
 use tally_report::progress_text;
 use tally_rules::{Code, Constituency, Setup};

@@ -1,15 +1,15 @@
 //! What the office shows.
 
 ghost use Rattle.std.specs.Prelude.{◌≡◌, Some, IfOk};
-ghost use Rattle.tally_core.specs.Keeper.{Happens, request};
-ghost use Rattle.tally_machine.specs.Outcome.{IsLawfulView};
+ghost use Rattle.tally_keeper.specs.Keeper.{Happens, request};
+ghost use Rattle.tally_steps.specs.Outcome.{IsLawfulView};
 ghost use Rattle.tally_returns.specs.View.{FitsView};
 ghost use Rattle.tally_returns.specs.declared.ask.Ask.TheVariants.{ShowCon, ShowProgress, ShowReturn};
 ghost use Rattle.tally_rules.specs.Constituency as value;
 ghost use Rattle.tally_rules.specs.Setup.{constituency_with};
 ghost use Rattle.tally_desk.specs.Gives.{as_con, as_progress, as_return};
 
-use tally_core::{Ask, ConView, Keeper, ProgressRow, Refusal, Reply, Return};
+use tally_keeper::{Ask, ConView, Keeper, ProgressRow, Refusal, Reply, Return};
 use tally_machine::laws::a_constituency_has_a_view;
 use tally_rules::Code;
 

@@ -14,19 +14,19 @@ use Rattle.tally_returns.specs.declared.ask.Ask.{Ask}
 use Rattle.tally_returns.specs.declared.refusal.Refusal.{Refusal}
 use Rattle.tally_returns.specs.declared.refusal.Refusal.TheVariants.{NoConstituency, NoStation}
 use Rattle.tally_returns.specs.declared.reply.Reply.{Reply}
-use Rattle.tally_machine.specs.Decisions.{StepsAreOne}
-use Rattle.tally_machine.specs.Runs.{IsRun, IsSameCommand, is_act}
-use Rattle.tally_machine.specs.Step.{IsAnswered, IsNotAccepted, IsStep, seen}
-use Rattle.tally_core.specs.Events.{acts, answers_of, asks_of, lodge_answers, lodges}
-use Rattle.tally_core.specs.Import.{RowAnswer, is_lodged}
-use Rattle.tally_core.specs.Keeper.{Event, Happen, Happens, failed_import, request, whole_import}
-use Rattle.tally_core.specs.Keeper as keeper
+use Rattle.tally_steps.specs.Decisions.{StepsAreOne}
+use Rattle.tally_steps.specs.Runs.{IsRun, IsSameCommand, is_act}
+use Rattle.tally_steps.specs.Step.{IsAnswered, IsNotAccepted, IsStep, seen}
+use Rattle.tally_keeper.specs.Events.{acts, answers_of, asks_of, lodge_answers, lodges}
+use Rattle.tally_keeper.specs.Import.{RowAnswer, is_lodged}
+use Rattle.tally_keeper.specs.Keeper.{Event, Happen, Happens, failed_import, request, whole_import}
+use Rattle.tally_keeper.specs.Keeper as keeper
 use Rattle.tally_core.specs.LawStatements.{ActsAloneHappen, NoTwoEqualRequestsAct, TheSameImportLodgesNothing, WhatHappensToAKeeperIsARun}
-use Rattle.tally_core.specs.Source.{Coming, Ending, IsSudden}
-use Rattle.tally_core.specs.declared.import.ImportCount.{ImportCount}
-use Rattle.tally_core.specs.declared.import.Row.{Row}
-use Rattle.tally_core.specs.declared.source.ImportFault.{ImportFault}
-use Rattle.tally_core.specs.declared.source.ImportFault.TheVariants as cause
+use Rattle.tally_keeper.specs.Source.{Coming, Ending, IsSudden}
+use Rattle.tally_keeper.specs.declared.import.ImportCount.{ImportCount}
+use Rattle.tally_keeper.specs.declared.import.Row.{Row}
+use Rattle.tally_keeper.specs.declared.source.ImportFault.{ImportFault}
+use Rattle.tally_keeper.specs.declared.source.ImportFault.TheVariants as cause
 use Rattle.tally_records.specs.declared.separator.Sep.{Sep}
 use Rattle.tally_import.specs.ReturnRows.{text_coming}
 use Rattle.tally_message.specs.declared.message.Message.{Message}

@@ -15,12 +15,12 @@ use Rattle.tally_returns.specs.declared.ask.Ask.{Ask}
 use Rattle.tally_returns.specs.declared.ask.Ask.TheVariants as ask
 use Rattle.tally_returns.specs.declared.refusal.Refusal.{Refusal}
 use Rattle.tally_returns.specs.declared.refusal.Refusal.TheVariants.{NoConstituency, NoStation}
-use Rattle.tally_core.specs.Events.{BringsCodes}
-use Rattle.tally_core.specs.Keeper.{Event, Happen, Happens, failed_import, request, whole_import}
-use Rattle.tally_core.specs.Keeper as keeper
-use Rattle.tally_core.specs.Source.{Coming, Ending}
-use Rattle.tally_core.specs.declared.import.ImportCount.{ImportCount}
-use Rattle.tally_core.specs.declared.source.ImportFault.{ImportFault}
+use Rattle.tally_keeper.specs.Events.{BringsCodes}
+use Rattle.tally_keeper.specs.Keeper.{Event, Happen, Happens, failed_import, request, whole_import}
+use Rattle.tally_keeper.specs.Keeper as keeper
+use Rattle.tally_keeper.specs.Source.{Coming, Ending}
+use Rattle.tally_keeper.specs.declared.import.ImportCount.{ImportCount}
+use Rattle.tally_keeper.specs.declared.source.ImportFault.{ImportFault}
 use Rattle.tally_import.specs.ReturnRows.{text_coming}
 use Rattle.tally_door.specs.Connection.{Connection}
 use Rattle.tally_message.specs.declared.message.Message.{Message}
@@ -274,7 +274,7 @@ exchange-came old new c d whole is = go is.0 is.2
     go (Err fault.BadLength) sent = came (Err fault.BadLength) sent.0 sent.1
     go (Err fault.BodyTooLong) sent = came (Err fault.BodyTooLong) sent.0 sent.1
     go (Err fault.EndedEarly) sent = came (Err fault.EndedEarly) sent.0 sent.1
-    go (Err fault.Read) failed = came-none old new failed.2
+    go (Err fault.Read) failed = came-none old new failed.3
     go (Err fault.Memory) sent = came (Err fault.Memory) sent.0 sent.1
 
 pub servings-came : (old new : Office) (taken ended : List Connection) (answered : ℕ) → Serves Answers old taken ended answered new

@@ -9,8 +9,8 @@ use Rattle.tally_returns.specs.declared.refusal.Refusal.{Refusal}
 use Rattle.tally_returns.specs.declared.refusal.Refusal.TheVariants.{NoConstituency, NoStation}
 use Rattle.tally_returns.specs.declared.reply.Reply.{Reply}
 use Rattle.tally_returns.specs.declared.reply.Reply.TheVariants as reply
-use Rattle.tally_machine.specs.Runs.{is_act}
-use Rattle.tally_core.specs.Keeper.{Happens, request}
+use Rattle.tally_steps.specs.Runs.{is_act}
+use Rattle.tally_keeper.specs.Keeper.{Happens, request}
 use Rattle.tally_records.specs.declared.separator.Sep.{Sep}
 use Rattle.tally_records.specs.declared.separator.Sep.TheVariants.{Comma, Semicolon}
 use Rattle.tally_message.specs.declared.message.Message.{Message}

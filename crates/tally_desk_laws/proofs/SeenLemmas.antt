@@ -18,9 +18,9 @@ use Rattle.tally_returns.specs.declared.change.Change.{Change}
 use Rattle.tally_returns.specs.declared.change.Change.TheVariants.{PutReturn}
 use Rattle.tally_returns.specs.declared.refusal.Refusal.{Refusal}
 use Rattle.tally_returns.specs.declared.refusal.Refusal.TheVariants.{NoConstituency}
-use Rattle.tally_machine.specs.Certification.{Draws, reopened, vacates}
-use Rattle.tally_machine.specs.Runs.{IsSameCommand}
-use Rattle.tally_machine.specs.Step.{Answer, ConChange, Decides, IsConStepSeen, IsStepSeen, IsView, after, after_change, changed_by, con_answer, con_of_station, gone_for_good, is_certified, lot_set, move_reply, open_again, with_return, without_lot}
+use Rattle.tally_steps.specs.Certification.{Draws, reopened, vacates}
+use Rattle.tally_steps.specs.Runs.{IsSameCommand}
+use Rattle.tally_steps.specs.Step.{Answer, ConChange, Decides, IsConStepSeen, IsStepSeen, IsView, after, after_change, changed_by, con_answer, con_of_station, gone_for_good, is_certified, lot_set, move_reply, open_again, with_return, without_lot}
 
 -- what is decided of a query, and the state after it
 abbrev decided_query : List Constituency → State → List ℕ → ℕ → List ℕ → Result Change Refusal

@@ -7,8 +7,8 @@ use Rattle.std.specs.Prelude.{◌≡◌, ◌≢◌, ◌⊎◌, ℕ, All, List, O
 use Rattle.matchit.specs.Router.{RouteOf}
 use Rattle.tally_rules.specs.Limits.{IsSetup}
 use Rattle.tally_returns.specs.declared.refusal.Refusal.TheVariants.{NoConstituency}
-use Rattle.tally_core.specs.Events.{BringsCodes}
-use Rattle.tally_core.specs.Keeper.{Event, Happen}
+use Rattle.tally_keeper.specs.Events.{BringsCodes}
+use Rattle.tally_keeper.specs.Keeper.{Event, Happen}
 use Rattle.tally_door.specs.Connection.{Connection}
 use Rattle.tally_message.specs.declared.message.Message.{Message}
 use Rattle.tally_message.specs.declared.message.MessageFault.{MessageFault}

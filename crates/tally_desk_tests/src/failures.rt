@@ -84,16 +84,26 @@ fn check_reads<K: Keeper>(alloc: Global, office: &mut K, text: &str) -> Result<(
     Ok(())
 }
 
-// The same, and where the office shows another thing after it than before.
-fn check_case_of_reads<K: Office>(alloc: Global, before: &str, text: &str) -> Result<(), Fail> {
+// The same, where the office shows another thing after it than before, and where the message sent again is answered
+// otherwise than for the first time.
+fn check_case_of_reads<K: Office>(
+    alloc: Global,
+    before: &str,
+    text: &str,
+    want: &str,
+) -> Result<(), Fail> {
     let mut office = office_after::<K>(alloc, TWIN_TOWN, before)?;
     let first = shown(alloc, &mut office)?;
     check_reads(alloc, &mut office, text)?;
     let last = shown(alloc, &mut office)?;
-    if first.as_str() == last.as_str() {
-        return Ok(());
+    if first.as_str() != last.as_str() {
+        return Err(Fail::from(last));
     }
-    Err(Fail::from(last))
+    let (_, taken) = exchange(alloc, &mut office, text, None, ROOM)?;
+    if taken.as_str() != want {
+        return Err(Fail::from(taken));
+    }
+    Ok(())
 }
 
 // A message, its answer, what an office shows after it, and the answer to the same message again.
@@ -146,7 +156,7 @@ fn shown_after<K: Office>(alloc: Global, before: &str, text: &str) -> Result<Str
 fn check_case<K: Office>(alloc: Global, before: &str, line: &str, again: &str) -> Result<(), Fail> {
     let (said, want) = cut(line, " = ");
     let (text, want) = (message(alloc, said)?, answer(alloc, want)?);
-    check_case_of_reads::<K>(alloc, before, text.as_str())?;
+    check_case_of_reads::<K>(alloc, before, text.as_str(), want.as_str())?;
     let after = shown_after::<K>(alloc, before, text.as_str())?;
     let again = answer(alloc, again)?;
     let case = Case {
@@ -170,6 +180,21 @@ fn check_cases<K: Office>(alloc: Global) -> Result<(), Fail> {
 fn a_message_is_answered_or_nothing_changes(rt: HostRuntime) -> Result<(), Fail> {
     check_cases::<Book>(rt.alloc())?;
     check_cases::<Stored>(rt.alloc())
+}
+
+// A first line that can be no head.
+const BAD_HEAD: &str = "GET /progress HTTP/2.0\r\n\r\n";
+
+fn check_bad_head<K: Office>(alloc: Global) -> Result<(), Fail> {
+    let mut office = K::made(alloc, TWIN_TOWN)?;
+    check_reads(alloc, &mut office, BAD_HEAD)
+}
+
+// A read that fails behind such a line is not answered either.
+#[test]
+fn a_bad_line_before_a_failed_read_is_not_answered(rt: HostRuntime) -> Result<(), Fail> {
+    check_bad_head::<Book>(rt.alloc())?;
+    check_bad_head::<Stored>(rt.alloc())
 }
 
 const LODGE: &str = "POST /station/s1/lodge HTTP/1.1\r

@@ -39,7 +39,7 @@ at_current conns at true ended coming c w x within is found =
     (sym (found ∙ same), opened_set conns at x room ∙ ap (λ n. connections (take at conns) (Some x) (drop n conns)) next ∙ ap (λ d. connections d (Some x) (drop (suc at) conns)) front ∙ ap (λ l. connections ended (Some x) l) back)
 
 nothing : Connection
-nothing = record { input = []; fails = false; room = 0; written = [] }
+nothing = record { input = []; fails = false; read_failed = false; room = 0; written = [] }
 
 -- what lies behind the current connection
 pub passed : (conns : List Connection) (at : ℕ) (connected : Bool) (next : ℕ) → (connected ≡ true → at < length conns) → next ≡ cond connected (at + 1) at
@@ -80,10 +80,10 @@ next_none conns at connected next within is over h was =
 pub current_is : (conns : List Connection) (at : ℕ) → at < length conns → is_some (connections_at conns at true).current ≡ true
 current_is conns at room = ap (λ (h : Connections). is_some h.current) (opened conns at nothing room)
 
-pub read_some : (input buf : List ℕ) (at n : ℕ) (fails : Bool) (room : ℕ) (written : List ℕ) → at ≤ length input → n ≤ length buf → n ≤ length (drop at input)
+pub read_some : (input buf : List ℕ) (at n : ℕ) (fails read_failed : Bool) (room : ℕ) (written : List ℕ) → at ≤ length input → n ≤ length buf → n ≤ length (drop at input)
     → (n ≡ 0 → 0 < length buf → (drop at input ≡ []) × (fails ≡ false))
-    → HasRead (record { input = drop at input; fails = fails; room = room; written = written }) (take n (drop at input) ++ drop n buf) (Ok n) (record { input = drop (at + n) input; fails = fails; room = room; written = written })
-read_some input buf at n fails room written within fits some end =
+    → HasRead (record { input = drop at input; fails = fails; read_failed = read_failed; room = room; written = written }) (take n (drop at input) ++ drop n buf) (Ok n) (record { input = drop (at + n) input; fails = fails; read_failed = read_failed; room = room; written = written })
+read_some input buf at n fails read_failed room written within fits some end =
     (omega (arith, long), parts, refl, λ none has. end none (omega (arith, has, full, long)))
   where
     taken : length (take n (drop at input)) ≡ n
@@ -107,7 +107,7 @@ after_writes c text at n within =
     let room : c.room - length (take at text) - length (take n (drop at text)) ≡ c.room - length (take (at + n) text) = rw (first, second, both) (omega arith) in
     let joined : (c.written ++ take at text) ++ take n (drop at text) ≡ c.written ++ take (at + n) text =
     append_assoc c.written (take at text) (take n (drop at text)) ∙ ap (λ t. c.written ++ t) (sym (take-add at n text)) in
-    let make : ℕ → List ℕ → Connection = λ r w. record { input = c.input; fails = c.fails; room = r; written = w } in
+    let make : ℕ → List ℕ → Connection = λ r w. record { input = c.input; fails = c.fails; read_failed = c.read_failed; room = r; written = w } in
     ap (λ r. make r ((c.written ++ take at text) ++ take n (drop at text))) room ∙ ap (make (c.room - length (take (at + n) text))) joined
 
 -- a slice from a place on

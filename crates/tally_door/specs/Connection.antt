@@ -2,11 +2,12 @@
 use Rattle.std.specs.Prelude.{◌≡◌, ℕ, ◌-◌, ◌<◌, ◌≤◌, Bool, true, false, List, [], ◌∷◌, ◌++◌, length, take, Option, Some, None, option_to_list, Result, Ok, Err, ⊤}
 use Rattle.tally_door.specs.declared.door.DoorFault.{DoorFault}
 
--- A connection: the bytes that its reads still give, whether a read fails behind them, how many bytes its writes
--- still take, and what was written.
+-- A connection: the bytes that its reads still give, whether a read fails behind them, whether one has failed, how
+-- many bytes its writes still take, and what was written.
 pub record Connection : Type 0 where
   pub input : List ℕ
   pub fails : Bool
+  pub read_failed : Bool
   pub room : ℕ
   pub written : List ℕ
 
@@ -23,12 +24,12 @@ abbrev pub all_connections : Connections → List Connection
 all_connections all = all.ended ++ (option_to_list all.current ++ all.coming)
 
 -- A read of a connection `c` into a buffer, which leaves it as `d`: some of the input, or none at its end, or the
--- failure behind it. Nothing else of the connection changes.
+-- failure behind it, which is noted. Nothing else of the connection changes.
 abbrev pub HasRead : Connection → List ℕ → Result ℕ DoorFault → Connection → Type 0
 HasRead c buf (Ok n) d =
     (n ≤ length buf) × (c.input ≡ take n buf ++ d.input) × (d ≡ record c { input = d.input })
     × (n ≡ 0 → 0 < length buf → (c.input ≡ []) × (c.fails ≡ false))
-HasRead c buf (Err fault) d = (c.input ≡ []) × (c.fails ≡ true) × (d ≡ c)
+HasRead c buf (Err fault) d = (c.input ≡ []) × (c.fails ≡ true) × (d ≡ record c { read_failed = true })
 
 -- a connection that took these bytes
 abbrev pub after_write : Connection → List ℕ → Connection

@@ -18,6 +18,7 @@ abbrev pub new_connection : List ℕ → Option ℕ → ℕ → Connection
 new_connection input read_fails room = record {
   input = input_until read_fails input;
   fails = fails_within read_fails input;
+  read_failed = false;
   room = room;
   written = [];
 }

@@ -14,6 +14,7 @@ pub struct MemoryConn {
     input: Vec<u8>,
     at: usize,
     fails: bool,
+    read_failed: bool,
     room: usize,
     written: Vec<u8>,
 }
@@ -25,7 +26,7 @@ impl Model for MemoryConn {
 
     ghost Value = { Connection };
 
-    ghost view = { λ c. record { input = drop c.at c.input.items; fails = c.fails; room = c.room; written = c.written.items } };
+    ghost view = { λ c. record { input = drop c.at c.input.items; fails = c.fails; read_failed = c.read_failed; room = c.room; written = c.written.items } };
 
     ghost invariant = { λ c. (c.at ≤ length c.input.items) × (vec_len c.written + c.room ≤ vec_capacity c.written) };
 }
@@ -53,6 +54,7 @@ impl MemoryConn {
             input,
             at: 0,
             fails,
+            read_failed: false,
             room,
             written,
         })
@@ -70,6 +72,7 @@ impl MemoryConn {
     {
         let left = &self.input[self.at..];
         if self.fails && left.is_empty() {
+            self.read_failed = true;
             return Err(DoorFault::Failed);
         }
         let count = buf.len().min(left.len());

@@ -11,8 +11,11 @@ use std::time::{Clock, Duration, Instant};
 /// How long a read or a write may wait, in seconds.
 const WAIT_SECONDS: u64 = 10;
 
-/// How long a connection may take altogether where a clock is at hand, in seconds.
-const CONNECTION_SECONDS: u64 = 30;
+/// How long after a connection was taken its reads fail, where a clock is at hand, in seconds.
+const READING_SECONDS: u64 = 30;
+
+/// How long after the first write of a connection its writes fail, where a clock is at hand, in seconds.
+const WRITING_SECONDS: u64 = 30;
 
 /// How long what a client still sends is read and thrown away before its connection is closed, in milliseconds.
 const LINGER_MILLISECONDS: u64 = 2_000;
@@ -37,24 +40,29 @@ impl Clock for NoClock {
     }
 }
 
-/// A connection, when its time is over, and how long its socket waits in a read and in a write, where that was set.
+/// A connection, whether a write to it was begun, when the time of its reads and that of its writes is over, and how
+/// long its socket waits in a read and in a write, where that was set.
 #[derive(Drop)]
 struct Timed {
     stream: TcpStream,
-    end: Option<Instant>,
+    is_written: bool,
+    read_end: Option<Instant>,
+    write_end: Option<Instant>,
     read_wait: Option<Duration>,
     write_wait: Option<Duration>,
 }
 
 /// The connections of a listener, one after the other. Nothing is known of what they give and take.
 ///
-/// A read or a write fails where it waits for longer than ten seconds. With a clock it also fails once the connection
-/// has taken thirty seconds altogether, so that no client holds the door for longer.
+/// A read or a write fails where it waits for longer than ten seconds. With a clock a read also fails thirty seconds
+/// after the connection was taken, and a write thirty seconds after the first one, so that a client cannot hold the
+/// door for as long as it likes. What is done between reading and writing counts with neither time.
 ///
 /// Where a connection ends, when the door takes the next one or is dropped, its client can still read what was
 /// written: writing is shut, and what the client still sends is read and thrown away up to its end, 2 MiB or two
 /// seconds. A socket that is closed with bytes unread would be reset, and the client might lose its answer
-/// (RFC 9112, section 9.6).
+/// (RFC 9112, section 9.6). Where no write was begun, as after a read that failed, there is no answer to lose, and the
+/// connection is closed at once.
 pub struct TcpDoor<C: Clock + Drop = NoClock> {
     listener: TcpListener,
     clock: C,
@@ -65,7 +73,7 @@ impl Timed {
     fn read<C: Clock>(&mut self, clock: &C, buf: &mut [u8]) -> Result<usize, DoorFault>
         ensures { IfOk result (λ n. n ≤ length buf.new) }
     {
-        let wait = Some(time_left(clock, self.end, Duration::from_secs(WAIT_SECONDS)));
+        let wait = Some(time_left(clock, self.read_end, Duration::from_secs(WAIT_SECONDS)));
         if self.read_wait != wait {
             if self.stream.set_read_timeout(wait).is_err() {
                 return Err(DoorFault::Failed);
@@ -81,7 +89,11 @@ impl Timed {
     fn write<C: Clock>(&mut self, clock: &C, bytes: &[u8]) -> Result<usize, DoorFault>
         ensures { IfOk result (λ n. n ≤ length bytes.now) }
     {
-        let wait = Some(time_left(clock, self.end, Duration::from_secs(WAIT_SECONDS)));
+        if !self.is_written {
+            self.is_written = true;
+            self.write_end = end_of(clock, Duration::from_secs(WRITING_SECONDS));
+        }
+        let wait = Some(time_left(clock, self.write_end, Duration::from_secs(WAIT_SECONDS)));
         if self.write_wait != wait {
             if self.stream.set_write_timeout(wait).is_err() {
                 return Err(DoorFault::Failed);
@@ -91,6 +103,13 @@ impl Timed {
         match self.stream.write(bytes) {
             Ok(count) => Ok(count),
             Err(_) => Err(DoorFault::Failed),
+        }
+    }
+
+    /// Ends the connection so that its client can still read what was written, where something was.
+    fn end(mut self) {
+        if self.is_written && self.stream.shutdown(Shutdown::Write).is_ok() {
+            let _ended = discard(&mut self.stream);
         }
     }
 }
@@ -103,7 +122,7 @@ impl TcpDoor<NoClock> {
 }
 
 impl<C: Clock + Drop> TcpDoor<C> {
-    /// A door that also bounds the whole time of each connection.
+    /// A door that also bounds the time in which a connection is read, and that in which it is written.
     pub fn timed(listener: TcpListener, clock: C) -> TcpDoor<C> {
         TcpDoor {
             listener,
@@ -121,7 +140,7 @@ impl<C: Clock + Drop> Drop for TcpDoor<C> {
             current,
         } = self;
         if let Some(timed) = current {
-            end(timed.stream);
+            timed.end();
         }
     }
 }
@@ -142,13 +161,6 @@ fn time_left<C: Clock>(clock: &C, end: Option<Instant>, most: Duration) -> Durat
     match Instant::now(clock) {
         Ok(now) => end.duration_since(now).min(most),
         Err(_) => most,
-    }
-}
-
-/// Ends a connection so that its client can still read what was written.
-fn end(mut stream: TcpStream) {
-    if stream.shutdown(Shutdown::Write).is_ok() {
-        let _ended = discard(&mut stream);
     }
 }
 
@@ -196,15 +208,17 @@ impl<C: Clock + Drop> Door for TcpDoor<C> {
 
     fn next(&mut self) -> Result<(), DoorFault> {
         if let Some(timed) = self.current.take() {
-            end(timed.stream);
+            timed.end();
         }
         let Ok((stream, _)) = self.listener.accept() else {
             return Err(DoorFault::Failed);
         };
-        let end = end_of(&self.clock, Duration::from_secs(CONNECTION_SECONDS));
+        let read_end = end_of(&self.clock, Duration::from_secs(READING_SECONDS));
         self.current = Some(Timed {
             stream,
-            end,
+            is_written: false,
+            read_end,
+            write_end: None,
             read_wait: None,
             write_wait: None,
         });

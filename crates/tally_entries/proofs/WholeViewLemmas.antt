@@ -17,9 +17,9 @@ use Rattle.tally_rows.specs.Rows.{text_cmp}
 use Rattle.tally_rules.specs.Constituency.{Constituency}
 use Rattle.tally_rules.specs.Limits.{IsConstituency}
 use Rattle.tally_rules.specs.Setup.{constituency_with}
-use Rattle.tally_machine.specs.LawfulState.{IsLawfulIn, IsLawfulState, IsUnderPlaces}
-use Rattle.tally_machine.specs.Outcome.{IsLawfulPast}
-use Rattle.tally_machine.specs.Step.{IsView}
+use Rattle.tally_steps.specs.LawfulState.{IsLawfulIn, IsLawfulState, IsUnderPlaces}
+use Rattle.tally_steps.specs.Outcome.{IsLawfulPast}
+use Rattle.tally_steps.specs.Step.{IsView}
 use Rattle.tally_returns.specs.Counts.{VoteCounts}
 use Rattle.tally_returns.specs.GoneCandidate.{GoneCandidate}
 use Rattle.tally_returns.specs.PastSeats.{PastSeats}

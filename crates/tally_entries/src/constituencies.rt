@@ -1,14 +1,14 @@
 //! What a constituency has in the tables `lots` and `seats`.
 
-ghost use Rattle.std.specs.Prelude.{◌≡◌, ◌≤◌, ◌∷◌, [], length};
-ghost use Rattle.sqlite.specs.State.{Survives};
+ghost use Rattle.std.specs.Prelude.{◌≤◌, ◌∷◌, [], length};
 ghost use Rattle.sqlite.specs.Held.{state};
-ghost use Rattle.tally_statements.specs.Office.{KeepsCommitIfClean, Inserts, SetsItem};
+ghost use Rattle.tally_statements.specs.Office.{Inserts, SetsItem};
 ghost use Rattle.tally_statements.specs.declared.table.KeyedTable.TheVariants.{Cons, Lots, Seats, Totals};
 ghost use Rattle.tally_statements.specs.declared.table.KeyedTable.TheVariants as table;
 ghost use Rattle.tally_tables.specs.Cells.{con_rows, gone_row, gone_rows, lot_rows, past_rows, record_rows};
 ghost use Rattle.tally_entries.specs.Constituencies.{Changes, ChangesSums, HasGone, HasLot, HasRecord, IsAt, Writes, WritesSeats};
 ghost use Rattle.tally_entries.specs.Entries.{AddsRows, PutsNumbers, SetsItems, SetsNumbers};
+ghost use Rattle.tally_statements.specs.Inside.{Stays};
 
 use crate::items::{ItemTable, SPOILED_ITEM, insert_numbers};
 use sqlite::{Alter, Error, ErrorCode, Transaction};
@@ -22,13 +22,11 @@ use tally_tables::Sums;
 /// the lot. None takes the lot out.
 pub fn put_lot<S: Alter>(tx: &mut Transaction<'_, S>, con: &str, lot: &[u32]) -> Result<(), Error>
     requires few { length lot.now ≤ 60 }
-    ensures same_reference { tx.new.conn.ghost_name ≡ tx.old.conn.ghost_name }
-    ensures kept { KeepsCommitIfClean (state S.Store tx.old.conn.now) (state S.Store tx.new.conn.now) }
+    ensures stays { Stays S.Store tx.old tx.new }
     ensures put { PutsNumbers Lots con.now lot.now
         (state S.Store tx.old.conn.now) (state S.Store tx.new.conn.now) result }
     ensures lots { Writes Lots lot_rows con.now (HasLot lot.now)
         (state S.Store tx.old.conn.now) (state S.Store tx.new.conn.now) result }
-    ensures survives { Survives (state S.Store tx.old.conn.now) (state S.Store tx.new.conn.now) (λ _. ⊥) }
 {
     delete_lot(tx, con)?;
     insert_numbers(tx, ItemTable::Lots, con, lot)
@@ -42,13 +40,11 @@ pub fn put_seats<S: Alter>(
     seats: &[u32],
 ) -> Result<(), Error>
     requires few { length seats.now ≤ 60 }
-    ensures same_reference { tx.new.conn.ghost_name ≡ tx.old.conn.ghost_name }
-    ensures kept { KeepsCommitIfClean (state S.Store tx.old.conn.now) (state S.Store tx.new.conn.now) }
+    ensures stays { Stays S.Store tx.old tx.new }
     ensures put { PutsNumbers Seats con.now seats.now
         (state S.Store tx.old.conn.now) (state S.Store tx.new.conn.now) result }
     ensures seats { WritesSeats con.now seats.now
         (state S.Store tx.old.conn.now) (state S.Store tx.new.conn.now) result }
-    ensures survives { Survives (state S.Store tx.old.conn.now) (state S.Store tx.new.conn.now) (λ _. ⊥) }
 {
     delete_seats(tx, con)?;
     insert_numbers(tx, ItemTable::Seats, con, seats)
@@ -62,11 +58,9 @@ pub fn put_con<S: Alter>(
     certified: bool,
     note: &str,
 ) -> Result<(), Error>
-    ensures same_reference { tx.new.conn.ghost_name ≡ tx.old.conn.ghost_name }
-    ensures kept { KeepsCommitIfClean (state S.Store tx.old.conn.now) (state S.Store tx.new.conn.now) }
+    ensures stays { Stays S.Store tx.old tx.new }
     ensures written { Changes Cons con_rows con.now (IsAt edition certified note.now)
         (state S.Store tx.old.conn.now) (state S.Store tx.new.conn.now) result }
-    ensures survives { Survives (state S.Store tx.old.conn.now) (state S.Store tx.new.conn.now) (λ _. ⊥) }
 {
     update_con(tx, con, edition, certified, note)
 }
@@ -77,22 +71,18 @@ fn insert_candidate<S: Alter>(
     con: &str,
     gone: &Gone,
 ) -> Result<(), Error>
-    ensures same_reference { tx.new.conn.ghost_name ≡ tx.old.conn.ghost_name }
-    ensures kept { KeepsCommitIfClean (state S.Store tx.old.conn.now) (state S.Store tx.new.conn.now) }
+    ensures stays { Stays S.Store tx.old tx.new }
     ensures inserted { Inserts table.Gone (gone_row con.now (gone.now.list ∷ gone.now.place ∷ [], gone.now.note))
         (state S.Store tx.old.conn.now) (state S.Store tx.new.conn.now) result }
-    ensures survives { Survives (state S.Store tx.old.conn.now) (state S.Store tx.new.conn.now) (λ _. ⊥) }
 {
     insert_gone(tx, con, gone.list, gone.place, gone.note.as_str())
 }
 
 /// Adds a candidate of a constituency who is gone.
 pub fn put_gone<S: Alter>(tx: &mut Transaction<'_, S>, con: &str, gone: &Gone) -> Result<(), Error>
-    ensures same_reference { tx.new.conn.ghost_name ≡ tx.old.conn.ghost_name }
-    ensures kept { KeepsCommitIfClean (state S.Store tx.old.conn.now) (state S.Store tx.new.conn.now) }
+    ensures stays { Stays S.Store tx.old tx.new }
     ensures written { Writes table.Gone gone_rows con.now (HasGone gone.now.list gone.now.place gone.now.note)
         (state S.Store tx.old.conn.now) (state S.Store tx.new.conn.now) result }
-    ensures survives { Survives (state S.Store tx.old.conn.now) (state S.Store tx.new.conn.now) (λ _. ⊥) }
 {
     insert_candidate(tx, con, gone)
 }
@@ -105,11 +95,9 @@ fn insert_record<S: Alter>(
     seats: &[u32],
 ) -> Result<(), Error>
     requires few { length seats.now ≤ 60 }
-    ensures same_reference { tx.new.conn.ghost_name ≡ tx.old.conn.ghost_name }
-    ensures kept { KeepsCommitIfClean (state S.Store tx.old.conn.now) (state S.Store tx.new.conn.now) }
+    ensures stays { Stays S.Store tx.old tx.new }
     ensures added { AddsRows table.Past (record_rows con.now (edition, seats.now))
         (state S.Store tx.old.conn.now) (state S.Store tx.new.conn.now) result }
-    ensures survives { Survives (state S.Store tx.old.conn.now) (state S.Store tx.new.conn.now) (λ _. ⊥) }
 {
     let mut list = 1u32;
     for n in seats {
@@ -127,11 +115,9 @@ pub fn put_record<S: Alter>(
     past: &Past,
 ) -> Result<(), Error>
     requires few { length past.now.seats ≤ 60 }
-    ensures same_reference { tx.new.conn.ghost_name ≡ tx.old.conn.ghost_name }
-    ensures kept { KeepsCommitIfClean (state S.Store tx.old.conn.now) (state S.Store tx.new.conn.now) }
+    ensures stays { Stays S.Store tx.old tx.new }
     ensures written { Writes table.Past past_rows con.now (HasRecord past.now.edition past.now.seats)
         (state S.Store tx.old.conn.now) (state S.Store tx.new.conn.now) result }
-    ensures survives { Survives (state S.Store tx.old.conn.now) (state S.Store tx.new.conn.now) (λ _. ⊥) }
 {
     insert_record(tx, con, past.edition, past.seats.as_slice())
 }
@@ -143,11 +129,9 @@ fn update_sum<S: Alter>(
     item: u32,
     n: u64,
 ) -> Result<(), Error>
-    ensures same_reference { tx.new.conn.ghost_name ≡ tx.old.conn.ghost_name }
-    ensures kept { KeepsCommitIfClean (state S.Store tx.old.conn.now) (state S.Store tx.new.conn.now) }
+    ensures stays { Stays S.Store tx.old tx.new }
     ensures updated { SetsItem Totals con.now item n
         (state S.Store tx.old.conn.now) (state S.Store tx.new.conn.now) result }
-    ensures survives { Survives (state S.Store tx.old.conn.now) (state S.Store tx.new.conn.now) (λ _. ⊥) }
 {
     let Ok(n) = i64::try_from(n) else {
         return Err(Error::SqliteFailure(ErrorCode::TooBig));
@@ -162,11 +146,9 @@ fn update_list_sums<S: Alter>(
     votes: &[u64],
 ) -> Result<(), Error>
     requires few { length votes.now ≤ 60 }
-    ensures same_reference { tx.new.conn.ghost_name ≡ tx.old.conn.ghost_name }
-    ensures kept { KeepsCommitIfClean (state S.Store tx.old.conn.now) (state S.Store tx.new.conn.now) }
+    ensures stays { Stays S.Store tx.old tx.new }
     ensures set { SetsNumbers Totals con.now votes.now
         (state S.Store tx.old.conn.now) (state S.Store tx.new.conn.now) result }
-    ensures survives { Survives (state S.Store tx.old.conn.now) (state S.Store tx.new.conn.now) (λ _. ⊥) }
 {
     let mut item = 1u32;
     for n in votes {
@@ -179,11 +161,9 @@ fn update_list_sums<S: Alter>(
 /// Sets the sums of a constituency, number by number.
 fn update_sums<S: Alter>(tx: &mut Transaction<'_, S>, con: &str, sums: &Sums) -> Result<(), Error>
     requires few { length sums.now.votes ≤ 60 }
-    ensures same_reference { tx.new.conn.ghost_name ≡ tx.old.conn.ghost_name }
-    ensures kept { KeepsCommitIfClean (state S.Store tx.old.conn.now) (state S.Store tx.new.conn.now) }
+    ensures stays { Stays S.Store tx.old tx.new }
     ensures set { SetsItems Totals con.now sums.now
         (state S.Store tx.old.conn.now) (state S.Store tx.new.conn.now) result }
-    ensures survives { Survives (state S.Store tx.old.conn.now) (state S.Store tx.new.conn.now) (λ _. ⊥) }
 {
     update_sum(tx, con, 0, sums.blank)?;
     update_list_sums(tx, con, sums.votes.as_slice())?;
@@ -193,11 +173,9 @@ fn update_sums<S: Alter>(tx: &mut Transaction<'_, S>, con: &str, sums: &Sums) ->
 /// Writes the sums of a constituency in place of sums for as many lists.
 pub fn put_sums<S: Alter>(tx: &mut Transaction<'_, S>, con: &str, sums: &Sums) -> Result<(), Error>
     requires few { length sums.now.votes ≤ 60 }
-    ensures same_reference { tx.new.conn.ghost_name ≡ tx.old.conn.ghost_name }
-    ensures kept { KeepsCommitIfClean (state S.Store tx.old.conn.now) (state S.Store tx.new.conn.now) }
+    ensures stays { Stays S.Store tx.old tx.new }
     ensures written { ChangesSums con.now sums.now
         (state S.Store tx.old.conn.now) (state S.Store tx.new.conn.now) result }
-    ensures survives { Survives (state S.Store tx.old.conn.now) (state S.Store tx.new.conn.now) (λ _. ⊥) }
 {
     update_sums(tx, con, sums)
 }

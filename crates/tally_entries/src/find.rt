@@ -1,12 +1,13 @@
 //! Looking up the return of a station.
 
-ghost use Rattle.std.specs.Prelude.{◌≡◌, ◌∷◌, [], None, Some, IsErr, IsTrue, IfOk, OnOk, List, ℕ};
-ghost use Rattle.sqlite.specs.State.{HasCleanDisk, KeepsCommit, IsUnchanged, Survives};
+ghost use Rattle.std.specs.Prelude.{◌≡◌, ◌∷◌, [], None, Some, IsErr, IfOk, List, ℕ};
+ghost use Rattle.sqlite.specs.State.{HasCleanDisk};
 ghost use Rattle.sqlite.specs.Held.{state};
 ghost use Rattle.tally_returns.specs.Return.{StationReturn};
 ghost use Rattle.tally_statements.specs.Office.{IsInside};
 ghost use Rattle.tally_tables.specs.Reading.{entries_in};
 ghost use Rattle.tally_entries.specs.Entries.{FindsReturn};
+ghost use Rattle.tally_statements.specs.Inside.{OnlyReads};
 
 use sqlite::{Alter, Error, ErrorCode, Row, Transaction};
 use std::alloc::Global;
@@ -51,18 +52,9 @@ pub fn find_return<S: Alter>(
     setup: &Setup,
     station: Code,
 ) -> Result<Option<Return>, Error>
-    ensures same_reference { tx.new.conn.ghost_name ≡ tx.old.conn.ghost_name }
-    ensures kept { HasCleanDisk (state S.Store tx.new.conn.now) → IsInside (state S.Store tx.old.conn.now) →
-        KeepsCommit (state S.Store tx.old.conn.now) (state S.Store tx.new.conn.now) }
+    ensures reads { OnlyReads S.Store tx.old tx.new result }
     ensures found { HasCleanDisk (state S.Store tx.new.conn.now) → IsInside (state S.Store tx.old.conn.now) →
         IfOk result (λ found. FindsReturn setup.now station (state S.Store tx.old.conn.now) found) }
-    ensures same { HasCleanDisk (state S.Store tx.new.conn.now) → IsInside (state S.Store tx.old.conn.now) →
-        OnOk result (IsUnchanged (state S.Store tx.old.conn.now) (state S.Store tx.new.conn.now)) }
-    ensures was_open { HasCleanDisk (state S.Store tx.new.conn.now) → IsTrue (state S.Store tx.new.conn.now).is_open →
-        IsTrue (state S.Store tx.old.conn.now).is_open }
-    ensures answered_open { HasCleanDisk (state S.Store tx.new.conn.now) →
-        OnOk result (IsTrue (state S.Store tx.old.conn.now).is_open) }
-    ensures survives { Survives (state S.Store tx.old.conn.now) (state S.Store tx.new.conn.now) (λ _. ⊥) }
 {
     let heads = rows_of_key(tx, KeyedTable::Returns, station.as_str())?;
     let counts = rows_of_key(tx, KeyedTable::Counts, station.as_str())?;

@@ -1,11 +1,11 @@
 //! Rows of a key, an item and a number, in the tables that have them.
 
-ghost use Rattle.std.specs.Prelude.{◌≡◌, ◌≤◌, ◌∷◌, [], map, length};
-ghost use Rattle.sqlite.specs.State.{Survives};
+ghost use Rattle.std.specs.Prelude.{◌≤◌, map, length};
 ghost use Rattle.sqlite.specs.Held.{state};
-ghost use Rattle.tally_statements.specs.Office.{KeepsCommitIfClean, Inserts, item_cells};
+ghost use Rattle.tally_statements.specs.Office.{Inserts, item_cells};
 ghost use Rattle.tally_tables.specs.Cells.{item_row, items_of, numbered};
 ghost use Rattle.tally_entries.specs.Entries.{AddsRows, SetsCounts, SetsVotes, keyed_table};
+ghost use Rattle.tally_statements.specs.Inside.{Stays};
 ghost use Rattle.tally_statements.specs.declared.table.KeyedTable.TheVariants.{Counts};
 
 use sqlite::{Alter, Error, Transaction};
@@ -31,11 +31,9 @@ fn insert_item<S: Alter>(
     item: u32,
     n: u32,
 ) -> Result<(), Error>
-    ensures same_reference { tx.new.conn.ghost_name ≡ tx.old.conn.ghost_name }
-    ensures kept { KeepsCommitIfClean (state S.Store tx.old.conn.now) (state S.Store tx.new.conn.now) }
+    ensures stays { Stays S.Store tx.old tx.new }
     ensures inserted { Inserts (keyed_table table) (item_cells key.now item n)
         (state S.Store tx.old.conn.now) (state S.Store tx.new.conn.now) result }
-    ensures survives { Survives (state S.Store tx.old.conn.now) (state S.Store tx.new.conn.now) (λ _. ⊥) }
 {
     match table {
         ItemTable::Counts => insert_count(tx, key, item, n),
@@ -52,11 +50,9 @@ pub(crate) fn insert_numbers<S: Alter>(
     numbers: &[u32],
 ) -> Result<(), Error>
     requires few { length numbers.now ≤ 60 }
-    ensures same_reference { tx.new.conn.ghost_name ≡ tx.old.conn.ghost_name }
-    ensures kept { KeepsCommitIfClean (state S.Store tx.old.conn.now) (state S.Store tx.new.conn.now) }
+    ensures stays { Stays S.Store tx.old tx.new }
     ensures added { AddsRows (keyed_table table) (map (item_row key.now) (numbered 1 numbers.now))
         (state S.Store tx.old.conn.now) (state S.Store tx.new.conn.now) result }
-    ensures survives { Survives (state S.Store tx.old.conn.now) (state S.Store tx.new.conn.now) (λ _. ⊥) }
 {
     let mut item = 1u32;
     for n in numbers {
@@ -73,11 +69,9 @@ pub(crate) fn insert_counts<S: Alter>(
     counts: &VoteCounts,
 ) -> Result<(), Error>
     requires few { length counts.now.votes ≤ 60 }
-    ensures same_reference { tx.new.conn.ghost_name ≡ tx.old.conn.ghost_name }
-    ensures kept { KeepsCommitIfClean (state S.Store tx.old.conn.now) (state S.Store tx.new.conn.now) }
+    ensures stays { Stays S.Store tx.old tx.new }
     ensures added { AddsRows Counts (map (item_row station.now) (items_of counts.now))
         (state S.Store tx.old.conn.now) (state S.Store tx.new.conn.now) result }
-    ensures survives { Survives (state S.Store tx.old.conn.now) (state S.Store tx.new.conn.now) (λ _. ⊥) }
 {
     insert_item(tx, ItemTable::Counts, station, 0, counts.blank)?;
     insert_numbers(tx, ItemTable::Counts, station, counts.votes.as_slice())?;
@@ -91,11 +85,9 @@ fn update_votes<S: Alter>(
     votes: &[u32],
 ) -> Result<(), Error>
     requires few { length votes.now ≤ 60 }
-    ensures same_reference { tx.new.conn.ghost_name ≡ tx.old.conn.ghost_name }
-    ensures kept { KeepsCommitIfClean (state S.Store tx.old.conn.now) (state S.Store tx.new.conn.now) }
+    ensures stays { Stays S.Store tx.old tx.new }
     ensures set { SetsVotes station.now votes.now
         (state S.Store tx.old.conn.now) (state S.Store tx.new.conn.now) result }
-    ensures survives { Survives (state S.Store tx.old.conn.now) (state S.Store tx.new.conn.now) (λ _. ⊥) }
 {
     let mut item = 1u32;
     for n in votes {
@@ -112,11 +104,9 @@ pub(crate) fn update_counts<S: Alter>(
     counts: &VoteCounts,
 ) -> Result<(), Error>
     requires few { length counts.now.votes ≤ 60 }
-    ensures same_reference { tx.new.conn.ghost_name ≡ tx.old.conn.ghost_name }
-    ensures kept { KeepsCommitIfClean (state S.Store tx.old.conn.now) (state S.Store tx.new.conn.now) }
+    ensures stays { Stays S.Store tx.old tx.new }
     ensures set { SetsCounts station.now counts.now
         (state S.Store tx.old.conn.now) (state S.Store tx.new.conn.now) result }
-    ensures survives { Survives (state S.Store tx.old.conn.now) (state S.Store tx.new.conn.now) (λ _. ⊥) }
 {
     update_count(tx, station, 0, counts.blank)?;
     update_votes(tx, station, counts.votes.as_slice())?;

@@ -1,13 +1,13 @@
 //! The return of a station in the tables `returns` and `counts`.
 
-ghost use Rattle.std.specs.Prelude.{◌≡◌, ◌≤◌, length, List, ℕ};
-ghost use Rattle.sqlite.specs.State.{Survives};
+ghost use Rattle.std.specs.Prelude.{◌≤◌, length, List, ℕ};
 ghost use Rattle.sqlite.specs.Held.{state};
-ghost use Rattle.tally_statements.specs.Office.{KeepsCommitIfClean, Inserts, Replaces};
+ghost use Rattle.tally_statements.specs.Office.{Inserts, Replaces};
 ghost use Rattle.tally_statements.specs.declared.table.KeyedTable.TheVariants.{Returns};
 ghost use Rattle.tally_returns.specs.Return.{StationReturn};
 ghost use Rattle.tally_tables.specs.Cells.{return_row};
 ghost use Rattle.tally_entries.specs.Entries.{AddsReturn, ChangesReturn, CorrectsReturn};
+ghost use Rattle.tally_statements.specs.Inside.{Stays};
 
 use crate::items::{insert_counts, update_counts};
 use sqlite::{Alter, Error, Transaction};
@@ -22,11 +22,9 @@ fn insert_head<S: Alter>(
     station: &str,
     standing: &Return,
 ) -> Result<(), Error>
-    ensures same_reference { tx.new.conn.ghost_name ≡ tx.old.conn.ghost_name }
-    ensures kept { KeepsCommitIfClean (state S.Store tx.old.conn.now) (state S.Store tx.new.conn.now) }
+    ensures stays { Stays S.Store tx.old tx.new }
     ensures inserted { Inserts Returns (return_row con.now (station.now, standing.now))
         (state S.Store tx.old.conn.now) (state S.Store tx.new.conn.now) result }
-    ensures survives { Survives (state S.Store tx.old.conn.now) (state S.Store tx.new.conn.now) (λ _. ⊥) }
 {
     insert_return(
         tx,
@@ -48,11 +46,9 @@ pub fn add_return<S: Alter>(
     standing: &Return,
 ) -> Result<(), Error>
     requires few { length standing.now.counts.votes ≤ 60 }
-    ensures same_reference { tx.new.conn.ghost_name ≡ tx.old.conn.ghost_name }
-    ensures kept { KeepsCommitIfClean (state S.Store tx.old.conn.now) (state S.Store tx.new.conn.now) }
+    ensures stays { Stays S.Store tx.old tx.new }
     ensures added { AddsReturn con.now station.now standing.now
         (state S.Store tx.old.conn.now) (state S.Store tx.new.conn.now) result }
-    ensures survives { Survives (state S.Store tx.old.conn.now) (state S.Store tx.new.conn.now) (λ _. ⊥) }
 {
     insert_head(tx, con, station, standing)?;
     insert_counts(tx, station, &standing.counts)
@@ -64,12 +60,10 @@ fn update_head<S: Alter>(
     station: &str,
     standing: &Return,
 ) -> Result<(), Error>
-    ensures same_reference { tx.new.conn.ghost_name ≡ tx.old.conn.ghost_name }
-    ensures kept { KeepsCommitIfClean (state S.Store tx.old.conn.now) (state S.Store tx.new.conn.now) }
+    ensures stays { Stays S.Store tx.old tx.new }
     ensures updated { (con : List ℕ) (before : StationReturn) →
         Replaces Returns station.now (return_row con (station.now, before)) (return_row con (station.now, standing.now))
         (state S.Store tx.old.conn.now) (state S.Store tx.new.conn.now) result }
-    ensures survives { Survives (state S.Store tx.old.conn.now) (state S.Store tx.new.conn.now) (λ _. ⊥) }
 {
     update_return(
         tx,
@@ -87,11 +81,9 @@ pub fn change_return<S: Alter>(
     station: &str,
     standing: &Return,
 ) -> Result<(), Error>
-    ensures same_reference { tx.new.conn.ghost_name ≡ tx.old.conn.ghost_name }
-    ensures kept { KeepsCommitIfClean (state S.Store tx.old.conn.now) (state S.Store tx.new.conn.now) }
+    ensures stays { Stays S.Store tx.old tx.new }
     ensures changed { ChangesReturn station.now standing.now
         (state S.Store tx.old.conn.now) (state S.Store tx.new.conn.now) result }
-    ensures survives { Survives (state S.Store tx.old.conn.now) (state S.Store tx.new.conn.now) (λ _. ⊥) }
 {
     update_head(tx, station, standing)
 }
@@ -104,11 +96,9 @@ pub fn correct_return<S: Alter>(
     standing: &Return,
 ) -> Result<(), Error>
     requires few { length standing.now.counts.votes ≤ 60 }
-    ensures same_reference { tx.new.conn.ghost_name ≡ tx.old.conn.ghost_name }
-    ensures kept { KeepsCommitIfClean (state S.Store tx.old.conn.now) (state S.Store tx.new.conn.now) }
+    ensures stays { Stays S.Store tx.old tx.new }
     ensures corrected { CorrectsReturn station.now standing.now
         (state S.Store tx.old.conn.now) (state S.Store tx.new.conn.now) result }
-    ensures survives { Survives (state S.Store tx.old.conn.now) (state S.Store tx.new.conn.now) (λ _. ⊥) }
 {
     update_head(tx, station, standing)?;
     update_counts(tx, station, &standing.counts)

@@ -2,7 +2,7 @@
 
 ghost use Rattle.std.specs.Prelude.{◌≡◌, ◌≤◌, IsTrue, IfOk, OnOk, Some, length, option_and_then};
 ghost use Rattle.sqlite_value.specs.Order.{column};
-ghost use Rattle.sqlite.specs.State.{HasCleanDisk, KeepsCommit, IsUnchanged, Survives};
+ghost use Rattle.sqlite.specs.State.{HasCleanDisk, IsUnchanged};
 ghost use Rattle.sqlite.specs.Held.{state};
 ghost use Rattle.tally_returns.specs.View.{FitsView};
 ghost use Rattle.tally_rows.specs.Cells.{number_of};
@@ -10,6 +10,7 @@ ghost use Rattle.tally_statements.specs.Office.{IsFound, IsInside};
 ghost use Rattle.tally_tables.specs.Reading.{status_of, sums_of};
 ghost use Rattle.tally_entries.specs.Constituencies.{FindsCertified, FindsSums, FindsView};
 ghost use Rattle.tally_entries.specs.Found.{AreFound, AreWithin, FindsStatus, FindsStatuses, certified_in, status_in, view_of_rows, with_station};
+ghost use Rattle.tally_statements.specs.Inside.{IsOpenInside, OnlyReads, StaysFrom};
 
 use sqlite::{Alter, Error, ErrorCode, Row, Transaction};
 use std::alloc::Global;
@@ -46,18 +47,9 @@ fn sums_of_rows(alloc: Global, rows: &[Row], con: &str) -> Result<Sums, Error>
 
 /// Whether a constituency is certified.
 pub fn find_certified<S: Alter>(tx: &mut Transaction<'_, S>, con: &str) -> Result<bool, Error>
-    ensures same_reference { tx.new.conn.ghost_name ≡ tx.old.conn.ghost_name }
-    ensures kept { HasCleanDisk (state S.Store tx.new.conn.now) → IsInside (state S.Store tx.old.conn.now) →
-        KeepsCommit (state S.Store tx.old.conn.now) (state S.Store tx.new.conn.now) }
+    ensures reads { OnlyReads S.Store tx.old tx.new result }
     ensures found { HasCleanDisk (state S.Store tx.new.conn.now) → IsInside (state S.Store tx.old.conn.now) →
         IfOk result (λ found. FindsCertified con.now (state S.Store tx.old.conn.now) found) }
-    ensures same { HasCleanDisk (state S.Store tx.new.conn.now) → IsInside (state S.Store tx.old.conn.now) →
-        OnOk result (IsUnchanged (state S.Store tx.old.conn.now) (state S.Store tx.new.conn.now)) }
-    ensures was_open { HasCleanDisk (state S.Store tx.new.conn.now) → IsTrue (state S.Store tx.new.conn.now).is_open →
-        IsTrue (state S.Store tx.old.conn.now).is_open }
-    ensures answered_open { HasCleanDisk (state S.Store tx.new.conn.now) →
-        OnOk result (IsTrue (state S.Store tx.old.conn.now).is_open) }
-    ensures survives { Survives (state S.Store tx.old.conn.now) (state S.Store tx.new.conn.now) (λ _. ⊥) }
 {
     let rows = rows_of_key(tx, KeyedTable::Cons, con)?;
     certified_in(&rows, con)
@@ -69,18 +61,9 @@ pub fn find_sums<S: Alter>(
     tx: &mut Transaction<'_, S>,
     con: &str,
 ) -> Result<Sums, Error>
-    ensures same_reference { tx.new.conn.ghost_name ≡ tx.old.conn.ghost_name }
-    ensures kept { HasCleanDisk (state S.Store tx.new.conn.now) → IsInside (state S.Store tx.old.conn.now) →
-        KeepsCommit (state S.Store tx.old.conn.now) (state S.Store tx.new.conn.now) }
+    ensures reads { OnlyReads S.Store tx.old tx.new result }
     ensures found { HasCleanDisk (state S.Store tx.new.conn.now) → IsInside (state S.Store tx.old.conn.now) →
         IfOk result (λ found. FindsSums con.now (state S.Store tx.old.conn.now) found) }
-    ensures same { HasCleanDisk (state S.Store tx.new.conn.now) → IsInside (state S.Store tx.old.conn.now) →
-        OnOk result (IsUnchanged (state S.Store tx.old.conn.now) (state S.Store tx.new.conn.now)) }
-    ensures was_open { HasCleanDisk (state S.Store tx.new.conn.now) → IsTrue (state S.Store tx.new.conn.now).is_open →
-        IsTrue (state S.Store tx.old.conn.now).is_open }
-    ensures answered_open { HasCleanDisk (state S.Store tx.new.conn.now) →
-        OnOk result (IsTrue (state S.Store tx.old.conn.now).is_open) }
-    ensures survives { Survives (state S.Store tx.old.conn.now) (state S.Store tx.new.conn.now) (λ _. ⊥) }
 {
     let rows = rows_of_key(tx, KeyedTable::Totals, con)?;
     sums_of_rows(alloc, &rows, con)
@@ -93,19 +76,10 @@ fn rows_of_two<S: Alter>(
     second: KeyedTable,
     key: &str,
 ) -> Result<(Vec<Row>, Vec<Row>), Error>
-    ensures same_reference { tx.new.conn.ghost_name ≡ tx.old.conn.ghost_name }
-    ensures kept { HasCleanDisk (state S.Store tx.new.conn.now) → IsInside (state S.Store tx.old.conn.now) →
-        KeepsCommit (state S.Store tx.old.conn.now) (state S.Store tx.new.conn.now) }
+    ensures reads { OnlyReads S.Store tx.old tx.new result }
     ensures found { HasCleanDisk (state S.Store tx.new.conn.now) → IsInside (state S.Store tx.old.conn.now) →
         IfOk result (λ rows. IsFound first key.now (state S.Store tx.old.conn.now) rows.0.items ×
         IsFound second key.now (state S.Store tx.old.conn.now) rows.1.items) }
-    ensures same { HasCleanDisk (state S.Store tx.new.conn.now) → IsInside (state S.Store tx.old.conn.now) →
-        OnOk result (IsUnchanged (state S.Store tx.old.conn.now) (state S.Store tx.new.conn.now)) }
-    ensures was_open { HasCleanDisk (state S.Store tx.new.conn.now) → IsTrue (state S.Store tx.new.conn.now).is_open →
-        IsTrue (state S.Store tx.old.conn.now).is_open }
-    ensures answered_open { HasCleanDisk (state S.Store tx.new.conn.now) →
-        OnOk result (IsTrue (state S.Store tx.old.conn.now).is_open) }
-    ensures survives { Survives (state S.Store tx.old.conn.now) (state S.Store tx.new.conn.now) (λ _. ⊥) }
 {
     let of_first = rows_of_key(tx, first, key)?;
     let of_second = rows_of_key(tx, second, key)?;
@@ -133,18 +107,9 @@ impl Model for ConRows {
 
 /// The rows of a constituency.
 fn rows_of_con<S: Alter>(tx: &mut Transaction<'_, S>, con: &str) -> Result<ConRows, Error>
-    ensures same_reference { tx.new.conn.ghost_name ≡ tx.old.conn.ghost_name }
-    ensures kept { HasCleanDisk (state S.Store tx.new.conn.now) → IsInside (state S.Store tx.old.conn.now) →
-        KeepsCommit (state S.Store tx.old.conn.now) (state S.Store tx.new.conn.now) }
+    ensures reads { OnlyReads S.Store tx.old tx.new result }
     ensures found { HasCleanDisk (state S.Store tx.new.conn.now) → IsInside (state S.Store tx.old.conn.now) →
         IfOk result (λ rows. AreFound con.now (state S.Store tx.old.conn.now) rows) }
-    ensures same { HasCleanDisk (state S.Store tx.new.conn.now) → IsInside (state S.Store tx.old.conn.now) →
-        OnOk result (IsUnchanged (state S.Store tx.old.conn.now) (state S.Store tx.new.conn.now)) }
-    ensures was_open { HasCleanDisk (state S.Store tx.new.conn.now) → IsTrue (state S.Store tx.new.conn.now).is_open →
-        IsTrue (state S.Store tx.old.conn.now).is_open }
-    ensures answered_open { HasCleanDisk (state S.Store tx.new.conn.now) →
-        OnOk result (IsTrue (state S.Store tx.old.conn.now).is_open) }
-    ensures survives { Survives (state S.Store tx.old.conn.now) (state S.Store tx.new.conn.now) (λ _. ⊥) }
 {
     let (cons, lots) = rows_of_two(tx, KeyedTable::Cons, KeyedTable::Lots, con)?;
     let (seats, gone) = rows_of_two(tx, KeyedTable::Seats, KeyedTable::Gone, con)?;
@@ -186,18 +151,9 @@ fn find_status<S: Alter>(
     tx: &mut Transaction<'_, S>,
     station: &str,
 ) -> Result<Option<Status>, Error>
-    ensures same_reference { tx.new.conn.ghost_name ≡ tx.old.conn.ghost_name }
-    ensures kept { HasCleanDisk (state S.Store tx.new.conn.now) → IsInside (state S.Store tx.old.conn.now) →
-        KeepsCommit (state S.Store tx.old.conn.now) (state S.Store tx.new.conn.now) }
+    ensures reads { OnlyReads S.Store tx.old tx.new result }
     ensures found { HasCleanDisk (state S.Store tx.new.conn.now) → IsInside (state S.Store tx.old.conn.now) →
         IfOk result (λ found. FindsStatus station.now (state S.Store tx.old.conn.now) found) }
-    ensures same { HasCleanDisk (state S.Store tx.new.conn.now) → IsInside (state S.Store tx.old.conn.now) →
-        OnOk result (IsUnchanged (state S.Store tx.old.conn.now) (state S.Store tx.new.conn.now)) }
-    ensures was_open { HasCleanDisk (state S.Store tx.new.conn.now) → IsTrue (state S.Store tx.new.conn.now).is_open →
-        IsTrue (state S.Store tx.old.conn.now).is_open }
-    ensures answered_open { HasCleanDisk (state S.Store tx.new.conn.now) →
-        OnOk result (IsTrue (state S.Store tx.old.conn.now).is_open) }
-    ensures survives { Survives (state S.Store tx.old.conn.now) (state S.Store tx.new.conn.now) (λ _. ⊥) }
 {
     let rows = rows_of_key(tx, KeyedTable::Returns, station)?;
     status_in(&rows)
@@ -227,19 +183,13 @@ fn find_statuses<S: Alter>(
     stations: &[Station],
 ) -> Result<Statuses, Error>
     requires few { length stations.now ≤ 5000 }
-    ensures same_reference { tx.new.conn.ghost_name ≡ tx.old.conn.ghost_name }
-    ensures kept { HasCleanDisk (state S.Store tx.new.conn.now) → IsInside (state S.Store tx.old.conn.now) →
-        IsTrue (state S.Store tx.old.conn.now).is_open →
-        KeepsCommit (state S.Store tx.old.conn.now) (state S.Store tx.new.conn.now) }
+    ensures stays { StaysFrom IsOpenInside S.Store tx.old tx.new }
     ensures found { HasCleanDisk (state S.Store tx.new.conn.now) → IsInside (state S.Store tx.old.conn.now) →
         IsTrue (state S.Store tx.old.conn.now).is_open →
         IfOk result (λ found. FindsStatuses stations.now (state S.Store tx.old.conn.now) found) }
     ensures same { HasCleanDisk (state S.Store tx.new.conn.now) → IsInside (state S.Store tx.old.conn.now) →
         IsTrue (state S.Store tx.old.conn.now).is_open →
         OnOk result (IsUnchanged (state S.Store tx.old.conn.now) (state S.Store tx.new.conn.now)) }
-    ensures was_open { HasCleanDisk (state S.Store tx.new.conn.now) → IsTrue (state S.Store tx.new.conn.now).is_open →
-        IsTrue (state S.Store tx.old.conn.now).is_open }
-    ensures survives { Survives (state S.Store tx.old.conn.now) (state S.Store tx.new.conn.now) (λ _. ⊥) }
 {
     let mut found = Statuses {
         stations: 0,
@@ -307,19 +257,10 @@ pub fn find_view<S: Alter>(
     setup: &Setup,
     con: &Constituency,
 ) -> Result<ConView, Error>
-    ensures same_reference { tx.new.conn.ghost_name ≡ tx.old.conn.ghost_name }
-    ensures kept { HasCleanDisk (state S.Store tx.new.conn.now) → IsInside (state S.Store tx.old.conn.now) →
-        KeepsCommit (state S.Store tx.old.conn.now) (state S.Store tx.new.conn.now) }
+    ensures reads { OnlyReads S.Store tx.old tx.new result }
     ensures fits { IfOk result (λ view. FitsView con.now view) }
     ensures found { HasCleanDisk (state S.Store tx.new.conn.now) → IsInside (state S.Store tx.old.conn.now) →
         IfOk result (λ view. FindsView setup.now con.now (state S.Store tx.old.conn.now) view) }
-    ensures same { HasCleanDisk (state S.Store tx.new.conn.now) → IsInside (state S.Store tx.old.conn.now) →
-        OnOk result (IsUnchanged (state S.Store tx.old.conn.now) (state S.Store tx.new.conn.now)) }
-    ensures was_open { HasCleanDisk (state S.Store tx.new.conn.now) → IsTrue (state S.Store tx.new.conn.now).is_open →
-        IsTrue (state S.Store tx.old.conn.now).is_open }
-    ensures answered_open { HasCleanDisk (state S.Store tx.new.conn.now) →
-        OnOk result (IsTrue (state S.Store tx.old.conn.now).is_open) }
-    ensures survives { Survives (state S.Store tx.old.conn.now) (state S.Store tx.new.conn.now) (λ _. ⊥) }
 {
     let rows = rows_of_con(tx, con.code.as_str())?;
     let statuses = find_statuses(tx, con.stations.as_slice())?;

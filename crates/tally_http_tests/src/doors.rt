@@ -3,10 +3,12 @@
 ghost use Rattle.std.specs.Prelude.{◌≡◌, true};
 
 use std::alloc::{AllocError, Global};
-use std::io::{Read, Write};
+use std::cell::Cell;
+use std::io;
+use std::io::{ErrorKind, Read, Write};
 use std::net::{Shutdown, TcpListener, TcpStream};
 use std::test::Fail;
-use std::time::{Duration, Instant};
+use std::time::{Clock, Duration, Instant};
 use tally_door::{Door, DoorFault, MemoryConn, MemoryDoor, TcpDoor, write_all};
 
 // A connection that gives a text.
@@ -120,6 +122,58 @@ fn an_answer_arrives_over_loopback(rt: HostRuntime) -> Result<(), Fail> {
     for is_timed in [false, true] {
         assert!(rt; answer_to(&rt, is_timed, true)?.as_str() == "hello");
     }
+    Ok(())
+}
+
+// A clock that goes on by twenty seconds each time it is asked.
+#[derive(Drop)]
+struct Leaping {
+    seconds: Cell<u64>,
+}
+
+impl Clock for Leaping {
+    fn monotonic(&self) -> io::Result<Duration> {
+        let now = self.seconds.get();
+        self.seconds.set(now.saturating_add(20));
+        Ok(Duration::from_secs(now))
+    }
+
+    fn since_1970(&self) -> io::Result<Duration> {
+        Err(ErrorKind::Unsupported.into())
+    }
+}
+
+// The connection is taken at 0 seconds and read at 20, and what is written begins at 40, so that thirty seconds in all
+// would be over.
+#[test]
+fn writes_have_a_time_of_their_own(rt: HostRuntime) -> Result<(), Fail> {
+    let listener = TcpListener::bind(&rt, "127.0.0.1:0")?;
+    let mut client = TcpStream::connect(&rt, listener.local_addr()?)?;
+    client.write_all(b"abc")?;
+    client.shutdown(Shutdown::Write)?;
+    let clock = Leaping {
+        seconds: Cell::new(0),
+    };
+    answer(TcpDoor::timed(listener, clock))?;
+    Ok(())
+}
+
+// Reads two bytes of a client's three and ends the connection, to which nothing was written.
+fn listen<D: Door + Drop>(mut door: D) -> Result<(), DoorFault> {
+    door.next()?;
+    let mut two = [0u8; 2];
+    door.read(&mut two)?;
+    Ok(())
+}
+
+#[test]
+fn a_silent_client_that_has_no_answer_is_not_waited_for(rt: HostRuntime) -> Result<(), Fail> {
+    let listener = TcpListener::bind(&rt, "127.0.0.1:0")?;
+    let mut client = TcpStream::connect(&rt, listener.local_addr()?)?;
+    client.write_all(b"abc")?;
+    let begun = Instant::now(&rt)?;
+    listen(TcpDoor::new(listener))?;
+    assert!(rt; begun.elapsed(&rt)? < Duration::from_millis(1_900));
     Ok(())
 }
 

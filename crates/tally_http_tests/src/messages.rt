@@ -112,6 +112,26 @@ fn heads_and_lengths_have_their_messages_and_faults(rt: HostRuntime) -> Result<(
     Ok(())
 }
 
+// Texts behind which a read fails, and what they are.
+const STOPPED: [(&[u8], &str); 6] = [
+    (b"", "Read"),
+    (b"GET /progress HTTP/2.0\r\n", "Read"),
+    (b"\x16\x03\x01\x02\x00", "Read"),
+    (b"GET /progress HTTP/2.0\r\n\r\n", "BadHead"),
+    (b"POST / HTTP/1.1\r\nContent-Length: 2\r\n\r\n1", "Read"),
+    (b"GET /progress HTTP/1.1\r\n\r\n", "GET /progress "),
+];
+
+#[test]
+fn a_failed_read_is_one_whatever_came_before(rt: HostRuntime) -> Result<(), Fail> {
+    for size in [1, 4_096] {
+        for (text, expected) in STOPPED {
+            assert!(rt; reading(rt.alloc(), text, size, true)?.as_str() == expected);
+        }
+    }
+    Ok(())
+}
+
 // A head of so many bytes, most of them in the value of a field.
 fn long_head(alloc: Global, size: usize) -> Result<Vec<u8>, AllocError> {
     let mut text = Vec::from_slice(alloc, b"GET / HTTP/1.1\r\na: ")?;

@@ -2,7 +2,7 @@
 use Rattle.std.proofs.Common.{◌≡◌, ◌∷◌, ℕ, List, [], Bool, true, false, Option, Some, None, Result, Ok, Err, length, refl, sym, subst, inl, inr}
 use Rattle.std.specs.Prelude.{◌≢◌, ◌⊎◌, IfSome, OnOk, if◌then◌else◌, nat_lt}
 use Rattle.std.specs.Io.KnownBytes.{Appends, Keeps}
-use Rattle.tally_core.specs.Source.{row_limit}
+use Rattle.tally_keeper.specs.Source.{row_limit}
 use Rattle.tally_import.specs.Header.{header_lists}
 use Rattle.tally_records.specs.Input.{Gave, complete_records}
 use Rattle.tally_import.specs.Check.{Checks, Found, check_fault, checked, examined, no_header, under_header, ended}

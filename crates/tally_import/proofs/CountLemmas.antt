@@ -1,9 +1,9 @@
 -- The count of an import, by the count of one more row alone.
 use Rattle.std.proofs.Common.{◌≡◌, ◌+◌, ◌++◌, ◌∷◌, ◌∙◌, ℕ, List, [], cond, Option, Some, None, length, refl, ap, arith}
-use Rattle.tally_core.specs.Import.{RowAnswer, is_lodged, is_same, is_differing, is_refused, is_bad, noted, note_at, or_else, count_of, counted}
-use Rattle.tally_core.specs.declared.import.FirstRow.{FirstRow}
-use Rattle.tally_core.specs.declared.import.ImportCount.{ImportCount}
-use Rattle.tally_core.proofs.ImportLemmas.{count_of-push, push_is}
+use Rattle.tally_keeper.specs.Import.{RowAnswer, is_lodged, is_same, is_differing, is_refused, is_bad, noted, note_at, or_else, count_of, counted}
+use Rattle.tally_keeper.specs.declared.import.FirstRow.{FirstRow}
+use Rattle.tally_keeper.specs.declared.import.ImportCount.{ImportCount}
+use Rattle.tally_keeper.proofs.ImportLemmas.{count_of-push, push_is}
 use Rattle.tally_import.specs.Notes.{with_row}
 
 none-more : (n : ℕ) → 0 + n ≡ n

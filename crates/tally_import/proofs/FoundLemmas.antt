@@ -4,7 +4,7 @@ use Rattle.std.specs.Prelude.{◌⊎◌, IfSome, IfOk, IfErr, String, string_byt
 use Rattle.std.specs.declared.alloc.Global.{Global}
 use Rattle.std.proofs.lemmas.Bool.{lt-ltb}
 use Rattle.std.proofs.lemmas.Bool.Decides.{nat_tests}
-use Rattle.tally_core.specs.Source.{row_limit}
+use Rattle.tally_keeper.specs.Source.{row_limit}
 use Rattle.tally_import.specs.Header.{header_lists}
 use Rattle.tally_import.specs.Check.{Found, check_fault, check_text, examined, ended, under_header, rows_of_records}
 use Rattle.tally_records.specs.Input.{AreAll}

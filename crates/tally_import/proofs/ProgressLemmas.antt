@@ -12,12 +12,12 @@ use Rattle.tally_returns.specs.Return.{StationReturn, Returns}
 use Rattle.tally_returns.specs.Counts.{VoteCounts}
 use Rattle.tally_returns.specs.Return.{first_return}
 use Rattle.tally_returns.specs.Lodge.{Stations, lodge, lodge_answer, after_lodge, decided_at}
-use Rattle.tally_core.specs.Import.{row_answer, after_row, imported, count_of, lodged_counts}
-use Rattle.tally_core.specs.declared.import.Row.{Row}
+use Rattle.tally_keeper.specs.Import.{row_answer, after_row, imported, count_of, lodged_counts}
+use Rattle.tally_keeper.specs.declared.import.Row.{Row}
 use Rattle.tally_returns.specs.declared.refusal.Refusal.{Refusal}
 use Rattle.tally_returns.specs.declared.reply.LodgeReply.{LodgeReply}
 use Rattle.tally_returns.specs.declared.reply.LodgeReply.TheVariants.{Lodged}
-use Rattle.tally_core.proofs.RowsLemmas.{imported-push, answers-push, length-answers, lodged_counts-push, length-lodged_counts}
+use Rattle.tally_keeper.proofs.RowsLemmas.{imported-push, answers-push, length-answers, lodged_counts-push, length-lodged_counts}
 use Rattle.tally_import.specs.Check.{every_code}
 use Rattle.tally_import.specs.Totals.{AreTotals}
 use Rattle.tally_import.specs.Progress.{Table, Holds, Taken, HasTaken, stations, answered}

@@ -8,10 +8,10 @@ use Rattle.std.specs.Str.{bytes_eq}
 use Rattle.tally_rules.specs.Code.{code_cmp}
 use Rattle.tally_rules.specs.Constituency.{Constituency, list_codes, station_codes}
 use Rattle.tally_returns.specs.Lodge.{Stations}
-use Rattle.tally_core.specs.Source.{Coming, GivesNext, at_end, row_limit}
-use Rattle.tally_core.specs.declared.import.Row.{Row}
-use Rattle.tally_core.specs.declared.source.ImportFault.{ImportFault}
-use Rattle.tally_core.specs.declared.source.ImportFault.TheVariants as cause
+use Rattle.tally_keeper.specs.Source.{Coming, GivesNext, at_end, row_limit}
+use Rattle.tally_keeper.specs.declared.import.Row.{Row}
+use Rattle.tally_keeper.specs.declared.source.ImportFault.{ImportFault}
+use Rattle.tally_keeper.specs.declared.source.ImportFault.TheVariants as cause
 use Rattle.tally_records.specs.Input.{AreAll, text_records, text_stop}
 use Rattle.tally_records.specs.Given.{HasGiven, IsReadingOn, sep_of}
 use Rattle.tally_import.specs.ReturnRows.{Advances, GivesRow, IsAt, IsNext, IsReadingRows, behind, coming_of, import_fault, is_header, no_header, came_by, ending, only, rows_coming, stations_in, still_coming, text_coming}

@@ -3,10 +3,10 @@ use Rattle.std.proofs.Common.{◌≡◌, ◌≤◌, ◌++◌, ◌∷◌, ◌∙�
 use Rattle.std.specs.Prelude.{if◌then◌else◌}
 use Rattle.std.proofs.lemmas.Bool.Decides.{nat_tests}
 use Rattle.std.proofs.lemmas.List.{map-append, length-map}
-use Rattle.tally_core.specs.declared.import.Row.{Row}
+use Rattle.tally_keeper.specs.declared.import.Row.{Row}
 use Rattle.std.proofs.Common.{Option, Some, None, Ok, Err}
 use Rattle.std.specs.Prelude.{is_some, option_map, nat_lt}
-use Rattle.tally_core.specs.Source.{row_limit}
+use Rattle.tally_keeper.specs.Source.{row_limit}
 use Rattle.tally_import.specs.Header.{header_lists}
 use Rattle.tally_import.specs.declared.check.CheckFault.TheVariants.{TooLong}
 use Rattle.tally_import.specs.Check.{rows_of_records, every_code, examined, under_header, check_text}

@@ -10,7 +10,7 @@ use Rattle.tally_returns.specs.Counts.{VoteCounts, are_counts, is_number}
 use Rattle.std.proofs.Common.{inl, inr, slice_index}
 use Rattle.std.proofs.lemmas.Bool.{cases_lt}
 use Rattle.std.proofs.lemmas.List.{get_or_past}
-use Rattle.tally_core.specs.Source.{row_limit}
+use Rattle.tally_keeper.specs.Source.{row_limit}
 use Rattle.tally_import.specs.Totals.{AreTotals}
 use Rattle.tally_import.specs.declared.totals.Totals.{Totals}
 

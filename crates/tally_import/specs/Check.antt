@@ -5,11 +5,11 @@ use Rattle.std.specs.FinMap.{empty}
 use Rattle.std.specs.Io.KnownBytes.{Appends, Keeps}
 use Rattle.tally_returns.specs.Counts.{VoteCounts}
 use Rattle.tally_returns.specs.Lodge.{Stations}
-use Rattle.tally_core.specs.Import.{answers, count_of, lodged_counts}
-use Rattle.tally_core.specs.Source.{row_limit}
-use Rattle.tally_core.specs.declared.import.ImportCount.{ImportCount}
-use Rattle.tally_core.specs.declared.import.FirstRow.{FirstRow}
-use Rattle.tally_core.specs.declared.import.Row.{Row}
+use Rattle.tally_keeper.specs.Import.{answers, count_of, lodged_counts}
+use Rattle.tally_keeper.specs.Source.{row_limit}
+use Rattle.tally_keeper.specs.declared.import.ImportCount.{ImportCount}
+use Rattle.tally_keeper.specs.declared.import.FirstRow.{FirstRow}
+use Rattle.tally_keeper.specs.declared.import.Row.{Row}
 use Rattle.tally_import.specs.Header.{header_lists}
 use Rattle.tally_records.specs.Input.{Gave, complete_records}
 use Rattle.tally_import.specs.Rows.{row_of}

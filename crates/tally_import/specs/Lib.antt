@@ -8,7 +8,7 @@ pub mod Notes
 pub use Rattle.tally_returns.specs.Counts
 pub use Rattle.tally_returns.specs.Return
 pub use Rattle.tally_returns.specs.Lodge
-pub use Rattle.tally_core.specs.Import
+pub use Rattle.tally_keeper.specs.Import
 pub mod ReturnRows
 pub mod ReturnRowsValue
 pub mod ReturnRowsWithin

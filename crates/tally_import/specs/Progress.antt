@@ -8,8 +8,8 @@ use Rattle.std.specs.declared.hash.FoldHasher.{FoldHasher}
 use Rattle.tally_returns.specs.Counts.{VoteCounts}
 use Rattle.tally_returns.specs.Return.{StationReturn, Returns}
 use Rattle.tally_returns.specs.Lodge.{Stations}
-use Rattle.tally_core.specs.Import.{RowAnswer, answers, imported, count_of, lodged_counts}
-use Rattle.tally_core.specs.declared.import.Row.{Row}
+use Rattle.tally_keeper.specs.Import.{RowAnswer, answers, imported, count_of, lodged_counts}
+use Rattle.tally_keeper.specs.declared.import.Row.{Row}
 use Rattle.tally_returns.specs.declared.refusal.Refusal.{Refusal}
 use Rattle.tally_returns.specs.declared.reply.LodgeReply.{LodgeReply}
 use Rattle.tally_returns.specs.declared.reply.LodgeReply.TheVariants.{Lodged, Same}

@@ -6,10 +6,10 @@ use Rattle.tally_rules.specs.Code.{code_cmp}
 use Rattle.tally_rules.specs.Constituency.{Constituency, list_codes}
 use Rattle.tally_returns.specs.Lodge.{Stations}
 use Rattle.tally_returns.specs.Decide.{station_in, limits_of}
-use Rattle.tally_core.specs.Source.{Coming, Ending, GivesNext, IsSudden, row_limit}
-use Rattle.tally_core.specs.declared.import.Row.{Row}
-use Rattle.tally_core.specs.declared.source.ImportFault.{ImportFault}
-use Rattle.tally_core.specs.declared.source.ImportFault.TheVariants as cause
+use Rattle.tally_keeper.specs.Source.{Coming, Ending, GivesNext, IsSudden, row_limit}
+use Rattle.tally_keeper.specs.declared.import.Row.{Row}
+use Rattle.tally_keeper.specs.declared.source.ImportFault.{ImportFault}
+use Rattle.tally_keeper.specs.declared.source.ImportFault.TheVariants as cause
 use Rattle.tally_import.specs.Header.{same_text}
 use Rattle.tally_records.specs.Input.{text_records, text_stop}
 use Rattle.tally_records.specs.Given.{HasGiven, IsReadingOn, TellsTrue, sep_of}

@@ -1,9 +1,9 @@
 -- The rows of a constituency's returns as contracts see them.
 use Rattle.std.specs.Prelude.{ℕ, Bool, List, Option, Some, None, option_map}
 use Rattle.tally_rules.specs.Constituency.{Constituency}
-use Rattle.tally_core.specs.Source.{Coming, Ending}
-use Rattle.tally_core.specs.declared.source.ImportFault.{ImportFault}
-use Rattle.tally_core.specs.declared.source.ImportFault.TheVariants as cause
+use Rattle.tally_keeper.specs.Source.{Coming, Ending}
+use Rattle.tally_keeper.specs.declared.source.ImportFault.{ImportFault}
+use Rattle.tally_keeper.specs.declared.source.ImportFault.TheVariants as cause
 use Rattle.tally_import.specs.ReturnRows.{behind, only, text_coming}
 use Rattle.tally_records.specs.declared.separator.Sep.{Sep}
 

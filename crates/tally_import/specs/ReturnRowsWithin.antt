@@ -2,9 +2,9 @@
 use Rattle.std.proofs.Common.{◌≤◌, ℕ, zero, suc, List, [], ◌∷◌, Bool, true, false, Option, Some, None, length, take, map, arith, length-drop}
 use Rattle.std.specs.Prelude.{◌≢◌, if◌then◌else◌, nat_lt, option_map, IfSome}
 use Rattle.tally_rules.specs.Constituency.{Constituency, list_codes}
-use Rattle.tally_core.specs.Source.{IsWithin, row_limit}
-use Rattle.tally_core.specs.declared.source.ImportFault.{ImportFault}
-use Rattle.tally_core.specs.declared.source.ImportFault.TheVariants as cause
+use Rattle.tally_keeper.specs.Source.{IsWithin, row_limit}
+use Rattle.tally_keeper.specs.declared.source.ImportFault.{ImportFault}
+use Rattle.tally_keeper.specs.declared.source.ImportFault.TheVariants as cause
 use Rattle.tally_records.specs.Input.{size_limit, text_records}
 use Rattle.tally_import.specs.ReturnRows.{coming_of, import_fault, is_header, only, rows_coming, text_coming}
 use Rattle.tally_import.specs.ReturnRowsValue.{ReturnRows, coming, coming_at, own_fault}

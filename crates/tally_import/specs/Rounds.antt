@@ -1,7 +1,7 @@
 -- What the parts of a check leave.
 use Rattle.std.specs.Prelude.{◌≡◌, ◌<◌, ◌≤◌, ◌++◌, ◌⊎◌, ⊤, ℕ, Bool, true, List, length, Option, Some, None, option_map, Result, Ok, Err, String, string_bytes}
 use Rattle.std.specs.declared.alloc.Global.{Global}
-use Rattle.tally_core.specs.Source.{row_limit}
+use Rattle.tally_keeper.specs.Source.{row_limit}
 use Rattle.tally_import.specs.Check.{Found, check_fault, rows_of_records}
 use Rattle.tally_import.specs.Progress.{HasTaken}
 use Rattle.tally_records.specs.Input.{AreAll}

@@ -5,8 +5,8 @@ use Rattle.std.specs.List.{list_all}
 use Rattle.tally_rules.specs.Code.{is_code}
 use Rattle.tally_returns.specs.Lodge.{Stations}
 use Rattle.tally_returns.specs.declared.ask.Ask.TheVariants as ask
-use Rattle.tally_core.specs.declared.import.Row.{Row}
-use Rattle.tally_core.specs.declared.import.Row.TheVariants.{Lodge, Bad}
+use Rattle.tally_keeper.specs.declared.import.Row.{Row}
+use Rattle.tally_keeper.specs.declared.import.Row.TheVariants.{Lodge, Bad}
 
 -- 1 to 9 digits; leading zeros are allowed
 abbrev pub is_number_text : List ℕ → Bool

@@ -16,7 +16,7 @@ use crate::summary::import_text;
 use csv::ByteRecord;
 use std::alloc::{AllocError, Global};
 use std::io::{Read, Write};
-use tally_core::ROW_LIMIT;
+use tally_keeper::ROW_LIMIT;
 use tally_records::{End, Records, Sep, Stop, Watch};
 
 /// Why a text could not be checked.

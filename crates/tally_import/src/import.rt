@@ -1,20 +1,20 @@
 //! An import into the empty map, in which every code is a station.
 
 ghost use Rattle.std.specs.Prelude.{◌≡◌, ◌+◌, ◌<◌, ◌≤◌, ◌++◌, List, [], ◌∷◌, length, Some, IfOk, OnOk};
-ghost use Rattle.tally_core.specs.Import.{row_answer, after_row, lodged_counts};
+ghost use Rattle.tally_keeper.specs.Import.{row_answer, after_row, lodged_counts};
 ghost use Rattle.tally_returns.specs.Counts.{VoteCounts};
-ghost use Rattle.tally_core.specs.Import.{RowAnswer, count_of, or_else};
-ghost use Rattle.tally_core.specs.Source.{row_limit};
+ghost use Rattle.tally_keeper.specs.Import.{RowAnswer, count_of, or_else};
+ghost use Rattle.tally_keeper.specs.Source.{row_limit};
 ghost use Rattle.tally_returns.specs.Lodge.{lodge, lodge_answer};
 ghost use Rattle.tally_returns.specs.Return.{Returns};
-ghost use Rattle.tally_core.specs.declared.import.Row.{Row};
+ghost use Rattle.tally_keeper.specs.declared.import.Row.{Row};
 ghost use Rattle.tally_import.specs.Check.{every_code};
 ghost use Rattle.tally_import.specs.Notes.{with_row};
 
 use crate::totals::{Totals, add_return, no_totals};
 use std::alloc::{AllocError, Global};
 use std::collections::HashMap;
-use tally_core::{
+use tally_keeper::{
     Ask, Counts, FirstRow, ImportCount, LodgeReply, Refusal, Return, Row, decide_lodge,
 };
 use tally_rules::Code;

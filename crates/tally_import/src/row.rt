@@ -7,7 +7,7 @@ ghost use Rattle.tally_import.specs.Rows.{is_number_text, number_of, row_of, num
 
 use csv::ByteRecord;
 use std::alloc::{AllocError, Global};
-use tally_core::{Ask, Counts, Row};
+use tally_keeper::{Ask, Counts, Row};
 use tally_records::field;
 use tally_rules::Code;
 

@@ -10,7 +10,7 @@ use crate::check::CheckFault;
 use crate::import::Import;
 use crate::totals::Totals;
 use std::alloc::{AllocError, Global};
-use tally_core::ImportCount;
+use tally_keeper::ImportCount;
 use tally_rules::Code;
 
 /// The check text of an import under a header of these lists, or the fault Memory.

@@ -1,12 +1,12 @@
 //! The totals of returns.
 
 ghost use Rattle.std.specs.Prelude.{◌≡◌, ◌+◌, ◌<◌, ◌≤◌, ◌^◌, ◌++◌, ℕ, true, List, [], ◌∷◌, length, slice_index, IfOk};
-ghost use Rattle.tally_core.specs.Source.{row_limit};
+ghost use Rattle.tally_keeper.specs.Source.{row_limit};
 ghost use Rattle.tally_returns.specs.Counts.{VoteCounts, are_counts};
 ghost use Rattle.tally_import.specs.Totals.{AreTotals};
 
 use std::alloc::{AllocError, Global};
-use tally_core::Counts;
+use tally_keeper::Counts;
 
 /// The votes for each list, the blank votes and the spoiled ones of returns, together.
 #[derive(Drop)]

@@ -11,11 +11,11 @@ use Rattle.tally_rules.specs.Constituency.{Constituency, ListEntry}
 use Rattle.tally_rules.specs.Limits.{IsConstituency, IsListEntry}
 use Rattle.tally_rules.specs.Text.{is_note}
 use Rattle.std.specs.Str.{is_utf8}
-use Rattle.tally_contest.specs.ListSet.{has_place}
-use Rattle.tally_contest.specs.LotNeed.{IsLotTaken}
-use Rattle.tally_machine.specs.Outcome.{HasSeats, IsLawfulGone, IsLawfulPast, IsLawfulView, MayStand, poll_in, rule_in}
-use Rattle.tally_machine.proofs.CertificationLemmas.{group-within}
-use Rattle.tally_machine.proofs.VacancyLemmas.{allotted-sum}
+use Rattle.tally_rules.specs.ListSet.{has_place}
+use Rattle.tally_law.specs.LotNeed.{IsLotTaken}
+use Rattle.tally_steps.specs.Outcome.{HasSeats, IsLawfulGone, IsLawfulPast, IsLawfulView, MayStand, poll_in, rule_in}
+use Rattle.tally_steps.proofs.CertificationLemmas.{group-within}
+use Rattle.tally_steps.proofs.VacancyLemmas.{allotted-sum}
 use Rattle.tally_returns.specs.GoneCandidate.{GoneCandidate}
 use Rattle.tally_returns.specs.PastSeats.{PastSeats}
 use Rattle.tally_returns.specs.View.{View}

@@ -23,9 +23,9 @@ use Rattle.tally_returns.specs.Return.{Returns}
 use Rattle.tally_returns.specs.State.{State, ConState, GoneCandidates, Records, con_state, opening_con}
 use Rattle.tally_returns.specs.View.{View, view_with, view_of, gone_candidate, past_record}
 use Rattle.tally_ledger.specs.Kept.{Kept, view_in}
-use Rattle.tally_machine.specs.LawfulState.{IsUnderPlaces, IsLawfulIn, IsLawfulState}
-use Rattle.tally_machine.specs.Outcome.{IsLawfulCon, IsLawfulView, HasSeats}
-use Rattle.tally_machine.proofs.ViewLemmas.{constituency-code}
+use Rattle.tally_steps.specs.LawfulState.{IsUnderPlaces, IsLawfulIn, IsLawfulState}
+use Rattle.tally_steps.specs.Outcome.{IsLawfulCon, IsLawfulView, HasSeats}
+use Rattle.tally_steps.proofs.ViewLemmas.{constituency-code}
 use Rattle.tally_rows.specs.Rows.{text_cmp}
 use Rattle.tally_rows.proofs.RowsLemmas.{text_total, keys_rise}
 use Rattle.tally_tables.specs.Cells.{item_row, items_of, con_rows, lot_rows, seat_rows, gone_row, gone_rows, record_rows, total_rows, past_rows}

@@ -11,8 +11,8 @@ use Rattle.tally_rules.specs.Limits.{IsSetup}
 use Rattle.tally_returns.specs.State.{State, ConState, GoneCandidates, Records}
 use Rattle.tally_returns.specs.View.{view_with, gone_candidate, gone_candidates, past_record, past_records}
 use Rattle.tally_returns.specs.Return.{Returns}
-use Rattle.tally_machine.specs.LawfulState.{IsUnderPlaces, IsLawfulState}
-use Rattle.tally_machine.specs.LawStatements.{ViewsAreLawful}
+use Rattle.tally_steps.specs.LawfulState.{IsUnderPlaces, IsLawfulState}
+use Rattle.tally_steps.specs.LawStatements.{ViewsAreLawful}
 use Rattle.tally_rows.specs.Rows.{text_cmp}
 use Rattle.tally_tables.proofs.ConLemmas.{gone_entry, past_entry}
 use Rattle.tally_judge.specs.Found.{HasCodes}

@@ -7,8 +7,8 @@ use Rattle.std.proofs.lemmas.Str.{is_utf8-from_IsUtf8}
 use Rattle.tally_allot.specs.AllotFault.{IsFaultOf}
 use Rattle.tally_allot.specs.declared.fault.AllotFault.{AllotFault}
 use Rattle.tally_allot.specs.declared.fault.AllotFault.TheVariants.{NoEligible, LotMissing, WrongLot, Memory}
-use Rattle.tally_machine.specs.Outcome.{HasSeats, IsLawfulView, poll_in, rule_in}
-use Rattle.tally_machine.proofs.CertificationLemmas.{lot-right}
+use Rattle.tally_steps.specs.Outcome.{HasSeats, IsLawfulView, poll_in, rule_in}
+use Rattle.tally_steps.proofs.CertificationLemmas.{lot-right}
 use Rattle.tally_returns.specs.Lawful.{is_kept_note, may_stand}
 use Rattle.tally_returns.specs.View.{View}
 use Rattle.tally_rules.specs.Constituency.{Constituency}

@@ -20,9 +20,9 @@ use Rattle.tally_rules.specs.Limits.{IsSetup}
 use Rattle.tally_rules.specs.Setup.{all_stations, constituency_with, constituency_codes, station_with}
 use Rattle.tally_rules.specs.declared.constituency.Station.{Station}
 use Rattle.tally_ledger.specs.Kept.{Kept, opening_kept, view_in}
-use Rattle.tally_machine.specs.LawfulState.{IsLawfulState}
-use Rattle.tally_machine.specs.LawStatements.{ViewsAreLawful}
-use Rattle.tally_machine.proofs.ViewLemmas.{found-has, found-passes}
+use Rattle.tally_steps.specs.LawfulState.{IsLawfulState}
+use Rattle.tally_steps.specs.LawStatements.{ViewsAreLawful}
+use Rattle.tally_steps.proofs.ViewLemmas.{found-has, found-passes}
 use Rattle.tally_returns.specs.Decide.{limits_of}
 use Rattle.tally_returns.specs.Return.{StationReturn, Returns}
 use Rattle.tally_returns.specs.State.{State, ConState}

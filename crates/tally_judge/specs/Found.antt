@@ -4,7 +4,7 @@ use Rattle.std.specs.Ordering.{nat_cmp}
 use Rattle.std.specs.Cmp.Lexicographic.{pointwise}
 use Rattle.sqlite_value.specs.Order.{Row}
 use Rattle.tally_ledger.specs.Kept.{Kept, view_in}
-use Rattle.tally_machine.specs.Outcome.{IsLawfulView}
+use Rattle.tally_steps.specs.Outcome.{IsLawfulView}
 use Rattle.tally_returns.specs.GoneCandidate.{GoneCandidate}
 use Rattle.tally_returns.specs.PastSeats.{PastSeats}
 use Rattle.tally_returns.specs.View.{View}

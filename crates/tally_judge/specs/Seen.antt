@@ -1,8 +1,8 @@
 -- The parts of a lawful view.
 use Rattle.std.specs.Prelude.{◌≡◌, ◌⊎◌, ◌&&◌, All, Bool, true, [], nat_le}
-use Rattle.tally_contest.specs.LotNeed.{IsLotTaken}
-use Rattle.tally_contest.specs.Poll.{HasEligible}
-use Rattle.tally_machine.specs.Outcome.{HasSeats, IsLawfulGone, IsLawfulPast, MayStand, poll_in, rule_in}
+use Rattle.tally_law.specs.LotNeed.{IsLotTaken}
+use Rattle.tally_law.specs.Poll.{HasEligible}
+use Rattle.tally_steps.specs.Outcome.{HasSeats, IsLawfulGone, IsLawfulPast, MayStand, poll_in, rule_in}
 use Rattle.tally_returns.specs.Lawful.{may_stand}
 use Rattle.tally_returns.specs.State.{last_edition}
 use Rattle.tally_returns.specs.View.{View, FitsView}

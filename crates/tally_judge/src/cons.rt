@@ -8,12 +8,13 @@ ghost use Rattle.tally_judge.specs.Found.{gone_places, is_as_counted, past_editi
 ghost use Rattle.tally_rows.specs.Rows.{text_cmp};
 ghost use Rattle.tally_tables.specs.Views.{tables_in};
 
+use crate::found::{ConFound, views_from};
 use crate::view::is_lawful_view;
 use sqlite::Row;
 use std::alloc::{AllocError, Global};
 use tally_ledger::Ledger;
 use tally_returns::{ConView, Gone, Past};
-use tally_tables::{ConFound, ConTables, views_from};
+use tally_tables::ConTables;
 
 /// Whether these are the rows of lawful constituencies with the returns of the ledger.
 pub(crate) fn are_lawful_cons(

@@ -3,6 +3,7 @@
 
 mod codes;
 mod cons;
+mod found;
 mod office;
 mod returns;
 mod view;

@@ -1,7 +1,7 @@
 //! Whether what is seen of a constituency is what a lawful state shows of it.
 
 ghost use Rattle.std.specs.Prelude.{◌≡◌, ◌≢◌, ◌≤◌, All, IfOk, IsTrue, [], length, sum};
-ghost use Rattle.tally_machine.specs.Outcome.{IsLawfulGone, IsLawfulPast, IsLawfulView, is_candidate};
+ghost use Rattle.tally_steps.specs.Outcome.{IsLawfulGone, IsLawfulPast, IsLawfulView, is_candidate};
 ghost use Rattle.tally_returns.specs.Lawful.{is_kept_note, may_stand};
 ghost use Rattle.tally_returns.specs.View.{FitsView, HasEachList};
 ghost use Rattle.tally_judge.specs.Seen.{HasLawfulFrame, IsCertified, IsLotRight, IsOpen, is_in_range};

@@ -4,7 +4,7 @@ ghost use Rattle.std.specs.Prelude.{◌≡◌, ◌<◌, ◌+◌, ◌^◌, ◌∷
 ghost use Rattle.std.specs.FinMap.{get, insert, remove};
 ghost use Rattle.std.specs.Option.{option_copied};
 ghost use Rattle.tally_ledger.specs.Kept.{AreEarlier, opening_kept, state_in, view_in, with_change, with_no_lot};
-ghost use Rattle.tally_machine.specs.Step.{certified_with, gone_for_good, lot_set, open_again};
+ghost use Rattle.tally_steps.specs.Step.{certified_with, gone_for_good, lot_set, open_again};
 ghost use Rattle.tally_returns.specs.Lawful.{IsLawfulAt};
 ghost use Rattle.tally_returns.specs.Progress.{progress};
 ghost use Rattle.tally_returns.specs.State.{con_state};
@@ -18,7 +18,7 @@ use crate::views::{
 use std::alloc::{AllocError, Global};
 use std::collections::BTreeMap;
 use std::marker::Model;
-use tally_machine::{ConView, Gone, Past, ProgressRow, Return};
+use tally_returns::{ConView, Gone, Past, ProgressRow, Return};
 use tally_rules::{Code, Setup};
 
 /// The returns of an election, and what is seen of each of its constituencies. The sums of closed

@@ -10,7 +10,7 @@ ghost use Rattle.tally_returns.specs.Lawful.{IsLawfulAt};
 use crate::views::count;
 use std::alloc::AllocError;
 use std::collections::BTreeMap;
-use tally_machine::{ConView, Return};
+use tally_returns::{ConView, Return};
 use tally_rules::{Code, Setup};
 
 /// Puts the return of a station: the one that stood counts no longer, and this one counts.

@@ -3,7 +3,7 @@
 ghost use Rattle.std.specs.Prelude.{◌≡◌, ◌≤◌, length};
 ghost use Rattle.tally_ledger.specs.Sums.{CanCount, CanCountOne, CanMove, CanMoveCounts, CanMoveEach, moved_sum, moved_sums, with_counts, with_return_counted, with_status};
 
-use tally_machine::{ConView, Counts, Return, Status};
+use tally_returns::{ConView, Counts, Return, Status};
 
 /// A sum of votes, from 0 to 5,000,000,000, with this number added to it or taken away.
 pub fn moved(n: u64, by: u32, add: bool) -> u64

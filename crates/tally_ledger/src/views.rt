@@ -11,7 +11,7 @@ ghost use Rattle.tally_rules.specs.Limits.{IsSetup};
 use crate::sums::count_return;
 use std::alloc::{AllocError, Global};
 use std::collections::BTreeMap;
-use tally_machine::{ConView, Gone, Past, ProgressRow, Return};
+use tally_returns::{ConView, Gone, Past, ProgressRow, Return};
 use tally_rules::{Code, Constituency, Setup};
 
 /// What is seen of each constituency as it opens.

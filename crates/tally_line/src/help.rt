@@ -19,6 +19,8 @@ A first session:
       answers 100 connections, to close the returns and to certify
   office show --db office.db --report seats --con montehondo
       shows the seats, once montehondo is certified
+Returns are queried, corrected and closed, lots are recorded and constituencies
+are certified through 'office serve'.
 
 'office new --help', and so of each command, says what goes in and what comes
 out. docs/FORMATS.md of the repository is the long manual.";
@@ -43,7 +45,8 @@ What goes in:
 What comes out:
   lodged N    returns that were lodged, the first good one of each station
   same N      rows that repeat a lodged return, with its slip and its counts
-  differs N   rows of a station whose return was lodged, that say otherwise
+  differs N   rows of a station whose return was lodged, with another slip or
+              other counts
   refused N   rows with a number above 1000000, or with more than 1000000 votes,
               the blank and the spoiled ones among them
   bad N       rows that cannot be read as returns: another number of fields
@@ -83,7 +86,7 @@ Example:
 Exit status:
   0  the returns were checked, whatever was found in their rows
   1  'refused: bad_header' or 'refused: too_long' on standard error
-  2  a wrong command line, or a call for help
+  2  the command line is wrong, or asks for help
   3  'failed: WORD' on standard error:
        memory    the program is out of memory
        read      standard input cannot be read
@@ -107,6 +110,14 @@ What goes in:
   --setup  the setup, a TOML file of at most 8388608 bytes: the tables
            profile, constituency, constituency.list and constituency.station
 
+The keys of a profile:
+  method     dhondt, sainte-lague, modified-sainte-lague or hare
+  threshold  ten-thousandths of the base, 0 to 10000: 300 is 3 per cent
+  base       valid (the votes of the lists and the blank ones) or lists (the
+             votes of the lists alone)
+  lot        fixed, or alternating: the order of a lot is turned round for
+             every second seat. It may be left out
+
 What comes out:
   constituencies N   how many constituencies the office has";
 
@@ -117,7 +128,7 @@ Example:
     [[profile]]
     code = \"d0\"
     method = \"dhondt\"
-    threshold = 0
+    threshold = 300
     base = \"valid\"
 
     [[constituency]]
@@ -146,7 +157,8 @@ Example:
 
 Exit status:
   0  the office was made
-  1  'refused: WORD' on standard error:
+  1  'refused: WORD' on standard error, the first fault of the setup from top
+     to bottom:
        not_toml           the setup is not TOML, or not UTF-8
        missing KEY        a key is not there, or its array is empty
        bad_value KEY      a value is of another kind, or outside its limits
@@ -155,12 +167,13 @@ Exit status:
        duplicate CODE     a code occurs twice
        unknown_profile    a constituency names a profile that is not there
        not_empty          the database has a table of one of the office's names
-  2  a wrong command line, or a call for help
+  2  the command line is wrong, or asks for help
   3  'failed: WORD' on standard error; after store or write the office may have
      been made:
        memory             the program is out of memory
-       store              the database cannot be opened or written, mostly since
-                          another program has it open
+       store              the database cannot be opened (there is no such
+                          folder, or another program has it open), or a read,
+                          a write or its closing failed
        file, read         the setup cannot be opened, or cannot be read
        write              standard output takes no more";
 
@@ -190,7 +203,8 @@ What goes in:
 What comes out:
   lodged N    returns that were lodged, the first good one of each station
   same N      rows that repeat a lodged return, with its slip and its counts
-  differs N   rows of a station whose return was lodged, that say otherwise
+  differs N   rows of a station whose return was lodged, with another slip or
+              other counts
   refused N   rows with a number above 1000000, or with more votes than the
               station has electors, the blank and the spoiled ones among them
   bad N       rows that are no return of a station of the constituency
@@ -217,19 +231,20 @@ Example:
 Exit status:
   0  the file was imported, whatever was found in its rows
   1  'refused: WORD' on standard error:
-       no_tables          the database has no office
+       no_tables          there is no such file (is --db right?), or it has no
+                          office
        bad_tables         its tables are not those of an office
        bad_setup          the setup in it is not a setup
        no_constituency    the office has no constituency of this code
        bad_header         the header is not that of the constituency
        too_long           there are more rows or bytes than there may be
-  2  a wrong command line, or a call for help
+  2  the command line is wrong, or asks for help
   3  'failed: WORD' on standard error; after store or write the import may have
      been done. Give it again: its rows then count as same:
        memory             the program is out of memory
-       store              the database cannot be opened, read or written, mostly
-                          since another program, such as 'office serve', has it
-                          open
+       store              the database cannot be opened (there is no such
+                          folder, or another program, such as 'office serve',
+                          has it open), or a read, a write or its closing failed
        file, read         the returns cannot be opened, or cannot be read
        write              standard output takes no more";
 
@@ -261,9 +276,9 @@ What goes in:
             --con=-x. Every report but progress needs it; progress ignores it
 
 What comes out:
-  The report. Tally and past are given at any time; seats, quotients, awards,
-  quota, holders and short of a constituency that is certified. Quotients,
-  awards and short are of the rules by divisors, and quota is of Hare's.";
+  The report. Tally, past and progress are given at any time, the others once
+  the constituency is certified: quotients, awards and short only under a
+  divisor rule, quota only under Hare's.";
 
 pub const SHOW_EXAMPLE: &str = "\
 Example:
@@ -278,18 +293,20 @@ Example:
 Exit status:
   0  the report was shown
   1  'refused: WORD' on standard error:
-       no_tables          the database has no office
+       no_tables          there is no such file (is --db right?), or it has no
+                          office
        bad_tables         its tables are not those of an office
        bad_setup          the setup in it is not a setup
        no_constituency    the office has no constituency of this code
        not_certified      the report is of certified constituencies alone
        other_method       the report is of another rule of allotment
-  2  a wrong command line, or a call for help; 'missing --con' on standard
+  2  the command line is wrong, or asks for help; 'missing --con' on standard
      error, where the report needs a constituency
   3  'failed: WORD' on standard error:
        memory             the program is out of memory
-       store              the database cannot be opened or read, mostly since
-                          another program, such as 'office serve', has it open
+       store              the database cannot be opened (there is no such
+                          folder, or another program, such as 'office serve',
+                          has it open), or a read or its closing failed
        write              standard output takes no more; a part may be printed";
 
 pub const REPORT: &str = "The report, such as tally; --help has the names";
@@ -309,8 +326,15 @@ One connection after the other is served, each with one request and its answer,
 until N connections came, those that failed among them. Requests lodge, query,
 correct and close returns, draw lots, certify and reopen constituencies, record
 who leaves a seat, import files, and show all this. What was answered as done is
-in the database. So Ctrl-C ends the server at any time, and nothing of it is
-lost; no other command can open the database before.
+in the database, so Ctrl-C is safe at any time. Until the server ends, no other
+command can open the database. A connection that failed counts, and so does
+each of the two or three that a browser takes for one table.
+
+The server asks nobody who they are. Every program on this machine can send it
+requests, and so can a web page that is open in a browser here: it could lodge,
+vacate and certify. Let no browser run here while this serves without a proxy;
+the folder deploy/ of the repository has one, with accounts and a record of who
+sent what.
 
 What goes in:
   --db     the database of an office
@@ -352,14 +376,16 @@ Example:
 Exit status:
   0  the connections were served
   1  'refused: WORD' on standard error:
-       no_tables          the database has no office
+       no_tables          there is no such file (is --db right?), or it has no
+                          office
        bad_tables         its tables are not those of an office
        bad_setup          the setup in it is not a setup
-  2  a wrong command line, or a call for help
+  2  the command line is wrong, or asks for help
   3  'failed: WORD' on standard error; what was answered as done is done:
        memory             the program is out of memory
-       store              the database cannot be opened, read or closed, mostly
-                          since another program has it open
+       store              the database cannot be opened (there is no such
+                          folder, or another program has it open), or a read,
+                          a write or its closing failed
        port               the port cannot be had: another program has it, or it
                           needs more rights
        write              standard output takes no more";

@@ -1,31 +1,37 @@
--- Candidates who stay.
-use Rattle.std.proofs.Common.{◌≡◌, ◌∙◌, ℕ, zero, suc, ◌+◌, List, [], ◌∷◌, ◌++◌, Bool, true, false, ap, arith}
-use Rattle.std.proofs.Common.{cond, append-nil}
-use Rattle.std.proofs.Math.Numerals.{add-one}
-use Rattle.std.specs.Prelude.{not}
-use Rattle.std.specs.List.{filter, range_with_len}
-use Rattle.std.proofs.lemmas.List.Elements.{filter-append}
-use Rattle.tally_machine.specs.Holders.{is_among, staying}
+-- The first of those who stay, found before all candidates are looked at.
+use Rattle.std.proofs.Common.{◌≡◌, ◌≤◌, ◌∙◌, ℕ, zero, suc, ◌+◌, ◌-◌, List, ◌∷◌, [], Bool, true, false, length, take, refl, sym, ap, arith}
+use Rattle.std.proofs.lemmas.List.{length_push, take-append-le, take_all}
+use Rattle.tally_steps.specs.Holders.{holders, is_among, staying}
+use Rattle.tally_steps.proofs.HolderLemmas.{staying-more, staying-same}
 
--- one number more
-pub range-more : (a n : ℕ) → range_with_len a (suc n) ≡ range_with_len a n ++ (a + n) ∷ []
-range-more a zero = ap (λ m. m ∷ []) (let e : a ≡ a + 0 = omega arith in e)
-range-more a (suc n) =
-    ap (λ rest. a ∷ rest) (range-more (a + 1) n)
-    ∙ ap (λ m. (a ∷ range_with_len (a + 1) n) ++ m ∷ []) (let e : a + 1 + n ≡ a + suc n = omega arith in e)
+-- with one candidate more there are as many, and the first are the same
+one_more : (seats n : ℕ) (gone : List ℕ) → seats ≤ length (staying n gone) → (take seats (staying (n + 1) gone) ≡ take seats (staying n gone)) × (seats ≤ length (staying (n + 1) gone))
+one_more seats n gone enough = by_mark (is_among (n + 1) gone) refl
+  where
+    by_mark : (b : Bool) → is_among (n + 1) gone ≡ b → (take seats (staying (n + 1) gone) ≡ take seats (staying n gone)) × (seats ≤ length (staying (n + 1) gone))
+    by_mark true e =
+        let same = staying-same n gone e in
+        (ap (take seats) same, omega (arith, enough, ap length same))
+    by_mark false e =
+        let more = staying-more n gone e in
+        (ap (take seats) more ∙ take-append-le seats (staying n gone) ((n + 1) ∷ []) enough, omega (arith, enough, ap length more, length_push (staying n gone) (n + 1)))
 
--- one candidate more, who stays
-pub staying-more : (n : ℕ) (gone : List ℕ) → is_among (n + 1) gone ≡ false → staying (n + 1) gone ≡ staying n gone ++ (n + 1) ∷ []
-staying-more n gone stays =
-    let p : ℕ → Bool = λ place. not (is_among place gone) in
-    let passes : p (n + 1) ≡ true = ap not stays in
-    let more : range_with_len 1 (n + 1) ≡ range_with_len 1 n ++ (n + 1) ∷ [] = rw add-one (range-more 1 n ∙ ap (λ m. range_with_len 1 n ++ m ∷ []) (omega arith)) in
-    ap (filter p) more ∙ filter-append p (range_with_len 1 n) ((n + 1) ∷ []) ∙ ap (λ b. filter p (range_with_len 1 n) ++ cond b ((n + 1) ∷ []) []) passes
+-- and so with any number more
+first_stay : (seats k n : ℕ) (gone : List ℕ) → seats ≤ length (staying n gone) → take seats (staying (n + k) gone) ≡ take seats (staying n gone)
+first_stay seats zero n gone enough = ap (λ m. take seats (staying m gone)) (let e : n + 0 ≡ n = omega arith in e)
+first_stay seats (suc k) n gone enough =
+    let more = one_more seats n gone enough in
+    let e : n + suc k ≡ n + 1 + k = omega arith in
+    ap (λ m. take seats (staying m gone)) e ∙ first_stay seats k (n + 1) gone more.1 ∙ more.0
 
--- one candidate more, who is gone
-pub staying-same : (n : ℕ) (gone : List ℕ) → is_among (n + 1) gone ≡ true → staying (n + 1) gone ≡ staying n gone
-staying-same n gone left =
-    let p : ℕ → Bool = λ place. not (is_among place gone) in
-    let fails : p (n + 1) ≡ false = ap not left in
-    let more : range_with_len 1 (n + 1) ≡ range_with_len 1 n ++ (n + 1) ∷ [] = rw add-one (range-more 1 n ∙ ap (λ m. range_with_len 1 n ++ m ∷ []) (omega arith)) in
-    ap (filter p) more ∙ filter-append p (range_with_len 1 n) ((n + 1) ∷ []) ∙ ap (λ b. filter p (range_with_len 1 n) ++ cond b ((n + 1) ∷ []) []) fails ∙ append-nil (filter p (range_with_len 1 n))
+-- where so many stay as there are seats, they are the holders
+pub all_seats : (candidates seats n : ℕ) (gone : List ℕ) → n ≤ candidates → length (staying n gone) ≡ seats → staying n gone ≡ holders candidates seats gone
+all_seats candidates seats n gone le full =
+    let e : n + (candidates - n) ≡ candidates = omega (arith, le) in
+    sym (take_all seats (staying n gone) (omega (arith, full)))
+    ∙ sym (first_stay seats (candidates - n) n gone (omega (arith, full)))
+    ∙ ap (λ m. take seats (staying m gone)) e
+
+-- where no more stay than there are seats, all of them are
+pub all_stay : (candidates seats : ℕ) (gone : List ℕ) → length (staying candidates gone) ≤ seats → staying candidates gone ≡ holders candidates seats gone
+all_stay candidates seats gone few = sym (take_all seats (staying candidates gone) few)

@@ -2,9 +2,9 @@
 
 ghost use Rattle.std.specs.Prelude.{◌≡◌, ◌≢◌, ◌≤◌, ℕ, false, Ok, Err, IfOk, IfErr, OnOk, Some, None, length, slice_index_or, string_bytes};
 ghost use Rattle.tally_allot.specs.AllotFault.{IsFaultOf};
-ghost use Rattle.tally_machine.specs.Certification.{Certifies, Draws, IsCertifyRefusal, IsDrawRefusal, count_checks, drawn_places, list_places, reopened};
+ghost use Rattle.tally_steps.specs.Certification.{Certifies, Draws, IsCertifyRefusal, IsDrawRefusal, count_checks, drawn_places, list_places, reopened};
 ghost use Rattle.tally_returns.specs.Checks.{first_refusal};
-ghost use Rattle.tally_machine.specs.Outcome.{IsOutcome, allotted, rule_in, poll_in};
+ghost use Rattle.tally_steps.specs.Outcome.{IsOutcome, allotted, rule_in, poll_in};
 ghost use Rattle.tally_returns.specs.View.{FitsView};
 ghost use Rattle.tally_returns.specs.declared.refusal.Refusal.TheVariants.{Memory};
 
@@ -145,7 +145,7 @@ fn seats_by_votes(alloc: Global, con: &Constituency, view: &ConView) -> Result<V
 }
 
 /// The places of the lists that an order names, where it names each list of the group once and no
-/// other.
+/// other. An order longer than the lists does not, and is not looked up.
 fn drawn_places(
     alloc: Global,
     con: &Constituency,
@@ -158,6 +158,9 @@ fn drawn_places(
     ensures refused { IfErr result (λ refusal. refusal ≢ Memory → drawn_places group.now (list_places con.now order.now) ≡ Err refusal) }
 {
     let _marks = group.limit();
+    if order.len() > con.lists.len() {
+        return Err(Refusal::LotWrongGroup { group: *group });
+    }
     let Some(places) = list_places(alloc, con, order)? else {
         return Err(Refusal::LotWrongGroup { group: *group });
     };

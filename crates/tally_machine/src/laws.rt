@@ -1,10 +1,10 @@
 //! The laws of the office's steps and runs. The functions do nothing: each contract is a law.
 
-ghost use Rattle.tally_allot.specs.LawStatements.{AllotmentsAreUnique, AllotmentsExist, EachOrderGivesAChoice};
-ghost use Rattle.tally_allot.specs.LawStatements.{GroupsAreOfOneNumberOfVotes, NoLotIsNeededWhereVotesDecide, VotesDecideOrALotIsNeeded};
-ghost use Rattle.tally_machine.specs.Decisions as decision;
-ghost use Rattle.tally_machine.specs.LawStatements as law;
-ghost use Rattle.tally_machine.specs.Records as records;
+ghost use Rattle.tally_law.specs.LawStatements.{AllotmentsAreUnique, AllotmentsExist, EachOrderGivesAChoice};
+ghost use Rattle.tally_law.specs.LawStatements.{GroupsAreOfOneNumberOfVotes, NoLotIsNeededWhereVotesDecide, VotesDecideOrALotIsNeeded};
+ghost use Rattle.tally_steps.specs.Decisions as decision;
+ghost use Rattle.tally_steps.specs.LawStatements as law;
+ghost use Rattle.tally_steps.specs.Records as records;
 
 use tally_allot::laws as allotment;
 

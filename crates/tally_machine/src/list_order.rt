@@ -2,14 +2,13 @@
 
 ghost use Rattle.std.specs.Prelude.{◌≡◌, ◌≤◌, ℕ, false, IfOk, option_map, length, slice_index_or};
 ghost use Rattle.std.specs.List.{list_all};
-ghost use Rattle.tally_contest.specs.ListSet.{has_place};
-ghost use Rattle.tally_machine.specs.Certification.{are_distinct, list_found, list_places, marked_from, names_group};
-ghost use Rattle.tally_machine.specs.Holders.{is_among};
+ghost use Rattle.tally_rules.specs.ListSet.{has_place};
+ghost use Rattle.tally_steps.specs.Certification.{are_distinct, list_found, list_places, marked_from, names_group};
+ghost use Rattle.tally_steps.specs.Holders.{is_among};
 
 use std::alloc::{AllocError, Global};
 use std::marker::Model;
-use tally_allot::ListSet;
-use tally_rules::{Code, Constituency};
+use tally_rules::{Code, Constituency, ListSet};
 
 /// A list: its place in the constituency, from 1, and how many candidates it has.
 #[derive(Drop)]
@@ -19,7 +18,7 @@ pub(crate) struct Found {
 }
 
 impl Model for Found {
-    ghost use Rattle.tally_machine.specs.Certification.{ListFound};
+    ghost use Rattle.tally_steps.specs.Certification.{ListFound};
 
     ghost Value = { ListFound };
 

@@ -1,13 +1,12 @@
 -- Heads in the bytes that came so far, and in the whole text.
-use Rattle.std.proofs.Common.{◌≡◌, ℕ, Bool, true, false, ◌+◌, ◌-◌, ◌<◌, ◌≤◌, List, [], ◌++◌, length, take, drop, sym, ap, subst, append_assoc, append-nil, Result, Ok, Err, IfOk, IfErr, inl, inr, ◌∙◌, arith}
+use Rattle.std.proofs.Common.{◌≡◌, ℕ, Bool, ◌+◌, ◌-◌, ◌≤◌, List, ◌++◌, length, take, drop, sym, ap, subst, append_assoc, inr, ◌∙◌, arith}
 use Rattle.std.proofs.Math.Seq.{take-append_seam, take-append-add, take-length}
 use Rattle.std.proofs.lemmas.List.{take-append-drop, take-append-le, length-append, length-drop}
 use Rattle.httparse.specs.Grammar.{ReadsRequest, HasNoRequest, print_request}
 use Rattle.httparse.specs.Spans.{RequestOverflows}
 use Rattle.tally_message.specs.Message.{head_limit, field_limit, HasNoHead, CannotBecomeHead, IsFault}
-use Rattle.tally_message.specs.Reading.{HaveNoHead}
 use Rattle.tally_message.specs.declared.message.MessageFault.{MessageFault}
-use Rattle.tally_message.specs.declared.message.MessageFault.TheVariants.{BadHead, HeadTooLong, Read}
+use Rattle.tally_message.specs.declared.message.MessageFault.TheVariants.{BadHead, HeadTooLong}
 
 -- the shorter of two fronts of a text is a front of the longer
 pub shorter_front : (a b r l : List ℕ) → a ++ r ≡ b ++ l → length a ≤ length b → b ≡ a ++ drop (length a) b
@@ -49,34 +48,8 @@ pub overflowing_head : (text buf left : List ℕ) (fails : Bool) (found : Messag
 overflowing_head text buf left fails found is short (bad, over) =
     subst (IsFault text fails) (sym bad) (none_ever text buf left is over, inr (cannot_become text buf left is short over))
 
--- bytes that have no head: the fault that is at hand, or that none can come of them
-pub no_head : (text buf left : List ℕ) (fails : Bool) (at_hand found : MessageFault) → text ≡ buf ++ left → length buf ≤ head_limit
-    → (HasNoRequest buf → IsFault text fails at_hand) → HaveNoHead buf at_hand found → IsFault text fails found
-no_head text buf left fails at_hand found is short given (inl (same, none)) = subst (IsFault text fails) (sym same) (given none)
-no_head text buf left fails at_hand found is short given (inr over) = overflowing_head text buf left fails found is short over
-
--- a head, or why there is none
-pub head_or_fault : {X : Type 0} (r : Result X MessageFault) (text buf left : List ℕ) (fails : Bool) (at_hand : MessageFault) → text ≡ buf ++ left → length buf ≤ head_limit
-    → (HasNoRequest buf → IsFault text fails at_hand) → IfErr r (HaveNoHead buf at_hand) → IfOk r (λ _. text ≡ buf ++ left) × IfErr r (IsFault text fails)
-head_or_fault (Ok x) text buf left fails at_hand is short given none = (is, tt)
-head_or_fault (Err found) text buf left fails at_hand is short given none = (tt, no_head text buf left fails at_hand found is short given none)
-
 pub too_long_head : (text buf left : List ℕ) (fails : Bool) → text ≡ buf ++ left → head_limit ≤ length buf → HasNoRequest buf → IsFault text fails HeadTooLong
 too_long_head text buf left fails is full none = (none_in text buf left is none full, longer text buf left is full)
-
-ended : (text buf left : List ℕ) → text ≡ buf ++ left → left ≡ [] → text ≡ buf
-ended text buf left is none = is ∙ ap (λ l. buf ++ l) none ∙ append-nil buf
-
--- the input ended, or a read failed, before a whole head had come
-pub ended_head : (text buf left : List ℕ) (fails : Bool) → text ≡ buf ++ left → left ≡ [] → fails ≡ false → length buf < head_limit → HasNoRequest buf → IsFault text fails BadHead
-ended_head text buf left fails is over fine short none =
-    let same = ended text buf left is over in
-    (none_yet text (subst HasNoRequest (sym same) none), inl (subst (λ t. length t < head_limit) (sym same) short, fine))
-
-pub failed_head : (text buf left : List ℕ) (fails : Bool) → text ≡ buf ++ left → left ≡ [] → fails ≡ true → length buf < head_limit → HasNoRequest buf → IsFault text fails Read
-failed_head text buf left fails is over failed short none =
-    let same = ended text buf left is over in
-    (failed, inl (none_yet text (subst HasNoRequest (sym same) none), subst (λ t. length t < head_limit) (sym same) short))
 
 -- a slice from a place on
 pub rest_all : {X : Type 0} (xs : List X) (at : ℕ) → take (length xs - at) (drop at xs) ≡ drop at xs

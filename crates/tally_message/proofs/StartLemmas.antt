@@ -14,7 +14,7 @@ use Rattle.std.specs.List.{list_any}
 use Rattle.std.specs.Str.Parse.{digits_value}
 use Rattle.tally_door.specs.Connection.{Connection}
 use Rattle.tally_message.specs.Reading.{IsBodyOrFault}
-use Rattle.tally_message.specs.Message.{OnlyReads, head_limit, field_limit, body_limit, NameAndValue, is_named, values_of, single_value, is_content_length, content_length, length_by, BeginsWithHead, Announces, IsFault, IsMessageOrFault, HasCutBody, announced_length, body_length}
+use Rattle.tally_message.specs.Message.{OnlyReads, FailsAs, is_failed_read, head_limit, field_limit, body_limit, NameAndValue, is_named, values_of, single_value, is_content_length, content_length, length_by, BeginsWithHead, Announces, IsFault, IsMessageOrFault, HasCutBody, announced_length, body_length}
 use Rattle.tally_message.specs.Start.{IsStart, IsFaultyStart}
 use Rattle.tally_message.specs.declared.start.Start.{Start}
 use Rattle.tally_message.specs.declared.message.Message.{Message}
@@ -126,6 +126,17 @@ whole_fault bytes left fails EndedEarly b = absurd b
 whole_fault bytes left fails Read b = absurd b
 whole_fault bytes left fails Memory b = tt
 
+-- such a fault is no failed read
+pub faulty_no_failure : (bytes : List ℕ) (e : MessageFault) → IsFaultyStart bytes e → is_failed_read e ≡ false
+faulty_no_failure bytes BadHead b = absurd b
+faulty_no_failure bytes HeadTooLong b = absurd b
+faulty_no_failure bytes LengthRequired b = refl
+faulty_no_failure bytes BadLength b = refl
+faulty_no_failure bytes BodyTooLong b = refl
+faulty_no_failure bytes EndedEarly b = absurd b
+faulty_no_failure bytes Read b = absurd b
+faulty_no_failure bytes Memory b = refl
+
 -- and of the body
 pub cut_fault : (bytes left : List ℕ) (fails : Bool) (s : Start) (e : MessageFault) (body : List ℕ) → IsStart bytes s → IsBodyOrFault (s.body.items ++ left) fails s.length (Err e) body → IsFault (bytes ++ left) fails e
 cut_fault bytes left fails s e body (h, rest, is) reads = go e (subst (λ t. IsBodyOrFault (t ++ left) fails s.length (Err e) body) is.body reads)
@@ -165,7 +176,7 @@ pub reads_on : (a b c : Connection) → OnlyReads a b → OnlyReads b c → Only
 reads_on a b c first second = (
   first.0 ++ second.0,
   first.1 ∙ ap (λ t. first.0 ++ t) second.1 ∙ sym (append_assoc first.0 second.0 c.input),
-  second.2 ∙ ap (λ (t : Connection). let same : Connection = record t { input = c.input } in same) first.2,
+  second.2 ∙ ap (λ (t : Connection). let same : Connection = record t { input = c.input; read_failed = c.read_failed } in same) first.2,
 )
 
 -- what came was put behind what was there, so it is no longer than both
@@ -184,3 +195,7 @@ pub refused_body : (text : List ℕ) (fails : Bool) (count : ℕ) (body : List �
     → IsBodyOrFault text fails count r body
 refused_body text fails count body (Ok whole) is = absurd is
 refused_body text fails count body (Err fault) is = subst (λ e. IsBodyOrFault text fails count (Err e) body) (sym is) tt
+
+pub refused_failure : {X : Type 0} (r : Result X MessageFault) (c d : Connection) → IsErrAnd r (λ fault. fault ≡ Memory) → d.read_failed ≡ c.read_failed → FailsAs r c d
+refused_failure {X} (Ok x) c d is same = absurd is
+refused_failure {X} (Err fault) c d is same = subst (λ e. FailsAs {X = X} (Err e) c d) (sym is) same

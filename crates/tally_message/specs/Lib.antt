@@ -1,3 +1,4 @@
 pub mod Message
 pub mod Reading
 pub mod Start
+pub mod Lines

@@ -1,5 +1,5 @@
 -- Which message or which fault the bytes of a connection are: HTTP/1.1 (RFC 9112) as far as the desk speaks it.
-use Rattle.std.specs.Prelude.{◌≡◌, ◌⊎◌, ℕ, ◌+◌, ◌<◌, ◌≤◌, Bool, true, false, ◌&&◌, if◌then◌else◌, nat_le, List, [], ◌∷◌, ◌++◌, map, filter, length, take, codes, bytes_eq, Option, Some, None, Result, Ok, Err, ⊤}
+use Rattle.std.specs.Prelude.{◌≡◌, ◌⊎◌, ℕ, ◌+◌, ◌<◌, ◌≤◌, Bool, true, false, ◌&&◌, ◌||◌, if◌then◌else◌, nat_le, List, [], ◌∷◌, ◌++◌, map, filter, length, take, codes, bytes_eq, Option, Some, None, Result, Ok, Err, ⊤}
 use Rattle.std.specs.List.{list_any, list_all}
 use Rattle.std.specs.Char.{is_ascii_digit}
 use Rattle.std.specs.Str.{str_eq_ignore_ascii_case}
@@ -112,8 +112,8 @@ HasCutBody text =
     (count : ℕ) × (head : RequestHead) × (rest : List ℕ) × Announces text count head rest × (length rest < count)
 
 -- The faults of a connection that gives this text and then ends or, where it `fails`, has a failing read. A text of
--- 16,384 bytes or more that can no longer become a head has either of the first two, and a shorter one Read too where a
--- read was made that failed.
+-- 16,384 bytes or more that can no longer become a head has either of the first two. A shorter one behind which a read
+-- fails has BadHead where that read was not made, and Read where it was (`FailsAs`).
 abbrev pub IsFault : List ℕ → Bool → MessageFault → Type 0
 IsFault text fails BadHead =
     HasNoHead text × (((length text < head_limit) × (fails ≡ false)) ⊎ CannotBecomeHead (take head_limit text))
@@ -130,9 +130,29 @@ IsMessageOrFault text fails (Ok m) =
     (count : ℕ) × (head : RequestHead) × (rest : List ℕ) × IsMessage text m count head rest
 IsMessageOrFault text fails (Err fault) = IsFault text fails fault
 
--- Bytes were taken from the front of a connection's input, and nothing else of it changed.
+-- whether a fault is a read that failed
+abbrev pub is_failed_read : MessageFault → Bool
+is_failed_read BadHead = false
+is_failed_read HeadTooLong = false
+is_failed_read LengthRequired = false
+is_failed_read BadLength = false
+is_failed_read BodyTooLong = false
+is_failed_read EndedEarly = false
+is_failed_read Read = true
+is_failed_read Memory = false
+
+abbrev pub has_failed_read : {X : Type 0} → Result X MessageFault → Bool
+has_failed_read (Ok x) = false
+has_failed_read (Err fault) = is_failed_read fault
+
+-- Bytes were taken from the front of a connection's input, or a read of it failed, and nothing else of it changed.
 abbrev pub OnlyReads : Connection → Connection → Type 0
-OnlyReads c d = (taken : List ℕ) × (c.input ≡ taken ++ d.input) × (d ≡ record c { input = d.input })
+OnlyReads c d =
+    (taken : List ℕ) × (c.input ≡ taken ++ d.input) × (d ≡ record c { input = d.input; read_failed = d.read_failed })
+
+-- A read of the connection failed where that is the answer, and only there.
+abbrev pub FailsAs : {X : Type 0} → Result X MessageFault → Connection → Connection → Type 0
+FailsAs answer c d = d.read_failed ≡ (has_failed_read answer || c.read_failed)
 
 -- at most so many bytes of a connection's input were taken
 abbrev pub TakesAtMost : ℕ → Connection → Connection → Type 0

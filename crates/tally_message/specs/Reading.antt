@@ -1,20 +1,20 @@
 -- What the steps of reading a message leave.
-use Rattle.std.specs.Prelude.{◌≡◌, ◌⊎◌, ℕ, ◌<◌, ◌≤◌, Bool, true, false, List, [], ◌++◌, length, take, Result, Ok, Err, IfOk, IfErr, ⊤}
-use Rattle.httparse.specs.Grammar.{HasNoRequest}
-use Rattle.httparse.specs.Spans.{RequestOverflows}
+use Rattle.std.specs.Prelude.{◌≡◌, ℕ, ◌<◌, ◌≤◌, Bool, true, false, List, [], ◌++◌, length, take, Result, Ok, Err, IfOk, IfErr, ⊤}
 use Rattle.tally_door.specs.Connection.{Connection}
 use Rattle.httparse.specs.declared.spans.RequestSpans.{RequestSpans}
-use Rattle.tally_message.specs.Message.{field_limit, OnlyReads, IsFault}
+use Rattle.tally_message.specs.Message.{OnlyReads, IsFault, FailsAs}
 use Rattle.tally_message.specs.declared.message.MessageFault.{MessageFault}
 use Rattle.tally_message.specs.declared.message.MessageFault.TheVariants.{BadHead, HeadTooLong, LengthRequired, BadLength, BodyTooLong, EndedEarly, Read, Memory}
 use Rattle.tally_message.specs.declared.input.Input.{Input}
 use Rattle.tally_message.specs.declared.input.Input.TheVariants.{Bytes, End, Failure}
 
--- What was taken from the input is behind the bytes that were there.
+-- What was taken from the input is behind the bytes that were there; a failure is noted.
 abbrev pub HasReadOnto : Connection → List ℕ → Input → List ℕ → Connection → Type 0
-HasReadOnto c old Bytes new d = old ++ c.input ≡ new ++ d.input
-HasReadOnto c old End new d = (c.input ≡ []) × (c.fails ≡ false) × (d.input ≡ []) × (new ≡ old)
-HasReadOnto c old Failure new d = (c.input ≡ []) × (c.fails ≡ true) × (d.input ≡ []) × (new ≡ old)
+HasReadOnto c old Bytes new d = (old ++ c.input ≡ new ++ d.input) × (d.read_failed ≡ c.read_failed)
+HasReadOnto c old End new d =
+    (c.input ≡ []) × (c.fails ≡ false) × (d.input ≡ []) × (new ≡ old) × (d.read_failed ≡ c.read_failed)
+HasReadOnto c old Failure new d =
+    (c.input ≡ []) × (c.fails ≡ true) × (d.input ≡ []) × (new ≡ old) × (d.read_failed ≡ true)
 
 -- Input was taken and put behind the bytes that were there.
 abbrev pub ReadsOnto : List ℕ → Input → List ℕ → Connection → Connection → Type 0
@@ -24,11 +24,7 @@ ReadsOnto old result new c d = OnlyReads c d × HasReadOnto c old result new d
 abbrev pub ReadsHead : Result RequestSpans MessageFault → List ℕ → Connection → Connection → Type 0
 ReadsHead result bytes c d =
     OnlyReads c d × IfOk result (λ _. c.input ≡ bytes ++ d.input) × IfErr result (IsFault c.input c.fails)
-
--- Why these bytes have no head: none is whole yet, which has the fault that is at hand, or none can come of them.
-abbrev pub HaveNoHead : List ℕ → MessageFault → MessageFault → Type 0
-HaveNoHead bytes at_hand found =
-    ((found ≡ at_hand) × HasNoRequest bytes) ⊎ ((found ≡ BadHead) × RequestOverflows field_limit bytes)
+    × FailsAs result c d
 
 -- the body of so many bytes with which a text begins, or the fault
 abbrev pub IsBodyOrFault : List ℕ → Bool → ℕ → Result ⊤ MessageFault → List ℕ → Type 0
@@ -44,4 +40,5 @@ IsBodyOrFault text fails count (Err Memory) body = ⊤
 
 -- Input was taken that completes a body of so many bytes, of which the first were there, or it has a fault.
 abbrev pub ReadsBody : List ℕ → ℕ → Result ⊤ MessageFault → List ℕ → Connection → Connection → Type 0
-ReadsBody old count result body c d = OnlyReads c d × IsBodyOrFault (old ++ c.input) c.fails count result body
+ReadsBody old count result body c d =
+    OnlyReads c d × IsBodyOrFault (old ++ c.input) c.fails count result body × FailsAs result c d

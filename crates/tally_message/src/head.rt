@@ -5,7 +5,8 @@ ghost use Rattle.httparse.specs.Grammar.{HasNoRequest};
 ghost use Rattle.httparse.specs.Spans.{IsRequestWithin, IsRequestOf, RequestOverflows};
 ghost use Rattle.tally_door.specs.Connection.{ChangesCurrent};
 ghost use Rattle.tally_message.specs.Message.{head_limit, field_limit, TakesAtMost};
-ghost use Rattle.tally_message.specs.Reading.{ReadsHead, HaveNoHead};
+ghost use Rattle.tally_message.specs.Lines.{lines_of};
+ghost use Rattle.tally_message.specs.Reading.{ReadsHead};
 ghost use Rattle.tally_message.specs.declared.message.MessageFault.TheVariants.{BadHead};
 
 use crate::input::{Input, read_more};
@@ -36,22 +37,35 @@ fn head_in(bytes: &[u8], headers: &mut [HeaderSpan]) -> Result<Option<RequestSpa
     }
 }
 
-/// The head that the bytes begin with, or the fault that is at hand where it is not whole.
-fn head_or(
+/// The same where the first `before` bytes came earlier: `lines` are theirs, and they begin with no head.
+fn head_since(
     bytes: &[u8],
+    before: usize,
+    lines: &mut Lines,
     headers: &mut [HeaderSpan],
-    at_hand: MessageFault,
-) -> Result<RequestSpans, MessageFault>
-    requires { length headers.old ≡ field_limit }
-    ensures within { IfOk result (IsRequestWithin bytes.now headers.new) }
-    ensures head { IfOk result (IsRequestOf bytes.now headers.new) }
-    ensures none { IfErr result (HaveNoHead bytes.now at_hand) }
+) -> Result<Option<RequestSpans>, MessageFault>
+    requires fields { length headers.old ≡ field_limit }
+    requires before { before ≤ length bytes.now }
+    requires lines { lines.old ≡ lines_of (take before bytes.now) }
+    requires no_head { HasNoRequest (take before bytes.now) }
+    ensures fields { length headers.new ≡ field_limit }
+    ensures within { IfOk result (λ found. IfSome found (IsRequestWithin bytes.now headers.new)) }
+    ensures head { IfOk result (λ found. IfSome found (IsRequestOf bytes.now headers.new)) }
+    ensures none { IfOk result (λ found. IfNone found (HasNoRequest bytes.now)) }
+    ensures lines { IfOk result (λ found. IfNone found (lines.new ≡ lines_of bytes.now)) }
+    ensures err { IfErr result
+        (λ fault. (fault ≡ BadHead) × RequestOverflows field_limit bytes.now) }
 {
-    match head_in(bytes, headers) {
-        Ok(Some(head)) => Ok(head),
-        Ok(None) => Err(at_hand),
-        Err(fault) => Err(fault),
+    for place in before..bytes.len() {
+        if lines.end_with(bytes[place]) {
+            match head_in(bytes, headers) {
+                Ok(Some(head)) => return Ok(Some(head)),
+                Ok(None) => {}
+                Err(fault) => return Err(fault),
+            }
+        }
     }
+    Ok(None)
 }
 
 /// Reads up to the end of the head, and perhaps some of what follows it: the first `count` bytes of the room.
@@ -77,18 +91,14 @@ pub(crate) fn read_head<D: Door>(
         let before = *count;
         match read_more(door, room, count) {
             Input::Bytes => {}
-            Input::End => return head_or(&room[..*count], headers, MessageFault::BadHead),
-            Input::Failure => return head_or(&room[..*count], headers, MessageFault::Read),
+            Input::End => return Err(MessageFault::BadHead),
+            Input::Failure => return Err(MessageFault::Read),
         }
-        for place in before..*count {
-            if lines.end_with(room[place]) {
-                match head_in(&room[..*count], headers) {
-                    Ok(Some(head)) => return Ok(head),
-                    Ok(None) => {}
-                    Err(fault) => return Err(fault),
-                }
-            }
+        match head_since(&room[..*count], before, &mut lines, headers) {
+            Ok(Some(head)) => return Ok(head),
+            Ok(None) => {}
+            Err(fault) => return Err(fault),
         }
     }
-    head_or(&room[..*count], headers, MessageFault::HeadTooLong)
+    Err(MessageFault::HeadTooLong)
 }

@@ -2,7 +2,7 @@
 
 ghost use Rattle.std.specs.Prelude.{◌≡◌, true};
 ghost use Rattle.tally_door.specs.Connection.{ChangesCurrent};
-ghost use Rattle.tally_message.specs.Message.{HasReadMessage, TakesWithinLimits};
+ghost use Rattle.tally_message.specs.Message.{HasReadMessage, TakesWithinLimits, FailsAs};
 
 use crate::body::read_body;
 use crate::head::{FIELD_LIMIT, HEAD_LIMIT, read_head};
@@ -17,6 +17,7 @@ pub fn read_message<D: Door>(alloc: Global, door: &mut D) -> Result<Message, Mes
     requires { D.connected door.old ≡ true }
     ensures connected { D.connected door.new ≡ true }
     ensures message { ChangesCurrent (D.known door.old) (D.known door.new) (HasReadMessage result) }
+    ensures failed { ChangesCurrent (D.known door.old) (D.known door.new) (FailsAs result) }
     ensures taken { ChangesCurrent (D.known door.old) (D.known door.new) (TakesWithinLimits result) }
 {
     let mut room = [0u8; HEAD_LIMIT];

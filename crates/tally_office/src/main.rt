@@ -1,6 +1,9 @@
 //! The program `office`: an electoral office on the command line.
 #![tactic(auto)]
 
+mod databases;
+
+use databases::Databases;
 use std::process::ExitCode;
 use std::{env, io};
 use tally_program::{perform, report_start};
@@ -18,6 +21,7 @@ fn run(rt: &HostRuntime) -> io::Result<u8> {
     let words: Vec<String> = env::args(rt)?.collect(rt.alloc())?;
     Ok(perform(
         rt,
+        &Databases,
         words.as_slice(),
         &mut rt.stdin(),
         &mut rt.stdout(),

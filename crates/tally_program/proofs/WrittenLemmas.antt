@@ -2,7 +2,7 @@
 use Rattle.std.proofs.Common.{◌≡◌, ℕ, List, [], Option, Some, None, Result, Ok, Err, IfOk, IfErr, refl, sym, subst, ap, append-nil, arith}
 use Rattle.std.proofs.KnownBytes.{Keeps-refl}
 use Rattle.std.specs.Io.KnownBytes.{Appends}
-use Rattle.tally_core.specs.declared.import.ImportCount.{ImportCount}
+use Rattle.tally_keeper.specs.declared.import.ImportCount.{ImportCount}
 use Rattle.tally_rules.specs.Constituency.{Constituency}
 use Rattle.tally_import.specs.Check.{count_text}
 use Rattle.tally_commands.specs.Imported.{IsCountText}

@@ -1,4 +1,4 @@
-//! What each command over a database does.
+//! What each command over an office does.
 
 ghost use Rattle.std.specs.Prelude.{◌≡◌, ◌⊎◌, ◌++◌, [], IfErr, IfOk, OnOk, Err, false, true, is_some, option_map, string_bytes};
 ghost use Rattle.tally_commands.specs.Imported.{IsCountText};
@@ -7,7 +7,8 @@ ghost use Rattle.tally_program.specs.Commands.{IsAnyText, IsServedText, IsWritte
 ghost use Rattle.tally_program.specs.Worked.{IsFileImported, IsFileTrouble, IsShown, IsShowTrouble};
 ghost use Rattle.tally_line.specs.Line.{needs_con};
 
-use crate::files::{Office, close_office, make_office, open_file, open_office, read_setup};
+use crate::files::{open_file, read_setup};
+use crate::offices::Offices;
 use std::alloc::AllocError;
 use std::io::Write;
 use std::net::{Ipv4Addr, TcpListener};
@@ -15,34 +16,35 @@ use tally_commands::{
     CONSTITUENCIES_ROOM, Report, Sep, Trouble, constituencies_text, find_con, import_rows,
     show_progress, show_report,
 };
-use tally_core::Keeper;
 use tally_desk::{TcpDoor, serve};
 use tally_import::write_text;
+use tally_keeper::Keeper;
 use tally_line::ReportName;
 
 /// The most bytes of the line of a server that ends.
 const SERVED_ROOM: usize = 64;
 
-/// Closes the database of a command, and then writes what it came to, where that is no trouble.
-fn end<W: Write>(
+/// Closes the office of a command, and then writes what it came to, where that is no trouble.
+fn end<O: Offices, W: Write>(
     rt: &HostRuntime,
+    offices: &O,
     db: &str,
-    office: Office,
+    office: O::Office,
     outcome: Result<String, Trouble>,
     output: &mut W,
 ) -> Result<(), Trouble>
     ensures text { IfOk outcome (λ text. IsWritten (λ written. written ≡ string_bytes text) (W.contents output.old) (W.contents output.new) result) }
     ensures trouble { IfErr outcome (λ trouble. (result ≡ Err trouble) × (output.new ≡ output.old)) }
 {
-    let is_closed = close_office(rt, db, office);
+    let is_closed = offices.close_office(rt, db, office);
     match outcome {
         Ok(text) => finish(is_closed, &text, output),
         Err(trouble) => Err(trouble),
     }
 }
 
-/// Writes what a command came to, once its database is closed: that is in one file also where the
-/// output takes nothing.
+/// Writes what a command came to, once its office is closed: that stands also where the output takes
+/// nothing.
 fn finish<W: Write>(is_closed: bool, text: &str, output: &mut W) -> Result<(), Trouble>
     ensures closed { is_closed ≡ false → (result ≡ Err Trouble.Store) × (output.new ≡ output.old) }
     ensures written { IsWritten (λ written. written ≡ text.now) (W.contents output.old) (W.contents output.new) result }
@@ -68,8 +70,9 @@ fn line_room(rt: &HostRuntime, bytes: usize) -> Result<String, Trouble>
 }
 
 /// Makes an office of a setup.
-pub fn make<W: Write>(
+pub fn make<O: Offices, W: Write>(
     rt: &HostRuntime,
+    offices: &O,
     db: &str,
     setup: &str,
     output: &mut W,
@@ -84,12 +87,12 @@ pub fn make<W: Write>(
         Ok(line) => line,
         Err(trouble) => return Err(trouble),
     };
-    let office = match make_office(rt, db, text.as_slice()) {
+    let office = match offices.make_office(rt, db, text.as_slice()) {
         Ok(office) => office,
         Err(trouble) => return Err(trouble),
     };
     let outcome = made_text(line, &office);
-    end(rt, db, office, outcome, output)
+    end(rt, offices, db, office, outcome, output)
 }
 
 /// The number of the constituencies, in a line that is empty.
@@ -105,8 +108,9 @@ fn made_text<K: Keeper>(mut line: String, keeper: &K) -> Result<String, Trouble>
 }
 
 /// Lodges the returns of a file.
-pub fn import<W: Write>(
+pub fn import<O: Offices, W: Write>(
     rt: &HostRuntime,
+    offices: &O,
     db: &str,
     con: &str,
     csv: &str,
@@ -115,12 +119,12 @@ pub fn import<W: Write>(
 ) -> Result<(), Trouble>
     ensures { IsWritten IsCountText (W.contents output.old) (W.contents output.new) result }
 {
-    let mut office = match open_office(rt, db) {
+    let mut office = match offices.open_office(rt, db) {
         Ok(office) => office,
         Err(trouble) => return Err(trouble),
     };
     let outcome = import_file(rt, &mut office, con, csv, sep);
-    end(rt, db, office, outcome, output)
+    end(rt, offices, db, office, outcome, output)
 }
 
 /// The counts of the rows that were imported from a file.
@@ -152,8 +156,9 @@ fn import_file<K: Keeper>(
 }
 
 /// Prints a report. Progress is that of all constituencies; any other is of the one that is named.
-pub fn show<W: Write>(
+pub fn show<O: Offices, W: Write>(
     rt: &HostRuntime,
+    offices: &O,
     db: &str,
     report: ReportName,
     con: Option<&str>,
@@ -162,12 +167,12 @@ pub fn show<W: Write>(
     requires { needs_con report ≡ true → is_some con ≡ true }
     ensures { IsWritten IsAnyText (W.contents output.old) (W.contents output.new) result }
 {
-    let mut office = match open_office(rt, db) {
+    let mut office = match offices.open_office(rt, db) {
         Ok(office) => office,
         Err(trouble) => return Err(trouble),
     };
     let outcome = show_in(rt, &mut office, report_of(report), con);
-    end(rt, db, office, outcome, output)
+    end(rt, offices, db, office, outcome, output)
 }
 
 /// The text of a report, or of the progress where none is named.
@@ -214,8 +219,9 @@ fn report_of(name: ReportName) -> Option<Report>
 }
 
 /// Serves so many connections on this machine's own address, one after the other.
-pub fn serve_office<W: Write, E: Write>(
+pub fn serve_office<O: Offices, W: Write, E: Write>(
     rt: &HostRuntime,
+    offices: &O,
     db: &str,
     port: u16,
     count: u32,
@@ -224,12 +230,12 @@ pub fn serve_office<W: Write, E: Write>(
 ) -> Result<(), Trouble>
     ensures { IsWritten (IsServedText count) (W.contents output.old) (W.contents output.new) result }
 {
-    let mut office = match open_office(rt, db) {
+    let mut office = match offices.open_office(rt, db) {
         Ok(office) => office,
         Err(trouble) => return Err(trouble),
     };
     let outcome = serve_on(rt, &mut office, port, count, errors);
-    end(rt, db, office, outcome, output)
+    end(rt, offices, db, office, outcome, output)
 }
 
 /// Listens, says so, serves, and answers how many connections were answered and how many failed.

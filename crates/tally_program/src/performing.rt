@@ -12,6 +12,7 @@ ghost use Rattle.tally_line.specs.Line.{CheckSeen, ImportSeen, LacksCon, NewSeen
 ghost use Rattle.tally_program.specs.Perform.{ChecksInput, IsCommandTold, IsNotBegun, IsTold, check_status, command_status, fault_status, fault_words};
 
 use crate::commands::{import, make, serve_office, show};
+use crate::offices::Offices;
 use std::io::{self, ErrorKind, Read, Write};
 use tally_commands::Trouble;
 use tally_import::{CheckFault, check_csv, write_text};
@@ -29,10 +30,11 @@ pub const USAGE: u8 = 2;
 /// The exit status where memory, a read or a write failed.
 pub const FAILED: u8 = 3;
 
-/// Does what a command line asks for, the program's name first, and answers the exit status. Help,
-/// refusals and failures go to `errors`, where a write that fails is passed over.
-pub fn perform<R: Read, W: Write, E: Write>(
+/// Does what a command line asks for, the program's name first, over these offices, and answers the exit
+/// status. Help, refusals and failures go to `errors`, where a write that fails is passed over.
+pub fn perform<O: Offices, R: Read, W: Write, E: Write>(
     rt: &HostRuntime,
+    offices: &O,
     words: &[String],
     input: &mut R,
     output: &mut W,
@@ -69,19 +71,19 @@ pub fn perform<R: Read, W: Write, E: Write>(
             report_check(outcome, errors)
         }
         Ok(Line::New { db, setup }) => {
-            let outcome = make(rt, &db, &setup, output);
+            let outcome = make(rt, offices, &db, &setup, output);
             report_command(&outcome, errors)
         }
         Ok(Line::Import { db, con, csv, sep }) => {
-            let outcome = import(rt, &db, &con, &csv, sep, output);
+            let outcome = import(rt, offices, &db, &con, &csv, sep, output);
             report_command(&outcome, errors)
         }
         Ok(Line::Show { db, report, con }) => {
-            let outcome = show(rt, &db, report, con.as_deref(), output);
+            let outcome = show(rt, offices, &db, report, con.as_deref(), output);
             report_command(&outcome, errors)
         }
         Ok(Line::Serve { db, port, count }) => {
-            let outcome = serve_office(rt, &db, port, count, output, errors);
+            let outcome = serve_office(rt, offices, &db, port, count, output, errors);
             report_command(&outcome, errors)
         }
         Err(fault) => report_fault(fault, errors),

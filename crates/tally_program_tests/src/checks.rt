@@ -1,5 +1,6 @@
 //! What command lines over a text come to. Streams that fail are tried from outside, in `tests/program.py`.
 
+use crate::offices::InMemory;
 use std::alloc::{AllocError, Global};
 use std::test::*;
 use tally_program::{REFUSED, USAGE, perform};
@@ -72,7 +73,7 @@ fn words_of(alloc: Global, line: &str) -> Result<Vec<String>, AllocError> {
 }
 
 /// Fails where the status or what is written is another.
-fn check(
+pub(crate) fn check(
     rt: &HostRuntime,
     line: &'static str,
     text: &str,
@@ -84,7 +85,14 @@ fn check(
     let mut input = text.as_bytes();
     let mut output = Vec::new(rt.alloc());
     let mut errors = Vec::new(rt.alloc());
-    let status = perform(rt, words.as_slice(), &mut input, &mut output, &mut errors);
+    let status = perform(
+        rt,
+        &InMemory,
+        words.as_slice(),
+        &mut input,
+        &mut output,
+        &mut errors,
+    );
     let is_written = output.as_slice() == on_output.as_bytes()
         && errors.as_slice() == on_errors.as_bytes();
     if status == wanted && is_written {

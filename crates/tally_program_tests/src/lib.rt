@@ -6,3 +6,5 @@
 mod checks;
 #[cfg(test)]
 mod lines;
+#[cfg(test)]
+mod offices;

@@ -5,16 +5,16 @@ use Rattle.std.proofs.lemmas.List.{get_or_past, length-map}
 use Rattle.tally_frac.specs.DivisorLaws.{modified-positive}
 use Rattle.tally_allot.specs.AllotFault.{IsFaultOf}
 use Rattle.tally_allot.specs.Awards.{AreAwardsBy}
-use Rattle.tally_allot.specs.LawStatements.{GroupsAreOfOneNumberOfVotes, NoLotIsNeededWhereVotesDecide}
+use Rattle.tally_law.specs.LawStatements.{GroupsAreOfOneNumberOfVotes, NoLotIsNeededWhereVotesDecide}
 use Rattle.tally_allot.specs.declared.award.Award.{Award}
 use Rattle.tally_allot.specs.declared.fault.AllotFault.{AllotFault}
 use Rattle.tally_allot.specs.declared.fault.AllotFault.TheVariants.{NoEligible, LotMissing, WrongLot, Memory}
-use Rattle.tally_contest.specs.ListSet.{has_place}
-use Rattle.tally_contest.specs.Lot.{IsOrderOf}
-use Rattle.tally_contest.specs.LotNeed.{IsLotNeeded, IsLotTaken, IsLotWrong, IsNeed}
-use Rattle.tally_contest.specs.Poll.{IsEligible}
-use Rattle.tally_contest.specs.Rules.{rule_by}
-use Rattle.tally_machine.specs.Outcome.{HasSeats, IsLawfulView, poll_in, rule_in}
+use Rattle.tally_rules.specs.ListSet.{has_place}
+use Rattle.tally_law.specs.Lot.{IsOrderOf}
+use Rattle.tally_law.specs.LotNeed.{IsLotNeeded, IsLotTaken, IsLotWrong, IsNeed}
+use Rattle.tally_law.specs.Poll.{IsEligible}
+use Rattle.tally_law.specs.Rules.{rule_by}
+use Rattle.tally_steps.specs.Outcome.{HasSeats, IsLawfulView, poll_in, rule_in}
 use Rattle.tally_returns.specs.View.{View}
 use Rattle.tally_rules.specs.Constituency.{Constituency}
 use Rattle.tally_rules.specs.Threshold.{base_of, is_eligible}

@@ -5,9 +5,9 @@ use Rattle.std.specs.List.{flat_map, range_with_len}
 use Rattle.std.proofs.lemmas.Grind.{flat_map-append}
 use Rattle.std.proofs.lemmas.List.{append-nil}
 use Rattle.std.proofs.lemmas.List.Sums.{sum_by-cons}
-use Rattle.tally_contest.specs.Allotment.{IsAllotment, Rule, divisors, hare}
-use Rattle.tally_contest.specs.Poll.{Poll}
-use Rattle.tally_machine.specs.Outcome.{HasSeats, IsLawfulView, poll_in, rule_in}
+use Rattle.tally_law.specs.Allotment.{IsAllotment, Rule, divisors, hare}
+use Rattle.tally_law.specs.Poll.{Poll}
+use Rattle.tally_steps.specs.Outcome.{HasSeats, IsLawfulView, poll_in, rule_in}
 use Rattle.tally_returns.specs.View.{View}
 use Rattle.tally_rules.specs.Constituency.{Constituency}
 use Rattle.tally_report.specs.QuotientsText.{most}

@@ -8,8 +8,8 @@ use Rattle.std.specs.Prelude.{ℕ, ◌+◌, ◌-◌, ◌++◌, List, [], length,
 use Rattle.std.specs.List.{flat_map, repeat}
 use Rattle.tally_rules.specs.Constituency.{Constituency, ListEntry}
 use Rattle.tally_returns.specs.View.{View}
-use Rattle.tally_machine.specs.Certification.{gone_of}
-use Rattle.tally_machine.specs.Holders.{holders}
+use Rattle.tally_steps.specs.Certification.{gone_of}
+use Rattle.tally_steps.specs.Holders.{holders}
 use Rattle.tally_report.specs.Columns.{heading, left, line_end, list_lines, number, right}
 
 -- the line of a candidate, at this place of the list from 1

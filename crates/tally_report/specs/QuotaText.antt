@@ -8,10 +8,10 @@
 use Rattle.std.specs.Prelude.{ℕ, ◌++◌, false, List, [], slice_index, slice_index_or, if◌then◌else◌, codes}
 use Rattle.std.specs.Fmt.{decimal}
 use Rattle.tally_rules.specs.Constituency.{Constituency, ListEntry}
-use Rattle.tally_contest.specs.HareAllotment.{whole_quotas, remainder}
-use Rattle.tally_contest.specs.Poll.{Poll, eligible_votes, votes_of}
+use Rattle.tally_law.specs.HareAllotment.{whole_quotas, remainder}
+use Rattle.tally_law.specs.Poll.{Poll, eligible_votes, votes_of}
 use Rattle.tally_returns.specs.View.{View}
-use Rattle.tally_machine.specs.Outcome.{poll_in}
+use Rattle.tally_steps.specs.Outcome.{poll_in}
 use Rattle.tally_report.specs.Columns.{heading, left, line_end, list_lines, number}
 
 -- the line of the list at a place, which holds so many seats

@@ -7,9 +7,9 @@
 use Rattle.std.specs.Prelude.{ℕ, ◌+◌, ◌*◌, ◌/◌, ◌++◌, nat_le, max, List, [], ◌∷◌, slice_index, if◌then◌else◌, codes}
 use Rattle.std.specs.List.{flat_map, range_with_len}
 use Rattle.tally_rules.specs.Constituency.{Constituency, ListEntry}
-use Rattle.tally_contest.specs.Allotment.{Rule, divisors, hare}
+use Rattle.tally_law.specs.Allotment.{Rule, divisors, hare}
 use Rattle.tally_returns.specs.View.{View}
-use Rattle.tally_machine.specs.Outcome.{rule_in}
+use Rattle.tally_steps.specs.Outcome.{rule_in}
 use Rattle.tally_report.specs.Columns.{heading, is_eligible_at, left, line_end, list_lines, number}
 
 -- the greatest of these numbers

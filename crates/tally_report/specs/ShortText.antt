@@ -5,7 +5,8 @@
 --     B                   2         200
 use Rattle.std.specs.Prelude.{◌≡◌, ℕ, ◌++◌, Option, Some, None, List, [], slice_index, slice_index_or, if◌then◌else◌, codes}
 use Rattle.tally_rules.specs.Constituency.{Constituency, ListEntry}
-use Rattle.tally_allot.specs.VotesShort.{AreVotesShort, IsNoneWhereNoMore}
+use Rattle.tally_allot.specs.VotesShort.{AreVotesShort}
+use Rattle.tally_steps.specs.Outcome.{poll_in, rule_in}
 use Rattle.tally_returns.specs.View.{View}
 use Rattle.tally_report.specs.Columns.{heading, is_eligible_at, left, line_end, list_lines, number, right}
 
@@ -26,11 +27,11 @@ short_line con view numbers place list =
 abbrev pub short_text : Constituency → View → List (Option ℕ) → List ℕ
 short_text con view numbers = heading (codes "SHORT") con ++ list_lines (short_line con view numbers) con
 
--- These are the numbers of votes that the lists are short of one more seat, by the closed votes and the lot.
+-- These are the numbers of votes that the lists are short of one more seat, by the closed votes and
+-- the lot.
 abbrev pub AreVotesShortIn : Constituency → View → List (Option ℕ) → Type 0
 AreVotesShortIn con view numbers =
-    IsNoneWhereNoMore con.profile view.votes view.blank view.lot con.seats numbers
-    × AreVotesShort con.profile view.votes view.blank view.lot con.seats numbers
+    AreVotesShort (rule_in con) (poll_in con view) view.lot con.seats numbers
 
 -- The text is that of the votes that the lists are short.
 abbrev pub IsShortText : Constituency → View → List ℕ → Type 0

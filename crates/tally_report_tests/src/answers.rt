@@ -1,7 +1,7 @@
 //! What the calls answer for a poll, as text.
 
 ghost use Rattle.std.specs.Prelude.{◌≡◌, ◌≢◌};
-ghost use Rattle.tally_allot.specs.Conditions.{AreLimitsKept};
+ghost use Rattle.tally_law.specs.Conditions.{AreLimitsKept};
 ghost use Rattle.tally_rules.specs.declared.profile.Method.TheVariants.{Hare};
 
 use crate::polls::{Poll, is_within_limits, numbers, poll_of};

@@ -1,7 +1,7 @@
 //! Polls as lines of text.
 
 ghost use Rattle.std.specs.Prelude.{◌+◌, ◌≤◌, IsTrue, sum};
-ghost use Rattle.tally_allot.specs.Conditions.{AreLimitsKept};
+ghost use Rattle.tally_law.specs.Conditions.{AreLimitsKept};
 
 use std::alloc::{AllocError, Global};
 use tally_rules::{Base, LotRule, Method, Profile};

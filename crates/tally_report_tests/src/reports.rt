@@ -2,8 +2,8 @@
 
 use crate::views::{PROVINCE, THREE_LISTS, TWIN_TOWN, check, check_text};
 use std::test::*;
-use tally_machine::ProgressRow;
 use tally_report::progress_text;
+use tally_returns::ProgressRow;
 use tally_rules::Code;
 
 // Two lists of 100 votes each, a lot by which B is first, and three seats.

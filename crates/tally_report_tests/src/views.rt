@@ -2,11 +2,11 @@
 
 use std::alloc::{AllocError, Global};
 use std::test::Fail;
-use tally_machine::{ConView, Gone, Past};
 use tally_report::{
     ReportFault, awards_text, holders_text, past_text, quota_text, quotients_text, seats_text,
     short_text, tally_text,
 };
+use tally_returns::{ConView, Gone, Past};
 use tally_rules::{Constituency, read_setup};
 
 /// One constituency of two lists and one station, by D'Hondt.

@@ -21,13 +21,13 @@ use Rattle.tally_returns.specs.declared.refusal.Refusal.{Refusal}
 use Rattle.tally_returns.specs.declared.refusal.Refusal.TheVariants.{Memory, NoConstituency}
 use Rattle.tally_returns.specs.declared.reply.Reply.{Reply}
 use Rattle.tally_returns.specs.declared.reply.Reply.TheVariants.{Con}
-use Rattle.tally_machine.specs.LawfulState.{IsLawfulState}
-use Rattle.tally_machine.specs.Step.{ConChange, Decides, IsConDecision, IsConRefusal, IsStepSeen, IsView, after_change, no_change, progress_shown, seen}
-use Rattle.tally_machine.proofs.CertificationLemmas.{refused-lawful}
-use Rattle.tally_machine.proofs.DecisionLemmas.{decisions-steps, unknown-constituency}
-use Rattle.tally_machine.proofs.ViewLemmas.{view-lawful}
+use Rattle.tally_steps.specs.LawfulState.{IsLawfulState}
+use Rattle.tally_steps.specs.Step.{ConChange, Decides, IsConDecision, IsConRefusal, IsStepSeen, IsView, after_change, no_change, progress_shown, seen}
+use Rattle.tally_steps.proofs.CertificationLemmas.{refused-lawful}
+use Rattle.tally_steps.proofs.DecisionLemmas.{decisions-steps, unknown-constituency}
+use Rattle.tally_steps.proofs.ViewLemmas.{view-lawful}
 use Rattle.tally_ledger.specs.Rows.{row_of}
-use Rattle.tally_core.proofs.StepLemmas.{memory-or}
+use Rattle.tally_keeper.proofs.StepLemmas.{memory-or}
 use Rattle.tally_tables.specs.TablesOfState.{AreTables}
 use Rattle.tally_requests.specs.Requests.{IsCarriedOut, IsChangeCarriedOut, IsInState}
 use Rattle.tally_entries.specs.Constituencies.{FindsView}

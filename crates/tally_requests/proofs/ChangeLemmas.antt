@@ -28,14 +28,14 @@ use Rattle.tally_returns.specs.declared.change.Change.{Change}
 use Rattle.tally_returns.specs.declared.reply.Reply.{Reply}
 use Rattle.tally_returns.specs.declared.reply.Reply.TheVariants.{Edition, Vacated}
 use Rattle.tally_returns.proofs.ClosedLemmas.{apart-untied, same-tied}
-use Rattle.tally_machine.specs.LawfulState.{IsLawfulState}
-use Rattle.tally_machine.specs.Outcome.{HasSeats, IsLawfulPast, IsOutcome, allotted}
-use Rattle.tally_machine.specs.Step.{ConChange, Decides, IsView, certified_with, con_change, edition_now, gone_for_good, lot_set, open_again, with_con}
-use Rattle.tally_machine.proofs.ConStateLemmas.{con_state-changed, con_state-with_con, same_code}
-use Rattle.tally_machine.proofs.ConStepLemmas.{same-constituency}
-use Rattle.tally_machine.proofs.DecisionLemmas.{gone-once}
-use Rattle.tally_machine.proofs.LawfulViewLemmas.{certified-seats, drawn-open}
-use Rattle.tally_machine.proofs.PastLemmas.{past-lawful}
+use Rattle.tally_steps.specs.LawfulState.{IsLawfulState}
+use Rattle.tally_steps.specs.Outcome.{HasSeats, IsLawfulPast, IsOutcome, allotted}
+use Rattle.tally_steps.specs.Step.{ConChange, Decides, IsView, certified_with, con_change, edition_now, gone_for_good, lot_set, open_again, with_con}
+use Rattle.tally_steps.proofs.ConStateLemmas.{con_state-changed, con_state-with_con, same_code}
+use Rattle.tally_steps.proofs.ConStepLemmas.{same-constituency}
+use Rattle.tally_steps.proofs.DecisionLemmas.{gone-once}
+use Rattle.tally_steps.proofs.LawfulViewLemmas.{certified-seats, drawn-open}
+use Rattle.tally_steps.proofs.PastLemmas.{past-lawful}
 use Rattle.tally_statements.specs.declared.table.KeyedTable.TheVariants.{Returns, Counts, Cons, Lots, Seats, Gone, Totals, Past}
 use Rattle.tally_tables.specs.Cells.{con_rows, gone_row, gone_rows, items_of, lot_rows, numbered, past_row, past_rows, record_rows, seat_rows, total_rows, totals_of}
 use Rattle.tally_tables.specs.TablesOfState.{AreSeats, AreTables}

@@ -8,8 +8,8 @@ use Rattle.std.proofs.lemmas.List.{get_or_default}
 use Rattle.std.proofs.lemmas.List.Folds.{Any-from_list_any}
 use Rattle.std.proofs.lemmas.Map.Made.{IsDistinct-from_AllPairs}
 use Rattle.std.proofs.lemmas.Map.Steps.{length-le_from_distinct_below}
-use Rattle.tally_contest.specs.ListSet.{has_place}
-use Rattle.tally_contest.specs.Lot.{IsOrderOf}
+use Rattle.tally_rules.specs.ListSet.{has_place}
+use Rattle.tally_law.specs.Lot.{IsOrderOf}
 use Rattle.tally_rules.specs.Constituency.{Constituency}
 use Rattle.tally_rules.specs.Text.{is_note}
 use Rattle.tally_returns.specs.Checks.{check, first_refusal, refused_or}
@@ -22,12 +22,12 @@ use Rattle.tally_returns.specs.declared.ask.Ask.TheVariants.{Lodge, Query, Corre
 use Rattle.tally_returns.specs.declared.refusal.Refusal.{Refusal}
 use Rattle.tally_returns.specs.declared.refusal.Refusal.TheVariants.{BadNote, Exhausted, NotCertified, Stale}
 use Rattle.tally_returns.proofs.DecideLemmas.{passed-first, passed-rest}
-use Rattle.tally_machine.specs.Certification.{Certifies, Draws, certificate_of, reopen_checks, reopened, vacates}
-use Rattle.tally_machine.specs.Outcome.{poll_in, rule_in}
-use Rattle.tally_machine.specs.Step.{Decides, certified_with, gone_for_good, lot_set, open_again}
-use Rattle.tally_machine.proofs.DecisionLemmas.{given-by}
-use Rattle.tally_machine.proofs.LawfulViewLemmas.{certified-seats, drawn-group, drawn-order}
-use Rattle.tally_machine.proofs.VacancyLemmas.{allotted-long}
+use Rattle.tally_steps.specs.Certification.{Certifies, Draws, certificate_of, reopen_checks, reopened, vacates}
+use Rattle.tally_steps.specs.Outcome.{poll_in, rule_in}
+use Rattle.tally_steps.specs.Step.{Decides, certified_with, gone_for_good, lot_set, open_again}
+use Rattle.tally_steps.proofs.DecisionLemmas.{given-by}
+use Rattle.tally_steps.proofs.LawfulViewLemmas.{certified-seats, drawn-group, drawn-order}
+use Rattle.tally_steps.proofs.VacancyLemmas.{allotted-long}
 
 -- ---- of which command it is
 

@@ -30,16 +30,16 @@ use Rattle.tally_returns.specs.declared.returns.Status.TheVariants.{Received, Qu
 use Rattle.tally_returns.proofs.ClosedLemmas.{station_with-con}
 use Rattle.tally_returns.proofs.DecideLemmas.{passed-first, passed-rest}
 use Rattle.tally_ledger.proofs.SetupLemmas.{con-limits, station-found}
-use Rattle.tally_machine.specs.Kinds.{IsReplyTo}
-use Rattle.tally_machine.specs.LawfulState.{IsLawfulState}
-use Rattle.tally_machine.specs.Step.{IsStep, after, after_put, after_return, con_of_station, decided_in, move_reply, seen, with_return, without_lot}
-use Rattle.tally_machine.proofs.DecisionLemmas.{con_of-found, unknown-station}
-use Rattle.tally_machine.proofs.ReturnStepLemmas.{append-rest}
+use Rattle.tally_steps.specs.Kinds.{IsReplyTo}
+use Rattle.tally_steps.specs.LawfulState.{IsLawfulState}
+use Rattle.tally_steps.specs.Step.{IsStep, after, after_put, after_return, con_of_station, decided_in, move_reply, seen, with_return, without_lot}
+use Rattle.tally_steps.proofs.DecisionLemmas.{con_of-found, unknown-station}
+use Rattle.tally_steps.proofs.ReturnStepLemmas.{append-rest}
 use Rattle.tally_tables.specs.TablesOfState.{AreTables}
 use Rattle.tally_entries.specs.Constituencies.{FindsCertified}
 use Rattle.tally_entries.specs.Entries.{FindsReturn}
-use Rattle.tally_core.specs.Held.{moves_return}
-use Rattle.tally_core.proofs.StepLemmas.{decided-found, memory-or}
+use Rattle.tally_keeper.specs.Held.{moves_return}
+use Rattle.tally_keeper.proofs.StepLemmas.{decided-found, memory-or}
 use Rattle.tally_requests.specs.Found.{CarriesOutFound, MovesTo, after_lot, after_move}
 use Rattle.tally_requests.specs.Requests.{IsCarriedOut, IsInState}
 use Rattle.tally_requests.specs.Seen.{IsStill}

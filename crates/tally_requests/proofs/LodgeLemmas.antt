@@ -13,13 +13,13 @@ use Rattle.tally_returns.specs.declared.refusal.Refusal.{Refusal}
 use Rattle.tally_returns.specs.declared.reply.LodgeReply.{LodgeReply}
 use Rattle.tally_returns.specs.declared.reply.LodgeReply.TheVariants.{Lodged, Same}
 use Rattle.tally_returns.specs.declared.reply.Reply.{Reply}
-use Rattle.tally_machine.specs.LawfulState.{IsLawfulState}
-use Rattle.tally_machine.specs.Step.{lodge_reply, seen}
-use Rattle.tally_machine.proofs.ReturnStepLemmas.{return-step-lawful}
-use Rattle.tally_core.proofs.HeldLemmas.{lodge-step}
-use Rattle.tally_core.specs.Import.{IsCodedRow, after_row}
-use Rattle.tally_core.specs.declared.import.Row.{Row}
-use Rattle.tally_core.specs.declared.import.Row.TheVariants as row
+use Rattle.tally_steps.specs.LawfulState.{IsLawfulState}
+use Rattle.tally_steps.specs.Step.{lodge_reply, seen}
+use Rattle.tally_steps.proofs.ReturnStepLemmas.{return-step-lawful}
+use Rattle.tally_keeper.proofs.HeldLemmas.{lodge-step}
+use Rattle.tally_keeper.specs.Import.{IsCodedRow, after_row}
+use Rattle.tally_keeper.specs.declared.import.Row.{Row}
+use Rattle.tally_keeper.specs.declared.import.Row.TheVariants as row
 use Rattle.tally_requests.specs.Requests.{IsCarriedOut, IsLodged, IsRowTaken}
 
 pub seen-reply : (reply : LodgeReply) → seen (Ok (as_reply reply)) ≡ lodge_reply (Ok reply)

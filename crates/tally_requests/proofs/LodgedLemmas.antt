@@ -13,8 +13,8 @@ use Rattle.tally_rules.specs.Constituency.{Constituency}
 use Rattle.tally_rules.specs.Limits.{IsSetup}
 use Rattle.tally_rules.specs.Setup.{constituency_with, station_with}
 use Rattle.tally_rules.specs.declared.constituency.Station.{Station}
-use Rattle.tally_contest.specs.Rules.{poll_of, rule_of}
-use Rattle.tally_allot.specs.AllotFault.{IsAllotmentUnderLot}
+use Rattle.tally_law.specs.Rules.{poll_of, rule_of}
+use Rattle.tally_law.specs.LotNeed.{IsAllotmentUnderLot}
 use Rattle.tally_returns.specs.Checks.{check, first_refusal, refused_or}
 use Rattle.tally_returns.specs.Counts.{VoteCounts, all_votes, are_counts}
 use Rattle.tally_returns.specs.Decide.{limits_of, show_checks}
@@ -33,16 +33,16 @@ use Rattle.tally_returns.specs.declared.reply.Reply.{Reply}
 use Rattle.tally_returns.proofs.ClosedLemmas.{tied-same}
 use Rattle.tally_returns.proofs.DecideLemmas.{passed-first}
 use Rattle.tally_ledger.proofs.SetupLemmas.{con-limits, station-found}
-use Rattle.tally_machine.specs.LawfulState.{IsLawfulState}
-use Rattle.tally_machine.specs.Outcome.{HasSeats}
-use Rattle.tally_machine.specs.Step.{Answer, after, after_return, answer, return_reply, return_shown, seen}
+use Rattle.tally_steps.specs.LawfulState.{IsLawfulState}
+use Rattle.tally_steps.specs.Outcome.{HasSeats}
+use Rattle.tally_steps.specs.Step.{Answer, after, after_return, answer, return_reply, return_shown, seen}
 use Rattle.tally_statements.specs.Office.{IsInside, tree_of}
 use Rattle.tally_statements.specs.declared.table.KeyedTable.TheVariants.{Cons, Lots, Seats, Gone, Totals, Past}
 use Rattle.tally_tables.specs.Cells.{con_rows, gone_rows, item_row, items_of, lot_rows, past_rows, seat_rows, total_rows, totals_of}
 use Rattle.tally_tables.specs.TablesOfState.{AreTables}
 use Rattle.tally_entries.specs.Entries.{AddsReturn, FindsReturn, PutsReturn}
 use Rattle.tally_entries.proofs.FindLemmas.{inside_still}
-use Rattle.tally_core.proofs.LodgeLemmas.{lodged-none}
+use Rattle.tally_keeper.proofs.LodgeLemmas.{lodged-none}
 use Rattle.tally_requests.specs.Lodging.{IsLodgeAnswer}
 use Rattle.tally_requests.specs.Requests.{IsCarriedOut, IsInState, IsLodged}
 

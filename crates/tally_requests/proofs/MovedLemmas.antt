@@ -22,9 +22,9 @@ use Rattle.tally_returns.specs.View.{closed_counts, counts_if_closed, view_of, v
 use Rattle.tally_returns.specs.declared.returns.Status.{Status}
 use Rattle.tally_returns.specs.declared.returns.Status.TheVariants.{Closed, Corrected, Queried, Received}
 use Rattle.tally_returns.proofs.ClosedLemmas.{closed_counts-same, get-kept, get-put, put-elsewhere, station-elsewhere, station_with-con}
-use Rattle.tally_machine.specs.LawfulState.{IsLawfulState}
-use Rattle.tally_machine.specs.Outcome.{HasSeats}
-use Rattle.tally_machine.specs.Step.{with_return, without_lot}
+use Rattle.tally_steps.specs.LawfulState.{IsLawfulState}
+use Rattle.tally_steps.specs.Outcome.{HasSeats}
+use Rattle.tally_steps.specs.Step.{with_return, without_lot}
 use Rattle.tally_statements.specs.Office.{IsInside, tree_of}
 use Rattle.tally_statements.specs.declared.table.KeyedTable.{KeyedTable}
 use Rattle.tally_statements.specs.declared.table.KeyedTable.TheVariants.{Returns, Counts, Cons, Lots, Seats, Gone, Totals, Past}

@@ -8,17 +8,17 @@ use Rattle.tally_rules.specs.Limits.{IsSetup}
 use Rattle.tally_returns.specs.Lodge.{Stations}
 use Rattle.tally_returns.specs.Return.{Returns}
 use Rattle.tally_returns.specs.State.{State, stations_of}
-use Rattle.tally_machine.specs.LawfulState.{IsLawfulState}
+use Rattle.tally_steps.specs.LawfulState.{IsLawfulState}
 use Rattle.tally_ledger.specs.Kept.{Kept}
-use Rattle.tally_core.specs.Import.{IsBelow, IsCodedRow, RowAnswer, after_row, count_of, counted, row_answer}
-use Rattle.tally_core.specs.Keeper.{IsFault}
-use Rattle.tally_core.specs.Source.{Coming, Ending, GivesNext, IsWithin, row_limit}
-use Rattle.tally_core.specs.declared.import.ImportCount.{ImportCount}
-use Rattle.tally_core.specs.declared.import.Row.{Row}
-use Rattle.tally_core.specs.declared.source.ImportFault.{ImportFault}
-use Rattle.tally_core.specs.declared.source.ImportFault.TheVariants.{TooLong}
-use Rattle.tally_core.proofs.ImportLemmas.{count_of-below, push_is}
-use Rattle.tally_core.proofs.TakenLemmas.{SoFar, SoFar-end, SoFar-fault, SoFar-many, SoFar-next, SoFar-start}
+use Rattle.tally_keeper.specs.Import.{IsBelow, IsCodedRow, RowAnswer, after_row, count_of, counted, row_answer}
+use Rattle.tally_keeper.specs.Keeper.{IsFault}
+use Rattle.tally_keeper.specs.Source.{Coming, Ending, GivesNext, IsWithin, row_limit}
+use Rattle.tally_keeper.specs.declared.import.ImportCount.{ImportCount}
+use Rattle.tally_keeper.specs.declared.import.Row.{Row}
+use Rattle.tally_keeper.specs.declared.source.ImportFault.{ImportFault}
+use Rattle.tally_keeper.specs.declared.source.ImportFault.TheVariants.{TooLong}
+use Rattle.tally_keeper.proofs.ImportLemmas.{count_of-below, push_is}
+use Rattle.tally_keeper.proofs.TakenLemmas.{SoFar, SoFar-end, SoFar-fault, SoFar-many, SoFar-next, SoFar-start}
 use Rattle.tally_requests.specs.Requests.{IsImported, IsInState, IsRowTaken}
 use Rattle.tally_requests.proofs.LodgeLemmas.{row-lawful}
 

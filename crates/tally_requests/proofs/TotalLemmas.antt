@@ -23,7 +23,7 @@ use Rattle.tally_returns.proofs.ClosedLemmas.{closed_counts-same, get-kept, get-
 use Rattle.tally_ledger.specs.Sums.{moved_sum, moved_sums}
 use Rattle.tally_ledger.proofs.SetupLemmas.{Has, Apart, Differ, apart-has, bytes_flipped, code_of_station, con-found, con-only, not_apart, station-found, stations-differ}
 use Rattle.tally_ledger.proofs.SumLemmas.{at_place, closed-total, if_closed, mapped-same, total}
-use Rattle.tally_machine.specs.LawfulState.{IsLawfulState}
+use Rattle.tally_steps.specs.LawfulState.{IsLawfulState}
 use Rattle.tally_schema.specs.Tables.{setup_tree}
 use Rattle.tally_statements.specs.Office.{IsInside, tree_of}
 use Rattle.tally_statements.specs.declared.table.KeyedTable.TheVariants.{Totals}

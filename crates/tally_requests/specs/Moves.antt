@@ -12,7 +12,7 @@ use Rattle.tally_returns.specs.Counts.{VoteCounts}
 use Rattle.tally_returns.specs.Return.{StationReturn}
 use Rattle.tally_returns.specs.State.{State, con_state}
 use Rattle.tally_returns.specs.View.{counts_if_closed}
-use Rattle.tally_machine.specs.LawfulState.{IsLawfulState}
+use Rattle.tally_steps.specs.LawfulState.{IsLawfulState}
 use Rattle.tally_statements.specs.Office.{IsInside}
 use Rattle.tally_statements.specs.declared.table.KeyedTable.TheVariants.{Totals}
 use Rattle.tally_tables.specs.Cells.{total_rows}

@@ -1,7 +1,7 @@
 -- What a request or an import does to the tables of an office, in a transaction.
 use Rattle.std.specs.Prelude.{◌≡◌, ℕ, List, Option, Some, Result, Ok, IfOk}
 use Rattle.sqlite.specs.declared.error.Error.{Error}
-use Rattle.sqlite.specs.State.{State as Seen, HasCleanDisk, KeepsCommit}
+use Rattle.sqlite.specs.State.{State as Seen, HasCleanDisk}
 use Rattle.tally_rules.specs.Constituency.{Constituency}
 use Rattle.tally_returns.specs.Counts.{VoteCounts}
 use Rattle.tally_returns.specs.Lodge.{lodge, lodge_answer}
@@ -12,25 +12,16 @@ use Rattle.tally_returns.specs.declared.change.Change.{Change}
 use Rattle.tally_returns.specs.declared.refusal.Refusal.{Refusal}
 use Rattle.tally_returns.specs.declared.reply.LodgeReply.{LodgeReply}
 use Rattle.tally_returns.specs.declared.reply.Reply.{Reply}
-use Rattle.tally_machine.specs.LawfulState.{IsLawfulState}
-use Rattle.tally_machine.specs.Step.{ConChange, IsAnswered, IsView, after_change, answer_seen, con_answer, con_change}
-use Rattle.tally_core.specs.Import.{RowAnswer, after_row, row_answer}
-use Rattle.tally_core.specs.Keeper.{IsImportOf}
-use Rattle.tally_core.specs.Source.{Coming}
-use Rattle.tally_core.specs.declared.import.ImportCount.{ImportCount}
-use Rattle.tally_core.specs.declared.import.Row.{Row}
-use Rattle.tally_core.specs.declared.source.ImportFault.{ImportFault}
+use Rattle.tally_steps.specs.LawfulState.{IsLawfulState}
+use Rattle.tally_steps.specs.Step.{ConChange, IsAnswered, IsView, after_change, answer_seen, con_answer, con_change}
+use Rattle.tally_keeper.specs.Import.{RowAnswer, after_row, row_answer}
+use Rattle.tally_keeper.specs.Keeper.{IsImportOf}
+use Rattle.tally_keeper.specs.Source.{Coming}
+use Rattle.tally_keeper.specs.declared.import.ImportCount.{ImportCount}
+use Rattle.tally_keeper.specs.declared.import.Row.{Row}
+use Rattle.tally_keeper.specs.declared.source.ImportFault.{ImportFault}
 use Rattle.tally_statements.specs.Office.{IsInside}
 use Rattle.tally_tables.specs.TablesOfState.{AreTables}
-
--- Nothing was committed, where the office's tables were open in a transaction.
-abbrev pub KeepsCommitInside : Seen → Seen → Type 0
-KeepsCommitInside old new = HasCleanDisk new → IsInside old → KeepsCommit old new
-
--- Nothing was committed, where the tables were those of a lawful state.
-abbrev pub KeepsCommitInState : List Constituency → Seen → Seen → Type 0
-KeepsCommitInState setup old new =
-    HasCleanDisk new → IsInside old → (text : List ℕ) (s : State) → IsLawfulState setup s → AreTables setup text s old.now.trees → KeepsCommit old new
 
 -- In a transaction: the tables are those of this state.
 pub record IsInState (setup : List Constituency) (text : List ℕ) (s : State) (seen : Seen) : Type 0 where

@@ -1,17 +1,17 @@
 //! A request, answered and carried out.
 
-ghost use Rattle.std.specs.Prelude.{◌≡◌, IfOk, IsTrue};
-ghost use Rattle.sqlite.specs.State.{HasCleanDisk, Survives};
+ghost use Rattle.std.specs.Prelude.{IfOk};
 ghost use Rattle.sqlite.specs.Held.{state};
-ghost use Rattle.tally_machine.specs.Kinds.{IsReplyTo};
+ghost use Rattle.tally_steps.specs.Kinds.{IsReplyTo};
 ghost use Rattle.tally_returns.specs.declared.ask.Ask.TheVariants.{Lodge};
-ghost use Rattle.tally_requests.specs.Requests.{CarriesOut, KeepsCommitInside};
+ghost use Rattle.tally_statements.specs.Inside.{StaysInside};
+ghost use Rattle.tally_requests.specs.Requests.{CarriesOut};
 
 use crate::constituencies::{answer_on, show_progress};
 use crate::returns::{lodge, move_on, show_return};
 use sqlite::{Alter, Error, Transaction};
 use std::alloc::Global;
-use tally_machine::{Ask, Counts, Refusal, Reply};
+use tally_returns::{Ask, Counts, Refusal, Reply};
 use tally_rules::{Code, Setup};
 
 /// Answers a request by the tables and carries it out on them. An error is one of the database, or
@@ -22,14 +22,10 @@ pub fn answer_in<S: Alter>(
     setup: &Setup,
     ask: &Ask,
 ) -> Result<Result<Reply, Refusal>, Error>
-    ensures same_reference { tx.new.conn.ghost_name ≡ tx.old.conn.ghost_name }
-    ensures kept { KeepsCommitInside (state S.Store tx.old.conn.now) (state S.Store tx.new.conn.now) }
+    ensures stays { StaysInside S.Store tx.old tx.new }
     ensures kind { IfOk result (λ r. IfOk r (IsReplyTo setup.now ask.now)) }
     ensures step { CarriesOut setup.now ask.now
         (state S.Store tx.old.conn.now) (state S.Store tx.new.conn.now) result }
-    ensures was_open { HasCleanDisk (state S.Store tx.new.conn.now) → IsTrue (state S.Store tx.new.conn.now).is_open →
-        IsTrue (state S.Store tx.old.conn.now).is_open }
-    ensures survives { Survives (state S.Store tx.old.conn.now) (state S.Store tx.new.conn.now) (λ _. ⊥) }
 {
     if let Some(con) = ask.con() {
         return answer_on(alloc, tx, setup, con, ask);
@@ -58,14 +54,10 @@ fn lodge_at<S: Alter>(
     slip: Code,
     counts: &Counts,
 ) -> Result<Result<Reply, Refusal>, Error>
-    ensures same_reference { tx.new.conn.ghost_name ≡ tx.old.conn.ghost_name }
-    ensures kept { KeepsCommitInside (state S.Store tx.old.conn.now) (state S.Store tx.new.conn.now) }
+    ensures stays { StaysInside S.Store tx.old tx.new }
     ensures kind { IfOk result (λ r. IfOk r (IsReplyTo setup.now (Lodge station slip counts.now))) }
     ensures step { CarriesOut setup.now (Lodge station slip counts.now)
         (state S.Store tx.old.conn.now) (state S.Store tx.new.conn.now) result }
-    ensures was_open { HasCleanDisk (state S.Store tx.new.conn.now) → IsTrue (state S.Store tx.new.conn.now).is_open →
-        IsTrue (state S.Store tx.old.conn.now).is_open }
-    ensures survives { Survives (state S.Store tx.old.conn.now) (state S.Store tx.new.conn.now) (λ _. ⊥) }
 {
     match lodge(alloc, tx, setup, station, slip, counts)? {
         Ok(reply) => Ok(Ok(Reply::from(reply))),

@@ -1,21 +1,20 @@
 //! Changes of a constituency, carried out on its tables.
 
-ghost use Rattle.std.specs.Prelude.{◌≡◌, ◌≢◌, ◌≤◌, Ok, Some, IfOk, IsTrue, length};
-ghost use Rattle.sqlite.specs.State.{HasCleanDisk, Survives};
+ghost use Rattle.std.specs.Prelude.{◌≡◌, ◌≢◌, ◌≤◌, Ok, Some, IfOk, length};
 ghost use Rattle.sqlite.specs.Held.{state};
-ghost use Rattle.tally_machine.specs.Kinds.{IsReplyTo};
-ghost use Rattle.tally_machine.specs.Step.{Decides, IsConDecision, certified_with, gone_for_good, lot_set, open_again};
+ghost use Rattle.tally_steps.specs.Kinds.{IsReplyTo};
+ghost use Rattle.tally_steps.specs.Step.{Decides, IsConDecision, certified_with, gone_for_good, lot_set, open_again};
 ghost use Rattle.tally_returns.specs.Named.{con_named};
 ghost use Rattle.tally_returns.specs.View.{FitsView};
 ghost use Rattle.tally_returns.specs.declared.change.Change.TheVariants.{Same};
 ghost use Rattle.tally_rules.specs.Setup.{constituency_with};
-ghost use Rattle.tally_statements.specs.Office.{KeepsCommitIfClean};
 ghost use Rattle.tally_requests.specs.Changes.{CarriesDecided, HasWrittenLot, HasWrittenRecord, HasWrittenSeats, WritesSo};
-ghost use Rattle.tally_requests.specs.Requests.{CarriesChange, KeepsCommitInside};
+ghost use Rattle.tally_statements.specs.Inside.{Stays, StaysInside};
+ghost use Rattle.tally_requests.specs.Requests.{CarriesChange};
 
 use sqlite::{Alter, Error, Transaction};
 use tally_entries::{put_con, put_gone, put_lot, put_record, put_seats};
-use tally_machine::{Ask, Change, ConView, Gone, Past, Reply};
+use tally_returns::{Ask, Change, ConView, Gone, Past, Reply};
 use tally_rules::{Constituency, Setup};
 
 /// Carries out what was decided of a request on a constituency, of which this was seen.
@@ -32,14 +31,10 @@ pub(crate) fn carry_out<S: Alter>(
     requires fits { FitsView con.now view.now }
     requires decided { IsConDecision con.now view.now ask.now change }
     requires changes { change ≢ Same }
-    ensures same_reference { tx.new.conn.ghost_name ≡ tx.old.conn.ghost_name }
-    ensures kept { KeepsCommitInside (state S.Store tx.old.conn.now) (state S.Store tx.new.conn.now) }
+    ensures stays { StaysInside S.Store tx.old tx.new }
     ensures kind { IfOk result (IsReplyTo setup.now ask.now) }
     ensures carried_out { CarriesChange setup.now con.now view.now change
         (state S.Store tx.old.conn.now) (state S.Store tx.new.conn.now) result }
-    ensures was_open { HasCleanDisk (state S.Store tx.new.conn.now) → IsTrue (state S.Store tx.new.conn.now).is_open →
-        IsTrue (state S.Store tx.old.conn.now).is_open }
-    ensures survives { Survives (state S.Store tx.old.conn.now) (state S.Store tx.new.conn.now) (λ _. ⊥) }
 {
     match change {
         Change::SetLot(lot) => set_lot(tx, setup, con, view, ask, &lot),
@@ -64,12 +59,10 @@ fn set_lot<S: Alter>(
     requires found { constituency_with con.now.code setup.now ≡ Some con.now }
     requires fits { FitsView con.now view.now }
     requires decided { Decides con.now view.now ask.now (Ok (lot_set lot.now)) }
-    ensures same_reference { tx.new.conn.ghost_name ≡ tx.old.conn.ghost_name }
-    ensures kept { KeepsCommitIfClean (state S.Store tx.old.conn.now) (state S.Store tx.new.conn.now) }
+    ensures stays { Stays S.Store tx.old tx.new }
     ensures kind { IfOk result (IsReplyTo setup.now ask.now) }
     ensures carried_out { CarriesDecided setup.now con.now view.now (lot_set lot.now)
         (state S.Store tx.old.conn.now) (state S.Store tx.new.conn.now) result }
-    ensures survives { Survives (state S.Store tx.old.conn.now) (state S.Store tx.new.conn.now) (λ _. ⊥) }
 {
     let edition = view.edition + 1;
     let certified = view.certified;
@@ -88,11 +81,9 @@ fn write_lot<S: Alter>(
     lot: &[u32],
 ) -> Result<(), Error>
     requires few { length lot.now ≤ 60 }
-    ensures same_reference { tx.new.conn.ghost_name ≡ tx.old.conn.ghost_name }
-    ensures kept { KeepsCommitIfClean (state S.Store tx.old.conn.now) (state S.Store tx.new.conn.now) }
+    ensures stays { Stays S.Store tx.old tx.new }
     ensures written { WritesSo con.now (HasWrittenLot con.now edition certified note.now lot.now)
         (state S.Store tx.old.conn.now) (state S.Store tx.new.conn.now) result }
-    ensures survives { Survives (state S.Store tx.old.conn.now) (state S.Store tx.new.conn.now) (λ _. ⊥) }
 {
     put_con(tx, con, edition, certified, note)?;
     put_lot(tx, con, lot)
@@ -110,12 +101,10 @@ fn set_certified<S: Alter>(
     requires found { constituency_with con.now.code setup.now ≡ Some con.now }
     requires fits { FitsView con.now view.now }
     requires decided { Decides con.now view.now ask.now (Ok (certified_with seats.now)) }
-    ensures same_reference { tx.new.conn.ghost_name ≡ tx.old.conn.ghost_name }
-    ensures kept { KeepsCommitIfClean (state S.Store tx.old.conn.now) (state S.Store tx.new.conn.now) }
+    ensures stays { Stays S.Store tx.old tx.new }
     ensures kind { IfOk result (IsReplyTo setup.now ask.now) }
     ensures carried_out { CarriesDecided setup.now con.now view.now (certified_with seats.now)
         (state S.Store tx.old.conn.now) (state S.Store tx.new.conn.now) result }
-    ensures survives { Survives (state S.Store tx.old.conn.now) (state S.Store tx.new.conn.now) (λ _. ⊥) }
 {
     let edition = view.edition + 1;
     let note = view.note.as_str();
@@ -136,12 +125,10 @@ fn set_reopened<S: Alter>(
     requires found { constituency_with con.now.code setup.now ≡ Some con.now }
     requires fits { FitsView con.now view.now }
     requires decided { Decides con.now view.now ask.now (Ok (open_again note.now past.now)) }
-    ensures same_reference { tx.new.conn.ghost_name ≡ tx.old.conn.ghost_name }
-    ensures kept { KeepsCommitIfClean (state S.Store tx.old.conn.now) (state S.Store tx.new.conn.now) }
+    ensures stays { Stays S.Store tx.old tx.new }
     ensures kind { IfOk result (IsReplyTo setup.now ask.now) }
     ensures carried_out { CarriesDecided setup.now con.now view.now (open_again note.now past.now)
         (state S.Store tx.old.conn.now) (state S.Store tx.new.conn.now) result }
-    ensures survives { Survives (state S.Store tx.old.conn.now) (state S.Store tx.new.conn.now) (λ _. ⊥) }
 {
     let edition = view.edition + 1;
     write_record(tx, con.code.as_str(), edition, note, past)?;
@@ -158,11 +145,9 @@ fn write_seats<S: Alter>(
     seats: &[u32],
 ) -> Result<(), Error>
     requires few { length seats.now ≤ 60 }
-    ensures same_reference { tx.new.conn.ghost_name ≡ tx.old.conn.ghost_name }
-    ensures kept { KeepsCommitIfClean (state S.Store tx.old.conn.now) (state S.Store tx.new.conn.now) }
+    ensures stays { Stays S.Store tx.old tx.new }
     ensures written { WritesSo con.now (HasWrittenSeats con.now edition certified note.now seats.now)
         (state S.Store tx.old.conn.now) (state S.Store tx.new.conn.now) result }
-    ensures survives { Survives (state S.Store tx.old.conn.now) (state S.Store tx.new.conn.now) (λ _. ⊥) }
 {
     put_con(tx, con, edition, certified, note)?;
     put_seats(tx, con, seats)
@@ -177,11 +162,9 @@ fn write_record<S: Alter>(
     past: &Past,
 ) -> Result<(), Error>
     requires few { length past.now.seats ≤ 60 }
-    ensures same_reference { tx.new.conn.ghost_name ≡ tx.old.conn.ghost_name }
-    ensures kept { KeepsCommitIfClean (state S.Store tx.old.conn.now) (state S.Store tx.new.conn.now) }
+    ensures stays { Stays S.Store tx.old tx.new }
     ensures written { WritesSo con.now (HasWrittenRecord con.now edition note.now past.now)
         (state S.Store tx.old.conn.now) (state S.Store tx.new.conn.now) result }
-    ensures survives { Survives (state S.Store tx.old.conn.now) (state S.Store tx.new.conn.now) (λ _. ⊥) }
 {
     write_seats(tx, con, edition, false, note, &[])?;
     put_record(tx, con, past)
@@ -200,12 +183,10 @@ fn set_gone<S: Alter>(
     requires found { constituency_with con.now.code setup.now ≡ Some con.now }
     requires named { con_named ask.now ≡ Some con.now.code }
     requires decided { Decides con.now view.now ask.now (Ok (gone_for_good gone.now next)) }
-    ensures same_reference { tx.new.conn.ghost_name ≡ tx.old.conn.ghost_name }
-    ensures kept { KeepsCommitIfClean (state S.Store tx.old.conn.now) (state S.Store tx.new.conn.now) }
+    ensures stays { Stays S.Store tx.old tx.new }
     ensures kind { IfOk result (IsReplyTo setup.now ask.now) }
     ensures carried_out { CarriesDecided setup.now con.now view.now (gone_for_good gone.now next)
         (state S.Store tx.old.conn.now) (state S.Store tx.new.conn.now) result }
-    ensures survives { Survives (state S.Store tx.old.conn.now) (state S.Store tx.new.conn.now) (λ _. ⊥) }
 {
     put_gone(tx, con.code.as_str(), gone)?;
     Ok(Reply::Vacated { next })

@@ -1,10 +1,10 @@
 //! Requests on a constituency, and the one that shows how far constituencies have come.
 
-ghost use Rattle.std.specs.Prelude.{◌≡◌, Some, IfOk, IsTrue};
-ghost use Rattle.sqlite.specs.State.{HasCleanDisk, Survives};
+ghost use Rattle.std.specs.Prelude.{◌≡◌, Some, IfOk};
+ghost use Rattle.sqlite.specs.State.{HasCleanDisk};
 ghost use Rattle.sqlite.specs.Held.{state};
-ghost use Rattle.tally_machine.specs.Kinds.{IsReplyTo};
-ghost use Rattle.tally_machine.specs.Step.{IsConDecision};
+ghost use Rattle.tally_steps.specs.Kinds.{IsReplyTo};
+ghost use Rattle.tally_steps.specs.Step.{IsConDecision};
 ghost use Rattle.tally_ledger.specs.Rows.{row_of};
 ghost use Rattle.tally_returns.specs.Named.{con_named};
 ghost use Rattle.tally_returns.specs.View.{FitsView};
@@ -12,7 +12,8 @@ ghost use Rattle.tally_returns.specs.declared.ask.Ask.TheVariants.{ShowProgress}
 ghost use Rattle.tally_rules.specs.Limits.{IsSetup};
 ghost use Rattle.tally_rules.specs.Setup.{constituency_with};
 ghost use Rattle.tally_statements.specs.Office.{IsInside};
-ghost use Rattle.tally_requests.specs.Requests.{CarriesOut, KeepsCommitInside};
+ghost use Rattle.tally_statements.specs.Inside.{OnlyReads, StaysInside};
+ghost use Rattle.tally_requests.specs.Requests.{CarriesOut};
 ghost use Rattle.tally_requests.specs.Seen.{CarriesOutSeen, FindsProgress, FindsRow, LooksUp};
 
 use crate::changes::carry_out;
@@ -31,14 +32,10 @@ pub(crate) fn answer_on<S: Alter>(
     ask: &Ask,
 ) -> Result<Result<Reply, Refusal>, Error>
     requires named { con_named ask.now ≡ Some code }
-    ensures same_reference { tx.new.conn.ghost_name ≡ tx.old.conn.ghost_name }
-    ensures kept { KeepsCommitInside (state S.Store tx.old.conn.now) (state S.Store tx.new.conn.now) }
+    ensures stays { StaysInside S.Store tx.old tx.new }
     ensures kind { IfOk result (λ r. IfOk r (IsReplyTo setup.now ask.now)) }
     ensures step { CarriesOut setup.now ask.now
         (state S.Store tx.old.conn.now) (state S.Store tx.new.conn.now) result }
-    ensures was_open { HasCleanDisk (state S.Store tx.new.conn.now) → IsTrue (state S.Store tx.new.conn.now).is_open →
-        IsTrue (state S.Store tx.old.conn.now).is_open }
-    ensures survives { Survives (state S.Store tx.old.conn.now) (state S.Store tx.new.conn.now) (λ _. ⊥) }
 {
     let Some(con) = setup.con(code) else {
         return Ok(Err(Refusal::NoConstituency));
@@ -60,14 +57,10 @@ fn answer_seen<S: Alter>(
     requires found { constituency_with con.now.code setup.now ≡ Some con.now }
     requires named { con_named ask.now ≡ Some con.now.code }
     requires fits { FitsView con.now view }
-    ensures same_reference { tx.new.conn.ghost_name ≡ tx.old.conn.ghost_name }
-    ensures kept { KeepsCommitInside (state S.Store tx.old.conn.now) (state S.Store tx.new.conn.now) }
+    ensures stays { StaysInside S.Store tx.old tx.new }
     ensures kind { IfOk result (λ r. IfOk r (IsReplyTo setup.now ask.now)) }
     ensures step { CarriesOutSeen setup.now con.now view ask.now
         (state S.Store tx.old.conn.now) (state S.Store tx.new.conn.now) result }
-    ensures was_open { HasCleanDisk (state S.Store tx.new.conn.now) → IsTrue (state S.Store tx.new.conn.now).is_open →
-        IsTrue (state S.Store tx.old.conn.now).is_open }
-    ensures survives { Survives (state S.Store tx.old.conn.now) (state S.Store tx.new.conn.now) (λ _. ⊥) }
 {
     match decide_con(alloc, con, &view, ask) {
         Ok(change) => carry_out_or_show(tx, setup, con, view, ask, change),
@@ -89,14 +82,10 @@ fn carry_out_or_show<S: Alter>(
     requires named { con_named ask.now ≡ Some con.now.code }
     requires fits { FitsView con.now view }
     requires decided { IsConDecision con.now view ask.now change }
-    ensures same_reference { tx.new.conn.ghost_name ≡ tx.old.conn.ghost_name }
-    ensures kept { KeepsCommitInside (state S.Store tx.old.conn.now) (state S.Store tx.new.conn.now) }
+    ensures stays { StaysInside S.Store tx.old tx.new }
     ensures kind { IfOk result (λ r. IfOk r (IsReplyTo setup.now ask.now)) }
     ensures step { CarriesOutSeen setup.now con.now view ask.now
         (state S.Store tx.old.conn.now) (state S.Store tx.new.conn.now) result }
-    ensures was_open { HasCleanDisk (state S.Store tx.new.conn.now) → IsTrue (state S.Store tx.new.conn.now).is_open →
-        IsTrue (state S.Store tx.old.conn.now).is_open }
-    ensures survives { Survives (state S.Store tx.old.conn.now) (state S.Store tx.new.conn.now) (λ _. ⊥) }
 {
     match change {
         Change::Same => Ok(Ok(Reply::Con(view))),
@@ -110,14 +99,10 @@ pub(crate) fn show_progress<S: Alter>(
     tx: &mut Transaction<'_, S>,
     setup: &Setup,
 ) -> Result<Result<Reply, Refusal>, Error>
-    ensures same_reference { tx.new.conn.ghost_name ≡ tx.old.conn.ghost_name }
-    ensures kept { KeepsCommitInside (state S.Store tx.old.conn.now) (state S.Store tx.new.conn.now) }
+    ensures stays { StaysInside S.Store tx.old tx.new }
     ensures kind { IfOk result (λ r. IfOk r (IsReplyTo setup.now ShowProgress)) }
     ensures step { CarriesOut setup.now ShowProgress
         (state S.Store tx.old.conn.now) (state S.Store tx.new.conn.now) result }
-    ensures was_open { HasCleanDisk (state S.Store tx.new.conn.now) → IsTrue (state S.Store tx.new.conn.now).is_open →
-        IsTrue (state S.Store tx.old.conn.now).is_open }
-    ensures survives { Survives (state S.Store tx.old.conn.now) (state S.Store tx.new.conn.now) (λ _. ⊥) }
 {
     let rows = find_progress(alloc, tx, setup)?;
     Ok(Ok(Reply::Progress(rows)))
@@ -129,14 +114,10 @@ fn find_progress<S: Alter>(
     tx: &mut Transaction<'_, S>,
     setup: &Setup,
 ) -> Result<Vec<ProgressRow>, Error>
-    ensures same_reference { tx.new.conn.ghost_name ≡ tx.old.conn.ghost_name }
-    ensures kept { KeepsCommitInside (state S.Store tx.old.conn.now) (state S.Store tx.new.conn.now) }
+    ensures stays { StaysInside S.Store tx.old tx.new }
     ensures found { HasCleanDisk (state S.Store tx.new.conn.now) → IsInside (state S.Store tx.old.conn.now) →
         IfOk result (λ rows. FindsProgress setup.now (state S.Store tx.old.conn.now) rows.items) }
     ensures still { LooksUp (state S.Store tx.old.conn.now) (state S.Store tx.new.conn.now) result }
-    ensures was_open { HasCleanDisk (state S.Store tx.new.conn.now) → IsTrue (state S.Store tx.new.conn.now).is_open →
-        IsTrue (state S.Store tx.old.conn.now).is_open }
-    ensures survives { Survives (state S.Store tx.old.conn.now) (state S.Store tx.new.conn.now) (λ _. ⊥) }
 {
     let cons = setup.cons();
     let mut rows = Vec::with_capacity(alloc, cons.len())?;
@@ -153,14 +134,9 @@ fn find_row<S: Alter>(
     setup: &Setup,
     con: &Constituency,
 ) -> Result<ProgressRow, Error>
-    ensures same_reference { tx.new.conn.ghost_name ≡ tx.old.conn.ghost_name }
-    ensures kept { KeepsCommitInside (state S.Store tx.old.conn.now) (state S.Store tx.new.conn.now) }
+    ensures reads { OnlyReads S.Store tx.old tx.new result }
     ensures found { HasCleanDisk (state S.Store tx.new.conn.now) → IsInside (state S.Store tx.old.conn.now) →
         IfOk result (λ row. FindsRow setup.now con.now (state S.Store tx.old.conn.now) row) }
-    ensures still { LooksUp (state S.Store tx.old.conn.now) (state S.Store tx.new.conn.now) result }
-    ensures was_open { HasCleanDisk (state S.Store tx.new.conn.now) → IsTrue (state S.Store tx.new.conn.now).is_open →
-        IsTrue (state S.Store tx.old.conn.now).is_open }
-    ensures survives { Survives (state S.Store tx.old.conn.now) (state S.Store tx.new.conn.now) (λ _. ⊥) }
 {
     let view = find_view(alloc, tx, setup, con)?;
     Ok(progress_row(con.code, &view))

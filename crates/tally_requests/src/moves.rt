@@ -1,18 +1,17 @@
 //! A return that has moved, written in the tables.
 
-ghost use Rattle.std.specs.Prelude.{◌≡◌, ◌≢◌, ◌≤◌, IsTrue, Some, length};
-ghost use Rattle.sqlite.specs.State.{HasCleanDisk, Survives};
+ghost use Rattle.std.specs.Prelude.{◌≡◌, ◌≢◌, ◌≤◌, Some, length};
 ghost use Rattle.sqlite.specs.Held.{state};
-ghost use Rattle.tally_machine.specs.Step.{with_return, without_lot};
+ghost use Rattle.tally_steps.specs.Step.{with_return, without_lot};
 ghost use Rattle.tally_returns.specs.declared.returns.Status.TheVariants.{Closed, Corrected, Queried};
+ghost use Rattle.tally_statements.specs.Inside.{StaysInside};
 ghost use Rattle.tally_requests.specs.Moves.{PutsMoved, Uncounts};
-ghost use Rattle.tally_requests.specs.Requests.{KeepsCommitInside};
 
 use crate::sums::move_sums;
 use sqlite::{Alter, Error, Transaction};
 use std::alloc::Global;
 use tally_entries::{change_return, correct_return, put_lot};
-use tally_machine::{Return, Status};
+use tally_returns::{Return, Status};
 use tally_rules::{Code, Constituency};
 
 /// Writes a return that is queried now. Its counts count no longer, and the lot of its constituency is
@@ -28,13 +27,9 @@ pub(crate) fn put_queried<S: Alter>(
     requires few { length con.now.lists ≤ 60 }
     requires queried { standing.now.status ≡ Queried }
     requires same_counts { before.now.counts ≡ standing.now.counts }
-    ensures same_reference { tx.new.conn.ghost_name ≡ tx.old.conn.ghost_name }
-    ensures kept { KeepsCommitInside (state S.Store tx.old.conn.now) (state S.Store tx.new.conn.now) }
+    ensures stays { StaysInside S.Store tx.old tx.new }
     ensures put { PutsMoved (λ s. with_return (without_lot s (Some con.now.code)) (Some station) standing.now) con.now station before.now
         (state S.Store tx.old.conn.now) (state S.Store tx.new.conn.now) result }
-    ensures was_open { HasCleanDisk (state S.Store tx.new.conn.now) → IsTrue (state S.Store tx.new.conn.now).is_open →
-        IsTrue (state S.Store tx.old.conn.now).is_open }
-    ensures survives { Survives (state S.Store tx.old.conn.now) (state S.Store tx.new.conn.now) (λ _. ⊥) }
 {
     uncount(alloc, tx, con, before)?;
     put_lot(tx, con.code.as_str(), &[])?;
@@ -49,13 +44,9 @@ fn uncount<S: Alter>(
     before: &Return,
 ) -> Result<(), Error>
     requires few { length con.now.lists ≤ 60 }
-    ensures same_reference { tx.new.conn.ghost_name ≡ tx.old.conn.ghost_name }
-    ensures kept { KeepsCommitInside (state S.Store tx.old.conn.now) (state S.Store tx.new.conn.now) }
+    ensures stays { StaysInside S.Store tx.old tx.new }
     ensures uncounted { Uncounts con.now before.now
         (state S.Store tx.old.conn.now) (state S.Store tx.new.conn.now) result }
-    ensures was_open { HasCleanDisk (state S.Store tx.new.conn.now) → IsTrue (state S.Store tx.new.conn.now).is_open →
-        IsTrue (state S.Store tx.old.conn.now).is_open }
-    ensures survives { Survives (state S.Store tx.old.conn.now) (state S.Store tx.new.conn.now) (λ _. ⊥) }
 {
     match before.status {
         Status::Closed => move_sums(alloc, tx, con, &before.counts, false),
@@ -75,13 +66,9 @@ pub(crate) fn put_corrected<S: Alter>(
     requires queried { before.now.status ≡ Queried }
     requires corrected { standing.now.status ≡ Corrected }
     requires lists { length standing.now.counts.votes ≡ length con.now.lists }
-    ensures same_reference { tx.new.conn.ghost_name ≡ tx.old.conn.ghost_name }
-    ensures kept { KeepsCommitInside (state S.Store tx.old.conn.now) (state S.Store tx.new.conn.now) }
+    ensures stays { StaysInside S.Store tx.old tx.new }
     ensures put { PutsMoved (λ s. with_return s (Some station) standing.now) con.now station before.now
         (state S.Store tx.old.conn.now) (state S.Store tx.new.conn.now) result }
-    ensures was_open { HasCleanDisk (state S.Store tx.new.conn.now) → IsTrue (state S.Store tx.new.conn.now).is_open →
-        IsTrue (state S.Store tx.old.conn.now).is_open }
-    ensures survives { Survives (state S.Store tx.old.conn.now) (state S.Store tx.new.conn.now) (λ _. ⊥) }
 {
     correct_return(tx, station.as_str(), standing)
 }
@@ -99,13 +86,9 @@ pub(crate) fn put_closed<S: Alter>(
     requires open { before.now.status ≢ Closed }
     requires closed { standing.now.status ≡ Closed }
     requires same_counts { before.now.counts ≡ standing.now.counts }
-    ensures same_reference { tx.new.conn.ghost_name ≡ tx.old.conn.ghost_name }
-    ensures kept { KeepsCommitInside (state S.Store tx.old.conn.now) (state S.Store tx.new.conn.now) }
+    ensures stays { StaysInside S.Store tx.old tx.new }
     ensures put { PutsMoved (λ s. with_return s (Some station) standing.now) con.now station before.now
         (state S.Store tx.old.conn.now) (state S.Store tx.new.conn.now) result }
-    ensures was_open { HasCleanDisk (state S.Store tx.new.conn.now) → IsTrue (state S.Store tx.new.conn.now).is_open →
-        IsTrue (state S.Store tx.old.conn.now).is_open }
-    ensures survives { Survives (state S.Store tx.old.conn.now) (state S.Store tx.new.conn.now) (λ _. ⊥) }
 {
     move_sums(alloc, tx, con, &standing.counts, true)?;
     change_return(tx, station.as_str(), standing)

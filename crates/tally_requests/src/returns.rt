@@ -1,11 +1,11 @@
 //! Requests on the return of a station.
 
-ghost use Rattle.std.specs.Prelude.{◌≡◌, ◌≤◌, length, Some, Ok, IfOk, OnOk, IsTrue, true};
+ghost use Rattle.std.specs.Prelude.{◌≡◌, ◌≤◌, length, Some, Ok, IfOk, true};
 ghost use Rattle.std.specs.Option.{ForSome};
-ghost use Rattle.sqlite.specs.State.{HasCleanDisk, IsUnchanged, Survives};
+ghost use Rattle.sqlite.specs.State.{HasCleanDisk};
 ghost use Rattle.sqlite.specs.Held.{state};
-ghost use Rattle.tally_core.specs.Held.{moves_return};
-ghost use Rattle.tally_machine.specs.Kinds.{IsReplyTo};
+ghost use Rattle.tally_keeper.specs.Held.{moves_return};
+ghost use Rattle.tally_steps.specs.Kinds.{IsReplyTo};
 ghost use Rattle.tally_returns.specs.Decide.{decided_there, limits_of};
 ghost use Rattle.tally_returns.specs.Lawful.{IsLawful};
 ghost use Rattle.tally_returns.specs.Named.{station_named};
@@ -13,12 +13,13 @@ ghost use Rattle.tally_returns.specs.Return.{first_return};
 ghost use Rattle.tally_returns.specs.declared.ask.Ask.TheVariants.{ShowReturn};
 ghost use Rattle.tally_rules.specs.Limits.{IsSetup};
 ghost use Rattle.tally_rules.specs.Setup.{station_with};
-ghost use Rattle.tally_statements.specs.Office.{IsInside, KeepsCommitIfClean};
+ghost use Rattle.tally_statements.specs.Office.{IsInside};
 ghost use Rattle.tally_entries.specs.Entries.{AddsReturn, FindsReturn};
 ghost use Rattle.tally_requests.specs.Found.{CarriesOutFound, MovesTo, after_move};
+ghost use Rattle.tally_statements.specs.Inside.{OnlyReads, Stays, StaysInside};
 ghost use Rattle.tally_requests.specs.Lodging.{DecidesLodge, IsFewIfLodged};
 ghost use Rattle.tally_requests.specs.Moves.{PutsMoved};
-ghost use Rattle.tally_requests.specs.Requests.{CarriesOut, KeepsCommitInside, Lodges};
+ghost use Rattle.tally_requests.specs.Requests.{CarriesOut, Lodges};
 
 use crate::moves::{put_closed, put_corrected, put_queried};
 use sqlite::{Alter, Error, ErrorCode, Transaction};
@@ -38,13 +39,9 @@ pub(crate) fn lodge<S: Alter>(
     slip: Code,
     counts: &Counts,
 ) -> Result<Result<LodgeReply, Refusal>, Error>
-    ensures same_reference { tx.new.conn.ghost_name ≡ tx.old.conn.ghost_name }
-    ensures kept { KeepsCommitInside (state S.Store tx.old.conn.now) (state S.Store tx.new.conn.now) }
+    ensures stays { StaysInside S.Store tx.old tx.new }
     ensures lodged { Lodges setup.now station slip counts.now
         (state S.Store tx.old.conn.now) (state S.Store tx.new.conn.now) result }
-    ensures was_open { HasCleanDisk (state S.Store tx.new.conn.now) → IsTrue (state S.Store tx.new.conn.now).is_open →
-        IsTrue (state S.Store tx.old.conn.now).is_open }
-    ensures survives { Survives (state S.Store tx.old.conn.now) (state S.Store tx.new.conn.now) (λ _. ⊥) }
 {
     let Some((con, place)) = setup.station(station) else {
         return Ok(Err(Refusal::NoStation));
@@ -73,16 +70,10 @@ fn decide_first<S: Alter>(
 ) -> Result<Result<LodgeReply, Refusal>, Error>
     requires known { station_with station setup.now ≡ Some (con.now, place.now) }
     requires limits { IsSetup setup.now }
-    ensures same_reference { tx.new.conn.ghost_name ≡ tx.old.conn.ghost_name }
-    ensures kept { KeepsCommitInside (state S.Store tx.old.conn.now) (state S.Store tx.new.conn.now) }
+    ensures reads { OnlyReads S.Store tx.old tx.new result }
     ensures decided { DecidesLodge setup.now station slip counts.now
         (state S.Store tx.old.conn.now) (state S.Store tx.new.conn.now) result }
     ensures few { IfOk result (IsFewIfLodged counts.now) }
-    ensures same { HasCleanDisk (state S.Store tx.new.conn.now) → IsInside (state S.Store tx.old.conn.now) →
-        OnOk result (IsUnchanged (state S.Store tx.old.conn.now) (state S.Store tx.new.conn.now)) }
-    ensures was_open { HasCleanDisk (state S.Store tx.new.conn.now) → IsTrue (state S.Store tx.new.conn.now).is_open →
-        IsTrue (state S.Store tx.old.conn.now).is_open }
-    ensures survives { Survives (state S.Store tx.old.conn.now) (state S.Store tx.new.conn.now) (λ _. ⊥) }
 {
     let found = find_return(alloc, tx, setup, station)?;
     let lists = con.lists.len();
@@ -99,11 +90,9 @@ fn put_first<S: Alter>(
     counts: &Counts,
 ) -> Result<(), Error>
     requires few { length counts.now.votes ≤ 60 }
-    ensures same_reference { tx.new.conn.ghost_name ≡ tx.old.conn.ghost_name }
-    ensures kept { KeepsCommitIfClean (state S.Store tx.old.conn.now) (state S.Store tx.new.conn.now) }
+    ensures stays { Stays S.Store tx.old tx.new }
     ensures added { AddsReturn con.now.code station (first_return slip counts.now)
         (state S.Store tx.old.conn.now) (state S.Store tx.new.conn.now) result }
-    ensures survives { Survives (state S.Store tx.old.conn.now) (state S.Store tx.new.conn.now) (λ _. ⊥) }
 {
     let first = Return::lodged(alloc, slip, counts.try_copy(alloc)?);
     add_return(tx, con.code.as_str(), station.as_str(), &first)
@@ -119,14 +108,10 @@ pub(crate) fn move_on<S: Alter>(
 ) -> Result<Result<Reply, Refusal>, Error>
     requires named { station_named ask.now ≡ Some station }
     requires moves { moves_return ask.now ≡ true }
-    ensures same_reference { tx.new.conn.ghost_name ≡ tx.old.conn.ghost_name }
-    ensures kept { KeepsCommitInside (state S.Store tx.old.conn.now) (state S.Store tx.new.conn.now) }
+    ensures stays { StaysInside S.Store tx.old tx.new }
     ensures kind { IfOk result (λ r. IfOk r (IsReplyTo setup.now ask.now)) }
     ensures step { CarriesOut setup.now ask.now
         (state S.Store tx.old.conn.now) (state S.Store tx.new.conn.now) result }
-    ensures was_open { HasCleanDisk (state S.Store tx.new.conn.now) → IsTrue (state S.Store tx.new.conn.now).is_open →
-        IsTrue (state S.Store tx.old.conn.now).is_open }
-    ensures survives { Survives (state S.Store tx.old.conn.now) (state S.Store tx.new.conn.now) (λ _. ⊥) }
 {
     let Some((con, place)) = setup.station(station) else {
         return Ok(Err(Refusal::NoStation));
@@ -147,16 +132,10 @@ fn find_lawful<S: Alter>(
     station: Code,
 ) -> Result<Option<Return>, Error>
     requires few { length con.now.lists ≤ 60 }
-    ensures same_reference { tx.new.conn.ghost_name ≡ tx.old.conn.ghost_name }
-    ensures kept { KeepsCommitInside (state S.Store tx.old.conn.now) (state S.Store tx.new.conn.now) }
+    ensures reads { OnlyReads S.Store tx.old tx.new result }
     ensures found { HasCleanDisk (state S.Store tx.new.conn.now) → IsInside (state S.Store tx.old.conn.now) →
         IfOk result (λ found. FindsReturn setup.now station (state S.Store tx.old.conn.now) found) }
     ensures lawful { IfOk result (λ found. ForSome found (IsLawful (limits_of con.now place.now))) }
-    ensures same { HasCleanDisk (state S.Store tx.new.conn.now) → IsInside (state S.Store tx.old.conn.now) →
-        OnOk result (IsUnchanged (state S.Store tx.old.conn.now) (state S.Store tx.new.conn.now)) }
-    ensures was_open { HasCleanDisk (state S.Store tx.new.conn.now) → IsTrue (state S.Store tx.new.conn.now).is_open →
-        IsTrue (state S.Store tx.old.conn.now).is_open }
-    ensures survives { Survives (state S.Store tx.old.conn.now) (state S.Store tx.new.conn.now) (λ _. ⊥) }
 {
     let found = find_return(alloc, tx, setup, station)?;
     check_lawful(con, place, found)
@@ -198,14 +177,10 @@ fn move_found<S: Alter>(
     requires named { station_named ask.now ≡ Some station }
     requires moves { moves_return ask.now ≡ true }
     requires lawful { ForSome found (IsLawful (limits_of con.now place.now)) }
-    ensures same_reference { tx.new.conn.ghost_name ≡ tx.old.conn.ghost_name }
-    ensures kept { KeepsCommitInside (state S.Store tx.old.conn.now) (state S.Store tx.new.conn.now) }
+    ensures stays { StaysInside S.Store tx.old tx.new }
     ensures kind { IfOk result (λ r. IfOk r (IsReplyTo setup.now ask.now)) }
     ensures step { CarriesOutFound setup.now con.now station certified found ask.now
         (state S.Store tx.old.conn.now) (state S.Store tx.new.conn.now) result }
-    ensures was_open { HasCleanDisk (state S.Store tx.new.conn.now) → IsTrue (state S.Store tx.new.conn.now).is_open →
-        IsTrue (state S.Store tx.old.conn.now).is_open }
-    ensures survives { Survives (state S.Store tx.old.conn.now) (state S.Store tx.new.conn.now) (λ _. ⊥) }
 {
     match decide_at(alloc, con, place, certified, found.as_ref(), ask) {
         Ok(change) => put_next(
@@ -233,14 +208,10 @@ fn put_next<S: Alter>(
     requires named { station_named ask.now ≡ Some station }
     requires moves { moves_return ask.now ≡ true }
     requires decided { decided_there con.now place.now certified found ask.now ≡ Ok change }
-    ensures same_reference { tx.new.conn.ghost_name ≡ tx.old.conn.ghost_name }
-    ensures kept { KeepsCommitInside (state S.Store tx.old.conn.now) (state S.Store tx.new.conn.now) }
+    ensures stays { StaysInside S.Store tx.old tx.new }
     ensures kind { IfOk result (λ r. IfOk r (IsReplyTo setup.now ask.now)) }
     ensures step { CarriesOutFound setup.now con.now station certified found ask.now
         (state S.Store tx.old.conn.now) (state S.Store tx.new.conn.now) result }
-    ensures was_open { HasCleanDisk (state S.Store tx.new.conn.now) → IsTrue (state S.Store tx.new.conn.now).is_open →
-        IsTrue (state S.Store tx.old.conn.now).is_open }
-    ensures survives { Survives (state S.Store tx.old.conn.now) (state S.Store tx.new.conn.now) (λ _. ⊥) }
 {
     let Change::PutReturn(standing) = change else {
         unreachable!()
@@ -262,13 +233,9 @@ fn put_moved<S: Alter>(
 ) -> Result<(), Error>
     requires few { length con.now.lists ≤ 60 }
     requires moves { MovesTo con.now ask.now before.now standing.now }
-    ensures same_reference { tx.new.conn.ghost_name ≡ tx.old.conn.ghost_name }
-    ensures kept { KeepsCommitInside (state S.Store tx.old.conn.now) (state S.Store tx.new.conn.now) }
+    ensures stays { StaysInside S.Store tx.old tx.new }
     ensures put { PutsMoved (λ s. after_move con.now station ask.now standing.now s) con.now station before.now
         (state S.Store tx.old.conn.now) (state S.Store tx.new.conn.now) result }
-    ensures was_open { HasCleanDisk (state S.Store tx.new.conn.now) → IsTrue (state S.Store tx.new.conn.now).is_open →
-        IsTrue (state S.Store tx.old.conn.now).is_open }
-    ensures survives { Survives (state S.Store tx.old.conn.now) (state S.Store tx.new.conn.now) (λ _. ⊥) }
 {
     match ask {
         Ask::Query { .. } => put_queried(alloc, tx, con, station, before, standing),
@@ -285,14 +252,10 @@ pub(crate) fn show_return<S: Alter>(
     setup: &Setup,
     station: Code,
 ) -> Result<Result<Reply, Refusal>, Error>
-    ensures same_reference { tx.new.conn.ghost_name ≡ tx.old.conn.ghost_name }
-    ensures kept { KeepsCommitInside (state S.Store tx.old.conn.now) (state S.Store tx.new.conn.now) }
+    ensures stays { StaysInside S.Store tx.old tx.new }
     ensures kind { IfOk result (λ r. IfOk r (IsReplyTo setup.now (ShowReturn station))) }
     ensures step { CarriesOut setup.now (ShowReturn station)
         (state S.Store tx.old.conn.now) (state S.Store tx.new.conn.now) result }
-    ensures was_open { HasCleanDisk (state S.Store tx.new.conn.now) → IsTrue (state S.Store tx.new.conn.now).is_open →
-        IsTrue (state S.Store tx.old.conn.now).is_open }
-    ensures survives { Survives (state S.Store tx.old.conn.now) (state S.Store tx.new.conn.now) (λ _. ⊥) }
 {
     if setup.station(station).is_none() {
         return Ok(Err(Refusal::NoStation));

@@ -1,19 +1,21 @@
 //! The rows of a source, lodged.
 
-ghost use Rattle.std.specs.Prelude.{◌≡◌, Some, None, IfErr, IfOk, IsTrue, OnOk, true};
-ghost use Rattle.sqlite.specs.State.{HasCleanDisk, Survives};
+ghost use Rattle.std.specs.Prelude.{◌≡◌, Some, None, IfErr, IfOk, OnOk, true};
+ghost use Rattle.sqlite.specs.State.{HasCleanDisk};
 ghost use Rattle.sqlite.specs.Held.{state};
-ghost use Rattle.tally_core.specs.Import.{IsCodedRow};
-ghost use Rattle.tally_core.specs.Keeper.{IsFault, IsOwnFault};
-ghost use Rattle.tally_core.specs.declared.import.Row.{Row};
+ghost use Rattle.tally_keeper.specs.Import.{IsCodedRow};
+ghost use Rattle.tally_keeper.specs.Keeper.{IsFault, IsOwnFault};
+ghost use Rattle.tally_keeper.specs.declared.import.Row.{Row};
 ghost use Rattle.tally_rules.specs.Code.{is_code};
 ghost use Rattle.tally_statements.specs.Office.{IsInside};
-ghost use Rattle.tally_requests.specs.Requests.{ImportsRows, KeepsCommitInside, KeepsCommitInState, LodgesOf, TakesRow};
+ghost use Rattle.tally_statements.specs.Inside.{StaysInside};
+ghost use Rattle.tally_requests.specs.Inside.{StaysInState};
+ghost use Rattle.tally_requests.specs.Requests.{ImportsRows, LodgesOf, TakesRow};
 
 use crate::returns::lodge;
 use sqlite::{Alter, Error, ErrorCode, Transaction};
 use std::alloc::Global;
-use tally_core::{
+use tally_keeper::{
     Ask, Counts, ImportCount, ImportFault, LodgeReply, ROW_LIMIT, Refusal, Row, RowSource,
 };
 use tally_rules::{Code, Setup};
@@ -26,15 +28,11 @@ pub fn take_rows<S: Alter, R: RowSource>(
     setup: &Setup,
     source: &mut R,
 ) -> Result<ImportCount, ImportFault>
-    ensures same_reference { tx.new.conn.ghost_name ≡ tx.old.conn.ghost_name }
-    ensures kept { KeepsCommitInState setup.now (state S.Store tx.old.conn.now) (state S.Store tx.new.conn.now) }
+    ensures stays { StaysInState setup.now S.Store tx.old tx.new }
     ensures imported { ImportsRows setup.now (R.coming source.old)
         (state S.Store tx.old.conn.now) (state S.Store tx.new.conn.now) result }
     ensures ended { OnOk result (R.ended source.new ≡ Some None) }
     ensures fault { IfErr result (IsFault (R.coming source.old) (R.ended source.new)) }
-    ensures was_open { HasCleanDisk (state S.Store tx.new.conn.now) → IsTrue (state S.Store tx.new.conn.now).is_open →
-        IsTrue (state S.Store tx.old.conn.now).is_open }
-    ensures survives { Survives (state S.Store tx.old.conn.now) (state S.Store tx.new.conn.now) (λ _. ⊥) }
 {
     let _cons = setup.cons();
     let mut count = ImportCount::new();
@@ -55,15 +53,11 @@ fn take_row<S: Alter>(
     setup: &Setup,
     row: Row,
 ) -> Result<Option<Result<LodgeReply, Refusal>>, ImportFault>
-    ensures same_reference { tx.new.conn.ghost_name ≡ tx.old.conn.ghost_name }
-    ensures kept { KeepsCommitInside (state S.Store tx.old.conn.now) (state S.Store tx.new.conn.now) }
+    ensures stays { StaysInside S.Store tx.old tx.new }
     ensures codes { IsCodedRow row }
     ensures taken { TakesRow setup.now row
         (state S.Store tx.old.conn.now) (state S.Store tx.new.conn.now) result }
     ensures own { IfErr result IsOwnFault }
-    ensures was_open { HasCleanDisk (state S.Store tx.new.conn.now) → IsTrue (state S.Store tx.new.conn.now).is_open →
-        IsTrue (state S.Store tx.old.conn.now).is_open }
-    ensures survives { Survives (state S.Store tx.old.conn.now) (state S.Store tx.new.conn.now) (λ _. ⊥) }
 {
     let Row::Lodge(ask) = row else {
         return Ok(None);
@@ -77,15 +71,11 @@ fn take_ask<S: Alter>(
     setup: &Setup,
     ask: Ask,
 ) -> Result<Option<Result<LodgeReply, Refusal>>, ImportFault>
-    ensures same_reference { tx.new.conn.ghost_name ≡ tx.old.conn.ghost_name }
-    ensures kept { KeepsCommitInside (state S.Store tx.old.conn.now) (state S.Store tx.new.conn.now) }
+    ensures stays { StaysInside S.Store tx.old tx.new }
     ensures codes { IsCodedRow (Row.Lodge ask) }
     ensures taken { TakesRow setup.now (Row.Lodge ask)
         (state S.Store tx.old.conn.now) (state S.Store tx.new.conn.now) result }
     ensures own { IfErr result IsOwnFault }
-    ensures was_open { HasCleanDisk (state S.Store tx.new.conn.now) → IsTrue (state S.Store tx.new.conn.now).is_open →
-        IsTrue (state S.Store tx.old.conn.now).is_open }
-    ensures survives { Survives (state S.Store tx.old.conn.now) (state S.Store tx.new.conn.now) (λ _. ⊥) }
 {
     let Ask::Lodge {
         station,
@@ -108,16 +98,12 @@ fn take_return<S: Alter>(
     slip: Code,
     counts: &Counts,
 ) -> Result<Result<LodgeReply, Refusal>, ImportFault>
-    ensures same_reference { tx.new.conn.ghost_name ≡ tx.old.conn.ghost_name }
-    ensures kept { KeepsCommitInside (state S.Store tx.old.conn.now) (state S.Store tx.new.conn.now) }
+    ensures stays { StaysInside S.Store tx.old tx.new }
     ensures codes { is_code slip ≡ true }
     ensures lodged { HasCleanDisk (state S.Store tx.new.conn.now) → IsInside (state S.Store tx.old.conn.now) →
         IfOk result (λ r. LodgesOf setup.now station slip counts.now
         (state S.Store tx.old.conn.now) (state S.Store tx.new.conn.now) r) }
     ensures own { IfErr result IsOwnFault }
-    ensures was_open { HasCleanDisk (state S.Store tx.new.conn.now) → IsTrue (state S.Store tx.new.conn.now).is_open →
-        IsTrue (state S.Store tx.old.conn.now).is_open }
-    ensures survives { Survives (state S.Store tx.old.conn.now) (state S.Store tx.new.conn.now) (λ _. ⊥) }
 {
     let _slip = slip.as_bytes();
     match lodge(alloc, tx, setup, station, slip, counts) {

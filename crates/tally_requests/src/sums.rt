@@ -1,17 +1,16 @@
 //! The sums of closed votes of a constituency, moved by a return.
 
-ghost use Rattle.std.specs.Prelude.{◌≡◌, ◌≤◌, IsTrue, OnSome, SomeIff, length};
-ghost use Rattle.sqlite.specs.State.{HasCleanDisk, Survives};
+ghost use Rattle.std.specs.Prelude.{◌≡◌, ◌≤◌, OnSome, SomeIff, length};
 ghost use Rattle.sqlite.specs.Held.{state};
+ghost use Rattle.tally_statements.specs.Inside.{StaysInside};
 ghost use Rattle.tally_requests.specs.Moves.{MovesSums};
 ghost use Rattle.tally_ledger.specs.Sums.{moved_sum, moved_sums};
-ghost use Rattle.tally_requests.specs.Requests.{KeepsCommitInside};
 ghost use Rattle.tally_requests.specs.Sums.{FitCounts, FitEach, FitsMoved, with_counts_moved};
 
 use sqlite::{Alter, Error, ErrorCode, Transaction};
 use std::alloc::Global;
 use tally_entries::{find_sums, put_sums};
-use tally_machine::Counts;
+use tally_returns::Counts;
 use tally_rules::Constituency;
 use tally_tables::Sums;
 
@@ -26,13 +25,9 @@ pub(crate) fn move_sums<S: Alter>(
     add: bool,
 ) -> Result<(), Error>
     requires few { length con.now.lists ≤ 60 }
-    ensures same_reference { tx.new.conn.ghost_name ≡ tx.old.conn.ghost_name }
-    ensures kept { KeepsCommitInside (state S.Store tx.old.conn.now) (state S.Store tx.new.conn.now) }
+    ensures stays { StaysInside S.Store tx.old tx.new }
     ensures moved { MovesSums con.now counts.now add
         (state S.Store tx.old.conn.now) (state S.Store tx.new.conn.now) result }
-    ensures was_open { HasCleanDisk (state S.Store tx.new.conn.now) → IsTrue (state S.Store tx.new.conn.now).is_open →
-        IsTrue (state S.Store tx.old.conn.now).is_open }
-    ensures survives { Survives (state S.Store tx.old.conn.now) (state S.Store tx.new.conn.now) (λ _. ⊥) }
 {
     let sums = find_sums(alloc, tx, con.code.as_str())?;
     if sums.votes.len() != con.lists.len() {

@@ -23,5 +23,5 @@ pub use progress::ProgressRow;
 pub use refusal::Refusal;
 pub use reply::{LodgeReply, Reply};
 pub use returns::{Return, Status};
-pub use tally_contest::ListSet;
+pub use tally_rules::ListSet;
 pub use view::{ConView, Gone, LAST_EDITION, Past};

@@ -4,7 +4,7 @@ ghost use Rattle.std.specs.Prelude.{◌≡◌};
 
 use crate::returns::Status;
 use std::alloc::AllocError;
-use tally_contest::ListSet;
+use tally_rules::ListSet;
 
 /// Why a command was refused: the first of its checks that failed. `Memory` and `Store` stand
 /// outside that order.

@@ -5,6 +5,7 @@ pub mod Fault
 pub mod Found
 pub mod Index
 pub mod Limits
+pub mod ListSet
 pub mod Reading
 pub mod Setup
 pub mod Text

@@ -1,3 +1,4 @@
 pub mod Tables
 pub mod Made
 pub mod Cells
+pub mod Stays

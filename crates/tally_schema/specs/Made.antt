@@ -7,7 +7,7 @@ use Rattle.sqlite_schema.specs.declared.schema.View.{View}
 use Rattle.sqlite_schema.specs.Names.{same_name, table_named, index_named, view_named}
 use Rattle.sqlite.specs.declared.error.Error.{Error}
 use Rattle.sqlite.specs.Effect.{IsDatabase}
-use Rattle.sqlite.specs.State.{State as Seen, HasCleanDisk, KeepsCommit, ExecutesInside}
+use Rattle.sqlite.specs.State.{State as Seen, HasCleanDisk, ExecutesInside}
 use Rattle.tally_schema.specs.Tables.{schema_with, past_tree}
 
 -- ---- making tables
@@ -35,10 +35,6 @@ abbrev pub HasRun : List ℕ → Seen → Seen → Type 0
 HasRun sql old new = (count : ℕ) × ExecutesInside 0 sql [] old new (Ok count)
 
 -- ---- what a call says, of a disk that returned what was written
-
--- whatever it answers, nothing was committed
-abbrev pub KeepsCommitIfClean : Seen → Seen → Type 0
-KeepsCommitIfClean old new = HasCleanDisk new → KeepsCommit old new
 
 abbrev pub Runs : List ℕ → Seen → Seen → Result Unit Error → Type 0
 Runs sql old new result = HasCleanDisk new → IsTrue old.in_transaction → OnOk result (HasRun sql old new)

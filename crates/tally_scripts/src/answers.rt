@@ -3,7 +3,7 @@
 use crate::commands::command;
 use std::alloc::Global;
 use std::test::Fail;
-use tally_core::{ConView, Keeper, ListSet, ProgressRow, Refusal, Reply, Return};
+use tally_keeper::{ConView, Keeper, ListSet, ProgressRow, Refusal, Reply, Return};
 
 /// What is answered, as text: a word for it, and its numbers.
 pub fn told(alloc: Global, answer: &Result<Reply, Refusal>) -> Result<String, Fail> {

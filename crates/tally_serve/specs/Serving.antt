@@ -1,5 +1,5 @@
 -- What serving does to the connections of a door and to what a keeper has.
-use Rattle.std.specs.Prelude.{◌≡◌, ℕ, ◌+◌, Bool, false, if◌then◌else◌, nat_le, List, [], ◌∷◌, ◌++◌, length, take, Option, Some, None, Vec, Result, Ok, Err}
+use Rattle.std.specs.Prelude.{◌≡◌, ℕ, ◌+◌, Bool, true, false, if◌then◌else◌, nat_le, List, [], ◌∷◌, ◌++◌, length, take, Option, Some, None, Vec, Result, Ok, Err}
 use Rattle.std.specs.declared.alloc.Global.{Global}
 use Rattle.tally_door.specs.Connection.{Connection}
 use Rattle.tally_message.specs.Message.{IsMessageOrFault}
@@ -16,16 +16,17 @@ abbrev pub text_or : List ℕ → Option (Vec ℕ Global) → List ℕ
 text_or otherwise (Some text) = text.items
 text_or otherwise None = otherwise
 
--- An answer was written as far as there was room for it. The connection counts as answered where it was written whole.
--- The content is what it is after the answer, whether that was written whole or not.
+-- No read failed, and an answer was written as far as there was room for it. The connection counts as answered where it
+-- was written whole. The content is what it is after the answer, whether that was written whole or not.
 abbrev pub IsSent : {C : Type 0} → Answering C → C → Connection → Bool → Connection → C → Result Message MessageFault → Type 0
 IsSent Answers old c answered d new message =
     (text : List ℕ) × Answers old message text new × (d.written ≡ c.written ++ take c.room text)
-    × (answered ≡ nat_le (length text) c.room)
+    × (answered ≡ nat_le (length text) c.room) × (d.read_failed ≡ c.read_failed)
 
--- Nothing was written, and nothing changed.
+-- A read failed, nothing was written, and nothing changed.
 abbrev pub IsFailed : {C : Type 0} → C → Connection → Bool → Connection → C → Type 0
-IsFailed old c answered d new = (answered ≡ false) × (d.written ≡ c.written) × (new ≡ old)
+IsFailed old c answered d new =
+    (answered ≡ false) × (d.read_failed ≡ true) × (d.written ≡ c.written) × (new ≡ old)
 
 -- what follows a message or a fault: an answer, but where a read failed
 abbrev pub Follows : {C : Type 0} → Answering C → C → Connection → Bool → Connection → C → Result Message MessageFault → Type 0

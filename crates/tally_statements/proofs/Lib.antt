@@ -4,3 +4,4 @@ pub mod TextLemmas
 pub mod SelectLemmas
 pub mod WholeLemmas
 pub mod SetupLemmas
+pub mod StaysLemmas

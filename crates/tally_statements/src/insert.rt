@@ -1,12 +1,11 @@
 //! INSERT of one row into a table.
 
-ghost use Rattle.std.specs.Prelude.{◌≡◌, ◌∷◌, [], pos, List, ℕ};
+ghost use Rattle.std.specs.Prelude.{◌≡◌, ◌∷◌, [], pos, ℕ};
 ghost use Rattle.sqlite_value.specs.declared.value.Value.TheVariants.{Int, Text};
-ghost use Rattle.sqlite_value.specs.Order.{Row};
-ghost use Rattle.sqlite.specs.State.{Survives};
 ghost use Rattle.sqlite.specs.Held.{state};
 ghost use Rattle.tally_schema.specs.Cells.{flag};
-ghost use Rattle.tally_statements.specs.Office.{KeepsCommitIfClean, Inserts, item_cells};
+ghost use Rattle.tally_statements.specs.Inside.{Stays};
+ghost use Rattle.tally_statements.specs.Office.{Inserts, item_cells};
 ghost use Rattle.tally_statements.specs.declared.table.KeyedTable.TheVariants.{Returns, Counts, Cons, Lots, Seats, Gone, Totals, Past};
 
 use crate::running::run;
@@ -22,12 +21,10 @@ pub fn insert_return<S: Alter>(
     status: u32,
     note: &str,
 ) -> Result<(), Error>
-    ensures same_reference { tx.new.conn.ghost_name ≡ tx.old.conn.ghost_name }
-    ensures kept { KeepsCommitIfClean (state S.Store tx.old.conn.now) (state S.Store tx.new.conn.now) }
+    ensures stays { Stays S.Store tx.old tx.new }
     ensures inserted { Inserts Returns (Text station.now ∷ Text con.now ∷ Int (pos rev) ∷ Text slip.now ∷ Int (pos status)
         ∷ Text note.now ∷ [])
         (state S.Store tx.old.conn.now) (state S.Store tx.new.conn.now) result }
-    ensures survives { Survives (state S.Store tx.old.conn.now) (state S.Store tx.new.conn.now) (λ _. ⊥) }
 {
     run(
         tx,
@@ -43,11 +40,9 @@ pub fn insert_count<S: Alter>(
     item: u32,
     n: u32,
 ) -> Result<(), Error>
-    ensures same_reference { tx.new.conn.ghost_name ≡ tx.old.conn.ghost_name }
-    ensures kept { KeepsCommitIfClean (state S.Store tx.old.conn.now) (state S.Store tx.new.conn.now) }
+    ensures stays { Stays S.Store tx.old tx.new }
     ensures inserted { Inserts Counts (item_cells station.now item n)
         (state S.Store tx.old.conn.now) (state S.Store tx.new.conn.now) result }
-    ensures survives { Survives (state S.Store tx.old.conn.now) (state S.Store tx.new.conn.now) (λ _. ⊥) }
 {
     run(
         tx,
@@ -64,11 +59,9 @@ pub fn insert_con<S: Alter>(
     certified: bool,
     note: &str,
 ) -> Result<(), Error>
-    ensures same_reference { tx.new.conn.ghost_name ≡ tx.old.conn.ghost_name }
-    ensures kept { KeepsCommitIfClean (state S.Store tx.old.conn.now) (state S.Store tx.new.conn.now) }
+    ensures stays { Stays S.Store tx.old tx.new }
     ensures inserted { Inserts Cons (Text con.now ∷ Int (pos edition) ∷ Int (pos (flag certified)) ∷ Text note.now ∷ [])
         (state S.Store tx.old.conn.now) (state S.Store tx.new.conn.now) result }
-    ensures survives { Survives (state S.Store tx.old.conn.now) (state S.Store tx.new.conn.now) (λ _. ⊥) }
 {
     run(
         tx,
@@ -84,11 +77,9 @@ pub fn insert_lot<S: Alter>(
     place: u32,
     list: u32,
 ) -> Result<(), Error>
-    ensures same_reference { tx.new.conn.ghost_name ≡ tx.old.conn.ghost_name }
-    ensures kept { KeepsCommitIfClean (state S.Store tx.old.conn.now) (state S.Store tx.new.conn.now) }
+    ensures stays { Stays S.Store tx.old tx.new }
     ensures inserted { Inserts Lots (item_cells con.now place list)
         (state S.Store tx.old.conn.now) (state S.Store tx.new.conn.now) result }
-    ensures survives { Survives (state S.Store tx.old.conn.now) (state S.Store tx.new.conn.now) (λ _. ⊥) }
 {
     run(
         tx,
@@ -104,11 +95,9 @@ pub fn insert_seats<S: Alter>(
     list: u32,
     n: u32,
 ) -> Result<(), Error>
-    ensures same_reference { tx.new.conn.ghost_name ≡ tx.old.conn.ghost_name }
-    ensures kept { KeepsCommitIfClean (state S.Store tx.old.conn.now) (state S.Store tx.new.conn.now) }
+    ensures stays { Stays S.Store tx.old tx.new }
     ensures inserted { Inserts Seats (item_cells con.now list n)
         (state S.Store tx.old.conn.now) (state S.Store tx.new.conn.now) result }
-    ensures survives { Survives (state S.Store tx.old.conn.now) (state S.Store tx.new.conn.now) (λ _. ⊥) }
 {
     run(
         tx,
@@ -125,11 +114,9 @@ pub fn insert_gone<S: Alter>(
     place: u32,
     note: &str,
 ) -> Result<(), Error>
-    ensures same_reference { tx.new.conn.ghost_name ≡ tx.old.conn.ghost_name }
-    ensures kept { KeepsCommitIfClean (state S.Store tx.old.conn.now) (state S.Store tx.new.conn.now) }
+    ensures stays { Stays S.Store tx.old tx.new }
     ensures inserted { Inserts Gone (Text con.now ∷ Int (pos list) ∷ Int (pos place) ∷ Text note.now ∷ [])
         (state S.Store tx.old.conn.now) (state S.Store tx.new.conn.now) result }
-    ensures survives { Survives (state S.Store tx.old.conn.now) (state S.Store tx.new.conn.now) (λ _. ⊥) }
 {
     run(
         tx,
@@ -145,11 +132,9 @@ pub fn insert_total<S: Alter>(
     item: u32,
     n: i64,
 ) -> Result<(), Error>
-    ensures same_reference { tx.new.conn.ghost_name ≡ tx.old.conn.ghost_name }
-    ensures kept { KeepsCommitIfClean (state S.Store tx.old.conn.now) (state S.Store tx.new.conn.now) }
+    ensures stays { Stays S.Store tx.old tx.new }
     ensures inserted { (m : ℕ) → n ≡ pos m → Inserts Totals (item_cells con.now item m)
         (state S.Store tx.old.conn.now) (state S.Store tx.new.conn.now) result }
-    ensures survives { Survives (state S.Store tx.old.conn.now) (state S.Store tx.new.conn.now) (λ _. ⊥) }
 {
     run(
         tx,
@@ -166,11 +151,9 @@ pub fn insert_past<S: Alter>(
     list: u32,
     n: u32,
 ) -> Result<(), Error>
-    ensures same_reference { tx.new.conn.ghost_name ≡ tx.old.conn.ghost_name }
-    ensures kept { KeepsCommitIfClean (state S.Store tx.old.conn.now) (state S.Store tx.new.conn.now) }
+    ensures stays { Stays S.Store tx.old tx.new }
     ensures inserted { Inserts Past (Text con.now ∷ Int (pos edition) ∷ Int (pos list) ∷ Int (pos n) ∷ [])
         (state S.Store tx.old.conn.now) (state S.Store tx.new.conn.now) result }
-    ensures survives { Survives (state S.Store tx.old.conn.now) (state S.Store tx.new.conn.now) (λ _. ⊥) }
 {
     run(
         tx,

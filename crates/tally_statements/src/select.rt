@@ -1,8 +1,9 @@
 //! SELECT of the rows of a key, and of whole tables.
 
-ghost use Rattle.std.specs.Prelude.{◌≡◌, IsTrue, IfOk, OnOk};
-ghost use Rattle.sqlite.specs.State.{HasCleanDisk, KeepsCommit, IsUnchanged, Survives};
+ghost use Rattle.std.specs.Prelude.{◌≡◌, IfOk};
+ghost use Rattle.sqlite.specs.State.{HasCleanDisk};
 ghost use Rattle.sqlite.specs.Held.{state};
+ghost use Rattle.tally_statements.specs.Inside.{OnlyReads, OnlyReadsFrom};
 ghost use Rattle.tally_statements.specs.Office.{IsInside, IsFound, HasTables, ShowsTable, ShowsRowids};
 ghost use Rattle.tally_statements.specs.Texts.{rows_of_text, all_rows_text, rowids_text};
 
@@ -40,18 +41,9 @@ pub fn rows_of_key<S: Alter>(
     table: KeyedTable,
     key: &str,
 ) -> Result<Vec<Row>, Error>
-    ensures same_reference { tx.new.conn.ghost_name ≡ tx.old.conn.ghost_name }
-    ensures kept { HasCleanDisk (state S.Store tx.new.conn.now) → IsInside (state S.Store tx.old.conn.now) →
-        KeepsCommit (state S.Store tx.old.conn.now) (state S.Store tx.new.conn.now) }
+    ensures reads { OnlyReads S.Store tx.old tx.new result }
     ensures found { HasCleanDisk (state S.Store tx.new.conn.now) → IsInside (state S.Store tx.old.conn.now) →
         IfOk result (λ rows. IsFound table key.now (state S.Store tx.old.conn.now) rows.items) }
-    ensures same { HasCleanDisk (state S.Store tx.new.conn.now) → IsInside (state S.Store tx.old.conn.now) →
-        OnOk result (IsUnchanged (state S.Store tx.old.conn.now) (state S.Store tx.new.conn.now)) }
-    ensures was_open { HasCleanDisk (state S.Store tx.new.conn.now) → IsTrue (state S.Store tx.new.conn.now).is_open →
-        IsTrue (state S.Store tx.old.conn.now).is_open }
-    ensures answered_open { HasCleanDisk (state S.Store tx.new.conn.now) →
-        OnOk result (IsTrue (state S.Store tx.old.conn.now).is_open) }
-    ensures survives { Survives (state S.Store tx.old.conn.now) (state S.Store tx.new.conn.now) (λ _. ⊥) }
 {
     tx.query_all(text_of(table), params![key])
 }
@@ -75,18 +67,9 @@ fn all_rows_text(table: KeyedTable) -> &'static str
 
 /// All rows of a table, with all columns, in the order of the table's key.
 pub fn all_rows<S: Alter>(tx: &mut Transaction<'_, S>, table: KeyedTable) -> Result<Vec<Row>, Error>
-    ensures same_reference { tx.new.conn.ghost_name ≡ tx.old.conn.ghost_name }
-    ensures kept { HasCleanDisk (state S.Store tx.new.conn.now) → HasTables (state S.Store tx.old.conn.now) →
-        KeepsCommit (state S.Store tx.old.conn.now) (state S.Store tx.new.conn.now) }
+    ensures reads { OnlyReadsFrom HasTables S.Store tx.old tx.new result }
     ensures shown { HasCleanDisk (state S.Store tx.new.conn.now) → HasTables (state S.Store tx.old.conn.now) →
         IfOk result (λ rows. ShowsTable table (state S.Store tx.old.conn.now) rows.items) }
-    ensures same { HasCleanDisk (state S.Store tx.new.conn.now) → HasTables (state S.Store tx.old.conn.now) →
-        OnOk result (IsUnchanged (state S.Store tx.old.conn.now) (state S.Store tx.new.conn.now)) }
-    ensures was_open { HasCleanDisk (state S.Store tx.new.conn.now) → IsTrue (state S.Store tx.new.conn.now).is_open →
-        IsTrue (state S.Store tx.old.conn.now).is_open }
-    ensures answered_open { HasCleanDisk (state S.Store tx.new.conn.now) →
-        OnOk result (IsTrue (state S.Store tx.old.conn.now).is_open) }
-    ensures survives { Survives (state S.Store tx.old.conn.now) (state S.Store tx.new.conn.now) (λ _. ⊥) }
 {
     tx.query_all(all_rows_text(table), &[])
 }
@@ -108,18 +91,9 @@ fn rowids_text(table: KeyedTable) -> &'static str
 
 /// The rowids of a table, in order.
 pub fn rowids<S: Alter>(tx: &mut Transaction<'_, S>, table: KeyedTable) -> Result<Vec<Row>, Error>
-    ensures same_reference { tx.new.conn.ghost_name ≡ tx.old.conn.ghost_name }
-    ensures kept { HasCleanDisk (state S.Store tx.new.conn.now) → HasTables (state S.Store tx.old.conn.now) →
-        KeepsCommit (state S.Store tx.old.conn.now) (state S.Store tx.new.conn.now) }
+    ensures reads { OnlyReadsFrom HasTables S.Store tx.old tx.new result }
     ensures shown { HasCleanDisk (state S.Store tx.new.conn.now) → HasTables (state S.Store tx.old.conn.now) →
         IfOk result (λ rows. ShowsRowids table (state S.Store tx.old.conn.now) rows.items) }
-    ensures same { HasCleanDisk (state S.Store tx.new.conn.now) → HasTables (state S.Store tx.old.conn.now) →
-        OnOk result (IsUnchanged (state S.Store tx.old.conn.now) (state S.Store tx.new.conn.now)) }
-    ensures was_open { HasCleanDisk (state S.Store tx.new.conn.now) → IsTrue (state S.Store tx.new.conn.now).is_open →
-        IsTrue (state S.Store tx.old.conn.now).is_open }
-    ensures answered_open { HasCleanDisk (state S.Store tx.new.conn.now) →
-        OnOk result (IsTrue (state S.Store tx.old.conn.now).is_open) }
-    ensures survives { Survives (state S.Store tx.old.conn.now) (state S.Store tx.new.conn.now) (λ _. ⊥) }
 {
     tx.query_all(rowids_text(table), &[])
 }

@@ -2,11 +2,10 @@
 
 ghost use Rattle.std.specs.Prelude.{◌≡◌, ◌∷◌, [], pos, List, ℕ};
 ghost use Rattle.sqlite_value.specs.declared.value.Value.TheVariants.{Int, Text};
-ghost use Rattle.sqlite_value.specs.Order.{Row};
-ghost use Rattle.sqlite.specs.State.{Survives};
 ghost use Rattle.sqlite.specs.Held.{state};
 ghost use Rattle.tally_schema.specs.Cells.{flag};
-ghost use Rattle.tally_statements.specs.Office.{KeepsCommitIfClean, Replaces, SetsItem};
+ghost use Rattle.tally_statements.specs.Inside.{Stays};
+ghost use Rattle.tally_statements.specs.Office.{Replaces, SetsItem};
 ghost use Rattle.tally_statements.specs.declared.table.KeyedTable.TheVariants.{Returns, Counts, Cons, Totals};
 
 use crate::running::run;
@@ -21,12 +20,10 @@ pub fn update_return<S: Alter>(
     status: u32,
     note: &str,
 ) -> Result<(), Error>
-    ensures same_reference { tx.new.conn.ghost_name ≡ tx.old.conn.ghost_name }
-    ensures kept { KeepsCommitIfClean (state S.Store tx.old.conn.now) (state S.Store tx.new.conn.now) }
+    ensures stays { Stays S.Store tx.old tx.new }
     ensures updated { (con : List ℕ) (r s t u : _) → Replaces Returns station.now (Text station.now ∷ Text con ∷ r ∷ s ∷ t ∷ u ∷ [])
         (Text station.now ∷ Text con ∷ Int (pos rev) ∷ Text slip.now ∷ Int (pos status) ∷ Text note.now ∷ [])
         (state S.Store tx.old.conn.now) (state S.Store tx.new.conn.now) result }
-    ensures survives { Survives (state S.Store tx.old.conn.now) (state S.Store tx.new.conn.now) (λ _. ⊥) }
 {
     run(
         tx,
@@ -42,11 +39,9 @@ pub fn update_count<S: Alter>(
     item: u32,
     n: u32,
 ) -> Result<(), Error>
-    ensures same_reference { tx.new.conn.ghost_name ≡ tx.old.conn.ghost_name }
-    ensures kept { KeepsCommitIfClean (state S.Store tx.old.conn.now) (state S.Store tx.new.conn.now) }
+    ensures stays { Stays S.Store tx.old tx.new }
     ensures updated { SetsItem Counts station.now item n
         (state S.Store tx.old.conn.now) (state S.Store tx.new.conn.now) result }
-    ensures survives { Survives (state S.Store tx.old.conn.now) (state S.Store tx.new.conn.now) (λ _. ⊥) }
 {
     run(
         tx,
@@ -63,12 +58,10 @@ pub fn update_con<S: Alter>(
     certified: bool,
     note: &str,
 ) -> Result<(), Error>
-    ensures same_reference { tx.new.conn.ghost_name ≡ tx.old.conn.ghost_name }
-    ensures kept { KeepsCommitIfClean (state S.Store tx.old.conn.now) (state S.Store tx.new.conn.now) }
+    ensures stays { Stays S.Store tx.old tx.new }
     ensures updated { (r s t : _) → Replaces Cons con.now (Text con.now ∷ r ∷ s ∷ t ∷ [])
         (Text con.now ∷ Int (pos edition) ∷ Int (pos (flag certified)) ∷ Text note.now ∷ [])
         (state S.Store tx.old.conn.now) (state S.Store tx.new.conn.now) result }
-    ensures survives { Survives (state S.Store tx.old.conn.now) (state S.Store tx.new.conn.now) (λ _. ⊥) }
 {
     run(
         tx,
@@ -84,11 +77,9 @@ pub fn update_total<S: Alter>(
     item: u32,
     n: i64,
 ) -> Result<(), Error>
-    ensures same_reference { tx.new.conn.ghost_name ≡ tx.old.conn.ghost_name }
-    ensures kept { KeepsCommitIfClean (state S.Store tx.old.conn.now) (state S.Store tx.new.conn.now) }
+    ensures stays { Stays S.Store tx.old tx.new }
     ensures updated { (m : ℕ) → n ≡ pos m → SetsItem Totals con.now item m
         (state S.Store tx.old.conn.now) (state S.Store tx.new.conn.now) result }
-    ensures survives { Survives (state S.Store tx.old.conn.now) (state S.Store tx.new.conn.now) (λ _. ⊥) }
 {
     run(
         tx,

@@ -13,16 +13,16 @@ use Rattle.tally_rules.specs.Limits.{IsSetup}
 use Rattle.tally_rules.specs.Setup.{constituency_with}
 use Rattle.tally_returns.specs.State.{ConState, State, con_state, opening_con}
 use Rattle.tally_returns.specs.View.{View, view_of}
-use Rattle.tally_machine.specs.LawStatements.{CertificatesStand}
-use Rattle.tally_machine.specs.LawfulState.{IsLawfulState}
-use Rattle.tally_machine.specs.Step.{IsView}
-use Rattle.tally_machine.proofs.ViewLemmas.{constituency-code}
+use Rattle.tally_steps.specs.LawStatements.{CertificatesStand}
+use Rattle.tally_steps.specs.LawfulState.{IsLawfulState}
+use Rattle.tally_steps.specs.Step.{IsView}
+use Rattle.tally_steps.proofs.ViewLemmas.{constituency-code}
 use Rattle.tally_statements.specs.declared.table.KeyedTable.TheVariants.{Seats}
 use Rattle.tally_statements.specs.Office.{rows_in, tree_of}
 use Rattle.tally_tables.specs.Cells.{item_row, numbered, seat_rows}
 use Rattle.tally_store.specs.Certified.{HasCertificates, HasSeatRows}
-use Rattle.tally_store.specs.Store.{IsOffice}
-use Rattle.tally_store.proofs.ShownLemmas.{items_keyed}
+use Rattle.tally_opening.specs.Office.{IsOffice}
+use Rattle.tally_opening.proofs.ShownLemmas.{items_keyed}
 
 found-some : (found : Option ConState) → is_some found ≡ true → found ≡ Some (unwrap_or found opening_con)
 found-some None is = cc

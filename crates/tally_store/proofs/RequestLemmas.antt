@@ -14,25 +14,26 @@ use Rattle.tally_returns.specs.declared.ask.Ask.{Ask}
 use Rattle.tally_returns.specs.declared.refusal.Refusal.{Refusal}
 use Rattle.tally_returns.specs.declared.refusal.Refusal.TheVariants as refusal
 use Rattle.tally_returns.specs.declared.reply.Reply.{Reply}
-use Rattle.tally_machine.specs.LawStatements.{ViewsAreLawful}
-use Rattle.tally_machine.specs.LawfulState.{IsLawfulState}
-use Rattle.tally_machine.specs.Step.{IsNotAccepted}
-use Rattle.tally_machine.proofs.LawLemmas.{answered-lawful}
-use Rattle.tally_core.specs.Events.{BringsCodes}
-use Rattle.tally_core.specs.Keeper.{Event, Happens, Imports, IsFault, IsImportOf, failed_import, request, whole_import}
-use Rattle.tally_core.specs.Source.{Coming, Ending}
-use Rattle.tally_core.specs.declared.import.ImportCount.{ImportCount}
-use Rattle.tally_core.specs.declared.source.ImportFault.{ImportFault}
-use Rattle.tally_core.proofs.EventLemmas.{happen-lawful}
+use Rattle.tally_steps.specs.LawStatements.{ViewsAreLawful}
+use Rattle.tally_steps.specs.LawfulState.{IsLawfulState}
+use Rattle.tally_steps.specs.Step.{IsNotAccepted}
+use Rattle.tally_steps.proofs.LawLemmas.{answered-lawful}
+use Rattle.tally_keeper.specs.Events.{BringsCodes}
+use Rattle.tally_keeper.specs.Keeper.{Event, Happens, Imports, IsFault, IsImportOf, failed_import, request, whole_import}
+use Rattle.tally_keeper.specs.Source.{Coming, Ending}
+use Rattle.tally_keeper.specs.declared.import.ImportCount.{ImportCount}
+use Rattle.tally_keeper.specs.declared.source.ImportFault.{ImportFault}
+use Rattle.tally_keeper.proofs.EventLemmas.{happen-lawful}
 use Rattle.tally_requests.specs.Requests.{IsCarriedOut, IsImported, IsInState}
 use Rattle.tally_statements.specs.declared.table.KeyedTable.{KeyedTable}
 use Rattle.tally_statements.specs.Office.{tree_of}
 use Rattle.tally_tables.specs.TablesOfState.{AreTables}
 use Rattle.tally_store.specs.Content.{content_of}
 use Rattle.tally_store.specs.Crash.{AreTablesAfter, AreTablesImported}
-use Rattle.tally_store.specs.Create.{IsAsBefore}
+use Rattle.tally_opening.specs.Create.{IsAsBefore}
 use Rattle.tally_store.specs.Requests.{Does, DoesImport, IsDone, IsAllDone, IsImportDone}
-use Rattle.tally_store.specs.Store.{HasState, IsOffice, IsStored, KeepsText}
+use Rattle.tally_opening.specs.Office.{HasState, IsOffice}
+use Rattle.tally_store.specs.Store.{IsStored, KeepsText}
 use Rattle.tally_store.proofs.ContentLemmas.{content_is, content_shut}
 
 -- ---- a transaction and its end

@@ -6,13 +6,13 @@ use Rattle.tally_rules.specs.Constituency.{Constituency}
 use Rattle.tally_rules.specs.Setup.{constituency_with}
 use Rattle.tally_returns.specs.State.{State, con_state}
 use Rattle.tally_returns.specs.View.{View}
-use Rattle.tally_machine.specs.LawfulState.{IsLawfulState}
-use Rattle.tally_machine.specs.Outcome.{IsCertificate}
-use Rattle.tally_machine.specs.Step.{IsView}
+use Rattle.tally_steps.specs.LawfulState.{IsLawfulState}
+use Rattle.tally_steps.specs.Outcome.{IsCertificate}
+use Rattle.tally_steps.specs.Step.{IsView}
 use Rattle.tally_statements.specs.declared.table.KeyedTable.TheVariants.{Seats}
 use Rattle.tally_statements.specs.Office.{rows_in}
 use Rattle.tally_tables.specs.Cells.{item_row, numbered}
-use Rattle.tally_store.specs.Store.{IsOffice}
+use Rattle.tally_opening.specs.Office.{IsOffice}
 
 -- The rows of `seats` of this constituency, in any order: one for each list, with the seats of a certificate that stands on the closed votes
 -- of this state.

@@ -1,39 +1,15 @@
--- The making of an office's tables in a database: what it leaves, and why it is refused.
-use Rattle.std.specs.Prelude.{◌≡◌, ◌≢◌, List, ℕ, Ok, IsOk, IsTrue, false}
+-- What the making of a store leaves in the database, and how a connection is given back where there is no store.
+use Rattle.std.specs.Prelude.{◌≡◌, List, ℕ, IsTrue, false}
 use Rattle.sqlite.specs.State.{State as Seen, HasCleanDisk}
-use Rattle.sqlite_schema.specs.declared.schema.Schema.{Schema}
 use Rattle.tally_rules.specs.Constituency.{Constituency}
-use Rattle.tally_rules.specs.Fault.{IsFaultIn}
-use Rattle.tally_rules.specs.Reading.{setup_of_text}
-use Rattle.tally_rules.specs.declared.fault.SetupFault.TheVariants as setup_fault
 use Rattle.tally_returns.specs.State.{opening}
-use Rattle.tally_schema.specs.Made.{takes_office_name}
-use Rattle.tally_schema.specs.Tables.{schema_with}
 use Rattle.tally_tables.specs.TablesOfState.{AreTables}
-use Rattle.tally_store.specs.declared.fault.CreateFault.{CreateFault}
-use Rattle.tally_store.specs.declared.fault.CreateFault.TheVariants.{Setup, NotEmpty, Memory, Store}
-
--- no table, no index and no view
-abbrev pub no_schema : Schema
-no_schema = schema_with 0
+use Rattle.tally_opening.specs.Create.{IsAsBefore}
 
 -- The connection is open, and the tables are those of the opening state.
 pub record HasOpeningTables (setup : List Constituency) (text : List ℕ) (seen : Seen) : Type 0 where
   pub is_open : IsTrue seen.is_open
   pub tables : AreTables setup text (opening setup) seen.now.trees
-
--- Why no office was made of a text in a database of this schema: the first fault of the text; a name of the office's tables that is
--- taken; or, of a text that is a setup and with no name taken, the database. Want of memory may be answered at any place.
-abbrev pub IsCreateFault : List ℕ → Schema → CreateFault → Type 0
-IsCreateFault text schema (Setup fault) = IsFaultIn (setup_of_text text) fault × (fault ≢ setup_fault.Memory)
-IsCreateFault text schema NotEmpty = IsOk (setup_of_text text) × IsTrue (takes_office_name schema)
-IsCreateFault text schema Memory = Unit {0}
-IsCreateFault text schema Store = IsOk (setup_of_text text) × (takes_office_name schema ≡ false)
-
--- What is there, and what was committed, are as they were.
-pub record IsAsBefore (old new : Seen) : Type 0 where
-  pub now : new.now ≡ old.now
-  pub committed : new.committed ≡ old.committed
 
 -- A connection comes back in no transaction; where it is open, with its tables as they were.
 pub record IsGivenBack (old new : Seen) : Type 0 where

@@ -1,9 +1,6 @@
 pub mod Store
 pub mod Create
 pub mod Crash
-pub mod Making
-pub mod Opening
-pub mod Open
 pub mod Content
 pub mod Certified
 pub mod Requests

@@ -2,17 +2,17 @@
 use Rattle.std.specs.Prelude.{List, ℕ, IsTrue, Option, Some, Result, Ok, Err}
 use Rattle.sqlite.specs.State.{State as Seen, HasCleanDisk}
 use Rattle.tally_rules.specs.Constituency.{Constituency}
-use Rattle.tally_machine.specs.LawfulState.{IsLawfulState}
-use Rattle.tally_machine.specs.Step.{IsAnswered}
+use Rattle.tally_steps.specs.LawfulState.{IsLawfulState}
+use Rattle.tally_steps.specs.Step.{IsAnswered}
 use Rattle.tally_returns.specs.State.{State}
 use Rattle.tally_returns.specs.declared.ask.Ask.{Ask}
 use Rattle.tally_returns.specs.declared.refusal.Refusal.{Refusal}
 use Rattle.tally_returns.specs.declared.reply.Reply.{Reply}
-use Rattle.tally_core.specs.Keeper.{IsImportOf}
-use Rattle.tally_core.specs.Source.{Coming}
-use Rattle.tally_core.specs.declared.import.ImportCount.{ImportCount}
-use Rattle.tally_core.specs.declared.source.ImportFault.{ImportFault}
-use Rattle.tally_store.specs.Store.{HasState}
+use Rattle.tally_keeper.specs.Keeper.{IsImportOf}
+use Rattle.tally_keeper.specs.Source.{Coming}
+use Rattle.tally_keeper.specs.declared.import.ImportCount.{ImportCount}
+use Rattle.tally_keeper.specs.declared.source.ImportFault.{ImportFault}
+use Rattle.tally_opening.specs.Office.{HasState}
 
 -- A request was answered as in this state, and the database is that of the state after it.
 pub record IsDone (setup : List Constituency) (text : List ℕ) (s : State) (ask : Ask) (r : Result Reply Refusal) (new : Seen) : Type 0 where

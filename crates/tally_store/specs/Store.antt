@@ -1,19 +1,14 @@
 -- What a store holds, and what it keeps true of it.
-use Rattle.std.specs.Prelude.{◌≡◌, false, List, ℕ, IsTrue, Ok, refl}
+use Rattle.std.specs.Prelude.{◌≡◌, false, List, ℕ, IsTrue, refl}
 use Rattle.std.specs.Coded.{Coded, code_by, coded×}
 use Rattle.sqlite.specs.Held.{Held, held_code}
 use Rattle.sqlite.specs.State.{State as Seen, HasCleanDisk}
-use Rattle.tally_rows.specs.Rows.{HaveDistinctRowids}
 use Rattle.tally_rules.specs.Constituency.{Constituency}
 use Rattle.tally_rules.specs.Limits.{IsSetup}
-use Rattle.tally_rules.specs.Reading.{setup_of_text}
 use Rattle.tally_rules.specs.contracts.setup.Setup.{the_row as setup_row}
 use Rattle.tally_returns.specs.State.{State}
-use Rattle.tally_machine.specs.LawfulState.{IsLawfulState}
-use Rattle.tally_schema.specs.Tables.{office_schema}
-use Rattle.tally_statements.specs.declared.table.KeyedTable.{KeyedTable}
-use Rattle.tally_statements.specs.Office.{tree_of}
-use Rattle.tally_tables.specs.TablesOfState.{AreTables}
+use Rattle.tally_steps.specs.LawfulState.{IsLawfulState}
+use Rattle.tally_opening.specs.Office.{HasState, IsOffice}
 
 -- a connection to the tables of an office, and the constituencies of its setup
 pub record Stored (S : Type 0) : Type 0 where
@@ -24,20 +19,6 @@ abbrev pub stored_code : {S : Type 0} → Coded S → Coded (Stored S)
 stored_code {S} store =
     code_by (Held S × List Constituency) (coded× (held_code store) setup_row.coded)
     (λ h. (h.conn, h.setup)) (λ p. record { conn = p.0; setup = p.1 }) (λ _. refl)
-
--- Between transactions the database is that of a state, over a setup that has this text: its tables are those of the state,
--- it has no others, and all of it was committed. The rowids of a table differ, which no state tells.
-pub record HasState (setup : List Constituency) (text : List ℕ) (s : State) (seen : Seen) : Type 0 where
-  pub tables : AreTables setup text s seen.now.trees
-  pub schema : seen.now.schema ≡ office_schema
-  pub distinct : (t : KeyedTable) → HaveDistinctRowids (seen.now.trees (tree_of t))
-  pub settled : seen.committed ≡ seen.now
-
--- the same of a setup, by whichever text
-pub record IsOffice (setup : List Constituency) (s : State) (seen : Seen) : Type 0 where
-  pub text : List ℕ
-  pub reads : setup_of_text text ≡ Ok setup
-  pub has : HasState setup text s seen
 
 -- No transaction is open. As long as the disk has returned what was written, and has not failed, the database is that of a lawful state.
 pub record IsStored (setup : List Constituency) (seen : Seen) : Type 0 where

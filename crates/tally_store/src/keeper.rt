@@ -3,16 +3,17 @@
 ghost use Rattle.std.specs.Prelude.{◌≡◌, IfOk, IfSome, IsTrue};
 ghost use Rattle.sqlite.specs.State.{HasCleanDisk, Survives};
 ghost use Rattle.sqlite.specs.Held.{state};
-ghost use Rattle.tally_core.specs.Keeper.{Happens, Imports, request};
-ghost use Rattle.tally_machine.specs.Kinds.{IsReplyTo};
+ghost use Rattle.tally_keeper.specs.Keeper.{Happens, Imports, request};
+ghost use Rattle.tally_steps.specs.Kinds.{IsReplyTo};
 ghost use Rattle.tally_store.specs.Content.{content_of};
 ghost use Rattle.tally_store.specs.Crash.{LeavesAfter, LeavesImported};
-ghost use Rattle.tally_store.specs.Store.{IsOffice, KeepsText};
+ghost use Rattle.tally_opening.specs.Office.{IsOffice};
+ghost use Rattle.tally_store.specs.Store.{KeepsText};
 
 use crate::requests::{answer_request, import_rows};
 use crate::store::Store;
 use sqlite::Alter;
-use tally_core::{Ask, ImportCount, ImportFault, Keeper, Refusal, Reply, RowSource};
+use tally_keeper::{Ask, ImportCount, ImportFault, Keeper, Refusal, Reply, RowSource};
 use tally_machine::laws;
 use tally_rules::Setup;
 

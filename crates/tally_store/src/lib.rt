@@ -1,16 +1,11 @@
-//! The office's state in a database.
+//! The office's state in a database: a keeper over it, its requests and imports, and what holds of every
+//! such keeper. `tally_opening` has the making of one and the opening.
 #![tactic(auto)]
 
-mod fault;
-mod former;
-mod judging;
 mod keeper;
 pub mod laws;
-mod making;
-mod open;
-mod opening;
 mod requests;
 mod store;
 
-pub use fault::{CreateFault, OpenFault};
 pub use store::Store;
+pub use tally_faults::{CreateFault, OpenFault};

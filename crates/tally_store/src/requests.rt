@@ -3,16 +3,16 @@
 ghost use Rattle.std.specs.Prelude.{◌≡◌, ◌⊎◌, false, Some, None, IfErr, IfOk, IsErr, IsTrue, OnOk};
 ghost use Rattle.sqlite.specs.State.{HasCleanDisk, Survives};
 ghost use Rattle.sqlite.specs.Held.{state};
-ghost use Rattle.tally_core.specs.Keeper.{IsFault, IsOwnFault};
-ghost use Rattle.tally_machine.specs.Kinds.{IsReplyTo};
-ghost use Rattle.tally_machine.specs.Step.{IsNotAccepted};
+ghost use Rattle.tally_keeper.specs.Keeper.{IsFault, IsOwnFault};
+ghost use Rattle.tally_steps.specs.Kinds.{IsReplyTo};
+ghost use Rattle.tally_steps.specs.Step.{IsNotAccepted};
 ghost use Rattle.tally_returns.specs.Named.{BringsCode};
 ghost use Rattle.tally_store.specs.Crash.{LeavesAfter, LeavesImported};
 ghost use Rattle.tally_store.specs.Requests.{Does, DoesImport};
 
 use sqlite::{Alter, Connection, Error, ErrorCode};
 use std::alloc::Global;
-use tally_core::{Ask, ImportCount, ImportFault, Refusal, Reply, RowSource};
+use tally_keeper::{Ask, ImportCount, ImportFault, Refusal, Reply, RowSource};
 use tally_requests::{answer_in, take_rows};
 use tally_rules::Setup;
 

@@ -1,27 +1,24 @@
 //! A keeper over a database.
 
-ghost use Rattle.std.specs.Prelude.{◌≡◌, false, Ok, IfOk, IfErr, IsTrue, OnOk, ◌⊎◌};
+ghost use Rattle.std.specs.Prelude.{◌≡◌, false, Ok, IfOk, IfErr, IsTrue, OnOk};
 ghost use Rattle.sqlite.specs.State.{HasCleanDisk, KeepsCounts, Survives};
 ghost use Rattle.sqlite.specs.Held.{state};
-ghost use Rattle.tally_rules.specs.Fault.{IsFaultIn};
 ghost use Rattle.tally_rules.specs.Reading.{setup_of_text};
-ghost use Rattle.tally_machine.specs.LawfulState.{IsLawfulState};
+ghost use Rattle.tally_steps.specs.LawfulState.{IsLawfulState};
 ghost use Rattle.tally_returns.specs.State.{State};
-ghost use Rattle.tally_store.specs.Crash.{HasPast, IsUnwritten, LeavesOpening, LeavesTakenOver};
-ghost use Rattle.tally_store.specs.Open.{IsOpenFault, IsOpened, IsSetupOf};
-ghost use Rattle.tally_store.specs.Store.{IsOffice, IsStored};
-ghost use Rattle.tally_store.specs.Create.{no_schema, HasOpeningTables, IsCreateFault, IsGivenBack};
+ghost use Rattle.tally_opening.specs.Crash.{HasPast, IsUnwritten, LeavesOpening, LeavesTakenOver};
+ghost use Rattle.tally_opening.specs.Create.{IsCreateFault, no_schema};
+ghost use Rattle.tally_opening.specs.Office.{IsOffice};
+ghost use Rattle.tally_opening.specs.Open.{IsOpenFault, IsOpened, IsSetupOf};
+ghost use Rattle.tally_store.specs.Create.{HasOpeningTables, IsGivenBack};
+ghost use Rattle.tally_store.specs.Store.{IsStored};
 
-use crate::fault::{CreateFault, OpenFault};
-use crate::making::create_in;
-use crate::open::open_in;
-use sqlite::{Alter, Connection, Error, ErrorCode};
-use sqlite_schema::schema::Schema;
+use sqlite::{Alter, Connection};
 use std::alloc::Global;
 use std::marker::Model;
-use std::str;
-use tally_rules::{Setup, SetupFault, read_setup};
-use tally_schema::takes_office_name;
+use tally_faults::{CreateFault, OpenFault};
+use tally_opening::{create_in, open_in};
+use tally_rules::Setup;
 
 /// Keeps the office's state in a database: a connection that stands in no transaction, and the setup
 /// whose text the database has.
@@ -43,46 +40,6 @@ impl<S: Alter> Model for Store<S> {
     ghost view = { λ s. record { conn = s.conn; setup = s.setup } };
 
     ghost invariant = { λ s. IsStored s.setup (state S.Store s.conn) };
-}
-
-/// Whether a call failed because it was out of memory.
-fn is_memory(error: &Error) -> bool {
-    matches!(error, Error::SqliteFailure(ErrorCode::OutOfMemory))
-}
-
-fn create_fault_of(error: &Error) -> CreateFault
-    ensures { (result ≡ CreateFault.Memory) ⊎ (result ≡ CreateFault.Store) }
-{
-    if is_memory(error) {
-        CreateFault::Memory
-    } else {
-        CreateFault::Store
-    }
-}
-
-/// The setup that a text is, with the text.
-fn setup_in(alloc: Global, text: &[u8]) -> Result<(Setup, &str), SetupFault>
-    ensures setup { IfOk result (λ found. setup_of_text text.now ≡ Ok found.0) }
-    ensures text { IfOk result (λ found. found.1.now ≡ text.now) }
-    ensures fault { IfErr result (IsFaultIn (setup_of_text text.now)) }
-{
-    let setup = match read_setup(alloc, text) {
-        Ok(setup) => setup,
-        Err(fault) => return Err(fault),
-    };
-    match str::from_utf8(text) {
-        Ok(text) => Ok((setup, text)),
-        Err(_) => Err(SetupFault::NotToml),
-    }
-}
-
-/// No table, no index and no view.
-fn is_unset(schema: &Schema) -> bool
-    ensures { IsTrue result → schema.now ≡ no_schema }
-{
-    schema.tables.as_slice().is_empty()
-        && schema.indexes.as_slice().is_empty()
-        && schema.views.as_slice().is_empty()
 }
 
 /// The store of a connection to the tables of an office.
@@ -116,20 +73,9 @@ impl<S: Alter> Store<S> {
         ensures crash_fault { IfErr result (λ e.
             Survives (state S.Store conn) (state S.Store e.0) (LeavesOpening text.now)) }
     {
-        let (setup, text) = match setup_in(alloc, text) {
-            Ok(found) => found,
-            Err(SetupFault::Memory) => return Err((conn, CreateFault::Memory)),
-            Err(fault) => return Err((conn, CreateFault::Setup(fault))),
-        };
-        if takes_office_name(conn.schema()) {
-            return Err((conn, CreateFault::NotEmpty));
-        }
-        if !conn.is_autocommit() || !is_unset(conn.schema()) {
-            return Err((conn, CreateFault::Store));
-        }
-        match create_in(&mut conn, &setup, text) {
-            Ok(()) => Ok(Store { conn, setup, alloc }),
-            Err(error) => Err((conn, create_fault_of(&error))),
+        match create_in(alloc, &mut conn, text) {
+            Ok(setup) => Ok(Store { conn, setup, alloc }),
+            Err(fault) => Err((conn, fault)),
         }
     }
 

@@ -3,7 +3,6 @@
 
 mod columns;
 mod constituencies;
-mod found;
 mod items;
 mod parts;
 mod past;
@@ -13,7 +12,6 @@ mod sums;
 mod views;
 
 pub use constituencies::{Standing, all_gone_in, standing_in};
-pub use found::{ConFound, views_from};
 pub use items::{counts_in, numbers_in};
 pub use parts::ConTables;
 pub use past::past_in;

@@ -3,8 +3,8 @@ use Rattle.std.specs.Prelude.{ℕ, List}
 use Rattle.tally_allot.specs.Awards.{AreAwards}
 use Rattle.tally_allot.specs.declared.award.Award.{Award}
 use Rattle.tally_contest.specs.declared.won.Won.{Won}
-use Rattle.tally_contest.specs.DivisorAllotment.{IsDivisorAllotment}
-use Rattle.tally_contest.specs.Poll.{Poll}
+use Rattle.tally_law.specs.DivisorAllotment.{IsDivisorAllotment}
+use Rattle.tally_law.specs.Poll.{Poll}
 use Rattle.tally_contest.specs.internal.Terms.{IsProperLot, placed_divisor_race}
 use Rattle.tally_rules.specs.declared.profile.LotRule.{LotRule}
 use Rattle.tally_contest.specs.internal.Won.{AreWon}

@@ -2,8 +2,8 @@
 use Rattle.std.specs.Prelude.{ℕ, ◌≡◌, ◌≢◌, ◌+◌, ◌-◌, ◌*◌, ◌<◌, ◌≤◌, List, Option, None, Some, MatchOption, length}
 use Rattle.std.specs.Prelude.{slice_index, slice_index_or}
 use Rattle.tally_frac.specs.Rank.{RanksAboveByVotes}
-use Rattle.tally_contest.specs.Poll.{Poll, IsEligible, SharesOut, votes_of}
-use Rattle.tally_contest.specs.Allotment.{Rule, IsAllotment}
+use Rattle.tally_law.specs.Poll.{Poll, IsEligible, SharesOut, votes_of}
+use Rattle.tally_law.specs.Allotment.{Rule, IsAllotment}
 use Rattle.tally_allot.specs.VotesShort.{IsVotesShort, IsLeastNumber, HasNoMoreToGain}
 
 -- Each divisor is at most three times the one before.

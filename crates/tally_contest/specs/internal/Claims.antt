@@ -2,9 +2,9 @@
 use Rattle.std.specs.Prelude.{ℕ, ◌≡◌, ◌<◌, ◌≤◌, ◌==◌, List, All, sum_by, nat_lt, slice_index, if◌then◌else◌}
 use Rattle.std.specs.Ordering.{nat_cmp, ordering_then}
 use Rattle.std.specs.declared.cmp.Ordering.{Ordering}
-use Rattle.tally_contest.specs.HareAllotment.{remainder}
-use Rattle.tally_contest.specs.Lot.{place_of}
-use Rattle.tally_contest.specs.Poll.{Poll, votes_of}
+use Rattle.tally_law.specs.HareAllotment.{remainder}
+use Rattle.tally_law.specs.Lot.{place_of}
+use Rattle.tally_law.specs.Poll.{Poll, votes_of}
 use Rattle.tally_contest.specs.internal.Terms.{most_for}
 use Rattle.tally_contest.specs.declared.remainder_award.SeatClaim.{SeatClaim}
 

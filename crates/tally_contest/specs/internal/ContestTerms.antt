@@ -1,6 +1,6 @@
 -- The terms of the contests under each rule. No promise to a caller speaks of them.
 use Rattle.std.specs.Prelude.{ℕ, List}
-use Rattle.tally_contest.specs.Allotment.{Rule, divisors, hare}
+use Rattle.tally_law.specs.Allotment.{Rule, divisors, hare}
 use Rattle.tally_contest.specs.internal.KeptPoll.{kept_poll}
 use Rattle.tally_contest.specs.internal.Terms.{Terms}
 use Rattle.tally_contest.specs.declared.divisor_contest.DivisorContest.{DivisorContest}

@@ -1,5 +1,5 @@
 -- The poll that a `Poll` of the code stands for. No promise to a caller speaks of it.
-use Rattle.tally_contest.specs.Poll.{Poll}
+use Rattle.tally_law.specs.Poll.{Poll}
 use Rattle.tally_contest.specs.internal.Terms.{poll_under}
 use Rattle.tally_contest.specs.declared.poll.Poll.{Poll as PollCode}
 

@@ -8,7 +8,7 @@ use Rattle.tally_rules.specs.declared.profile.LotRule.{LotRule}
 use Rattle.tally_frac.specs.Rank.{Pair, IsWithinLimits}
 use Rattle.tally_frac.specs.RankOrder.{rank_cmp}
 use Rattle.tally_contest.specs.internal.Pairs.{pair_of}
-use Rattle.tally_contest.specs.Poll.{Poll, IsEligible}
+use Rattle.tally_law.specs.Poll.{Poll, IsEligible}
 
 -- a pair of a list and its k-th seat, with its key first
 abbrev pub Keyed : Type 0

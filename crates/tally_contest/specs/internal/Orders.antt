@@ -1,8 +1,8 @@
 -- The lots that may be the one to be taken, before it is known whether one is needed. No promise to a caller speaks of
 -- them.
 use Rattle.std.specs.Prelude.{ℕ, ◌≡◌, ◌⊎◌, List, [], Bool}
-use Rattle.tally_contest.specs.Lot.{IsOrderOf}
-use Rattle.tally_contest.specs.Poll.{Poll, IsEligible}
+use Rattle.tally_law.specs.Lot.{IsOrderOf}
+use Rattle.tally_law.specs.Poll.{Poll, IsEligible}
 use Rattle.tally_contest.specs.internal.Terms.{IsClassOf}
 
 -- The lot names all the eligible lists of one number of votes, each once, and no other.

@@ -4,8 +4,8 @@ use Rattle.tally_frac.specs.Limits.{most_lists}
 use Rattle.tally_frac.specs.Rank.{Pair}
 use Rattle.tally_rules.specs.declared.profile.LotRule.{LotRule}
 use Rattle.tally_rules.specs.declared.profile.LotRule.TheVariants.{Fixed, Alternating}
-use Rattle.tally_contest.specs.Lot.{is_named, place_of}
-use Rattle.tally_contest.specs.Poll.{Poll, votes_of}
+use Rattle.tally_law.specs.Lot.{is_named, place_of}
+use Rattle.tally_law.specs.Poll.{Poll, votes_of}
 
 -- whether list l's place is counted from the last for even seats: lots alternate, and this one names the list
 abbrev pub turns : LotRule → List ℕ → ℕ → Bool

@@ -1,9 +1,9 @@
 -- What proofs suppose of a rule, a poll and a lot. The divisors of every rule and every poll of a profile are so, and
 -- so is the lot that is to be taken. No promise to a caller speaks of it.
 use Rattle.std.specs.Prelude.{ℕ, ◌≡◌, ◌<◌, ◌≤◌, ◌≢◌, List, length}
-use Rattle.tally_contest.specs.Poll.{Poll, IsEligible, votes_of}
-use Rattle.tally_contest.specs.Lot.{is_named, place_of}
-use Rattle.tally_contest.specs.Allotment.{Rule, divisors, hare}
+use Rattle.tally_law.specs.Poll.{Poll, IsEligible, votes_of}
+use Rattle.tally_law.specs.Lot.{is_named, place_of}
+use Rattle.tally_law.specs.Allotment.{Rule, divisors, hare}
 
 -- Divisors are positive and rise.
 pub record AreDivisors (nth : ℕ → ℕ) : Type 0 where

@@ -1,7 +1,7 @@
 -- What lists hold by their quotas. No promise to a caller speaks of it.
 use Rattle.std.specs.Prelude.{ℕ, false, slice_index_or, if◌then◌else◌}
-use Rattle.tally_contest.specs.HareAllotment.{remainder}
-use Rattle.tally_contest.specs.Poll.{Poll}
+use Rattle.tally_law.specs.HareAllotment.{remainder}
+use Rattle.tally_law.specs.Poll.{Poll}
 use Rattle.tally_contest.specs.internal.Terms.{quotas_for, most_for}
 use Rattle.tally_contest.specs.declared.quota.Quota.{Quota}
 

@@ -7,10 +7,10 @@ use Rattle.tally_frac.specs.Rank.{RanksAbove, RanksAboveByVotes}
 use Rattle.tally_rules.specs.Threshold.{is_eligible}
 use Rattle.tally_rules.specs.declared.profile.LotRule.{LotRule}
 use Rattle.tally_rules.specs.declared.profile.LotRule.TheVariants.{Fixed}
-use Rattle.tally_contest.specs.Poll.{Poll, IsEligible, votes_of}
+use Rattle.tally_law.specs.Poll.{Poll, IsEligible, votes_of}
 use Rattle.tally_contest.specs.internal.Pairs.{pair_of}
-use Rattle.tally_contest.specs.HareAllotment.{whole_quotas, claim_of, ClaimsAbove, ClaimsAboveByVotes}
-use Rattle.tally_contest.specs.Allotment.{Rule, divisors, hare}
+use Rattle.tally_law.specs.HareAllotment.{whole_quotas, claim_of, ClaimsAbove, ClaimsAboveByVotes}
+use Rattle.tally_law.specs.Allotment.{Rule, divisors, hare}
 use Rattle.tally_contest.specs.internal.Race.{Race}
 pub use Rattle.tally_contest.specs.internal.Premises.{AreDivisors, IsRule, IsSound, ArePlacedApart, IsProperLot}
 

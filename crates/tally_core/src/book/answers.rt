@@ -1,10 +1,10 @@
 //! What a keeper in memory answers.
 
 ghost use Rattle.std.specs.Prelude.{◌≡◌, ◌⊎◌, true, false, Some, Err, IsSome};
-ghost use Rattle.tally_core.specs.Held.{IsAnsweredInMemory, IsHeld, IsLodged, IsMoved, is_query, lodge_answer_in, moves_return};
+ghost use Rattle.tally_keeper.specs.Held.{IsAnsweredInMemory, IsHeld, IsLodged, IsMoved, is_query, lodge_answer_in, moves_return};
 ghost use Rattle.tally_ledger.specs.Kept.{state_in, with_no_lot};
 ghost use Rattle.tally_returns.specs.Named.{con_named, station_named};
-ghost use Rattle.tally_machine.specs.Step.{answer, seen};
+ghost use Rattle.tally_steps.specs.Step.{answer, seen};
 ghost use Rattle.tally_rules.specs.Setup.{constituency_with};
 ghost use Rattle.tally_returns.specs.declared.ask.Ask.TheVariants.{ShowReturn};
 ghost use Rattle.tally_returns.specs.declared.refusal.Refusal.TheVariants.{Memory};

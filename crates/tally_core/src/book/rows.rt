@@ -1,20 +1,20 @@
 //! An import into a keeper in memory.
 
 ghost use Rattle.std.specs.Prelude.{◌≡◌, ◌≢◌, Some, None, true, IfErr, IfOk, OnErr, OnOk};
-ghost use Rattle.tally_core.specs.Held.{after_row_in, lodge_answer_in, lodge_in, row_answer_in, without};
-ghost use Rattle.tally_core.specs.Import.{IsCodedRow};
-ghost use Rattle.tally_core.specs.Keeper.{IsFault, IsImportOf};
-ghost use Rattle.tally_core.specs.declared.import.Row.{Row};
-ghost use Rattle.tally_core.specs.declared.source.ImportFault.TheVariants.{Store};
+ghost use Rattle.tally_keeper.specs.Held.{after_row_in, lodge_answer_in, lodge_in, row_answer_in, without};
+ghost use Rattle.tally_keeper.specs.Import.{IsCodedRow};
+ghost use Rattle.tally_keeper.specs.Keeper.{IsFault, IsImportOf};
+ghost use Rattle.tally_keeper.specs.declared.import.Row.{Row};
+ghost use Rattle.tally_keeper.specs.declared.source.ImportFault.TheVariants.{Store};
 ghost use Rattle.tally_ledger.specs.Kept.{state_in};
 ghost use Rattle.tally_rules.specs.Code.{is_code};
 
 use super::answers::decide_first;
-use crate::import::{ImportCount, Row};
-use crate::source::{ImportFault, ROW_LIMIT, RowSource};
 use std::alloc::{AllocError, Global};
+use tally_keeper::{
+    Ask, Counts, ImportCount, ImportFault, LodgeReply, ROW_LIMIT, Refusal, Return, Row, RowSource,
+};
 use tally_ledger::Ledger;
-use tally_machine::{Ask, Counts, LodgeReply, Refusal, Return};
 use tally_rules::Code;
 
 /// Lodges the rows of a source, and adds the stations that were lodged to a list, so that a fault

@@ -1,22 +1,15 @@
-use Rattle.std.proofs.Common.{◌↔◌, sym, ap}
-use Rattle.std.specs.Bool.{IsTrue}
-use Rattle.tally_allot.specs.AllotFault.{IsAllotmentUnderLot}
-use Rattle.tally_contest.specs.Rules.{rule_by}
+use Rattle.std.proofs.Common.{◌↔◌, IsTrue}
+use Rattle.tally_law.specs.LotNeed.{IsAllotmentUnderLot}
 use Rattle.tally_contest.proofs.PollLemmas.{carried}
+use Rattle.tally_allot.proofs.DivisorRuleLemmas.{named}
 use Rattle.tally_allot.proofs.allotment.is_allotment.Goals as goal
 
-pub returns-in-DHondt : goal.returns-in-DHondt
-returns-in-DHondt c =
-    carried (λ rule poll. IsTrue c.is_allotment_by_divisors.result ↔ IsAllotmentUnderLot rule poll c.args.lot.now c.args.seats c.args.given.now) (ap (λ method. rule_by method c.args.profile.now.lot) (sym c.in-DHondt.is)) c.new-poll.ensures.poll c.is_allotment_by_divisors.ensures
+pub returns-in-Some : goal.returns-in-Some
+returns-in-Some c =
+    carried (λ rule poll. IsTrue c.is_allotment_by_divisors.result ↔ IsAllotmentUnderLot rule poll c.args.lot.now c.args.seats c.args.given.now)
+    (named c.args.profile.now.method c.args.profile.now.lot c.in-Some.is c.of.ensures.rule) c.new-poll.ensures.poll c.is_allotment_by_divisors.ensures
 
-pub returns-in-SainteLague : goal.returns-in-SainteLague
-returns-in-SainteLague c =
-    carried (λ rule poll. IsTrue c.is_allotment_by_divisors-in-SainteLague.result ↔ IsAllotmentUnderLot rule poll c.args.lot.now c.args.seats c.args.given.now) (ap (λ method. rule_by method c.args.profile.now.lot) (sym c.in-SainteLague.is)) c.new-poll.ensures.poll c.is_allotment_by_divisors-in-SainteLague.ensures
-
-pub returns-in-ModifiedSainteLague : goal.returns-in-ModifiedSainteLague
-returns-in-ModifiedSainteLague c =
-    carried (λ rule poll. IsTrue c.is_allotment_by_divisors-in-ModifiedSainteLague.result ↔ IsAllotmentUnderLot rule poll c.args.lot.now c.args.seats c.args.given.now) (ap (λ method. rule_by method c.args.profile.now.lot) (sym c.in-ModifiedSainteLague.is)) c.new-poll.ensures.poll c.is_allotment_by_divisors-in-ModifiedSainteLague.ensures
-
-pub returns-in-Hare : goal.returns-in-Hare
-returns-in-Hare c =
-    carried (λ rule poll. IsTrue c.is_allotment_by_quotas.result ↔ IsAllotmentUnderLot rule poll c.args.lot.now c.args.seats c.args.given.now) (ap (λ method. rule_by method c.args.profile.now.lot) (sym c.in-Hare.is)) c.new-poll.ensures.poll c.is_allotment_by_quotas.ensures
+pub returns-in-None : goal.returns-in-None
+returns-in-None c =
+    carried (λ rule poll. IsTrue c.is_allotment_by_quotas.result ↔ IsAllotmentUnderLot rule poll c.args.lot.now c.args.seats c.args.given.now)
+    (named c.args.profile.now.method c.args.profile.now.lot c.in-None.is c.of.ensures.rule) c.new-poll.ensures.poll c.is_allotment_by_quotas.ensures

@@ -1,8 +1,8 @@
 use Rattle.std.proofs.Common.{◌-◌, ◌<◌, length, get_or, sym, ◌∙◌, subst, arith}
 use Rattle.tally_rules.specs.declared.profile.LotRule.TheVariants.{Fixed}
 use Rattle.tally_contest.specs.internal.KeptPoll.{kept_poll}
-use Rattle.tally_contest.specs.Allotment.{divisors}
-use Rattle.tally_contest.specs.Poll.{Poll, IsEligible}
+use Rattle.tally_law.specs.Allotment.{divisors}
+use Rattle.tally_law.specs.Poll.{Poll, IsEligible}
 use Rattle.tally_contest.specs.internal.Terms.{AreDivisors}
 use Rattle.tally_contest.proofs.PollLemmas.{sound_under}
 use Rattle.tally_contest.proofs.Vectors.{get_or-le-sum}

@@ -1,7 +1,7 @@
 use Rattle.std.proofs.Common.{◌≡◌, ℕ, ◌+◌, List, Option, length, sym, subst, arith}
 use Rattle.tally_contest.specs.internal.KeptPoll.{kept_poll}
-use Rattle.tally_contest.specs.Allotment.{divisors}
-use Rattle.tally_contest.specs.Poll.{Poll}
+use Rattle.tally_law.specs.Allotment.{divisors}
+use Rattle.tally_law.specs.Poll.{Poll}
 use Rattle.tally_allot.specs.internal.ShortSteps.{AreAnswers}
 use Rattle.tally_allot.proofs.ShortLemmas.{answers_push}
 use Rattle.tally_allot.proofs.short.numbers_of.Goals as goal

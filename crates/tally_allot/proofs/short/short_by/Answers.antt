@@ -1,7 +1,7 @@
 use Rattle.std.proofs.Common.{◌≡◌, length, sym, subst}
 use Rattle.tally_contest.specs.internal.KeptPoll.{kept_poll}
-use Rattle.tally_contest.specs.Allotment.{divisors}
-use Rattle.tally_contest.specs.Poll.{Poll}
+use Rattle.tally_law.specs.Allotment.{divisors}
+use Rattle.tally_law.specs.Poll.{Poll}
 use Rattle.tally_contest.specs.internal.Terms.{AreDivisors}
 use Rattle.tally_contest.proofs.PollLemmas.{sound_under}
 use Rattle.tally_contest.proofs.DivisorRace.{by_votes_from_allotment}

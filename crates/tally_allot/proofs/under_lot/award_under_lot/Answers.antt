@@ -1,7 +1,7 @@
 use Rattle.std.proofs.Common.{IfOk, IfErr, OnOk, length, subst}
-use Rattle.tally_contest.specs.Allotment.{IsAllotment}
-use Rattle.tally_contest.specs.LotNeed.{IsLotTaken}
-use Rattle.tally_contest.specs.Poll.{HasEligible}
+use Rattle.tally_law.specs.Allotment.{IsAllotment}
+use Rattle.tally_law.specs.LotNeed.{IsLotTaken}
+use Rattle.tally_law.specs.Poll.{HasEligible}
 use Rattle.tally_contest.specs.internal.Terms.{Terms, IsProperLot, placed_race}
 use Rattle.tally_contest.specs.internal.Won.{AreRows, AreWon}
 use Rattle.tally_allot.specs.AllotFault.{IsFaultOf}

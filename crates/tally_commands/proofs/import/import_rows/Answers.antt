@@ -1,5 +1,5 @@
 use Rattle.std.proofs.Common.{◌≡◌, ◌∙◌, ◌++◌, ℕ, List, None, refl, ap}
-use Rattle.tally_core.specs.declared.source.ImportFault.TheVariants as lodging
+use Rattle.tally_keeper.specs.declared.source.ImportFault.TheVariants as lodging
 use Rattle.tally_import.specs.Check.{count_text}
 use Rattle.tally_commands.proofs.ImportLemmas.{import-of, memory-import}
 use Rattle.tally_commands.proofs.import.import_rows.Goals as goal

@@ -1,6 +1,6 @@
 use Rattle.std.proofs.Common.{◌≡◌, ◌∙◌, ap, sym, subst, string_bytes, Ok, Err}
 use Rattle.std.proofs.lemmas.Result.{IfOk-weaker, IfErr-weaker}
-use Rattle.tally_core.specs.Keeper.{Happens, request}
+use Rattle.tally_keeper.specs.Keeper.{Happens, request}
 use Rattle.tally_returns.specs.declared.ask.Ask.TheVariants.{ShowProgress}
 use Rattle.tally_report.specs.ProgressText.{progress_text}
 use Rattle.tally_desk.specs.Gives.{as_progress}

@@ -1,11 +1,11 @@
 use Rattle.std.proofs.Common.{◌≡◌, ◌∙◌, ℕ, List, Option, None, Some, Ok, Err, refl, sym, subst, string_bytes}
 use Rattle.std.proofs.lemmas.Result.{IfOk-weaker, IfErr-weaker}
-use Rattle.tally_core.specs.Keeper.{Happens, request}
+use Rattle.tally_keeper.specs.Keeper.{Happens, request}
 use Rattle.tally_rules.specs.Constituency.{Constituency}
 use Rattle.tally_rules.specs.Setup.{constituency_with}
 use Rattle.tally_returns.specs.declared.ask.Ask.TheVariants.{ShowCon}
 use Rattle.tally_returns.specs.declared.reply.Reply.TheVariants as reply
-use Rattle.tally_machine.specs.Outcome.{IsLawfulView}
+use Rattle.tally_steps.specs.Outcome.{IsLawfulView}
 use Rattle.tally_desk.specs.Gives.{as_con}
 use Rattle.tally_desk.specs.Reports.{report_fault}
 use Rattle.tally_commands.specs.Show.{IsGiven, IsReportShown, IsReportTrouble, IsWithheld, Shows}

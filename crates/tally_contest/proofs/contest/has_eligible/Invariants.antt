@@ -1,5 +1,5 @@
 use Rattle.std.proofs.Common.{ℕ, ◌<◌}
-use Rattle.tally_contest.specs.Poll.{IsEligible}
+use Rattle.tally_law.specs.Poll.{IsEligible}
 use Rattle.tally_contest.proofs.contest.has_eligible.Given as goal
 
 abbrev pub invariant-loop-list : goal.invariant-loop-list

@@ -1,5 +1,5 @@
 use Rattle.std.proofs.Common.{◌≡◌, ℕ, ◌<◌, ◌↔◌, true, false, length, get_or}
-use Rattle.tally_contest.specs.Poll.{IsEligible, votes_of}
+use Rattle.tally_law.specs.Poll.{IsEligible, votes_of}
 use Rattle.tally_contest.proofs.need.lists_with.Given as goal
 
 abbrev pub invariant-loop-list : goal.invariant-loop-list

@@ -1,6 +1,6 @@
 use Rattle.std.proofs.Common.{ℕ, subst, sym, ◌∙◌}
 use Rattle.std.proofs.lemmas.Bool.{false≢true}
-use Rattle.tally_contest.specs.LotNeed.{IsNeed}
+use Rattle.tally_law.specs.LotNeed.{IsNeed}
 use Rattle.tally_contest.specs.internal.Terms.{HaveVotes, IsClassOf}
 use Rattle.tally_contest.proofs.NeedInPlaces.{decided_without_last, decided_without_next, decided_if_above, need_unless_above, few_lists_of}
 use Rattle.tally_contest.proofs.need.need_of.Goals as goal

@@ -1,6 +1,6 @@
 use Rattle.std.proofs.Common.{◌≡◌, ◌*◌, ◌/◌, sym, arith}
 use Rattle.tally_contest.specs.internal.KeptPoll.{kept_poll}
-use Rattle.tally_contest.specs.HareAllotment.{whole_quotas}
+use Rattle.tally_law.specs.HareAllotment.{whole_quotas}
 use Rattle.tally_contest.proofs.PollLemmas.{some_total, few_quotas}
 use Rattle.tally_contest.proofs.quota.quota_of.Goals as goal
 

@@ -1,6 +1,6 @@
-use Rattle.tally_core.specs.Events.{answers_of, asks_of}
-use Rattle.tally_core.proofs.EventLemmas.{happen-brings}
-use Rattle.tally_core.proofs.KeeperLemmas.{happen-run}
+use Rattle.tally_keeper.specs.Events.{answers_of, asks_of}
+use Rattle.tally_keeper.proofs.EventLemmas.{happen-brings}
+use Rattle.tally_keeper.proofs.KeeperLemmas.{happen-run}
 use Rattle.tally_core.proofs.laws.a_certificate_of_a_keeper_stands_on_closed_votes.Goals as goal
 
 pub returns : goal.returns

@@ -1,4 +1,4 @@
-use Rattle.tally_core.proofs.EventLemmas.{happen-lawful}
+use Rattle.tally_keeper.proofs.EventLemmas.{happen-lawful}
 use Rattle.tally_core.proofs.laws.a_keeper_keeps_a_lawful_state.Goals as goal
 
 pub returns : goal.returns

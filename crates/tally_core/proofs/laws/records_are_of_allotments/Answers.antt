@@ -1,6 +1,6 @@
-use Rattle.tally_core.specs.Events.{answers_of, asks_of}
-use Rattle.tally_core.proofs.EventLemmas.{happen-brings}
-use Rattle.tally_core.proofs.KeeperLemmas.{happen-run}
+use Rattle.tally_keeper.specs.Events.{answers_of, asks_of}
+use Rattle.tally_keeper.proofs.EventLemmas.{happen-brings}
+use Rattle.tally_keeper.proofs.KeeperLemmas.{happen-run}
 use Rattle.tally_core.proofs.laws.records_are_of_allotments.Goals as goal
 
 pub returns : goal.returns

@@ -1,5 +1,5 @@
-use Rattle.tally_core.specs.Events.{answers_of, asks_of}
-use Rattle.tally_core.proofs.KeeperLemmas.{happen-run}
+use Rattle.tally_keeper.specs.Events.{answers_of, asks_of}
+use Rattle.tally_keeper.proofs.KeeperLemmas.{happen-run}
 use Rattle.tally_core.proofs.laws.records_stay.Goals as goal
 
 pub returns : goal.returns

@@ -1,4 +1,4 @@
-use Rattle.tally_core.proofs.KeeperLemmas.{happen-run, shut-run}
+use Rattle.tally_keeper.proofs.KeeperLemmas.{happen-run, shut-run}
 use Rattle.tally_core.proofs.laws.requests_and_imports_are_a_run.Goals as goal
 
 pub returns-clause-shut : goal.returns-clause-shut

@@ -1,4 +1,4 @@
-use Rattle.tally_core.proofs.EventLemmas.{happen-acting, happen-kept}
+use Rattle.tally_keeper.proofs.EventLemmas.{happen-acting, happen-kept}
 use Rattle.tally_core.proofs.laws.what_does_not_act_can_be_left_out.Goals as goal
 
 pub returns-clause-all : goal.returns-clause-all

@@ -1,5 +1,5 @@
 use Rattle.std.proofs.Common.{ap, subst}
-use Rattle.tally_core.specs.Keeper.{Imports}
+use Rattle.tally_keeper.specs.Keeper.{Imports}
 use Rattle.tally_import.specs.ReturnRowsValue.{coming}
 use Rattle.tally_desk.proofs.command.lodge_rows.Goals as goal
 

@@ -1,6 +1,6 @@
 use Rattle.std.proofs.Common.{◌≡◌, ◌∙◌, Some, List, Ok, Err, subst, sym}
-use Rattle.tally_core.specs.Keeper.{Happens, request}
-use Rattle.tally_machine.specs.Outcome.{IsLawfulView}
+use Rattle.tally_keeper.specs.Keeper.{Happens, request}
+use Rattle.tally_steps.specs.Outcome.{IsLawfulView}
 use Rattle.tally_rules.specs.Constituency.{Constituency}
 use Rattle.tally_rules.specs.Setup.{constituency_with}
 use Rattle.tally_returns.specs.declared.ask.Ask.TheVariants.{ShowCon}

@@ -4,8 +4,8 @@ use Rattle.tally_answer.specs.Answer.{answer_text}
 use Rattle.tally_answer.specs.Shown.{shown_con, shown_return}
 use Rattle.tally_answer.specs.declared.status.AnswerStatus.TheVariants as status
 use Rattle.tally_answer.specs.declared.status.BodyType.TheVariants as body
-use Rattle.tally_core.specs.Keeper.{Happens, request}
-use Rattle.tally_machine.specs.Outcome.{IsLawfulView}
+use Rattle.tally_keeper.specs.Keeper.{Happens, request}
+use Rattle.tally_steps.specs.Outcome.{IsLawfulView}
 use Rattle.tally_rules.specs.Constituency.{Constituency}
 use Rattle.tally_rules.specs.Setup.{constituency_with}
 use Rattle.tally_returns.specs.declared.ask.Ask.TheVariants.{ShowReturn}

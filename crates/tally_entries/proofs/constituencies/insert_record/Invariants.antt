@@ -1,10 +1,11 @@
 use Rattle.std.proofs.Common.{◌≡◌, ◌+◌, take}
-use Rattle.sqlite.specs.State.{HasCleanDisk, KeepsCommit, Survives}
+use Rattle.sqlite.specs.State.{HasCleanDisk}
 use Rattle.sqlite.specs.Held.{state}
 use Rattle.tally_statements.specs.declared.table.KeyedTable.TheVariants.{Past}
 use Rattle.tally_statements.specs.Office.{IsInside}
 use Rattle.tally_tables.specs.Cells.{record_rows}
 use Rattle.tally_entries.specs.Entries.{Adds}
+use Rattle.tally_statements.specs.Inside.{Stays}
 use Rattle.tally_entries.proofs.constituencies.insert_record.Given as goal
 
 abbrev pub invariant-loop-n : goal.invariant-loop-n
@@ -13,8 +14,6 @@ invariant-loop-n g l =
     let now = state g.S.Store l.tx.conn.now in
     record {
       place : l.list ≡ l.n-index + 1;
-      same_reference : l.tx.conn.ghost_name ≡ l.fn.tx.conn.ghost_name;
-      kept : HasCleanDisk now → KeepsCommit old now;
+      stays : Stays g.S.Store l.fn.tx l.tx;
       rows : HasCleanDisk now → IsInside old → Adds Past (record_rows l.con (l.edition, take l.n-index l.seats)) old now;
-      survives : Survives old now (λ _. ⊥);
     }

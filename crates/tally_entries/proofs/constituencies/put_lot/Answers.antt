@@ -16,7 +16,7 @@ returns-clause-put g c clean inside =
     let mid = state g.S.Store c.delete_lot.new.tx.conn.now in
     let new = state g.S.Store c.insert_numbers.new.tx.conn.now in
     let con = c.args.con.now in
-    let early : HasCleanDisk mid = omega (arith, c.insert_numbers.ensures.survives.clean) in
+    let early : HasCleanDisk mid = omega (arith, c.insert_numbers.ensures.stays.survives.clean) in
     let gone = c.in_ok-delete_lot.ensures.deleted early inside in
     IfOk-weaker c.insert_numbers.result _ _ (λ _ more. added_beside Lots (map (item_row con) (numbered 1 c.args.lot.now)) (others con (rows_in Lots old)) old mid new gone more) (c.insert_numbers.ensures.added clean gone.inside)
 

@@ -1,18 +1,16 @@
-use Rattle.std.proofs.Common.{◌∙◌, refl, arith, inl}
+use Rattle.std.proofs.Common.{refl, arith}
+use Rattle.std.specs.Prelude.{⊤}
 use Rattle.sqlite.specs.Held.{state}
-use Rattle.sqlite.proofs.StateLemmas.{survives_then}
 use Rattle.tally_statements.specs.declared.table.KeyedTable.TheVariants.{Totals}
 use Rattle.tally_entries.proofs.CountLemmas.{votes_none, votes_more, votes_all}
-use Rattle.tally_entries.proofs.RowLemmas.{keeps_same, keeps_then}
+use Rattle.tally_statements.proofs.StaysLemmas.{stays-both, stays-same}
 use Rattle.tally_entries.proofs.constituencies.update_list_sums.Goals as goal
 
 pub loop-n-init : goal.loop-n-init
 loop-n-init g c = record {
   place = refl;
-  same_reference = refl;
-  kept = λ _. keeps_same (state g.S.Store c.args.tx.now.conn.now);
+  stays = stays-same (λ _. ⊤) g.S.Store c.args.tx.now;
   rows = λ _ inside v rest same none held. votes_none Totals c.args.con.now v c.args.votes.now rest (state g.S.Store c.args.tx.now.conn.now) inside held;
-  survives = record { clean = omega arith; shield = λ x. x; counts = omega arith; limit = refl; closes = λ _ now. inl now; crash = λ _ db may. inl may };
 }
 
 pub loop-n-preserved : goal.loop-n-preserved
@@ -24,12 +22,10 @@ loop-n-preserved g c =
     let told = c.update_sum.ensures in
     record {
       place = omega (arith, was.place);
-      same_reference = told.same_reference ∙ was.same_reference;
-      kept = λ clean. keeps_then old mid new (was.kept (omega (arith, told.survives.clean))) (told.kept clean);
+      stays = stays-both g.S.Store c.args.tx.now c.loop-n.tx c.update_sum.new.tx was.stays told.stays;
       rows = λ clean inside v rest same none held.
-          let before = was.rows (omega (arith, told.survives.clean)) inside v rest same none held in
+          let before = was.rows (omega (arith, told.stays.survives.clean)) inside v rest same none held in
           votes_more Totals c.args.con.now v c.args.votes.now c.loop-n.n-index c.loop-n.item _ 0 rest old mid new (omega arith) (omega (arith, c.requires)) same was.place refl none before (c.in_ok-update_sum.ensures.updated clean before.inside);
-      survives = survives_then old mid new _ _ _ (λ _ db none. none) (λ _ db none. none) was.survives told.survives;
     }
 
 pub returns-clause-set : goal.returns-clause-set

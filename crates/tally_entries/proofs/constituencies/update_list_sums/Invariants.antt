@@ -1,6 +1,6 @@
 use Rattle.std.proofs.Common.{◌≡◌, ◌+◌, ◌++◌, List, [], map, filter, take, drop, length, IsPermutation}
 use Rattle.sqlite_value.specs.Order.{Row}
-use Rattle.sqlite.specs.State.{HasCleanDisk, KeepsCommit, Survives}
+use Rattle.sqlite.specs.State.{HasCleanDisk}
 use Rattle.sqlite.specs.Held.{state}
 use Rattle.tally_rows.specs.Rows.{has_key}
 use Rattle.tally_returns.specs.Counts.{VoteCounts}
@@ -8,6 +8,7 @@ use Rattle.tally_statements.specs.declared.table.KeyedTable.TheVariants.{Totals}
 use Rattle.tally_statements.specs.Office.{IsInside, rows_in}
 use Rattle.tally_tables.specs.Cells.{item_row, items_of}
 use Rattle.tally_entries.specs.Entries.{HasItems}
+use Rattle.tally_statements.specs.Inside.{Stays}
 use Rattle.tally_entries.proofs.constituencies.update_list_sums.Given as goal
 
 abbrev pub invariant-loop-n : goal.invariant-loop-n
@@ -16,9 +17,7 @@ invariant-loop-n g l =
     let now = state g.S.Store l.tx.conn.now in
     record {
       place : l.item ≡ l.n-index + 1;
-      same_reference : l.tx.conn.ghost_name ≡ l.fn.tx.conn.ghost_name;
-      kept : HasCleanDisk now → KeepsCommit old now;
+      stays : Stays g.S.Store l.fn.tx l.tx;
       rows : HasCleanDisk now → IsInside old → (c : VoteCounts) (rest : List Row) → length c.votes ≡ length l.votes → filter (has_key l.con) rest ≡ [] → IsPermutation (map (item_row l.con) (items_of c) ++ rest) (rows_in Totals old)
           → HasItems Totals l.con (record c { votes = take l.n-index l.votes ++ drop l.n-index c.votes }) rest old now;
-      survives : Survives old now (λ _. ⊥);
     }

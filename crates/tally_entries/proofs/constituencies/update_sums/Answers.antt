@@ -15,8 +15,8 @@ returns-clause-set g c clean inside v rest same none held =
     let b = state g.S.Store c.update_list_sums.new.tx.conn.now in
     let new = state g.S.Store c.update_sum-2.new.tx.conn.now in
     let station = c.args.con.now in
-    let clean_b : HasCleanDisk b = omega (arith, c.update_sum-2.ensures.survives.clean) in
-    let clean_a : HasCleanDisk a = omega (arith, clean_b, c.update_list_sums.ensures.survives.clean) in
+    let clean_b : HasCleanDisk b = omega (arith, c.update_sum-2.ensures.stays.survives.clean) in
+    let clean_a : HasCleanDisk a = omega (arith, clean_b, c.update_list_sums.ensures.stays.survives.clean) in
     let shown : VoteCounts = record { votes = c.sums.inside.votes.items; blank = c.sums.inside.blank; spoiled = c.sums.inside.spoiled } in
     let as_many : length v.votes ≡ length shown.votes = same ∙ ap (λ (w : VoteCounts). length w.votes) (sym c.sums.view_is) in
     let blank : HasItems Totals station (record v { blank = shown.blank }) rest old a = blank_set Totals station v shown.blank rest old a inside none held (c.in_ok-update_sum.ensures.updated clean_a inside) in

@@ -10,8 +10,8 @@ pub returns-clause-found : goal.returns-clause-found
 returns-clause-found g c clean inside =
     let old = state g.S.Store c.args.tx.now.conn.now in
     let mid = state g.S.Store c.rows_of_key.new.tx.conn.now in
-    let early : HasCleanDisk mid = omega (arith, clean, c.rows_of_key-2.ensures.survives.clean) in
-    let same : IsUnchanged old mid = c.in_ok-heads.ensures.same early inside in
+    let early : HasCleanDisk mid = omega (arith, clean, c.rows_of_key-2.ensures.reads.stays.survives.clean) in
+    let same : IsUnchanged old mid = c.in_ok-heads.ensures.reads.same early inside in
     let heads : IsFound Returns c.args.station old c.in_ok-heads.heads.items = subst (λ k. IsFound Returns k old c.in_ok-heads.heads.items) c.as_str.ensures.text (c.in_ok-heads.ensures.found early inside) in
     let counts : IsFound Counts c.args.station mid c.in_ok-counts.counts.items = subst (λ k. IsFound Counts k mid c.in_ok-counts.counts.items) c.as_str-2.ensures.text (c.in_ok-counts.ensures.found clean (inside_still old mid same inside)) in
     finds_return c.args.setup.now c.args.station old c.in_ok-heads.heads.items c.in_ok-counts.counts.items c.return_in.result c.as_str.ensures.code heads (found_before Counts c.args.station old mid c.in_ok-counts.counts.items same counts)

@@ -15,8 +15,8 @@ returns-clause-added g c clean inside =
     let a = state g.S.Store c.insert_item.new.tx.conn.now in
     let b = state g.S.Store c.insert_numbers.new.tx.conn.now in
     let new = state g.S.Store c.insert_item-2.new.tx.conn.now in
-    let clean_b : HasCleanDisk b = omega (arith, c.insert_item-2.ensures.survives.clean) in
-    let clean_a : HasCleanDisk a = omega (arith, clean_b, c.insert_numbers.ensures.survives.clean) in
+    let clean_b : HasCleanDisk b = omega (arith, c.insert_item-2.ensures.stays.survives.clean) in
+    let clean_a : HasCleanDisk a = omega (arith, clean_b, c.insert_numbers.ensures.stays.survives.clean) in
     let blank = c.in_ok-insert_item.ensures.inserted clean_a inside in
     let votes = c.in_ok-insert_numbers.ensures.added clean_b blank.inside in
     let shown : VoteCounts = record { votes = c.counts.inside.votes.items; blank = c.counts.inside.blank; spoiled = c.counts.inside.spoiled } in

@@ -1,17 +1,16 @@
-use Rattle.std.proofs.Common.{◌∙◌, refl, arith, inl}
+use Rattle.std.proofs.Common.{refl, arith}
+use Rattle.std.specs.Prelude.{⊤}
 use Rattle.sqlite.specs.Held.{state}
-use Rattle.sqlite.proofs.StateLemmas.{survives_then}
 use Rattle.tally_entries.specs.Entries.{keyed_table}
-use Rattle.tally_entries.proofs.RowLemmas.{adds_none, adds_number, keeps_same, keeps_then}
+use Rattle.tally_entries.proofs.RowLemmas.{adds_none, adds_number}
+use Rattle.tally_statements.proofs.StaysLemmas.{stays-both, stays-same}
 use Rattle.tally_entries.proofs.items.insert_numbers.Goals as goal
 
 pub loop-n-init : goal.loop-n-init
 loop-n-init g c = record {
   place = refl;
-  same_reference = refl;
-  kept = λ _. keeps_same (state g.S.Store c.args.tx.now.conn.now);
+  stays = stays-same (λ _. ⊤) g.S.Store c.args.tx.now;
   rows = λ _ inside. adds_none (keyed_table c.args.table) (state g.S.Store c.args.tx.now.conn.now) inside;
-  survives = record { clean = omega arith; shield = λ x. x; counts = omega arith; limit = refl; closes = λ _ now. inl now; crash = λ _ db may. inl may };
 }
 
 pub loop-n-preserved : goal.loop-n-preserved
@@ -23,10 +22,8 @@ loop-n-preserved g c =
     let told = c.insert_item.ensures in
     record {
       place = omega (arith, was.place);
-      same_reference = told.same_reference ∙ was.same_reference;
-      kept = λ clean. keeps_then old mid new (was.kept (omega (arith, told.survives.clean))) (told.kept clean);
+      stays = stays-both g.S.Store c.args.tx.now c.loop-n.tx c.insert_item.new.tx was.stays told.stays;
       rows = λ clean inside.
-          let before = was.rows (omega (arith, told.survives.clean)) inside in
+          let before = was.rows (omega (arith, told.stays.survives.clean)) inside in
           adds_number (keyed_table c.args.table) c.args.key.now c.args.numbers.now c.loop-n.n-index c.loop-n.item _ 0 old mid new (omega arith) was.place refl before (c.in_ok-insert_item.ensures.inserted clean before.inside);
-      survives = survives_then old mid new _ _ _ (λ _ db none. none) (λ _ db none. none) was.survives told.survives;
     }

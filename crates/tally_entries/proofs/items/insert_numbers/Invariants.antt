@@ -1,9 +1,10 @@
 use Rattle.std.proofs.Common.{◌≡◌, ◌+◌, map, take}
-use Rattle.sqlite.specs.State.{HasCleanDisk, KeepsCommit, Survives}
+use Rattle.sqlite.specs.State.{HasCleanDisk}
 use Rattle.sqlite.specs.Held.{state}
 use Rattle.tally_statements.specs.Office.{IsInside}
 use Rattle.tally_tables.specs.Cells.{item_row, numbered}
 use Rattle.tally_entries.specs.Entries.{Adds, keyed_table}
+use Rattle.tally_statements.specs.Inside.{Stays}
 use Rattle.tally_entries.proofs.items.insert_numbers.Given as goal
 
 abbrev pub invariant-loop-n : goal.invariant-loop-n
@@ -12,8 +13,6 @@ invariant-loop-n g l =
     let now = state g.S.Store l.tx.conn.now in
     record {
       place : l.item ≡ l.n-index + 1;
-      same_reference : l.tx.conn.ghost_name ≡ l.fn.tx.conn.ghost_name;
-      kept : HasCleanDisk now → KeepsCommit old now;
+      stays : Stays g.S.Store l.fn.tx l.tx;
       rows : HasCleanDisk now → IsInside old → Adds (keyed_table l.table) (map (item_row l.key) (numbered 1 (take l.n-index l.numbers))) old now;
-      survives : Survives old now (λ _. ⊥);
     }

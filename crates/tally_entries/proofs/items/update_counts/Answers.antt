@@ -15,8 +15,8 @@ returns-clause-set g c clean inside v rest same none held =
     let b = state g.S.Store c.update_votes.new.tx.conn.now in
     let new = state g.S.Store c.update_count-2.new.tx.conn.now in
     let station = c.args.station.now in
-    let clean_b : HasCleanDisk b = omega (arith, c.update_count-2.ensures.survives.clean) in
-    let clean_a : HasCleanDisk a = omega (arith, clean_b, c.update_votes.ensures.survives.clean) in
+    let clean_b : HasCleanDisk b = omega (arith, c.update_count-2.ensures.stays.survives.clean) in
+    let clean_a : HasCleanDisk a = omega (arith, clean_b, c.update_votes.ensures.stays.survives.clean) in
     let shown : VoteCounts = record { votes = c.counts.inside.votes.items; blank = c.counts.inside.blank; spoiled = c.counts.inside.spoiled } in
     let as_many : length v.votes ≡ length shown.votes = same ∙ ap (λ (w : VoteCounts). length w.votes) (sym c.counts.view_is) in
     let blank : HasCounts station (record v { blank = shown.blank }) rest old a = blank_set Counts station v shown.blank rest old a inside none held (c.in_ok-update_count.ensures.updated clean_a inside) in

@@ -14,7 +14,7 @@ returns-clause-added g c clean inside setup returns is none held =
     let old = state g.S.Store c.args.tx.now.conn.now in
     let mid = state g.S.Store c.insert_head.new.tx.conn.now in
     let new = state g.S.Store c.insert_counts.new.tx.conn.now in
-    let early : HasCleanDisk mid = omega (arith, c.insert_counts.ensures.survives.clean) in
+    let early : HasCleanDisk mid = omega (arith, c.insert_counts.ensures.stays.survives.clean) in
     let head = c.in_ok-insert_head.ensures.inserted early inside in
     let same : c.standing.inside.counts ≡ c.args.standing.now.counts = ap (λ (r : StationReturn). r.counts) c.standing.view_is in
     IfOk-weaker c.insert_counts.result _ _

@@ -1,9 +1,10 @@
-use Rattle.std.proofs.Common.{◌≡◌, take}
+use Rattle.std.proofs.Common.{take}
 use Rattle.std.specs.Prelude.{IsTrue}
-use Rattle.sqlite.specs.State.{HasCleanDisk, IsUnchanged, Survives}
+use Rattle.sqlite.specs.State.{HasCleanDisk, IsUnchanged}
 use Rattle.sqlite.specs.Held.{state}
 use Rattle.tally_statements.specs.Office.{IsInside}
 use Rattle.tally_entries.specs.Found.{AreWithin, FindsStatuses}
+use Rattle.tally_statements.specs.Inside.{IsOpenInside, StaysFrom}
 use Rattle.tally_entries.proofs.views.find_statuses.Given as goal
 
 abbrev pub invariant-loop-station : goal.invariant-loop-station
@@ -11,10 +12,8 @@ invariant-loop-station g l =
     let old = state g.S.Store l.fn.tx.conn.now in
     let now = state g.S.Store l.tx.conn.now in
     record {
-      same_reference : l.tx.conn.ghost_name ≡ l.fn.tx.conn.ghost_name;
+      stays : StaysFrom IsOpenInside g.S.Store l.fn.tx l.tx;
       within : AreWithin l.station-index l.found;
       same : HasCleanDisk now → IsInside old → IsTrue old.is_open → IsUnchanged old now;
       found : HasCleanDisk now → IsInside old → IsTrue old.is_open → FindsStatuses (take l.station-index l.stations) old l.found;
-      was_open : HasCleanDisk now → IsTrue now.is_open → IsTrue old.is_open;
-      survives : Survives old now (λ _. ⊥);
     }

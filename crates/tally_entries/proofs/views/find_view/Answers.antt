@@ -13,8 +13,8 @@ pub returns-clause-found : goal.returns-clause-found
 returns-clause-found g c clean inside =
     let old = state g.S.Store c.args.tx.now.conn.now in
     let mid = state g.S.Store c.rows_of_con.new.tx.conn.now in
-    let early : HasCleanDisk mid = omega (arith, clean, c.find_statuses.ensures.survives.clean) in
-    let same : IsUnchanged old mid = c.in_ok-rows.ensures.same early inside in
+    let early : HasCleanDisk mid = omega (arith, clean, c.find_statuses.ensures.stays.survives.clean) in
+    let same : IsUnchanged old mid = c.in_ok-rows.ensures.reads.same early inside in
     let limits : IsConstituency c.args.con.now = subst IsConstituency c.con.view_is c.con.invariant in
     let rows : AreFound c.args.con.now.code old c.in_ok-rows.rows = subst (λ k. AreFound k old c.in_ok-rows.rows) (c.as_str.ensures.text ∙ ap (λ (x : Constituency). x.code) c.con.view_is) (c.in_ok-rows.ensures.found early inside) in
     let counted : FindsStatuses c.args.con.now.stations mid c.in_ok-statuses.statuses =

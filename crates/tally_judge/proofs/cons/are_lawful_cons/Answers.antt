@@ -1,5 +1,5 @@
 use Rattle.std.proofs.Common.{◌∙◌, IsTrue, Some, ap, sym}
-use Rattle.tally_machine.proofs.CertificationLemmas.{on_ok}
+use Rattle.tally_steps.proofs.CertificationLemmas.{on_ok}
 use Rattle.tally_judge.specs.Found.{AreAllLawful, AreLawfulCons}
 use Rattle.tally_tables.specs.Views.{tables_in}
 use Rattle.tally_judge.proofs.VerdictLemmas.{found_lawful, not_found_lawful}

@@ -1,5 +1,5 @@
 use Rattle.std.proofs.Common.{rules, arith, subst, sym, IsTrue}
-use Rattle.tally_machine.specs.Outcome.{IsLawfulGone}
+use Rattle.tally_steps.specs.Outcome.{IsLawfulGone}
 use Rattle.tally_judge.proofs.AllLemmas.{all_more, all_end}
 use Rattle.tally_judge.proofs.view.are_candidates.Goals as goal
 

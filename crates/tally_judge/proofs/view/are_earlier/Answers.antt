@@ -1,5 +1,5 @@
 use Rattle.std.proofs.Common.{rules, arith, subst, sym, IsTrue}
-use Rattle.tally_machine.specs.Outcome.{IsLawfulPast}
+use Rattle.tally_steps.specs.Outcome.{IsLawfulPast}
 use Rattle.tally_returns.specs.View.{HasEachList}
 use Rattle.tally_judge.proofs.AllLemmas.{all_more, all_end}
 use Rattle.tally_judge.proofs.view.are_earlier.Goals as goal

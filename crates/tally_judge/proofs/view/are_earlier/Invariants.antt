@@ -1,5 +1,5 @@
 use Rattle.std.proofs.Common.{All, take}
-use Rattle.tally_machine.specs.Outcome.{IsLawfulPast}
+use Rattle.tally_steps.specs.Outcome.{IsLawfulPast}
 use Rattle.tally_judge.proofs.view.are_earlier.Given as goal
 
 abbrev pub invariant-loop-certificate : goal.invariant-loop-certificate

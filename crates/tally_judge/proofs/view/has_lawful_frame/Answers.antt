@@ -1,6 +1,6 @@
 use Rattle.std.proofs.Common.{◌∙◌, IsTrue, true≢false, ap, rules, subst, sym}
 use Rattle.std.specs.Prelude.{All}
-use Rattle.tally_machine.specs.Outcome.{IsLawfulGone, IsLawfulPast}
+use Rattle.tally_steps.specs.Outcome.{IsLawfulGone, IsLawfulPast}
 use Rattle.tally_returns.specs.View.{View, HasEachList}
 use Rattle.tally_judge.proofs.view.has_lawful_frame.Goals as goal
 

@@ -1,8 +1,8 @@
 use Rattle.std.proofs.Common.{◌≡◌, ◌∙◌, ℕ, List, ap, subst, sym}
-use Rattle.tally_allot.specs.AllotFault.{IsAllotmentUnderLot}
-use Rattle.tally_contest.specs.Rules.{poll_of, rule_of}
-use Rattle.tally_machine.proofs.CertificationLemmas.{carried}
-use Rattle.tally_machine.specs.Outcome.{poll_in, rule_in}
+use Rattle.tally_law.specs.LotNeed.{IsAllotmentUnderLot}
+use Rattle.tally_law.specs.Rules.{poll_of, rule_of}
+use Rattle.tally_steps.proofs.CertificationLemmas.{carried}
+use Rattle.tally_steps.specs.Outcome.{poll_in, rule_in}
 use Rattle.tally_returns.specs.View.{View}
 use Rattle.tally_rules.specs.Constituency.{Constituency}
 use Rattle.tally_rules.specs.declared.profile.Profile.{Profile}

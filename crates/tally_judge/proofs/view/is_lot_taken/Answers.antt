@@ -1,10 +1,10 @@
 use Rattle.std.proofs.Common.{ℕ, List, ap, ◌∙◌}
 use Rattle.tally_allot.specs.AllotFault.{IsFaultOf}
-use Rattle.tally_contest.specs.LotNeed.{IsLotTaken}
-use Rattle.tally_contest.specs.Poll.{HasEligible}
-use Rattle.tally_contest.specs.Rules.{poll_of, rule_of}
-use Rattle.tally_machine.proofs.CertificationLemmas.{carried}
-use Rattle.tally_machine.specs.Outcome.{poll_in, rule_in}
+use Rattle.tally_law.specs.LotNeed.{IsLotTaken}
+use Rattle.tally_law.specs.Poll.{HasEligible}
+use Rattle.tally_law.specs.Rules.{poll_of, rule_of}
+use Rattle.tally_steps.proofs.CertificationLemmas.{carried}
+use Rattle.tally_steps.specs.Outcome.{poll_in, rule_in}
 use Rattle.tally_returns.specs.View.{View}
 use Rattle.tally_rules.specs.Constituency.{Constituency}
 use Rattle.tally_rules.specs.declared.profile.Profile.{Profile}

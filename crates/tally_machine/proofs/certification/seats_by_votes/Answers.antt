@@ -1,16 +1,16 @@
 use Rattle.std.proofs.Common.{◌∙◌, ℕ, List, IfOk, IfErr, OnOk, ap, sym, subst}
 use Rattle.tally_rules.specs.Constituency.{Constituency}
 use Rattle.tally_rules.specs.Limits.{IsConstituency}
-use Rattle.tally_allot.specs.Conditions.{AreLimitsKept}
+use Rattle.tally_law.specs.Conditions.{AreLimitsKept}
 use Rattle.tally_rules.specs.declared.profile.Profile.{Profile}
-use Rattle.tally_contest.specs.Allotment.{IsAllotment}
-use Rattle.tally_contest.specs.Poll.{HasEligible}
+use Rattle.tally_law.specs.Allotment.{IsAllotment}
+use Rattle.tally_law.specs.Poll.{HasEligible}
 use Rattle.tally_allot.specs.AllotFault.{IsFaultOf}
-use Rattle.tally_contest.specs.LotNeed.{IsLotTaken}
-use Rattle.tally_contest.specs.Rules.{rule_of, poll_of}
-use Rattle.tally_machine.specs.Outcome.{poll_in, rule_in}
+use Rattle.tally_law.specs.LotNeed.{IsLotTaken}
+use Rattle.tally_law.specs.Rules.{rule_of, poll_of}
+use Rattle.tally_steps.specs.Outcome.{poll_in, rule_in}
 use Rattle.tally_returns.specs.View.{View}
-use Rattle.tally_machine.proofs.CertificationLemmas.{all_three, carried, fits-limits}
+use Rattle.tally_steps.proofs.CertificationLemmas.{all_three, carried, fits-limits}
 use Rattle.tally_machine.proofs.certification.seats_by_votes.Goals as goal
 
 pub allot-requires : goal.allot-requires

@@ -1,4 +1,4 @@
-use Rattle.tally_machine.proofs.LawLemmas.{missing-told, told-is_need}
+use Rattle.tally_steps.proofs.LawLemmas.{missing-told, told-is_need}
 use Rattle.tally_machine.proofs.laws.a_missing_lot_is_told.Goals as goal
 
 pub returns-clause-missing : goal.returns-clause-missing

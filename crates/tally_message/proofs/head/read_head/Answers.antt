@@ -1,40 +1,27 @@
-use Rattle.std.proofs.Common.{◌≡◌, ◌<◌, ◌≤◌, length, take, true, sym, ◌∙◌, ap, arith}
+use Rattle.std.proofs.Common.{◌≡◌, ◌≤◌, ◌++◌, ℕ, [], Err, length, take, refl, subst, sym, ◌∙◌, ap, arith}
 use Rattle.std.proofs.lemmas.List.{length-take}
+use Rattle.httparse.specs.Grammar.{HasNoRequest}
 use Rattle.tally_door.specs.Connection.{Connection}
-use Rattle.tally_message.specs.Message.{head_limit}
-use Rattle.tally_message.specs.declared.message.MessageFault.TheVariants.{HeadTooLong, Read}
-use Rattle.tally_message.proofs.InputLemmas.{none_behind}
-use Rattle.tally_message.proofs.HeadLemmas.{overflowing_head, head_or_fault, too_long_head, failed_head}
+use Rattle.tally_message.specs.Lines.{no_lines, lines_after}
+use Rattle.tally_message.specs.Message.{head_limit, FailsAs}
+use Rattle.tally_message.specs.declared.message.MessageFault.{MessageFault}
+use Rattle.tally_message.proofs.HeadLemmas.{overflowing_head, too_long_head}
+use Rattle.tally_message.proofs.LineLemmas.{none_in_nothing}
 use Rattle.tally_message.proofs.StartLemmas.{reads_on}
 use Rattle.tally_message.proofs.head.read_head.Goals as goal
 
-pub returns-clause-known : goal.returns-clause-known
-returns-clause-known g c ended coming connection is =
-    let at = c.loop-count.invariant.known ended coming connection is in
-    let buf = take c.loop-count.count c.loop-count.room in
-    let taken = length-take c.loop-count.count c.loop-count.room in
-    let short : length buf ≤ head_limit = omega (arith, taken, c.loop-count.invariant.short) in
-    let full : head_limit ≤ length buf = omega (arith, taken, c.loop-count-test.false, c.loop-count.invariant.whole, c.requires.room) in
-    let both = head_or_fault c.head_or-2.result connection.input buf at.0.input connection.fails HeadTooLong at.2.1 short
-    (too_long_head connection.input buf at.0.input connection.fails at.2.1 full) c.head_or-2.ensures.none in
-    (at.0, at.1, (at.2.0, both.0, both.1))
-
-pub returns-in-Failure-clause-known : goal.returns-in-Failure-clause-known
-returns-in-Failure-clause-known g c ended coming connection is =
-    let at = c.loop-count.invariant.known ended coming connection is in
-    let after = c.in-Failure.ensures.known ended coming at.0 at.1 in
-    let old = take c.loop-count.count c.loop-count.room in
-    let buf = take c.read_more.new.count c.read_more.new.room in
-    let next : Connection = after.0 in
-    let onto = after.2.1 in
-    let whole = none_behind connection.input old buf at.0.input next.input at.2.1 onto.0 onto.2 onto.3 in
-    let failed : connection.fails ≡ true = sym (ap (λ (t : Connection). t.fails) at.2.0.2) ∙ onto.1 in
-    let taken = length-take c.loop-count.count c.loop-count.room in
-    let short : length buf < head_limit = omega (arith, taken, ap length onto.3, c.loop-count-test.true) in
-    let within : length buf ≤ head_limit = omega (arith, short) in
-    let both = head_or_fault c.head_or-in-Failure.result connection.input buf next.input connection.fails Read whole within
-    (failed_head connection.input buf next.input connection.fails whole onto.2 failed short) c.head_or-in-Failure.ensures.none in
-    (next, after.1, (reads_on connection at.0 next at.2.0 after.2.0, both.0, both.1))
+pub loop-count-init : goal.loop-count-init
+loop-count-init g c =
+    let none : take c.args.count.now c.args.room.now ≡ [] = ap (λ n. take n c.args.room.now) c.requires.empty in
+    record {
+      connected = c.requires.connected;
+      whole = refl;
+      short = omega (arith, c.requires.empty);
+      fields = c.requires.fields;
+      lines = c.new-lines.ensures ∙ ap (lines_after no_lines) (sym none);
+      no_head = subst HasNoRequest (sym none) none_in_nothing;
+      known = λ ended coming connection is. (connection, is, (([], refl, refl), ap (λ t. t ++ connection.input) (sym none), refl));
+    }
 
 pub returns-in-Err-clause-known : goal.returns-in-Err-clause-known
 returns-in-Err-clause-known g c ended coming connection is =
@@ -44,5 +31,16 @@ returns-in-Err-clause-known g c ended coming connection is =
     let next : Connection = after.0 in
     let taken = length-take c.read_more.new.count c.read_more.new.room in
     let short : length buf ≤ head_limit = omega (arith, taken, c.read_more.auto.room, c.loop-count.invariant.whole, c.requires.room) in
-    let fault = overflowing_head connection.input buf next.input connection.fails c.in-Err.fault (at.2.1 ∙ after.2.1) short c.in-Err.ensures.err in
-    (next, after.1, (reads_on connection at.0 next at.2.0 after.2.0, tt, fault))
+    let found = c.in-Err.ensures.err in
+    let fault = overflowing_head connection.input buf next.input connection.fails c.in-Err.fault (at.2.1 ∙ after.2.1.0) short found in
+    let fails = subst (λ (e : MessageFault). FailsAs {X = ℕ} (Err e) connection next) (sym found.0) (after.2.1.1 ∙ at.2.2) in
+    (next, after.1, (reads_on connection at.0 next at.2.0 after.2.0, tt, fault, fails))
+
+pub returns-clause-known : goal.returns-clause-known
+returns-clause-known g c ended coming connection is =
+    let was = c.loop-count.invariant in
+    let at = was.known ended coming connection is in
+    let buf = take c.loop-count.count c.loop-count.room in
+    let taken = length-take c.loop-count.count c.loop-count.room in
+    let full : head_limit ≤ length buf = omega (arith, taken, c.loop-count-test.false, was.whole, c.requires.room) in
+    (at.0, at.1, (at.2.0, tt, too_long_head connection.input buf at.0.input connection.fails at.2.1 full was.no_head, at.2.2))

@@ -1,6 +1,8 @@
 use Rattle.std.proofs.Common.{◌≡◌, ◌≤◌, ◌-◌, ◌++◌, true, length, take}
+use Rattle.httparse.specs.Grammar.{HasNoRequest}
 use Rattle.tally_door.specs.Connection.{ChangesCurrent}
-use Rattle.tally_message.specs.Message.{head_limit, OnlyReads}
+use Rattle.tally_message.specs.Lines.{no_lines, lines_after}
+use Rattle.tally_message.specs.Message.{head_limit, field_limit, OnlyReads}
 use Rattle.tally_message.proofs.head.read_head.Given as goal
 
 abbrev pub invariant-loop-count : goal.invariant-loop-count
@@ -8,7 +10,11 @@ invariant-loop-count g l = let d = g.D.Door in record {
   connected : d.connected l.door ≡ true;
   whole : length l.room ≡ length l.fn.room;
   short : l.count ≤ head_limit;
-  known : ChangesCurrent (d.known l.fn.door) (d.known l.door) (λ c now. OnlyReads c now × (c.input ≡ take l.count l.room ++ now.input));
+  fields : length l.headers ≡ field_limit;
+  lines : l.lines ≡ lines_after no_lines (take l.count l.room);
+  no_head : HasNoRequest (take l.count l.room);
+  known : ChangesCurrent (d.known l.fn.door) (d.known l.door)
+      (λ c now. OnlyReads c now × (c.input ≡ take l.count l.room ++ now.input) × (now.read_failed ≡ c.read_failed));
 }
 
 abbrev pub decreases-loop-count : goal.decreases-loop-count

@@ -1,6 +1,6 @@
 use Rattle.std.proofs.Common.{◌≡◌, ◌∙◌, ◌<◌, ◌≤◌, ℕ, List, length, get_or, sym, ap, arith, string_bytes}
 use Rattle.std.proofs.lemmas.List.{length-map}
-use Rattle.tally_machine.specs.Holders.{holders}
+use Rattle.tally_steps.specs.Holders.{holders}
 use Rattle.tally_rules.specs.Constituency.{ListEntry}
 use Rattle.tally_report.proofs.HolderLemmas.{holder-within}
 use Rattle.tally_report.proofs.holders.push_seats.Goals as goal

@@ -3,7 +3,7 @@ use Rattle.tally_returns.specs.View.{View}
 use Rattle.tally_rules.specs.Constituency.{Constituency}
 use Rattle.tally_rules.specs.declared.profile.Method.{Method}
 use Rattle.tally_rules.specs.declared.profile.Method.TheVariants.{DHondt, SainteLague, ModifiedSainteLague}
-use Rattle.tally_contest.specs.Rules.{rule_by}
+use Rattle.tally_law.specs.Rules.{rule_by}
 use Rattle.tally_report.specs.QuotientsText.{quotients_of}
 use Rattle.tally_report.proofs.QuotientLemmas.{IfOk-then, most-lawful}
 use Rattle.tally_report.proofs.quotients.quotients_text.Goals as goal

@@ -1,5 +1,5 @@
 use Rattle.std.proofs.Common.{◌∙◌, Ok, Err, sym, ap}
-use Rattle.tally_machine.specs.Step.{lodge_reply, seen}
+use Rattle.tally_steps.specs.Step.{lodge_reply, seen}
 use Rattle.tally_requests.proofs.LodgeLemmas.{lodged-carried, seen-reply}
 use Rattle.tally_requests.proofs.answer.lodge_at.Goals as goal
 

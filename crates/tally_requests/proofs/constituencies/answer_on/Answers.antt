@@ -27,7 +27,7 @@ returns-clause-step g c clean inside =
     let old = state g.S.Store c.args.tx.now.conn.now in
     let mid = state g.S.Store c.find_view.new.tx.conn.now in
     let new = state g.S.Store c.answer_seen.new.tx.conn.now in
-    let early : HasCleanDisk mid = omega (arith, clean, c.answer_seen.ensures.survives.clean) in
+    let early : HasCleanDisk mid = omega (arith, clean, c.answer_seen.ensures.stays.survives.clean) in
     let found : constituency_with c.args.code setup ≡ Some con = sym c.con.ensures.found ∙ ap option_copied c.in-Some.is in
-    seen-carries setup con c.in_ok-view.view c.args.ask.now old mid new c.answer_seen.result clean (still-unchanged old mid (c.in_ok-view.ensures.same early inside) inside)
+    seen-carries setup con c.in_ok-view.view c.args.ask.now old mid new c.answer_seen.result clean (still-unchanged old mid (c.in_ok-view.ensures.reads.same early inside) inside)
     (constituency_with-own setup c.args.code con found) (c.in_ok-view.ensures.found early inside) c.answer_seen.ensures.step

@@ -1,14 +1,14 @@
 use Rattle.std.proofs.Common.{◌≡◌, ◌∙◌, Some, map, sym, ap, subst, arith}
 use Rattle.sqlite.specs.State.{HasCleanDisk}
 use Rattle.sqlite.specs.Held.{state}
-use Rattle.sqlite.proofs.StateLemmas.{survives_then}
 use Rattle.std.proofs.lemmas.List.{take_all}
 use Rattle.tally_returns.specs.Progress.{progress_row}
 use Rattle.tally_rules.specs.Constituency.{Constituency}
 use Rattle.tally_rules.specs.Setup.{constituency_with}
 use Rattle.tally_ledger.proofs.SetupLemmas.{Has, con-only, has-at}
-use Rattle.tally_entries.proofs.RowLemmas.{keeps_then}
-use Rattle.tally_requests.proofs.AnswerLemmas.{rows-more, still-state, still-then}
+use Rattle.tally_statements.specs.Office.{IsInside}
+use Rattle.tally_requests.proofs.AnswerLemmas.{rows-more, still-state, still-then, still-unchanged}
+use Rattle.tally_statements.proofs.StaysLemmas.{stays-then}
 use Rattle.tally_requests.proofs.constituencies.find_progress.Goals as goal
 
 pub loop-con-preserved : goal.loop-con-preserved
@@ -21,26 +21,20 @@ loop-con-preserved g c =
     let mid = state g.S.Store c.loop-con.tx.conn.now in
     let new = state g.S.Store c.find_row.new.tx.conn.now in
     let was = c.loop-con.invariant in
-    let told = c.find_row.ensures in
+    let told = c.find_row.ensures.reads in
     let has : Has con setup = subst (Has con) c.cons-cons.ensures.cons (subst (λ (x : Constituency). Has x cons) (sym c.con-item.is) (has-at cons i con c.loop-con-test.true)) in
     let known : constituency_with con.code setup ≡ Some con = con-only setup con c.cons-cons.ensures.limits has in
     record {
-      same_reference = told.same_reference ∙ was.same_reference;
-      kept = λ clean inside.
-          let early : HasCleanDisk mid = omega (arith, clean, told.survives.clean) in
-          keeps_then old mid new (was.kept early inside) (told.kept clean (was.still early inside).inside);
+      stays = stays-then IsInside IsInside g.S.Store c.args.tx.now c.loop-con.tx c.find_row.new.tx (λ early inside. (was.still early inside).inside) was.stays told.stays;
       found = λ clean inside text s lawful tables.
-          let early : HasCleanDisk mid = omega (arith, clean, told.survives.clean) in
+          let early : HasCleanDisk mid = omega (arith, clean, told.stays.survives.clean) in
           let here = still-state setup text s old mid (was.still early inside) tables in
           rows-more (progress_row s) cons i con c.loop-con.rows.items c.push.new.self.items c.in_ok-find_row.field-0 c.loop-con-test.true c.con-item.is (was.found early inside text s lawful tables)
           (c.in_ok-find_row.ensures.found clean here.inside text s known lawful here.tables) c.in_ok-push.ensures.items;
       still = λ clean inside.
-          let early : HasCleanDisk mid = omega (arith, clean, told.survives.clean) in
-          still-then old mid new (was.still early inside) (c.in_ok-find_row.ensures.still clean (was.still early inside).inside);
-      was_open = λ clean live.
-          let early : HasCleanDisk mid = omega (arith, clean, told.survives.clean) in
-          was.was_open early (told.was_open clean live);
-      survives = survives_then old mid new _ _ _ (λ _ db none. none) (λ _ db none. none) was.survives told.survives;
+          let early : HasCleanDisk mid = omega (arith, clean, told.stays.survives.clean) in
+          let before = (was.still early inside).inside in
+          still-then old mid new (was.still early inside) (still-unchanged mid new (c.in_ok-find_row.ensures.reads.same clean before) before);
     }
 
 pub returns-clause-found : goal.returns-clause-found

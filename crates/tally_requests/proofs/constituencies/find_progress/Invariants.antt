@@ -1,12 +1,12 @@
 use Rattle.std.proofs.Common.{◌≡◌, ℕ, List, map, take}
-use Rattle.std.specs.Prelude.{IsTrue}
-use Rattle.sqlite.specs.State.{HasCleanDisk, KeepsCommit, Survives}
+use Rattle.sqlite.specs.State.{HasCleanDisk}
 use Rattle.sqlite.specs.Held.{state}
 use Rattle.tally_returns.specs.Progress.{progress_row}
 use Rattle.tally_returns.specs.State.{State}
-use Rattle.tally_machine.specs.LawfulState.{IsLawfulState}
+use Rattle.tally_steps.specs.LawfulState.{IsLawfulState}
 use Rattle.tally_statements.specs.Office.{IsInside}
 use Rattle.tally_tables.specs.TablesOfState.{AreTables}
+use Rattle.tally_statements.specs.Inside.{StaysInside}
 use Rattle.tally_requests.specs.Seen.{IsStill}
 use Rattle.tally_requests.proofs.constituencies.find_progress.Given as goal
 
@@ -16,10 +16,7 @@ invariant-loop-con g l =
     let old = state g.S.Store l.fn.tx.conn.now in
     let now = state g.S.Store l.tx.conn.now in
     record {
-      same_reference : l.tx.conn.ghost_name ≡ l.fn.tx.conn.ghost_name;
-      kept : HasCleanDisk now → IsInside old → KeepsCommit old now;
+      stays : StaysInside g.S.Store l.fn.tx l.tx;
       found : HasCleanDisk now → IsInside old → (text : List ℕ) (s : State) → IsLawfulState l.setup s → AreTables l.setup text s old.now.trees → l.rows.items ≡ map (progress_row s) (take l.con-index l.cons);
       still : HasCleanDisk now → IsInside old → IsStill old now;
-      was_open : HasCleanDisk now → IsTrue now.is_open → IsTrue old.is_open;
-      survives : Survives old now (λ _. ⊥);
     }

@@ -16,7 +16,7 @@ returns-clause-put g c clean inside setup place text s limits at lawful not_cert
     let old = state g.S.Store c.args.tx.now.conn.now in
     let mid = state g.S.Store c.move_sums.new.tx.conn.now in
     let new = state g.S.Store c.change_return.new.tx.conn.now in
-    let early : HasCleanDisk mid = omega (arith, c.change_return.ensures.survives.clean) in
+    let early : HasCleanDisk mid = omega (arith, c.change_return.ensures.stays.survives.clean) in
     let counts : standing.counts ≡ c.standing.inside.counts = sym (ap (λ (r : StationReturn). r.counts) c.standing.view_is) in
     let so : CountsSo true c.standing.inside.counts before standing = (not_closed before c.requires.open, closed_so standing c.requires.closed ∙ ap (λ k. k ∷ []) counts) in
     closed_moved setup text s con place station before standing old mid new c.change_return.result clean limits at not_certified stood c.requires.same_counts tables

@@ -20,8 +20,8 @@ returns-clause-put g c clean inside setup place text s limits at lawful not_cert
     let mid = state g.S.Store c.uncount.new.tx.conn.now in
     let bare = state g.S.Store c.put_lot.new.tx.conn.now in
     let new = state g.S.Store c.change_return.new.tx.conn.now in
-    let later : HasCleanDisk bare = omega (arith, c.change_return.ensures.survives.clean) in
-    let early : HasCleanDisk mid = omega (arith, c.put_lot.ensures.survives.clean) in
+    let later : HasCleanDisk bare = omega (arith, c.change_return.ensures.stays.survives.clean) in
+    let early : HasCleanDisk mid = omega (arith, c.put_lot.ensures.stays.survives.clean) in
     let key : c.as_str.result.now ≡ con.code = c.as_str.ensures.text ∙ ap (λ (x : Constituency). x.code) c.con.view_is in
     let sums = c.in_ok-uncount.ensures.uncounted early inside setup s station place standing limits at lawful stood (queried_so standing c.requires.queried) tables.totals in
     let lots : HasMoved Lots lot_rows con.code (HasLot []) mid bare = subst (λ k. HasMoved Lots lot_rows k (HasLot []) mid bare) key (c.in_ok-put_lot.ensures.lots later sums.0.inside) in

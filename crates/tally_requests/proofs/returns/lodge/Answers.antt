@@ -9,7 +9,7 @@ pub returns-in_default-answer-clause-lodged : goal.returns-in_default-answer-cla
 returns-in_default-answer-clause-lodged g c clean inside text s lawful tables =
     let done = c.in_ok-answer.ensures in
     lodged-refused c.args.setup.now text s c.args.station c.args.slip c.args.counts.now c.in_ok-answer.answer c.in_default-answer.field-0 (state g.S.Store c.args.tx.now.conn.now) (state g.S.Store c.decide_first.new.tx.conn.now)
-    (done.decided clean inside) c.in_default-answer.is (done.same clean inside) inside lawful tables
+    (done.decided clean inside) c.in_default-answer.is (done.reads.same clean inside) inside lawful tables
 
 pub returns-in_default-reply-clause-lodged : goal.returns-in_default-reply-clause-lodged
 returns-in_default-reply-clause-lodged g c clean inside text s lawful tables =
@@ -17,7 +17,7 @@ returns-in_default-reply-clause-lodged g c clean inside text s lawful tables =
     let done = c.in_ok-answer.ensures in
     let answers = subst (IsLodgeAnswer c.args.setup.now c.args.station c.args.slip c.args.counts.now old) c.in-Ok.is (done.decided clean inside) in
     lodged-same c.args.setup.now text s c.args.station c.args.slip c.args.counts.now (Ok c.in-Ok.reply) c.in_default-reply.field-0 old (state g.S.Store c.decide_first.new.tx.conn.now)
-    answers (ap Ok c.in_default-reply.is) (done.same clean inside) inside lawful tables
+    answers (ap Ok c.in_default-reply.is) (done.reads.same clean inside) inside lawful tables
 
 pub returns-clause-lodged : goal.returns-clause-lodged
 returns-clause-lodged g c clean inside text s lawful tables =
@@ -25,8 +25,8 @@ returns-clause-lodged g c clean inside text s lawful tables =
     let old = state g.S.Store c.args.tx.now.conn.now in
     let mid = state g.S.Store c.decide_first.new.tx.conn.now in
     let new = state g.S.Store c.put_first.new.tx.conn.now in
-    let early : HasCleanDisk mid = omega (arith, c.put_first.ensures.survives.clean) in
+    let early : HasCleanDisk mid = omega (arith, c.put_first.ensures.stays.survives.clean) in
     let done = c.in_ok-answer.ensures in
     let answers = subst (IsLodgeAnswer setup c.args.station c.args.slip c.args.counts.now old) c.in-Ok.is (done.decided early inside) in
     lodged-first setup text s c.args.station c.args.slip c.args.counts.now c.in-Some.con.now c.in-Some.place.now (Ok c.in-Ok.reply) c.in-Lodged.rev mid new clean (sym c.in-Some.ensures.found)
-    (answers text s lawful tables) (ap Ok c.in-Lodged.is) (still setup text s old mid (done.same early inside) inside tables) c.in_ok-put_first.ensures.added
+    (answers text s lawful tables) (ap Ok c.in-Lodged.is) (still setup text s old mid (done.reads.same early inside) inside tables) c.in_ok-put_first.ensures.added

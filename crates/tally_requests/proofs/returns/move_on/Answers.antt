@@ -20,10 +20,10 @@ returns-clause-step g c clean inside =
     let mid = state g.S.Store c.find_lawful.new.tx.conn.now in
     let last = state g.S.Store c.find_certified.new.tx.conn.now in
     let new = state g.S.Store c.move_found.new.tx.conn.now in
-    let later : HasCleanDisk last = omega (arith, clean, c.move_found.ensures.survives.clean) in
-    let early : HasCleanDisk mid = omega (arith, later, c.find_certified.ensures.survives.clean) in
-    let one = still-unchanged old mid (c.in_ok-found.ensures.same early inside) inside in
-    let two = still-unchanged mid last (c.in_ok-certified.ensures.same later one.inside) one.inside in
+    let later : HasCleanDisk last = omega (arith, clean, c.move_found.ensures.stays.survives.clean) in
+    let early : HasCleanDisk mid = omega (arith, later, c.find_certified.ensures.reads.stays.survives.clean) in
+    let one = still-unchanged old mid (c.in_ok-found.ensures.reads.same early inside) inside in
+    let two = still-unchanged mid last (c.in_ok-certified.ensures.reads.same later one.inside) one.inside in
     found-carries c.args.setup.now c.in-Some.con.now c.in-Some.place.now c.args.station c.as_str.result.now c.in_ok-certified.certified c.in_ok-found.found c.args.ask.now old mid last new c.move_found.result
     clean c.in-Some.ensures.limits (sym c.in-Some.ensures.found) (c.as_str.ensures.text ∙ ap (λ (x : Constituency). x.code) c.con.view_is) one two
     (c.in_ok-found.ensures.found early inside) (c.in_ok-certified.ensures.found later one.inside) c.move_found.ensures.step

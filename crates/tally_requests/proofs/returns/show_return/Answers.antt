@@ -20,7 +20,7 @@ returns-in_default-clause-step g c clean inside text s lawful tables =
     let new = state g.S.Store c.find_return.new.tx.conn.now in
     let place = mapped-some (λ place. (place.0.now, place.1.now)) c.station.result _ c.is_none.result c.station.ensures.found c.is_none.ensures c.if-is_none.false in
     let found = found-is setup text s station old c.in_ok-standing.field-0 c.station.ensures.limits lawful tables (c.in_ok-standing.ensures.found clean inside) in
-    shown-carried setup text s station (Err NoReturn) new (shown-none setup s station place.0 place.1 (sym c.in_default.is ∙ found)) (still setup text s old new (c.in_ok-standing.ensures.same clean inside) inside tables)
+    shown-carried setup text s station (Err NoReturn) new (shown-none setup s station place.0 place.1 (sym c.in_default.is ∙ found)) (still setup text s old new (c.in_ok-standing.ensures.reads.same clean inside) inside tables)
 
 pub returns-clause-step : goal.returns-clause-step
 returns-clause-step g c clean inside text s lawful tables =
@@ -30,4 +30,4 @@ returns-clause-step g c clean inside text s lawful tables =
     let new = state g.S.Store c.find_return.new.tx.conn.now in
     let place = mapped-some (λ place. (place.0.now, place.1.now)) c.station.result _ c.is_none.result c.station.ensures.found c.is_none.ensures c.if-is_none.false in
     let found = found-is setup text s station old c.in_ok-standing.field-0 c.station.ensures.limits lawful tables (c.in_ok-standing.ensures.found clean inside) in
-    shown-carried setup text s station (Ok (Return c.in-Some.standing)) new (shown-some setup s station place.0 c.in-Some.standing place.1 (sym c.in-Some.is ∙ found)) (still setup text s old new (c.in_ok-standing.ensures.same clean inside) inside tables)
+    shown-carried setup text s station (Ok (Return c.in-Some.standing)) new (shown-some setup s station place.0 c.in-Some.standing place.1 (sym c.in-Some.is ∙ found)) (still setup text s old new (c.in_ok-standing.ensures.reads.same clean inside) inside tables)

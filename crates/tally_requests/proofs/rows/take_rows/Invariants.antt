@@ -1,12 +1,11 @@
-use Rattle.std.proofs.Common.{◌≡◌, ℕ, List}
-use Rattle.sqlite.specs.State.{HasCleanDisk, Survives}
+use Rattle.std.proofs.Common.{ℕ, List}
+use Rattle.sqlite.specs.State.{HasCleanDisk}
 use Rattle.sqlite.specs.Held.{state}
-use Rattle.std.specs.Prelude.{IsTrue}
 use Rattle.tally_returns.specs.State.{State}
-use Rattle.tally_machine.specs.LawfulState.{IsLawfulState}
+use Rattle.tally_steps.specs.LawfulState.{IsLawfulState}
 use Rattle.tally_statements.specs.Office.{IsInside}
 use Rattle.tally_tables.specs.TablesOfState.{AreTables}
-use Rattle.tally_requests.specs.Requests.{KeepsCommitInState}
+use Rattle.tally_requests.specs.Inside.{StaysInState}
 use Rattle.tally_requests.proofs.RowLemmas.{Came, Counted, RowsSoFar}
 use Rattle.tally_requests.proofs.rows.take_rows.Given as goal
 
@@ -17,12 +16,9 @@ invariant-loop-before g l =
     let old = state g.S.Store l.fn.tx.conn.now in
     let now = state g.S.Store l.tx.conn.now in
     record {
-      same_reference : l.tx.conn.ghost_name ≡ l.fn.tx.conn.ghost_name;
-      kept : KeepsCommitInState l.setup old now;
+      stays : StaysInState l.setup g.S.Store l.fn.tx l.tx;
       came : Came (left l.fn.source) (left l.source) l.before;
       counted : Counted l.count l.before;
       taken : HasCleanDisk now → IsInside old → (text : List ℕ) (s : State) → IsLawfulState l.setup s → AreTables l.setup text s old.now.trees
           → RowsSoFar l.setup text s (left l.fn.source) (left l.source) l.count l.before now;
-      was_open : HasCleanDisk now → IsTrue now.is_open → IsTrue old.is_open;
-      survives : Survives old now (λ _. ⊥);
     }

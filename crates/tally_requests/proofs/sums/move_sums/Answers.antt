@@ -23,12 +23,12 @@ returns-clause-moved g c clean inside =
     let old = state g.S.Store c.args.tx.now.conn.now in
     let mid = state g.S.Store c.find_sums.new.tx.conn.now in
     let new = state g.S.Store c.put_sums.new.tx.conn.now in
-    let early : HasCleanDisk mid = omega (arith, clean, c.put_sums.ensures.survives.clean) in
+    let early : HasCleanDisk mid = omega (arith, clean, c.put_sums.ensures.stays.survives.clean) in
     let votes : length c.sums.inside.votes.items ≡ length found.votes = ap (λ (v : VoteCounts). length v.votes) c.sums.view_is in
     let lists : length c.con.inside.lists.items ≡ length con.lists = ap (λ (k : Constituency). length k.lists) c.con.view_is in
     let many : length found.votes ≡ length con.lists = omega (arith, votes, lists, c.len.ensures, c.len-2.ensures, c.sums.inside.votes.ok.0, c.con.inside.lists.ok.0, c.if-len.false) in
     let first : c.as_str.result.now ≡ con.code = c.as_str.ensures.text ∙ ap (λ (k : Constituency). k.code) c.con.view_is in
     let second : c.as_str-2.result.now ≡ con.code = c.as_str-2.ensures.text ∙ ap (λ (k : Constituency). k.code) c.con.view_is in
-    sums-written con c.args.counts.now found now c.args.add old mid new c.put_sums.result c.requires.few clean inside (c.in_ok-sums.ensures.same early inside)
+    sums-written con c.args.counts.now found now c.args.add old mid new c.put_sums.result c.requires.few clean inside (c.in_ok-sums.ensures.reads.same early inside)
     (subst (λ key. FindsSums key old found) first (c.in_ok-sums.ensures.found early inside)) many c.in-Some.ensures.1
     (subst (λ key. ChangesSums key now mid new c.put_sums.result) second c.put_sums.ensures.written)

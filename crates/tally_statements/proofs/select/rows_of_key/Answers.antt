@@ -12,20 +12,20 @@ pub returns-clause-found : goal.returns-clause-found
 returns-clause-found g c clean inside =
     IfOk-weaker c.query_all.result _ _ (λ rows shown. finds c.args.table c.args.key.now (state g.S.Store c.args.tx.now.conn.now) (state g.S.Store c.query_all.new.self.conn.now) rows.items inside shown) (rw (c.text_of.ensures, c.params-to_sql.ensures) at (c.query_all.ensures.ok clean))
 
-pub returns-clause-kept : goal.returns-clause-kept
-returns-clause-kept g c clean inside =
-    read_keeps (λ v. v.items) (rows_of_text c.args.table) (Text c.args.key.now ∷ []) (state g.S.Store c.args.tx.now.conn.now) (state g.S.Store c.query_all.new.self.conn.now) office_schema c.query_all.result inside.schema (rows_of_means c.args.table).plain
-    (rw (c.text_of.ensures, c.params-to_sql.ensures) at (c.query_all.ensures.ok clean)) (rw (c.text_of.ensures, c.params-to_sql.ensures) at (c.query_all.ensures.err clean))
-
-pub returns-clause-same : goal.returns-clause-same
-returns-clause-same g c clean inside =
-    read_changes_nothing (λ v. v.items) (rows_of_text c.args.table) (Text c.args.key.now ∷ []) (state g.S.Store c.args.tx.now.conn.now) (state g.S.Store c.query_all.new.self.conn.now) office_schema c.query_all.result inside.schema (rows_of_means c.args.table).plain
-    (rw (c.text_of.ensures, c.params-to_sql.ensures) at (c.query_all.ensures.ok clean))
-
-pub returns-clause-was_open : goal.returns-clause-was_open
-returns-clause-was_open g c clean now =
-    read_was_open (λ v. v.items) _ _ (state g.S.Store c.args.tx.now.conn.now) (state g.S.Store c.query_all.new.self.conn.now) c.query_all.result (c.query_all.ensures.ok clean) (c.query_all.ensures.err clean) now
-
-pub returns-clause-answered_open : goal.returns-clause-answered_open
-returns-clause-answered_open g c clean =
-    answered_was_open (λ v. v.items) _ _ (state g.S.Store c.args.tx.now.conn.now) (state g.S.Store c.query_all.new.self.conn.now) c.query_all.result (c.query_all.ensures.ok clean)
+pub returns-clause-reads : goal.returns-clause-reads
+returns-clause-reads g c = record {
+  stays = record {
+    same_reference = c.query_all.ensures.same_reference;
+    was_open = λ clean now.
+        read_was_open (λ v. v.items) _ _ (state g.S.Store c.args.tx.now.conn.now) (state g.S.Store c.query_all.new.self.conn.now) c.query_all.result (c.query_all.ensures.ok clean) (c.query_all.ensures.err clean) now;
+    kept = λ clean inside.
+        read_keeps (λ v. v.items) (rows_of_text c.args.table) (Text c.args.key.now ∷ []) (state g.S.Store c.args.tx.now.conn.now) (state g.S.Store c.query_all.new.self.conn.now) office_schema c.query_all.result inside.schema (rows_of_means c.args.table).plain
+        (rw (c.text_of.ensures, c.params-to_sql.ensures) at (c.query_all.ensures.ok clean)) (rw (c.text_of.ensures, c.params-to_sql.ensures) at (c.query_all.ensures.err clean));
+    survives = c.query_all.ensures.survives;
+  };
+  same = λ clean inside.
+      read_changes_nothing (λ v. v.items) (rows_of_text c.args.table) (Text c.args.key.now ∷ []) (state g.S.Store c.args.tx.now.conn.now) (state g.S.Store c.query_all.new.self.conn.now) office_schema c.query_all.result inside.schema (rows_of_means c.args.table).plain
+      (rw (c.text_of.ensures, c.params-to_sql.ensures) at (c.query_all.ensures.ok clean));
+  answered_open = λ clean.
+      answered_was_open (λ v. v.items) _ _ (state g.S.Store c.args.tx.now.conn.now) (state g.S.Store c.query_all.new.self.conn.now) c.query_all.result (c.query_all.ensures.ok clean);
+}

@@ -7,7 +7,7 @@ use Rattle.tally_tables.specs.TablesOfState.{AreTables}
 use Rattle.tally_store.specs.Crash.{LeavesAfter}
 use Rattle.tally_store.specs.Requests.{IsDone}
 use Rattle.tally_store.proofs.RequestLemmas.{done_committed, done_failed, survives_commit, tables_after}
-use Rattle.tally_store.proofs.ReturnLemmas.{Began, failed, rolled_back}
+use Rattle.tally_opening.proofs.ReturnLemmas.{Began, failed, rolled_back}
 use Rattle.tally_store.proofs.requests.answer_request.Goals as goal
 
 pub returns-in-Ok-commit-clause-done : goal.returns-in-Ok-commit-clause-done
@@ -36,7 +36,7 @@ returns-in-Ok-commit-clause-crash g c =
     let new = state g.S.Store c.commit.new.self.0 in
     let begun = c.transaction-tx.ensures.begun in
     let P = LeavesAfter setup c.args.ask.now (state g.S.Store old) in
-    let inside = survives_begin g.S.Store old last _ (rw begun at c.answer_in.ensures.survives) in
+    let inside = survives_begin g.S.Store old last _ (rw begun at c.answer_in.ensures.stays.survives) in
     let same : c.commit.new.self.0 ≡ c.conn-1.given.0 = search rules in
     subst (λ (h : _). Survives (state g.S.Store old) (state g.S.Store h) P) same
     (survives_commit (state g.S.Store old) last new P inside c.commit.ensures.survives (λ early text s lawful has.
@@ -59,7 +59,7 @@ returns-in-Err-commit-clause-done g c clean now text s lawful has =
     let here : IsInside bare = rw begun (record { schema = has.schema; distinct = has.distinct; inside = refl }) in
     let held : AreTables setup text s bare.now.trees = rw begun has.tables in
     let carried = c.in-Ok.ensures.step early here text s lawful held in
-    let kept = c.answer_in.ensures.kept early here in
+    let kept = c.answer_in.ensures.stays.kept early here in
     let was_open = rw begun at kept.was_open in
     let committed = rw begun at kept.committed in
     let began : Began old last = record { settled = λ _. sym has.settled; was_open = was_open; committed = committed } in
@@ -76,7 +76,7 @@ returns-in-Err-commit-clause-crash g c =
     let new = state g.S.Store c.commit.new.self.0 in
     let begun = c.transaction-tx.ensures.begun in
     let P = LeavesAfter setup c.args.ask.now (state g.S.Store old) in
-    let inside = survives_begin g.S.Store old last _ (rw begun at c.answer_in.ensures.survives) in
+    let inside = survives_begin g.S.Store old last _ (rw begun at c.answer_in.ensures.stays.survives) in
     let same : c.commit.new.self.0 ≡ c.conn-1.given.0 = search rules in
     subst (λ (h : _). Survives (state g.S.Store old) (state g.S.Store h) P) same
     (survives_commit (state g.S.Store old) last new P inside c.commit.ensures.survives (λ early text s lawful has.
@@ -97,7 +97,7 @@ returns-in-Err-clause-done g c clean now text s lawful has =
     let open_end : IsTrue new.is_open = subst (λ (h : _). IsTrue (state g.S.Store h).is_open) (sym same) now in
     let early : HasCleanDisk last = omega (arith, c.rollback.ensures.survives.clean) in
     let here : IsInside bare = rw begun (record { schema = has.schema; distinct = has.distinct; inside = refl }) in
-    let kept = c.answer_in.ensures.kept early here in
+    let kept = c.answer_in.ensures.stays.kept early here in
     let was_open = rw begun at kept.was_open in
     let committed = rw begun at kept.committed in
     let began : Began old last = record { settled = λ _. sym has.settled; was_open = was_open; committed = committed } in

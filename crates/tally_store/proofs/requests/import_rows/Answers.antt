@@ -6,9 +6,9 @@ use Rattle.tally_statements.specs.Office.{IsInside}
 use Rattle.tally_tables.specs.TablesOfState.{AreTables}
 use Rattle.tally_store.specs.Crash.{LeavesImported}
 use Rattle.tally_store.specs.Requests.{IsAllDone}
-use Rattle.tally_store.specs.Store.{HasState}
+use Rattle.tally_opening.specs.Office.{HasState}
 use Rattle.tally_store.proofs.RequestLemmas.{all_committed, state_back, survives_commit, tables_imported}
-use Rattle.tally_store.proofs.ReturnLemmas.{Began, failed, rolled_back}
+use Rattle.tally_opening.proofs.ReturnLemmas.{Began, failed, rolled_back}
 use Rattle.tally_store.proofs.requests.import_rows.Goals as goal
 
 pub returns-in-Ok-commit-clause-done : goal.returns-in-Ok-commit-clause-done
@@ -38,7 +38,7 @@ returns-in-Ok-commit-clause-crash g c =
     let new = state g.S.Store c.commit.new.self.0 in
     let begun = c.transaction-tx.ensures.begun in
     let P = LeavesImported setup known (state g.S.Store old) in
-    let inside = survives_begin g.S.Store old last _ (rw begun at c.take_rows.ensures.survives) in
+    let inside = survives_begin g.S.Store old last _ (rw begun at c.take_rows.ensures.stays.survives) in
     let same : c.commit.new.self.0 ≡ c.conn-1.given.0 = search rules in
     subst (λ (h : _). Survives (state g.S.Store old) (state g.S.Store h) P) same
     (survives_commit (state g.S.Store old) last new P inside c.commit.ensures.survives (λ early text s lawful has.
@@ -61,7 +61,7 @@ returns-in-Err-commit-clause-done g c clean now text s lawful has =
     let here : IsInside bare = rw begun (record { schema = has.schema; distinct = has.distinct; inside = refl }) in
     let held : AreTables setup text s bare.now.trees = rw begun has.tables in
     let all = c.in-Ok.ensures.imported early here text s lawful held in
-    let kept = c.take_rows.ensures.kept early here text s lawful held in
+    let kept = c.take_rows.ensures.stays.kept early (record { text = text; office = s; inside = here; lawful = lawful; tables = held }) in
     let was_open = rw begun at kept.was_open in
     let committed = rw begun at kept.committed in
     let began : Began old last = record { settled = λ _. sym has.settled; was_open = was_open; committed = committed } in
@@ -78,7 +78,7 @@ returns-in-Err-commit-clause-crash g c =
     let new = state g.S.Store c.commit.new.self.0 in
     let begun = c.transaction-tx.ensures.begun in
     let P = LeavesImported setup known (state g.S.Store old) in
-    let inside = survives_begin g.S.Store old last _ (rw begun at c.take_rows.ensures.survives) in
+    let inside = survives_begin g.S.Store old last _ (rw begun at c.take_rows.ensures.stays.survives) in
     let same : c.commit.new.self.0 ≡ c.conn-1.given.0 = search rules in
     subst (λ (h : _). Survives (state g.S.Store old) (state g.S.Store h) P) same
     (survives_commit (state g.S.Store old) last new P inside c.commit.ensures.survives (λ early text s lawful has.
@@ -100,7 +100,7 @@ returns-in-Err-clause-done g c clean now text s lawful has =
     let early : HasCleanDisk last = omega (arith, c.rollback.ensures.survives.clean) in
     let here : IsInside bare = rw begun (record { schema = has.schema; distinct = has.distinct; inside = refl }) in
     let held : AreTables setup text s bare.now.trees = rw begun has.tables in
-    let kept = c.take_rows.ensures.kept early here text s lawful held in
+    let kept = c.take_rows.ensures.stays.kept early (record { text = text; office = s; inside = here; lawful = lawful; tables = held }) in
     let was_open = rw begun at kept.was_open in
     let committed = rw begun at kept.committed in
     let began : Began old last = record { settled = λ _. sym has.settled; was_open = was_open; committed = committed } in

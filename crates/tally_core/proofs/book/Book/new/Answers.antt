@@ -1,6 +1,6 @@
 use Rattle.std.proofs.Common.{sym, subst}
-use Rattle.tally_core.specs.Held.{IsHeld}
-use Rattle.tally_core.proofs.HeldLemmas.{held-opening}
+use Rattle.tally_keeper.specs.Held.{IsHeld}
+use Rattle.tally_keeper.proofs.HeldLemmas.{held-opening}
 use Rattle.tally_core.proofs.book.Book.new.Goals as goal
 
 pub invariant_of-result : goal.invariant_of-result

@@ -1,4 +1,4 @@
-use Rattle.tally_core.proofs.TakenLemmas.{import-held}
+use Rattle.tally_keeper.proofs.TakenLemmas.{import-held}
 use Rattle.tally_core.proofs.book.BookKeeper.lodge_from.Goals as goal
 
 pub invariant_of-self : goal.invariant_of-self

@@ -1,7 +1,7 @@
 use Rattle.std.proofs.Common.{refl, subst}
 use Rattle.tally_returns.specs.Named.{BringsCode}
-use Rattle.tally_core.proofs.HeldLemmas.{lodged-held, moved-held}
-use Rattle.tally_core.proofs.StepLemmas.{lodged-answered, lodged-setup}
+use Rattle.tally_keeper.proofs.HeldLemmas.{lodged-held, moved-held}
+use Rattle.tally_keeper.proofs.StepLemmas.{lodged-answered, lodged-setup}
 use Rattle.tally_core.proofs.book.answers.answer_in.Goals as goal
 
 pub returns-in-Lodge : goal.returns-in-Lodge

@@ -3,7 +3,7 @@ use Rattle.tally_returns.specs.Lawful.{IsLawful}
 use Rattle.tally_returns.specs.Return.{first_return}
 use Rattle.tally_returns.specs.State.{stations_of}
 use Rattle.std.proofs.Common.{subst}
-use Rattle.tally_core.proofs.StepLemmas.{first-lawful}
+use Rattle.tally_keeper.proofs.StepLemmas.{first-lawful}
 use Rattle.tally_core.proofs.book.answers.lodge.Goals as goal
 
 pub put-requires : goal.put-requires

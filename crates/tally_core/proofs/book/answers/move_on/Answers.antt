@@ -3,11 +3,11 @@ use Rattle.tally_rules.specs.Constituency.{Constituency}
 use Rattle.tally_rules.specs.Setup.{constituency_with, station_with}
 use Rattle.tally_returns.specs.View.{View}
 use Rattle.std.specs.Option.{option_copied}
-use Rattle.tally_core.specs.Held.{IsMoved, is_query}
+use Rattle.tally_keeper.specs.Held.{IsMoved, is_query}
 use Rattle.tally_returns.specs.Return.{StationReturn}
 use Rattle.tally_returns.specs.declared.reply.Reply.TheVariants.{Moved}
 use Rattle.tally_ledger.specs.Kept.{with_no_lot}
-use Rattle.tally_core.proofs.StepLemmas.{IsLookedUp, looked-up, looked_up-lawful, moved-on, moved-refused, moves-put, station-known, station-own, view-none, with_put}
+use Rattle.tally_keeper.proofs.StepLemmas.{IsLookedUp, looked-up, looked_up-lawful, moved-on, moved-refused, moves-put, station-known, station-own, view-none, with_put}
 use Rattle.tally_core.proofs.book.answers.move_on.Goals as goal
 
 pub unreachable-requires : goal.unreachable-requires

@@ -1,5 +1,5 @@
 use Rattle.std.proofs.Common.{◌≡◌, ◌∙◌, true, false, refl, sym}
-use Rattle.tally_core.proofs.StepLemmas.{not_query}
+use Rattle.tally_keeper.proofs.StepLemmas.{not_query}
 use Rattle.tally_core.proofs.book.answers.take_lot.Goals as goal
 
 pub returns : goal.returns

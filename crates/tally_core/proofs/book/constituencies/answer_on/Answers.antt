@@ -3,11 +3,11 @@ use Rattle.std.specs.Option.{option_copied}
 use Rattle.tally_rules.specs.Setup.{constituency_with}
 use Rattle.tally_returns.specs.View.{View}
 use Rattle.tally_returns.proofs.ClosedLemmas.{constituency_with-code}
-use Rattle.tally_machine.proofs.CertificationLemmas.{refused-lawful}
+use Rattle.tally_steps.proofs.CertificationLemmas.{refused-lawful}
 use Rattle.tally_ledger.specs.Kept.{view_in}
-use Rattle.tally_core.specs.Held.{IsAnsweredOn}
-use Rattle.tally_core.proofs.CarryLemmas.{can-carry-out, carried, carried-done, decided-seen, held-view, refused-done, shown-done}
-use Rattle.tally_core.proofs.StepLemmas.{view-found, view-none}
+use Rattle.tally_keeper.specs.Held.{IsAnsweredOn}
+use Rattle.tally_keeper.proofs.CarryLemmas.{can-carry-out, carried, carried-done, decided-seen, held-view, refused-done, shown-done}
+use Rattle.tally_keeper.proofs.StepLemmas.{view-found, view-none}
 use Rattle.tally_core.proofs.book.constituencies.answer_on.Goals as goal
 
 pub decide_con-requires-clause-named : goal.decide_con-requires-clause-named

@@ -2,8 +2,8 @@ use Rattle.std.proofs.Common.{◌≡◌, ◌∷◌, ◌∙◌, ◌+◌, drop, sy
 use Rattle.std.specs.FinMap.{remove}
 use Rattle.std.proofs.lemmas.List.{drop_more}
 use Rattle.tally_ledger.specs.Kept.{Kept}
-use Rattle.tally_core.specs.Held.{without}
-use Rattle.tally_core.proofs.TakenLemmas.{kept-next}
+use Rattle.tally_keeper.specs.Held.{without}
+use Rattle.tally_keeper.proofs.TakenLemmas.{kept-next}
 use Rattle.tally_core.proofs.book.rows.take_out.Goals as goal
 
 pub loop-station-preserved : goal.loop-station-preserved

@@ -1,5 +1,5 @@
 use Rattle.std.proofs.Common.{◌≡◌, drop}
-use Rattle.tally_core.specs.Held.{without}
+use Rattle.tally_keeper.specs.Held.{without}
 use Rattle.tally_core.proofs.book.rows.take_out.Given as goal
 
 -- the returns alone have changed, and what is left to take out leads to the same end

@@ -4,10 +4,10 @@ use Rattle.tally_ledger.specs.Kept.{Kept}
 use Rattle.tally_returns.specs.Lawful.{IsLawful}
 use Rattle.tally_returns.specs.State.{stations_of}
 use Rattle.tally_returns.specs.declared.reply.LodgeReply.TheVariants.{Lodged}
-use Rattle.tally_core.specs.Held.{without}
-use Rattle.tally_core.proofs.LodgeLemmas.{lodged-none}
-use Rattle.tally_core.proofs.StepLemmas.{first-lawful}
-use Rattle.tally_core.proofs.WithoutLemmas.{without-push}
+use Rattle.tally_keeper.specs.Held.{without}
+use Rattle.tally_keeper.proofs.LodgeLemmas.{lodged-none}
+use Rattle.tally_keeper.proofs.StepLemmas.{first-lawful}
+use Rattle.tally_keeper.proofs.WithoutLemmas.{without-push}
 use Rattle.tally_core.proofs.book.rows.take_return.Goals as goal
 
 pub put-requires : goal.put-requires

@@ -1,8 +1,8 @@
 use Rattle.std.proofs.Common.{◌≡◌, ◌∙◌, Ok, subst}
 use Rattle.tally_returns.specs.State.{stations_of}
-use Rattle.tally_core.specs.Held.{without}
-use Rattle.tally_core.specs.Source.{GivesNext}
-use Rattle.tally_core.proofs.TakenLemmas.{SoFar-below, SoFar-taken, kept-next}
+use Rattle.tally_keeper.specs.Held.{without}
+use Rattle.tally_keeper.specs.Source.{GivesNext}
+use Rattle.tally_keeper.proofs.TakenLemmas.{SoFar-below, SoFar-taken, kept-next}
 use Rattle.tally_core.proofs.book.rows.take_rows.Goals as goal
 
 pub add_row-requires : goal.add_row-requires

@@ -1,7 +1,7 @@
 use Rattle.std.proofs.Common.{◌≡◌}
 use Rattle.tally_returns.specs.State.{stations_of}
-use Rattle.tally_core.specs.Held.{without}
-use Rattle.tally_core.proofs.TakenLemmas.{SoFar}
+use Rattle.tally_keeper.specs.Held.{without}
+use Rattle.tally_keeper.proofs.TakenLemmas.{SoFar}
 use Rattle.tally_core.proofs.book.rows.take_rows.Given as goal
 
 -- the import so far, which has changed the returns alone; without what it lodged they are those of its start

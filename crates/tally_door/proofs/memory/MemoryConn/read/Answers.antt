@@ -20,7 +20,7 @@ returns c =
       | else-self-via-then-self+else-is_empty w ↦ absurd (grind (arith, w.is_empty.ensures, w.if-is_empty, left, over))
       | else-self-via-else-self w ↦ (no_length (drop inside.at input) over, w.if-self.false)
     ] in
-    let whole = read_some input buf inside.at n inside.fails inside.room inside.written.items c.self.invariant.0 (omega (arith, count)) (omega (arith, count)) end in
-    let moved : Connection = record { input = drop (inside.at + n) input; fails = inside.fails; room = inside.room; written = inside.written.items } in
+    let whole = read_some input buf inside.at n inside.fails inside.read_failed inside.room inside.written.items c.self.invariant.0 (omega (arith, count)) (omega (arith, count)) end in
+    let moved : Connection = record { input = drop (inside.at + n) input; fails = inside.fails; read_failed = inside.read_failed; room = inside.room; written = inside.written.items } in
     let seen : HasRead c.args.self.now (take n (drop inside.at input) ++ drop n buf) (Ok n) moved = subst (λ (t : Connection). HasRead t (take n (drop inside.at input) ++ drop n buf) (Ok n) moved) c.self.view_is whole in
     subst (λ (front : List ℕ). HasRead c.args.self.now (front ++ drop n buf) (Ok n) moved) (sym copied) seen

@@ -1,8 +1,8 @@
 use Rattle.std.proofs.Common.{◌≡◌, ◌≤◌, ◌+◌, ◌++◌, ◌∷◌, [], ◌∙◌, sym, ap, subst, refl, length, arith}
 use Rattle.std.specs.FinMap.{empty}
 use Rattle.std.proofs.lemmas.List.{append-nil}
-use Rattle.tally_core.specs.Import.{row_answer, after_row, imported, count_of, lodged_counts}
-use Rattle.tally_core.specs.declared.import.Row.TheVariants.{Lodge, Bad}
+use Rattle.tally_keeper.specs.Import.{row_answer, after_row, imported, count_of, lodged_counts}
+use Rattle.tally_keeper.specs.declared.import.Row.TheVariants.{Lodge, Bad}
 use Rattle.tally_import.specs.Check.{every_code}
 use Rattle.tally_import.specs.Progress.{HasTaken, Holds, answered, stations}
 use Rattle.tally_import.specs.Totals.{AreTotals}

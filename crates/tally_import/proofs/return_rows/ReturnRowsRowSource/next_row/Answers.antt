@@ -1,5 +1,5 @@
 use Rattle.std.proofs.Common.{◌∙◌, Bool, ap, option_map, subst}
-use Rattle.tally_core.specs.Source.{GivesNext}
+use Rattle.tally_keeper.specs.Source.{GivesNext}
 use Rattle.tally_import.specs.ReturnRows.{came_by, ending}
 use Rattle.tally_import.specs.ReturnRowsValue.{ReturnRows, coming, coming_at}
 use Rattle.tally_import.specs.declared.return_rows.Stage.{Stage}

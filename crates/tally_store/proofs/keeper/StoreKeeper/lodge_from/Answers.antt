@@ -1,6 +1,6 @@
 use Rattle.std.proofs.Common.{arith, subst}
 use Rattle.sqlite.specs.Held.{state}
-use Rattle.tally_core.specs.Keeper.{Imports}
+use Rattle.tally_keeper.specs.Keeper.{Imports}
 use Rattle.tally_store.specs.Content.{content_of}
 use Rattle.tally_store.specs.Store.{KeepsText, Stored}
 use Rattle.tally_store.proofs.RequestLemmas.{Took, imports_after, keeps_text_imported, shows_tables, stored_import}

@@ -1,9 +1,9 @@
 use Rattle.std.proofs.Common.{sym, subst, subst₂}
 use Rattle.sqlite.specs.State.{HasCleanDisk, KeepsCounts}
 use Rattle.sqlite.specs.Held.{state}
-use Rattle.tally_store.specs.Crash.{IsUnwritten}
-use Rattle.tally_store.specs.Open.{IsOpened}
-use Rattle.tally_store.proofs.OpenedLemmas.{office_opened}
+use Rattle.tally_opening.specs.Crash.{IsUnwritten}
+use Rattle.tally_opening.specs.Open.{IsOpened}
+use Rattle.tally_opening.proofs.OpenedLemmas.{office_opened}
 use Rattle.tally_store.proofs.store.Store.open.Goals as goal
 
 pub store_over-requires-clause-office : goal.store_over-requires-clause-office

@@ -1,0 +1,49 @@
+use Rattle.std.proofs.Common.{◌≡◌, ◌∙◌, ◌+◌, List, ℕ, Some, ap, ap₂, sym, drop, arith, rules}
+use Rattle.sqlite_value.specs.Order.{Row}
+use Rattle.tally_ledger.specs.Kept.{view_in}
+use Rattle.tally_returns.specs.View.{View}
+use Rattle.tally_rules.specs.Constituency.{Constituency}
+use Rattle.tally_tables.specs.Views.{con_at, con_counted, found_at, in_each, rows_behind, rows_of_key, tables_in}
+use Rattle.tally_tables.proofs.FoundLemmas.{Reading, not_found, one_found}
+use Rattle.tally_tables.proofs.ItemLemmas.{map_some}
+use Rattle.tally_judge.proofs.found.views_from.Goals as goal
+
+-- the constituency that was named, and what was counted of it
+named : (setup : List Constituency) (counted : Constituency → View) (row : Row) (con : Constituency) (view : View) → Some (con, view) ≡ con_counted setup counted row → (Some con ≡ con_at setup row) × (view ≡ counted con)
+named setup counted row con view h =
+    let it = map_some (λ (k : Constituency). (k, counted k)) (con_at setup row) (con, view) (sym h) in
+    let same : it.0 ≡ con = ap (λ (p : Constituency × View). p.0) it.2 in
+    (sym (it.1 ∙ ap Some same), sym (ap (λ (p : Constituency × View). p.1) it.2) ∙ ap counted same)
+
+pub loop-row-preserved : goal.loop-row-preserved
+loop-row-preserved c =
+    let kept = c.args.ledger.now in
+    let setup = kept.setup in
+    let counted = view_in kept in
+    let rows = c.args.rows.now in
+    let i = c.loop-row.row-index in
+    let row = c.row-item.result in
+    let con = c.in-Some.con.now in
+    let left = tables_in c.loop-row.left in
+    let place = named setup counted row con c.in-Some.counted.now c.in-Some.ensures in
+    let code : c.as_bytes.result.now ≡ con.code = search rules in
+    let front = c.split.ensures.front ∙ ap (λ k. in_each (rows_of_key k) left) code in
+    let back = c.split.ensures.back ∙ ap (λ k. in_each (rows_behind k) left) code in
+    let found = sym c.in-Some-2.is ∙ c.in_ok-found.ensures ∙ ap₂ (λ v t. found_at v row t con) place.1 front in
+    ap₂ (λ es t. Reading setup counted es (drop (i + 1) rows) t) c.in_ok-push-in-Some-2.ensures.items back
+    ∙ sym (one_found setup counted c.loop-row.all.items rows left i row con _ (omega (arith, c.loop-row-test.true)) c.row-item.is place.0 found) ∙ c.loop-row.invariant
+
+pub returns-in-None : goal.returns-in-None
+returns-in-None c =
+    let kept = c.args.ledger.now in
+    let setup = kept.setup in
+    let counted = view_in kept in
+    let rows = c.args.rows.now in
+    let row = c.row-item.result in
+    let con = c.in-Some.con.now in
+    let left = tables_in c.loop-row.left in
+    let place = named setup counted row con c.in-Some.counted.now c.in-Some.ensures in
+    let code : c.as_bytes.result.now ≡ con.code = search rules in
+    let front = c.split.ensures.front ∙ ap (λ k. in_each (rows_of_key k) left) code in
+    let none = sym c.in-None.is ∙ c.in_ok-found.ensures ∙ ap₂ (λ v t. found_at v row t con) place.1 front in
+    sym (not_found setup counted c.loop-row.all.items rows left c.loop-row.row-index row con (omega (arith, c.loop-row-test.true)) c.row-item.is place.0 none) ∙ c.loop-row.invariant

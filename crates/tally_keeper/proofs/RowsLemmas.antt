@@ -1,0 +1,37 @@
+-- The rows of an import, one more.
+use Rattle.std.proofs.Common.{◌≡◌, ◌≤◌, ◌++◌, ◌∷◌, suc, List, [], Some, Ok, length, refl, ap, arith}
+use Rattle.tally_returns.specs.Return.{Returns}
+use Rattle.tally_returns.specs.Lodge.{Stations}
+use Rattle.tally_keeper.specs.Import.{RowAnswer, row_answer, after_row, answers, imported, lodged_counts}
+use Rattle.tally_returns.specs.declared.ask.Ask.TheVariants.{Lodge}
+use Rattle.tally_returns.specs.declared.reply.LodgeReply.TheVariants.{Lodged}
+use Rattle.tally_keeper.specs.declared.import.Row.{Row}
+use Rattle.tally_keeper.specs.declared.import.Row.TheVariants as row
+
+pub imported-push : (stations : Stations) (s : Returns) (rows : List Row) (r : Row)
+    → imported stations s (rows ++ r ∷ []) ≡ after_row stations (imported stations s rows) r
+imported-push stations s [] r = refl
+imported-push stations s (q ∷ rows) r = imported-push stations (after_row stations s q) rows r
+
+pub answers-push : (stations : Stations) (s : Returns) (rows : List Row) (r : Row)
+    → answers stations s (rows ++ r ∷ []) ≡ answers stations s rows ++ row_answer stations (imported stations s rows) r ∷ []
+answers-push stations s [] r = refl
+answers-push stations s (q ∷ rows) r = ap (λ l. row_answer stations s q ∷ l) (answers-push stations (after_row stations s q) rows r)
+
+pub length-answers : (stations : Stations) (s : Returns) (rows : List Row) → length (answers stations s rows) ≡ length rows
+length-answers stations s [] = refl
+length-answers stations s (q ∷ rows) = ap suc (length-answers stations (after_row stations s q) rows)
+
+pub lodged_counts-push : (rows : List Row) (answered : List RowAnswer) (r : Row) (a : RowAnswer) → length answered ≡ length rows
+    → lodged_counts (rows ++ r ∷ []) (answered ++ a ∷ []) ≡ lodged_counts rows answered ++ lodged_counts (r ∷ []) (a ∷ [])
+lodged_counts-push [] [] r a same = refl
+lodged_counts-push [] (b ∷ answered) r a same = absurd (omega arith)
+lodged_counts-push (q ∷ rows) [] r a same = absurd (omega arith)
+lodged_counts-push (row.Lodge (Lodge station slip counts) ∷ rows) (Some (Ok (Lodged rev)) ∷ answered) r a same = ap (λ l. counts ∷ l) (lodged_counts-push rows answered r a (omega arith))
+lodged_counts-push (q ∷ rows) (b ∷ answered) r a same = lodged_counts-push rows answered r a (omega arith)
+
+pub length-lodged_counts : (rows : List Row) (answered : List RowAnswer) → length (lodged_counts rows answered) ≤ length rows
+length-lodged_counts [] answered = omega arith
+length-lodged_counts (q ∷ rows) [] = omega arith
+length-lodged_counts (row.Lodge (Lodge station slip counts) ∷ rows) (Some (Ok (Lodged rev)) ∷ answered) = omega (arith, length-lodged_counts rows answered)
+length-lodged_counts (q ∷ rows) (b ∷ answered) = omega (arith, length-lodged_counts rows answered)

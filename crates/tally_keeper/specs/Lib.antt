@@ -1,0 +1,5 @@
+pub mod Events
+pub mod Held
+pub mod Import
+pub mod Keeper
+pub mod Source

@@ -1,0 +1,58 @@
+-- What a source of rows gives.
+use Rattle.std.specs.Prelude.{◌≡◌, ◌≢◌, ◌≤◌, ◌⊎◌, ℕ, List, [], ◌∷◌, length, Option, Some, None, Result, Ok, Err, IfSome}
+use Rattle.tally_returns.specs.declared.ask.Ask.TheVariants.{Lodge}
+use Rattle.tally_keeper.specs.declared.import.Row.{Row}
+use Rattle.tally_keeper.specs.declared.import.Row.TheVariants as row
+use Rattle.tally_keeper.specs.declared.source.ImportFault.{ImportFault}
+use Rattle.tally_keeper.specs.declared.source.ImportFault.TheVariants.{BadHeader, TooLong, Read, Memory, Store}
+
+-- the most rows that an import has
+abbrev pub row_limit : ℕ
+row_limit = 20000
+
+-- What a source still gives: rows, and behind them its end or a fault.
+pub record Coming : Type 0 where
+  pub rows : List Row
+  pub fault : Option ImportFault
+
+-- a row of an import: a Lodge command, or one that cannot be read
+abbrev pub IsLodgeOrBad : Row → Type 0
+IsLodgeOrBad (row.Lodge (Lodge station slip counts)) = Unit {0}
+IsLodgeOrBad (row.Lodge other) = ⊥
+IsLodgeOrBad row.Bad = Unit {0}
+
+-- a fault that may come at any row of a source: a read that failed, or out of memory
+abbrev pub IsSudden : ImportFault → Type 0
+IsSudden BadHeader = ⊥
+IsSudden TooLong = ⊥
+IsSudden Read = Unit {0}
+IsSudden Memory = Unit {0}
+IsSudden Store = ⊥
+
+-- What a source gives next: the first of the rows that come, or its end or its fault behind the last row, which stays. What comes is
+-- not always known; a fault of a database is none of a source.
+abbrev pub GivesNext : Option Coming → Result (Option Row) ImportFault → Option Coming → Type 0
+GivesNext old (Ok (Some row)) new = IfSome old (λ coming. (rest : List Row) × (coming.rows ≡ row ∷ rest) × (new ≡ Some (record coming { rows = rest })))
+GivesNext old (Ok None) new = IfSome old (λ coming. (coming.rows ≡ []) × (coming.fault ≡ None)) × (new ≡ old)
+GivesNext old (Err fault) new = (fault ≢ Store) × (IsSudden fault ⊎ (IfSome old (λ coming. (coming.rows ≡ []) × (coming.fault ≡ Some fault)) × (new ≡ old)))
+
+-- a source gives at most so many rows, and then its end or a fault of its own
+abbrev pub IsWithin : Coming → Type 0
+IsWithin coming = (length coming.rows ≤ row_limit) × (coming.fault ≢ Some Store)
+
+-- ---- the end
+
+-- how a source ended, once it did: at its end (None), or with a fault
+abbrev pub Ending : Type 0
+Ending = Option (Option ImportFault)
+
+-- where a call leaves a source
+abbrev pub ends_by : Result (Option Row) ImportFault → Ending
+ends_by (Ok (Some row)) = None
+ends_by (Ok None) = Some None
+ends_by (Err fault) = Some (Some fault)
+
+-- what is answered at the end: the fault, where there was one
+abbrev pub at_end : Option ImportFault → Result (Option Row) ImportFault
+at_end None = Ok None
+at_end (Some fault) = Err fault

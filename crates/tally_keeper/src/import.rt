@@ -1,0 +1,107 @@
+//! Rows of an import, and the count of what they were answered.
+
+ghost use Rattle.std.specs.Prelude.{◌≡◌, ◌+◌, ◌<◌, ◌^◌, ◌++◌, List, [], ◌∷◌, length, Some};
+
+use tally_returns::{Ask, LodgeReply, Refusal};
+
+/// The number of the refusal of a return that differs from the one that stands.
+const DIFFERS: u32 = 7;
+
+/// A row of an import: a Lodge, or a row that cannot be read as one.
+#[derive(Debug, Drop)]
+pub enum Row {
+    Lodge(Ask),
+    Bad,
+}
+
+/// The first row that was neither lodged nor there already.
+#[derive(Clone, Copy, Debug, PartialEq, Eq)]
+pub struct FirstRow {
+    /// Its number, from 1.
+    pub row: u32,
+    /// The number of its refusal, or 0 for a bad row.
+    pub number: u32,
+}
+
+/// How many rows of an import were answered what.
+#[derive(Clone, Copy, Debug, PartialEq, Eq)]
+pub struct ImportCount {
+    /// Rows that were lodged.
+    pub lodged: u32,
+    /// Rows whose return stood already.
+    pub same: u32,
+    /// Rows of a station where another return stands (refusal 7).
+    pub differs: u32,
+    /// Rows that were refused for another reason.
+    pub refused: u32,
+    /// Rows that cannot be read.
+    pub bad: u32,
+    pub first: Option<FirstRow>,
+}
+
+impl ImportCount {
+    ghost use Rattle.tally_keeper.specs.Import.{RowAnswer, IsBelow, count_of, counted, note_at, or_else, with_refusal};
+
+    /// The count of no row.
+    pub fn new() -> ImportCount
+        ensures { result ≡ count_of [] }
+    {
+        ImportCount {
+            lodged: 0,
+            same: 0,
+            differs: 0,
+            refused: 0,
+            bad: 0,
+            first: None,
+        }
+    }
+
+    /// Counts one more row, by its number and what it was answered; a bad row was answered nothing.
+    pub fn add(&mut self, row: u32, answer: Option<Result<LodgeReply, Refusal>>)
+        ghost answered: { List RowAnswer }
+        requires count { self.old ≡ count_of answered }
+        requires row { row ≡ length answered + 1 }
+        ensures { self.new ≡ count_of (answered ++ answer ∷ []) }
+    {
+        self.add_row(row, answer);
+    }
+
+    /// The same, for a caller who does not know the answers so far.
+    pub fn add_row(&mut self, row: u32, answer: Option<Result<LodgeReply, Refusal>>)
+        requires below { IsBelow self.old row }
+        ensures { self.new ≡ counted self.old row answer }
+    {
+        match answer {
+            Some(Ok(LodgeReply::Lodged { .. })) => self.lodged += 1,
+            Some(Ok(LodgeReply::Same { .. })) => self.same += 1,
+            Some(Err(refusal)) => self.add_refused(row, refusal.number()),
+            None => {
+                self.bad += 1;
+                self.note(row, 0);
+            }
+        }
+    }
+
+    // Counts one more row that was refused.
+    fn add_refused(&mut self, row: u32, number: u32)
+        requires differs { self.old.differs + 1 < 2 ^ 32 }
+        requires refused { self.old.refused + 1 < 2 ^ 32 }
+        ensures { self.new ≡ with_refusal self.old row number }
+    {
+        if number == DIFFERS {
+            self.differs += 1;
+        } else {
+            self.refused += 1;
+        }
+        self.note(row, number);
+    }
+
+    // Notes a row that was neither lodged nor there already, if it is the first.
+    fn note(&mut self, row: u32, number: u32)
+        ensures { self.new ≡ record self.old { first = or_else self.old.first (note_at row (Some number)) } }
+    {
+        if self.first.is_none() {
+            self.first = Some(FirstRow { row, number });
+        }
+    }
+}

@@ -1,0 +1,17 @@
+//! What keeps an electoral office's state: the trait of keepers, runs over any of them, and imports
+//! with what is answered of them. `tally_core` has a keeper in memory and the laws of all keepers,
+//! `tally_store` a keeper in a database.
+#![tactic(auto)]
+
+mod import;
+mod keeper;
+mod source;
+
+pub use import::{FirstRow, ImportCount, Row};
+pub use keeper::{Keeper, run};
+pub use source::{ImportFault, ROW_LIMIT, RowSource};
+pub use tally_ledger::moved;
+pub use tally_returns::{
+    Ask, Change, ConView, Counts, Gone, ListSet, LodgeReply, Past, ProgressRow, Refusal, Reply,
+    Return, Status, decide_at, decide_lodge, decide_return,
+};

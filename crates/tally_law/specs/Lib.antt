@@ -1,0 +1,10 @@
+pub mod Poll
+pub mod Lot
+pub mod DivisorAllotment
+pub mod HareAllotment
+pub mod Allotment
+pub mod Rules
+pub mod LotNeed
+pub mod Conditions
+pub mod Reordering
+pub mod LawStatements

@@ -1,0 +1,132 @@
+-- From what queries answered of the tables to the judgement of them.
+use Rattle.std.proofs.Common.{◌≡◌, ◌∙◌, List, ℕ, map, [], ◌∷◌, inl, inr, refl, sym, ap, subst}
+use Rattle.std.specs.Prelude.{◌==◌, if◌then◌else◌}
+use Rattle.std.specs.List.Sorted.{IsPermutation}
+use Rattle.std.proofs.lemmas.List.Sorted.{IsPermutation-sym}
+use Rattle.sqlite_value.specs.Order.{Row}
+use Rattle.sqlite_trees.specs.Tree.{Trees, rowid}
+use Rattle.tally_schema.specs.Cells.{setup_row}
+use Rattle.tally_schema.specs.Tables.{setup_tree}
+use Rattle.tally_tables.specs.TablesOfState.{AreTables, version}
+use Rattle.sqlite.specs.Effect.{Database, IsDatabase}
+use Rattle.sqlite.specs.State.{State as Seen, IsUnchanged}
+use Rattle.tally_rows.specs.Rows.{HaveDistinctRowids, cells}
+use Rattle.tally_rows.proofs.RisingRowidLemmas.{distinct_shown}
+use Rattle.tally_rows.proofs.RowidLemmas.{distinct_permuted}
+use Rattle.tally_rules.specs.Constituency.{Constituency}
+use Rattle.tally_rules.specs.Limits.{IsSetup}
+use Rattle.tally_judge.specs.OfficeRows.{AreLawfulRows, AreRowsOfOneState, Rows}
+use Rattle.tally_statements.specs.declared.table.KeyedTable.{KeyedTable}
+use Rattle.tally_statements.specs.declared.table.KeyedTable.TheVariants.{Returns, Counts, Cons, Lots, Seats, Gone, Totals, Past}
+use Rattle.tally_statements.specs.Office.{HasTables, ShowsRowids, ShowsTable, rows_in, tree_of}
+use Rattle.tally_opening.specs.Opening.{AreOfOne, IsJudgedFault, IsTodayFault, AreTablesOfNone, HasDistinctRows, HaveDistinctFirst, HaveDistinctOthers, IsJudged, ShowsOffice, with_setup}
+use Rattle.tally_faults.specs.declared.fault.OpenFault.{OpenFault}
+use Rattle.tally_faults.specs.declared.fault.OpenFault.TheVariants.{BadTables, Memory, NoTables, Setup, Store}
+use Rattle.tally_opening.proofs.JudgedLemmas.{accepted, refused}
+
+-- rowids that were answered and rise are those of the table
+pub rowids_differ : (t : KeyedTable) (seen : Seen) (answer : List Row) → ShowsRowids t seen answer → HaveDistinctRowids answer → HasDistinctRows seen t
+rowids_differ t seen answer shown rise = distinct_shown (seen.now.trees (tree_of t)) (distinct_permuted answer (map (λ r. rowid r ∷ []) (seen.now.trees (tree_of t))) (IsPermutation-sym _ _ shown) rise)
+
+pub distinct_before : (t : KeyedTable) (old new : Seen) → IsUnchanged old new → HasDistinctRows new t → HasDistinctRows old t
+distinct_before t old new same h = subst (λ (d : Database). HaveDistinctRowids (d.trees (tree_of t))) same.0.now_is h
+
+pub tables_still : (old new : Seen) → HasTables old → IsUnchanged old new → HasTables new
+tables_still old new has same = record {
+  schema = ap (λ (d : Database). d.schema) same.0.now_is ∙ has.schema;
+  sound = λ _. subst IsDatabase (sym same.0.now_is) (has.sound same.0.was_open);
+  inside = same.0.mode ∙ has.inside;
+}
+
+pub distinct_each : (old new : Seen) → IsUnchanged old new → HaveDistinctFirst old → HaveDistinctOthers new → (t : KeyedTable) → HasDistinctRows old t
+distinct_each old new same first others Returns = first.returns
+distinct_each old new same first others Counts = first.counts
+distinct_each old new same first others Cons = first.cons
+distinct_each old new same first others Lots = first.lots
+distinct_each old new same first others Seats = distinct_before Seats old new same others.seats
+distinct_each old new same first others Gone = distinct_before Gone old new same others.gone
+distinct_each old new same first others Totals = distinct_before Totals old new same others.totals
+distinct_each old new same first others Past = distinct_before Past old new same others.past
+
+-- what was answered of the tables is answered of them with another row of `setup`
+shows_with : (t : KeyedTable) (text : List ℕ) (seen : Seen) (answer : List Row) → rows_in t (with_setup text seen) ≡ rows_in t seen → ShowsTable t seen answer → ShowsTable t (with_setup text seen) answer
+shows_with t text seen answer is shown = record {
+  same = subst (λ l. IsPermutation l answer) (sym is) shown.same;
+  in_order = λ rows order perm. shown.in_order rows order (subst (IsPermutation rows) is perm);
+}
+
+office_with : (text : List ℕ) (seen : Seen) (rows : Rows) → ShowsOffice seen rows → ShowsOffice (with_setup text seen) rows
+office_with text seen rows shown = record {
+  returns = shows_with Returns text seen rows.returns refl shown.returns;
+  counts = shows_with Counts text seen rows.counts refl shown.counts;
+  cons = shows_with Cons text seen rows.cons refl shown.cons;
+  lots = shows_with Lots text seen rows.tables.lots refl shown.lots;
+  seats = shows_with Seats text seen rows.tables.seats refl shown.seats;
+  gone = shows_with Gone text seen rows.tables.gone refl shown.gone;
+  totals = shows_with Totals text seen rows.tables.totals refl shown.totals;
+  past = shows_with Past text seen rows.tables.past refl shown.past;
+}
+
+shows_before : (t : KeyedTable) (old new : Seen) (answer : List Row) → IsUnchanged old new → ShowsTable t new answer → ShowsTable t old answer
+shows_before t old new answer same shown = record {
+  same = subst (λ (d : Database). IsPermutation (cells (d.trees (tree_of t))) answer) same.0.now_is shown.same;
+  in_order = λ rows order perm. shown.in_order rows order (subst (λ (d : Database). IsPermutation rows (cells (d.trees (tree_of t)))) (sym same.0.now_is) perm);
+}
+
+pub office_before : (old new : Seen) (rows : Rows) → IsUnchanged old new → ShowsOffice new rows → ShowsOffice old rows
+office_before old new rows same shown = record {
+  returns = shows_before Returns old new rows.returns same shown.returns;
+  counts = shows_before Counts old new rows.counts same shown.counts;
+  cons = shows_before Cons old new rows.cons same shown.cons;
+  lots = shows_before Lots old new rows.tables.lots same shown.lots;
+  seats = shows_before Seats old new rows.tables.seats same shown.seats;
+  gone = shows_before Gone old new rows.tables.gone same shown.gone;
+  totals = shows_before Totals old new rows.tables.totals same shown.totals;
+  past = shows_before Past old new rows.tables.past same shown.past;
+}
+
+pub judged : (setup : List Constituency) (seen : Seen) (rows : Rows) → IsSetup setup → ShowsOffice seen rows → ((t : KeyedTable) → HasDistinctRows seen t) → AreRowsOfOneState setup rows → IsJudged setup seen
+judged setup seen rows limits shown distinct one = record {
+  distinct = distinct;
+  one = λ text. accepted setup text (with_setup text seen) rows limits (office_with text seen rows shown) refl one;
+}
+
+pub judged_none : (setup : List Constituency) (seen : Seen) (rows : Rows) → IsSetup setup → ShowsOffice seen rows → (AreLawfulRows setup rows → ⊥) → AreTablesOfNone setup seen
+judged_none setup seen rows limits shown none text = refused setup (with_setup text seen) rows limits (office_with text seen rows shown) none text
+
+abbrev trees_with : List ℕ → Database → Trees
+trees_with text d tree = if tree == setup_tree then setup_row version text ∷ [] else d.trees tree
+
+-- what was judged of a database that is as it was
+pub judged_now : (setup : List Constituency) (old new : Seen) → new.now ≡ old.now → IsJudged setup new → IsJudged setup old
+judged_now setup old new same judged = record {
+  distinct = λ t. subst (λ (d : Database). HaveDistinctRowids (d.trees (tree_of t))) same (judged.distinct t);
+  one = λ text. one_now (judged.one text);
+}
+  where
+    one_now : {text : List ℕ} → AreOfOne setup text (with_setup text new) → AreOfOne setup text (with_setup text old)
+    one_now {text} one = record {
+      state = one.state;
+      lawful = one.lawful;
+      tables = subst (λ (d : Database). AreTables setup text one.state (trees_with text d)) same one.tables;
+      alone = λ other lawful tables. one.alone other lawful (subst (λ (d : Database). AreTables setup text other (trees_with text d)) (sym same) tables);
+    }
+
+pub judged_before : (setup : List Constituency) (old new : Seen) → IsUnchanged old new → IsJudged setup new → IsJudged setup old
+judged_before setup old new same judged = judged_now setup old new same.0.now_is judged
+
+pub none_before : (setup : List Constituency) (old new : Seen) → IsUnchanged old new → AreTablesOfNone setup new → AreTablesOfNone setup old
+none_before setup old new same none text s lawful tables = none text s lawful (subst (λ (d : Database). AreTables setup text s (trees_with text d)) (sym same.0.now_is) tables)
+
+-- why tables of today's version are not taken, of a database that is as it was
+pub today_fault : (old new : Seen) (fault : OpenFault) → new.now ≡ old.now → IsJudgedFault version new fault → IsTodayFault old fault
+today_fault old new NoTables same told = (told.0, subst (λ (d : Database). d.trees setup_tree ≡ setup_row version told.0 ∷ []) same told.1, told.2)
+today_fault old new BadTables same (inl none) = inl (λ text row. none text (subst (λ (d : Database). d.trees setup_tree ≡ setup_row version text ∷ []) (sym same) row))
+today_fault old new BadTables same (inr unlawful) = inr (
+  unlawful.0,
+  record { text = unlawful.1.text; reads = unlawful.1.reads; row = subst (λ (d : Database). d.trees setup_tree ≡ setup_row version unlawful.1.text ∷ []) same unlawful.1.row },
+  λ text s lawful tables. unlawful.2 text s lawful (subst (λ (d : Database). AreTables unlawful.0 text s (trees_with text d)) (sym same) tables),
+)
+today_fault old new (Setup f) same told = (told.0, subst (λ (d : Database). d.trees setup_tree ≡ setup_row version told.0 ∷ []) same told.1, told.2)
+today_fault old new Memory same told = tt
+today_fault old new Store same told = tt

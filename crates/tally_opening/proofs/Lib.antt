@@ -1,0 +1,14 @@
+pub mod AddLemmas
+pub mod EmptyLemmas
+pub mod OpeningLemmas
+pub mod ReturnLemmas
+pub mod TextLemmas
+pub mod OrderLemmas
+pub mod ShownLemmas
+pub mod TableLemmas
+pub mod JudgedLemmas
+pub mod JudgingLemmas
+pub mod StoredLemmas
+pub mod OpenedLemmas
+pub mod TakeoverLemmas
+pub mod UnwrittenLemmas

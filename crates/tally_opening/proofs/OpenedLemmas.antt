@@ -1,0 +1,199 @@
+-- From what was judged of the tables to the opening of a database.
+use Rattle.std.proofs.Common.{◌≡◌, ◌∙◌, ◌⊎◌, List, [], ◌∷◌, ℕ, pos, true, false, IsTrue, Result, Ok, Err, inl, inr, refl, sym, ap, subst, arith, length, true≢false}
+use Rattle.std.specs.Prelude.{codes, IfOk, IsOk}
+use Rattle.sqlite.specs.Effect.{Database}
+use Rattle.sqlite.specs.State.{State as Seen}
+use Rattle.sqlite_schema.specs.declared.schema.Schema.{Schema}
+use Rattle.sqlite_trees.specs.Tree.{Trees}
+use Rattle.sqlite_value.specs.declared.value.Value.TheVariants.{Int, Null, Text}
+use Rattle.tally_rows.specs.Rows.{AreRowsOf, HaveDistinctRowids}
+use Rattle.tally_rules.specs.Constituency.{Constituency}
+use Rattle.tally_rules.specs.Reading.{setup_of_text}
+use Rattle.tally_steps.specs.LawfulState.{IsLawfulState}
+use Rattle.tally_returns.specs.State.{State}
+use Rattle.tally_schema.specs.Made.{has_former_tables, has_table}
+use Rattle.tally_schema.specs.Tables.{former_schema, office_schema, setup_tree}
+use Rattle.tally_statements.specs.declared.table.KeyedTable.{KeyedTable}
+use Rattle.tally_statements.specs.declared.table.KeyedTable.TheVariants.{Returns, Counts, Cons, Lots, Seats, Gone, Totals, Past}
+use Rattle.tally_statements.specs.Office.{tree_of}
+use Rattle.tally_tables.specs.Cells.{return_rows, count_rows, con_rows, lot_rows, seat_rows, gone_rows, total_rows, past_rows}
+use Rattle.tally_tables.specs.TablesOfState.{AreTables, version}
+use Rattle.tally_opening.specs.Create.{IsAsBefore}
+use Rattle.tally_opening.specs.Office.{IsOffice, IsSettled}
+use Rattle.tally_opening.specs.Open.{AreFormerTables, HasSetup, IsOfKnownVersion, IsOpenFault, IsOpened, IsSetupOf, LacksTable, former_version, taken_over}
+use Rattle.tally_opening.specs.Opening.{AreFormerOfNone, AreTablesOfNone, IsFormerFault, IsJudged, IsOfNoVersion, HasSetupRow, IsTodayFault, with_setup}
+use Rattle.tally_faults.specs.declared.fault.OpenFault.{OpenFault}
+use Rattle.tally_faults.specs.declared.fault.OpenFault.TheVariants.{BadTables, Memory, NoTables, Setup, Store}
+
+-- ---- tables that are the same
+
+pub record AreSame (a b : Trees) : Type 0 where
+  pub setup : b setup_tree ≡ a setup_tree
+  pub tables : (t : KeyedTable) → b (tree_of t) ≡ a (tree_of t)
+
+pub same_back : (a b : Trees) → AreSame a b → AreSame b a
+same_back a b same = record { setup = sym same.setup; tables = λ t. sym (same.tables t) }
+
+pub same_tables : (setup : List Constituency) (text : List ℕ) (s : State) (a b : Trees) → AreSame a b → AreTables setup text s a → AreTables setup text s b
+same_tables setup text s a b same tables = record {
+  given = tables.given;
+  allotted = tables.allotted;
+  setup_is = same.setup ∙ tables.setup_is;
+  returns = subst (AreRowsOf (return_rows setup) s.returns) (sym (same.tables Returns)) tables.returns;
+  counts = subst (AreRowsOf count_rows s.returns) (sym (same.tables Counts)) tables.counts;
+  cons = subst (AreRowsOf con_rows s.cons) (sym (same.tables Cons)) tables.cons;
+  lots = subst (AreRowsOf lot_rows s.cons) (sym (same.tables Lots)) tables.lots;
+  seats = subst (AreRowsOf (seat_rows tables.given) s.cons) (sym (same.tables Seats)) tables.seats;
+  gone = subst (AreRowsOf gone_rows s.cons) (sym (same.tables Gone)) tables.gone;
+  totals = subst (AreRowsOf (total_rows setup s.returns) s.cons) (sym (same.tables Totals)) tables.totals;
+  past = subst (AreRowsOf past_rows s.cons) (sym (same.tables Past)) tables.past;
+}
+
+-- the tables beside `setup` have no part in its row
+pub beside_setup : (text : List ℕ) (seen : Seen) (t : KeyedTable) → (with_setup text seen).now.trees (tree_of t) ≡ seen.now.trees (tree_of t)
+beside_setup text seen Returns = refl
+beside_setup text seen Counts = refl
+beside_setup text seen Cons = refl
+beside_setup text seen Lots = refl
+beside_setup text seen Seats = refl
+beside_setup text seen Gone = refl
+beside_setup text seen Totals = refl
+beside_setup text seen Past = refl
+
+-- the row of `setup` that is stored has no other version and no other text
+pub one_row : (m n : ℕ) (words text : List ℕ) (db : Trees) → HasSetup m words db → HasSetup n text db → (m ≡ n) × (words ≡ text)
+one_row m n words text db first second =
+    let both : (Int (pos 1) ∷ Null ∷ Int (pos m) ∷ Text words ∷ []) ∷ [] ≡ (Int (pos 1) ∷ Null ∷ Int (pos n) ∷ Text text ∷ []) ∷ [] = sym first ∙ second in
+    (cc, cc)
+
+pub one_setup : (words text : List ℕ) (a b : List Constituency) → words ≡ text → setup_of_text words ≡ Ok a → setup_of_text text ≡ Ok b → a ≡ b
+one_setup words text a b same first second =
+    let both : setup_of_text words ≡ setup_of_text text = ap setup_of_text same in
+    let ok : Ok a ≡ Ok b = sym first ∙ both ∙ second in
+    cc
+
+pub forms_differ : office_schema ≡ former_schema → ⊥
+forms_differ same = let k : 9 ≡ 8 = ap (λ (s : Schema). length s.tables) same in omega (arith, k)
+
+pub is_text : (text words : List ℕ) (setup : List Constituency) → words ≡ text → setup_of_text text ≡ Ok setup → IsOk (setup_of_text words)
+is_text text words setup same reads = rw (same, reads) refl
+
+-- ---- today's version
+
+stored_same : (old : Seen) (text : List ℕ) → HasSetup version text old.now.trees → AreSame (with_setup text old).now.trees old.now.trees
+stored_same old text row = record { setup = row; tables = λ t. sym (beside_setup text old t) }
+
+pub opened_today : (setup : List Constituency) (old new : Seen) → old.now.schema ≡ office_schema → HasSetupRow version setup old → IsJudged setup old → IsSettled old → (IsTrue new.is_open → IsTrue old.is_open)
+    → (IsTrue new.is_open → IsAsBefore old new) → IsOpened setup old new
+opened_today setup old new schema stored judged settled was_open before = record {
+  state = (judged.one stored.text).state;
+  text = stored.text;
+  found = record { lawful = (judged.one stored.text).lawful; found = (stored.reads, inl (schema, tables)); alone = λ other lawful found. alone other lawful found.1 };
+  left = λ now. inl (schema, ap (λ (d : Database). d.trees) (before now).now);
+  has = λ now. record {
+    tables = subst (λ (d : Database). AreTables setup stored.text (judged.one stored.text).state d.trees) (sym (before now).now) tables;
+    schema = ap (λ (d : Database). d.schema) (before now).now ∙ schema;
+    distinct = λ t. subst (λ (d : Database). HaveDistinctRowids (d.trees (tree_of t))) (sym (before now).now) (judged.distinct t);
+    settled = (before now).committed ∙ sym (settled (was_open now)) ∙ sym (before now).now;
+  };
+}
+  where
+    same : AreSame (with_setup stored.text old).now.trees old.now.trees
+    same = stored_same old stored.text stored.row
+
+    tables : AreTables setup stored.text (judged.one stored.text).state old.now.trees
+    tables = same_tables setup stored.text (judged.one stored.text).state _ _ same (judged.one stored.text).tables
+
+    alone : (other : State) → IsLawfulState setup other
+        → ((old.now.schema ≡ office_schema) × AreTables setup stored.text other old.now.trees) ⊎ ((old.now.schema ≡ former_schema) × AreFormerTables setup stored.text other old.now.trees)
+        → other ≡ (judged.one stored.text).state
+    alone other lawful (inl found) = (judged.one stored.text).alone other lawful (same_tables setup stored.text other _ _ (same_back _ _ same) found.1)
+    alone other lawful (inr found) = absurd (forms_differ (sym schema ∙ found.0))
+
+-- why today's tables are not opened
+pub fault_today : (old : Seen) (fault : OpenFault) → old.now.schema ≡ office_schema → has_former_tables old.now.schema ≡ true → has_table old.now.schema (codes "past") ≡ true → IsTodayFault old fault → IsOpenFault old.now fault
+fault_today old NoTables schema names past told = absurd told.2
+fault_today old (Setup fault) schema names past told = (told.0, inl (schema, told.1), told.2.0, told.2.1)
+fault_today old Memory schema names past told = tt
+fault_today old Store schema names past told = tt
+fault_today old BadTables schema names past told = (λ setup text s lawful found. no_state told setup text s lawful found.0 found.1, λ text known. no_text told text known, inl schema, lacks)
+  where
+    lacks : LacksTable old.now → ⊥
+    lacks (inl missing) = true≢false (sym names ∙ missing)
+    lacks (inr missing) = true≢false (sym past ∙ missing.0)
+
+    Told : Type 0
+    Told = ((text : List ℕ) → HasSetup version text old.now.trees → ⊥) ⊎ ((setup : List Constituency) × HasSetupRow version setup old × AreTablesOfNone setup old)
+
+    no_state : Told → (setup : List Constituency) (text : List ℕ) (s : State) → IsLawfulState setup s → setup_of_text text ≡ Ok setup
+        → ((old.now.schema ≡ office_schema) × AreTables setup text s old.now.trees) ⊎ ((old.now.schema ≡ former_schema) × AreFormerTables setup text s old.now.trees) → ⊥
+    no_state told setup text s lawful reads (inr found) = forms_differ (sym schema ∙ found.0)
+    no_state (inl none) setup text s lawful reads (inl found) = none text found.1.setup_is
+    no_state (inr unlawful) setup text s lawful reads (inl found) =
+        let stored = unlawful.1 in
+        let own = (one_row version version text stored.text old.now.trees found.1.setup_is stored.row).1 in
+        let is = one_setup text stored.text setup unlawful.0 own reads stored.reads in
+        let here = same_tables setup text s _ _ (same_back _ _ (stored_same old text found.1.setup_is)) found.1 in
+        unlawful.2 text s (subst (λ c. IsLawfulState c s) is lawful) (subst (λ c. AreTables c text s (with_setup text old).now.trees) is here)
+
+    no_text : Told → (text : List ℕ) → IsOfKnownVersion text old.now → IsOk (setup_of_text text)
+    no_text told text (inr known) = absurd (forms_differ (sym schema ∙ known.0))
+    no_text (inl none) text (inl known) = absurd (none text known.1)
+    no_text (inr unlawful) text (inl known) =
+        let stored = unlawful.1 in
+        is_text stored.text text unlawful.0 (one_row version version text stored.text old.now.trees known.1 stored.row).1 stored.reads
+
+-- ---- version 1
+
+-- why tables of version 1 are not opened
+pub fault_former : (old : Seen) (fault : OpenFault) → old.now.schema ≡ former_schema → has_former_tables old.now.schema ≡ true → has_table old.now.schema (codes "past") ≡ false → IsFormerFault old.now.trees fault
+    → IsOpenFault old.now fault
+fault_former old NoTables schema names past told = inr (past, told.0, told.1)
+fault_former old (Setup fault) schema names past told = (told.0, inr (schema, told.1), told.2.0, told.2.1)
+fault_former old Memory schema names past told = tt
+fault_former old Store schema names past told = tt
+fault_former old BadTables schema names past told = (λ setup text s lawful found. no_state told setup text s lawful found.0 found.1, λ text known. no_text told text known, inr schema, λ missing. lacks told missing)
+  where
+    Told : Type 0
+    Told = IsOfNoVersion old.now.trees ⊎ AreFormerOfNone old.now.trees
+
+    lacks : Told → LacksTable old.now → ⊥
+    lacks told (inl missing) = true≢false (sym names ∙ missing)
+    lacks (inl none) (inr missing) = none.1 missing.1 missing.2
+    lacks (inr unlawful) (inr missing) = let k : version ≡ former_version = (one_row version former_version missing.1 unlawful.text old.now.trees missing.2 unlawful.row).0 in omega (arith, k)
+
+    no_state : Told → (setup : List Constituency) (text : List ℕ) (s : State) → IsLawfulState setup s → setup_of_text text ≡ Ok setup
+        → ((old.now.schema ≡ office_schema) × AreTables setup text s old.now.trees) ⊎ ((old.now.schema ≡ former_schema) × AreFormerTables setup text s old.now.trees) → ⊥
+    no_state told setup text s lawful reads (inl found) = forms_differ (sym found.0 ∙ schema)
+    no_state (inl none) setup text s lawful reads (inr found) = none.0 text found.1.0
+    no_state (inr unlawful) setup text s lawful reads (inr found) =
+        let own = (one_row former_version former_version text unlawful.text old.now.trees found.1.0 unlawful.row).1 in
+        let is = one_setup text unlawful.text setup unlawful.setup own reads unlawful.reads in
+        unlawful.none s (subst (λ c. IsLawfulState c s) is lawful) (subst (λ c. AreTables c unlawful.text s (taken_over unlawful.text old.now.trees)) is (subst (λ t. AreTables setup t s (taken_over t old.now.trees)) own found.1.1))
+
+    no_text : Told → (text : List ℕ) → IsOfKnownVersion text old.now → IsOk (setup_of_text text)
+    no_text told text (inl known) = absurd (forms_differ (sym known.0 ∙ schema))
+    no_text (inl none) text (inr known) = absurd (none.0 text known.1)
+    no_text (inr unlawful) text (inr known) = is_text unlawful.text text unlawful.setup (one_row former_version former_version text unlawful.text old.now.trees known.1 unlawful.row).1 unlawful.reads
+
+-- ---- the store
+
+-- a database that was opened is that of a lawful state
+pub office_opened : (setup : List Constituency) (old new : Seen) → IsOpened setup old new → IsTrue new.is_open → (s : State) × IsLawfulState setup s × IsOffice setup s new
+office_opened setup old new opened now = (opened.state, opened.found.lawful, record { text = opened.text; reads = opened.found.found.0; has = opened.has now })
+
+-- its setup is the one that was stored
+pub setup_opened : (setup : List Constituency) (old new : Seen) → IsOpened setup old new → IsSetupOf old.now setup
+setup_opened setup old new opened = (opened.text, known opened.found.found.1, opened.found.found.0)
+  where
+    known : ((old.now.schema ≡ office_schema) × AreTables setup opened.text opened.state old.now.trees) ⊎ ((old.now.schema ≡ former_schema) × AreFormerTables setup opened.text opened.state old.now.trees)
+        → IsOfKnownVersion opened.text old.now
+    known (inl found) = inl (found.0, found.1.setup_is)
+    known (inr found) = inr (found.0, found.1.0)
+
+-- ---- what calls answered
+
+pub today_each : (r : Result (List Constituency) OpenFault) (old new : Seen) → old.now.schema ≡ office_schema → IsSettled old → (IsTrue new.is_open → IsTrue old.is_open) → (IsTrue new.is_open → IsAsBefore old new)
+    → IfOk r (λ setup. HasSetupRow version setup old) → IfOk r (λ setup. IsJudged setup old) → IfOk r (λ setup. IsOpened setup old new)
+today_each (Ok setup) old new schema settled was_open before stored judged = opened_today setup old new schema stored judged settled was_open before
+today_each (Err fault) old new schema settled was_open before stored judged = tt

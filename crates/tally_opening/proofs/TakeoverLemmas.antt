@@ -1,0 +1,169 @@
+-- The tables of version 1, and what becomes of them as they are taken over.
+use Rattle.std.proofs.Common.{◌≡◌, ◌∙◌, ◌⊎◌, List, ℕ, inl, inr, refl, sym, ap, subst, Result, Ok, Err, OnOk}
+use Rattle.std.specs.Prelude.{IfErr, IfOk}
+use Rattle.sqlite.specs.declared.error.Error.{Error}
+use Rattle.sqlite.specs.Effect.{Database}
+use Rattle.sqlite.specs.State.{State as Seen, IsUnchanged}
+use Rattle.sqlite_trees.specs.Tree.{Trees}
+use Rattle.sqlite_value.specs.Order.{Row}
+use Rattle.tally_rows.specs.Rows.{HaveDistinctRowids}
+use Rattle.tally_rules.specs.Constituency.{Constituency}
+use Rattle.tally_steps.specs.LawfulState.{IsLawfulState}
+use Rattle.tally_returns.specs.State.{State}
+use Rattle.tally_schema.specs.Made.{AddsTable}
+use Rattle.tally_schema.specs.Tables.{former_schema, office_schema, past_tree, setup_tree}
+use Rattle.tally_statements.specs.declared.table.KeyedTable.{KeyedTable}
+use Rattle.tally_statements.specs.declared.table.KeyedTable.TheVariants.{Returns, Counts, Cons, Lots, Seats, Gone, Totals, Past}
+use Rattle.tally_statements.specs.Office.{HasSetup as SetsSetup, IsInside, ShowsSetup, tree_of}
+use Rattle.tally_tables.specs.TablesOfState.{AreTables, version}
+use Rattle.tally_opening.specs.Crash.{LeavesTakenOver}
+use Rattle.tally_opening.specs.Open.{AreFormerTables, HasSetup, IsOpened, IsTakenOver, former_version, taken_over}
+use Rattle.tally_opening.specs.Opening.{IsFormerFault, IsFormerJudgedFault, IsFormerSetupFault, IsJudged, AddsPast, IsReady, IsShownFault, IsShownSetup, HasSetupRow, IsTaken, with_setup}
+use Rattle.tally_faults.specs.declared.fault.OpenFault.{OpenFault}
+use Rattle.tally_faults.specs.declared.fault.OpenFault.TheVariants.{BadTables, Memory, NoTables, Setup, Store}
+use Rattle.tally_opening.proofs.JudgingLemmas.{judged_now, tables_still}
+use Rattle.tally_opening.proofs.OpenedLemmas.{AreSame, beside_setup, forms_differ, same_back, same_tables}
+use Rattle.tally_opening.proofs.StoredLemmas.{row_shown, row_stored}
+
+-- ---- the row of `setup`
+
+pub stored_shown : (seen : Seen) (answer : List Row) (setup : List Constituency) → ShowsSetup seen answer → IsShownSetup answer setup → HasSetupRow former_version setup seen
+stored_shown seen answer setup shown is = record { text = is.0; reads = is.2; row = row_stored former_version is.0 seen answer shown is.1 }
+
+pub fault_shown : (seen : Seen) (answer : List Row) (fault : OpenFault) → ShowsSetup seen answer → IsShownFault answer fault → IsFormerSetupFault seen.now.trees fault
+fault_shown seen answer NoTables shown told = (told.0, row_stored version told.0 seen answer shown told.1)
+fault_shown seen answer BadTables shown told =
+    (λ text row. told.0 text (row_shown former_version text seen answer refl shown row), λ text row. told.1 text (row_shown version text seen answer refl shown row))
+fault_shown seen answer (Setup fault) shown told = (told.0, row_stored former_version told.0 seen answer shown told.1, told.2)
+fault_shown seen answer Memory shown told = (told.0, row_stored former_version told.0 seen answer shown told.1, told.2)
+fault_shown seen answer Store shown told = (told.0, row_stored former_version told.0 seen answer shown told.1, told.2)
+
+-- ---- the table `past`
+
+pub past_added : (old new : Seen) → AddsTable 8 past_tree old new → AddsPast old new
+past_added old new added = record {
+  has = record { schema = added.tables.schema; sound = λ _. added.sound; inside = added.tables.inside };
+  setup = added.others.0;
+  each = each;
+}
+  where
+    each : (text : List ℕ) (t : KeyedTable) → new.now.trees (tree_of t) ≡ taken_over text old.now.trees (tree_of t)
+    each text Returns = added.others.1.0
+    each text Counts = added.others.1.1.0
+    each text Cons = added.others.1.1.1.0
+    each text Lots = added.others.1.1.1.1.0
+    each text Seats = added.others.1.1.1.1.1.0
+    each text Gone = added.others.1.1.1.1.1.1.0
+    each text Totals = added.others.1.1.1.1.1.1.1.0
+    each text Past = added.empty
+
+past_still : (old mid new : Seen) → AddsPast old mid → IsUnchanged mid new → AddsPast old new
+past_still old mid new past same = record {
+  has = tables_still mid new past.has same;
+  setup = ap (λ (d : Database). d.trees setup_tree) same.0.now_is ∙ past.setup;
+  each = λ text t. ap (λ (d : Database). d.trees (tree_of t)) same.0.now_is ∙ past.each text t;
+}
+
+pub ready : (setup : List Constituency) (old mid new : Seen) → AddsPast old mid → IsUnchanged mid new → HasSetupRow former_version setup mid → IsJudged setup mid → IsReady setup old new
+ready setup old mid new past same stored judged = record {
+  stored = record { text = stored.text; reads = stored.reads; row = sym past.setup ∙ stored.row };
+  judged = judged_now setup new mid (sym same.0.now_is) judged;
+  past = past_still old mid new past same;
+}
+
+-- with a row of today's version they are the tables as they are taken over
+over_same : (text : List ℕ) (old mid : Seen) → AddsPast old mid → AreSame (with_setup text mid).now.trees (taken_over text old.now.trees)
+over_same text old mid past = record { setup = refl; tables = λ t. sym (beside_setup text mid t ∙ past.each text t) }
+
+-- why they are not taken over
+pub fault_judged : (old mid : Seen) (fault : OpenFault) → AddsPast old mid → IsFormerJudgedFault mid fault → IsFormerFault old.now.trees fault
+fault_judged old mid NoTables past told = (told.0, sym past.setup ∙ told.1)
+fault_judged old mid BadTables past (inl none) = inl (λ text row. none.0 text (past.setup ∙ row), λ text row. none.1 text (past.setup ∙ row))
+fault_judged old mid BadTables past (inr unlawful) = inr (record {
+  setup = unlawful.0;
+  text = unlawful.1.text;
+  reads = unlawful.1.reads;
+  row = sym past.setup ∙ unlawful.1.row;
+  none = λ s lawful tables. unlawful.2 unlawful.1.text s lawful (same_tables unlawful.0 unlawful.1.text s _ _ (same_back _ _ (over_same unlawful.1.text old mid past)) tables);
+})
+fault_judged old mid (Setup fault) past told = (told.0, sym past.setup ∙ told.1, told.2)
+fault_judged old mid Memory past told = tt
+fault_judged old mid Store past told = tt
+
+-- ---- the version
+
+pub ready_inside : (setup : List Constituency) (old new : Seen) → IsReady setup old new → IsInside new
+ready_inside setup old new ready = record { schema = ready.past.has.schema; distinct = ready.judged.distinct; inside = ready.past.has.inside }
+
+pub ready_row : (setup : List Constituency) (old new : Seen) (h : IsReady setup old new) → HasSetup former_version h.stored.text new.now.trees
+ready_row setup old new h = h.past.setup ∙ h.stored.row
+
+pub taken : (setup : List Constituency) (old mid new : Seen) (h : IsReady setup old mid) → SetsSetup version h.stored.text mid new → IsTaken setup old new
+taken setup old mid new h set = record {
+  state = (h.judged.one h.stored.text).state;
+  text = h.stored.text;
+  lawful = (h.judged.one h.stored.text).lawful;
+  reads = h.stored.reads;
+  former = (h.stored.row, found);
+  alone = λ other lawful tables. (h.judged.one h.stored.text).alone other lawful (same_tables setup h.stored.text other _ _ (same_back _ _ over) tables.1);
+  inside = set.inside;
+  left = record { setup = set.setup; tables = λ t. set.others t ∙ h.past.each h.stored.text t };
+  tables = same_tables setup h.stored.text (h.judged.one h.stored.text).state _ _ (record { setup = set.setup; tables = λ t. set.others t ∙ h.past.each h.stored.text t }) found;
+}
+  where
+    over : AreSame (with_setup h.stored.text mid).now.trees (taken_over h.stored.text old.now.trees)
+    over = over_same h.stored.text old mid h.past
+
+    found : AreTables setup h.stored.text (h.judged.one h.stored.text).state (taken_over h.stored.text old.now.trees)
+    found = same_tables setup h.stored.text (h.judged.one h.stored.text).state _ _ over (h.judged.one h.stored.text).tables
+
+-- ---- the commit
+
+pub opened_former : (setup : List Constituency) (old last new : Seen) → old.now.schema ≡ former_schema → IsTaken setup old last → new.now ≡ last.now → new.committed ≡ last.now → IsOpened setup old new
+opened_former setup old last new schema h now committed = record {
+  state = h.state;
+  text = h.text;
+  found = record { lawful = h.lawful; found = (h.reads, inr (schema, h.former)); alone = λ other lawful found. alone other lawful found.1 };
+  left = λ _. inr (schema, subst (λ (d : Database). IsTakenOver h.text old.now.trees d.trees) (sym now) h.left);
+  has = λ _. record {
+    tables = subst (λ (d : Database). AreTables setup h.text h.state d.trees) (sym now) h.tables;
+    schema = ap (λ (d : Database). d.schema) now ∙ h.inside.schema;
+    distinct = λ t. subst (λ (d : Database). HaveDistinctRowids (d.trees (tree_of t))) (sym now) (h.inside.distinct t);
+    settled = committed ∙ sym now;
+  };
+}
+  where
+    alone : (other : State) → IsLawfulState setup other
+        → ((old.now.schema ≡ office_schema) × AreTables setup h.text other old.now.trees) ⊎ ((old.now.schema ≡ former_schema) × AreFormerTables setup h.text other old.now.trees) → other ≡ h.state
+    alone other lawful (inl found) = absurd (forms_differ (sym found.0 ∙ schema))
+    alone other lawful (inr found) = h.alone other lawful found.1
+
+pub leaves_taken : (setup : List Constituency) (old last : Seen) (db : Trees) → old.now.schema ≡ former_schema → IsTaken setup old last → db ≡ last.now.trees → LeavesTakenOver old.now db
+leaves_taken setup old last db schema h is = (schema, setup, h.text, h.state, h.lawful, (h.reads, inr (schema, h.former)), subst (AreTables setup h.text h.state) (sym is) h.tables)
+
+-- ---- what calls answered
+
+pub ready_each : (r : Result (Result (List Constituency) OpenFault) Error) (old mid new : Seen) → AddsPast old mid → OnOk r (IsUnchanged mid new) → IfOk r (λ told. IfOk told (λ setup. HasSetupRow former_version setup mid))
+    → IfOk r (λ told. IfOk told (λ setup. IsJudged setup mid)) → IfOk r (λ told. IfOk told (λ setup. IsReady setup old new))
+ready_each (Ok (Ok setup)) old mid new past same stored judged = ready setup old mid new past same stored judged
+ready_each (Ok (Err fault)) old mid new past same stored judged = tt
+ready_each (Err e) old mid new past same stored judged = tt
+
+pub fault_each : (r : Result (Result (List Constituency) OpenFault) Error) (old mid : Seen) → AddsPast old mid → IfOk r (λ told. IfErr told (IsFormerJudgedFault mid)) → IfOk r (λ told. IfErr told (IsFormerFault old.now.trees))
+fault_each (Ok (Ok setup)) old mid past told = tt
+fault_each (Ok (Err fault)) old mid past told = fault_judged old mid fault past told
+fault_each (Err e) old mid past told = tt
+
+-- what was taken over of a database that is as it was
+pub taken_now : (setup : List Constituency) (old bare last : Seen) → bare.now ≡ old.now → IsTaken setup bare last → IsTaken setup old last
+taken_now setup old bare last same h = record {
+  state = h.state;
+  text = h.text;
+  lawful = h.lawful;
+  reads = h.reads;
+  former = subst (λ (d : Database). AreFormerTables setup h.text h.state d.trees) same h.former;
+  alone = λ other lawful former. h.alone other lawful (subst (λ (d : Database). AreFormerTables setup h.text other d.trees) (sym same) former);
+  inside = h.inside;
+  left = subst (λ (d : Database). IsTakenOver h.text d.trees last.now.trees) same h.left;
+  tables = h.tables;
+}

@@ -1,0 +1,44 @@
+-- An opening that wrote nothing.
+use Rattle.std.proofs.Common.{◌≡◌, ◌∙◌, inl, inr, IsTrue, sym, ap, refl, arith}
+use Rattle.sqlite.specs.Effect.{Database}
+use Rattle.sqlite.specs.State.{State as Seen, HasCleanDisk, IsRolledBack, IsUnchanged, KeepsCounts, Survives}
+use Rattle.sqlite_trees.specs.Tree.{Trees}
+use Rattle.tally_opening.specs.Crash.{IsUnwritten}
+use Rattle.tally_opening.specs.Create.{IsAsBefore}
+use Rattle.tally_opening.specs.Office.{IsSettled}
+
+-- a crash leaves the last commit of a connection that is open, and nothing else: a law of every store
+abbrev pub LeavesCommit : Seen → Type 0
+LeavesCommit seen = (db : Trees) → IsTrue seen.is_open → seen.may_leave db → db ≡ seen.committed.trees
+
+-- a call that committed nothing, and left what it found
+pub unwritten_by : (old new : Seen) → LeavesCommit old → IsSettled old → Survives old new (λ _. ⊥) → (HasCleanDisk new → IsTrue new.is_open → IsAsBefore old new) → IsUnwritten old new
+unwritten_by old new law settled survives same = record {
+  survives = survives;
+  crash = λ clean was_open db may. elim (survives.crash clean db may) [
+    | inl before ↦ law db was_open before ∙ sym (ap (λ (d : Database). d.trees) (settled was_open))
+    | inr none ↦ absurd none
+  ];
+  same = same;
+}
+
+-- a database that was not touched
+pub untouched : (seen : Seen) → LeavesCommit seen → IsSettled seen → IsUnwritten seen seen
+untouched seen law settled = unwritten_by seen seen law settled still (λ _ _. record { now = refl; committed = refl })
+  where
+    still : Survives seen seen (λ _. ⊥)
+    still = record {
+      clean = omega arith;
+      shield = λ shielded. shielded;
+      counts = omega arith;
+      limit = refl;
+      closes = λ _ now. inl now;
+      crash = λ _ db may. inl may;
+    }
+
+-- reads that were answered, and a rollback
+pub counts_after : (old last new : Seen) → IsUnchanged old last → IsRolledBack last new → KeepsCounts old new
+counts_after old last new same undone = record {
+  changes = undone.counts.changes ∙ same.1.changes;
+  last_rowid = undone.counts.last_rowid ∙ same.1.last_rowid;
+}

@@ -1,0 +1,22 @@
+use Rattle.std.proofs.Common.{arith, subst, OnOk}
+use Rattle.sqlite.specs.State.{HasCleanDisk}
+use Rattle.sqlite.specs.Held.{state}
+use Rattle.tally_rules.specs.Limits.{IsSetup}
+use Rattle.tally_opening.specs.Making.{AddsCons}
+use Rattle.tally_opening.proofs.EmptyLemmas.{empty_inside, setup_empty}
+use Rattle.tally_opening.proofs.OpeningLemmas.{office_last}
+use Rattle.tally_opening.proofs.making.make_office.Goals as goal
+
+pub returns-clause-made : goal.returns-clause-made
+returns-clause-made g c clean bare =
+    let old = state g.S.Store c.create_tables.new.tx.conn.now in
+    let set = state g.S.Store c.insert_setup.new.tx.conn.now in
+    let made = state g.S.Store c.insert_openings.new.tx.conn.now in
+    let clean_set : HasCleanDisk set = omega (arith, c.insert_openings.ensures.survives.clean) in
+    let clean_old : HasCleanDisk old = omega (arith, c.insert_setup.ensures.stays.survives.clean) in
+    let empty = c.in_ok-create_tables.ensures.made clean_old bare in
+    let row = c.in_ok-insert_setup.ensures.inserted clean_set (empty_inside old empty) (setup_empty old empty) in
+    let opened = c.insert_openings.ensures.opened clean row.inside in
+    let limits : IsSetup c.args.setup.now = c.cons.ensures.limits in
+    office_last c.args.setup.now c.args.text.now old set made c.insert_openings.result limits empty row
+    (subst (λ cons. OnOk c.insert_openings.result (AddsCons cons set made)) c.cons.ensures.cons opened)

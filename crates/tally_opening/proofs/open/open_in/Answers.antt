@@ -1,0 +1,48 @@
+use Rattle.std.proofs.Common.{◌≡◌, ◌∙◌, sym, ap, true, true≢false}
+use Rattle.std.specs.Prelude.{codes}
+use Rattle.std.proofs.lemmas.Result.{IfErr-weaker}
+use Rattle.sqlite.specs.Held.{state}
+use Rattle.tally_schema.specs.Made.{has_former_tables, has_table}
+use Rattle.tally_schema.specs.Tables.{office_schema}
+use Rattle.tally_opening.proofs.OpenedLemmas.{fault_today, today_each}
+use Rattle.tally_opening.proofs.UnwrittenLemmas.{untouched, unwritten_by}
+use Rattle.tally_opening.proofs.open.open_in.Goals as goal
+
+pub returns-in-Ok-true-clause-opened : goal.returns-in-Ok-true-clause-opened
+returns-in-Ok-true-clause-opened g c clean =
+    let old = state g.S.Store c.args.conn.now in
+    let new = state g.S.Store c.open_today.new.conn in
+    let today = c.in-Ok-true.ensures.today c.in-Ok-true.field-0-test in
+    let schema : old.now.schema ≡ office_schema = sym c.schema.ensures.value ∙ today.0 in
+    let told = c.open_today.ensures in
+    today_each c.open_today.result old new schema (λ now. c.is_autocommit.ensures.settled c.if-not-is_autocommit.false now) (told.was_open clean) (told.same clean) (told.stored clean) (told.judged clean)
+
+pub returns-in-Ok-true-clause-fault : goal.returns-in-Ok-true-clause-fault
+returns-in-Ok-true-clause-fault g c clean =
+    let old = state g.S.Store c.args.conn.now in
+    let today = c.in-Ok-true.ensures.today c.in-Ok-true.field-0-test in
+    let value = sym c.schema.ensures.value in
+    let schema : old.now.schema ≡ office_schema = value ∙ today.0 in
+    let names : has_former_tables old.now.schema ≡ true = ap has_former_tables value ∙ today.1 in
+    let past : has_table old.now.schema (codes "past") ≡ true = ap (λ s. has_table s (codes "past")) value ∙ today.2 in
+    IfErr-weaker c.open_today.result _ _ (λ fault told. fault_today old fault schema names past told) (c.open_today.ensures.fault clean)
+
+pub returns-in-Ok-true-clause-unwritten : goal.returns-in-Ok-true-clause-unwritten
+returns-in-Ok-true-clause-unwritten g c past =
+    let told = c.open_today.ensures in
+    unwritten_by (state g.S.Store c.args.conn.now) (state g.S.Store c.open_today.new.conn) (λ db now may. g.met.S.Store.settled c.args.conn.now.store db now may)
+    (λ now. c.is_autocommit.ensures.settled c.if-not-is_autocommit.false now) told.unwritten told.same
+
+pub returns-in-Ok-false-clause-unwritten : goal.returns-in-Ok-false-clause-unwritten
+returns-in-Ok-false-clause-unwritten g c past =
+    let former = c.in-Ok-false.ensures.former c.in-Ok-false.field-0-test in
+    absurd (true≢false (sym past ∙ ap (λ s. has_table s (codes "past")) (sym c.schema.ensures.value) ∙ former.2))
+
+pub returns-in-Ok-false-clause-counts : goal.returns-in-Ok-false-clause-counts
+returns-in-Ok-false-clause-counts g c past clean =
+    let former = c.in-Ok-false.ensures.former c.in-Ok-false.field-0-test in
+    absurd (true≢false (sym past ∙ ap (λ s. has_table s (codes "past")) (sym c.schema.ensures.value) ∙ former.2))
+
+pub returns-in-Err-clause-unwritten : goal.returns-in-Err-clause-unwritten
+returns-in-Err-clause-unwritten g c past =
+    untouched (state g.S.Store c.args.conn.now) (λ db now may. g.met.S.Store.settled c.args.conn.now.store db now may) (λ now. c.is_autocommit.ensures.settled c.if-not-is_autocommit.false now)

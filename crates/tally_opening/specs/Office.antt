@@ -1,0 +1,29 @@
+-- Whether the database of an office is that of a state, between transactions.
+use Rattle.std.specs.Prelude.{◌≡◌, List, ℕ, IsTrue, Ok}
+use Rattle.sqlite.specs.State.{State as Seen}
+use Rattle.tally_rows.specs.Rows.{HaveDistinctRowids}
+use Rattle.tally_rules.specs.Constituency.{Constituency}
+use Rattle.tally_rules.specs.Reading.{setup_of_text}
+use Rattle.tally_returns.specs.State.{State}
+use Rattle.tally_schema.specs.Tables.{office_schema}
+use Rattle.tally_statements.specs.declared.table.KeyedTable.{KeyedTable}
+use Rattle.tally_statements.specs.Office.{tree_of}
+use Rattle.tally_tables.specs.TablesOfState.{AreTables}
+
+-- Between transactions the database is that of a state, over a setup that has this text: its tables are those of the state,
+-- it has no others, and all of it was committed. The rowids of a table differ, which no state tells.
+pub record HasState (setup : List Constituency) (text : List ℕ) (s : State) (seen : Seen) : Type 0 where
+  pub tables : AreTables setup text s seen.now.trees
+  pub schema : seen.now.schema ≡ office_schema
+  pub distinct : (t : KeyedTable) → HaveDistinctRowids (seen.now.trees (tree_of t))
+  pub settled : seen.committed ≡ seen.now
+
+-- the same of a setup, by whichever text
+pub record IsOffice (setup : List Constituency) (s : State) (seen : Seen) : Type 0 where
+  pub text : List ℕ
+  pub reads : setup_of_text text ≡ Ok setup
+  pub has : HasState setup text s seen
+
+-- all that is there was committed
+abbrev pub IsSettled : Seen → Type 0
+IsSettled s = IsTrue s.is_open → s.now ≡ s.committed

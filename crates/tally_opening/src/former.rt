@@ -1,0 +1,168 @@
+//! Opening a database of version 1: its tables are taken over.
+
+ghost use Rattle.std.specs.Prelude.{◌≡◌, false, IfErr, IfOk, IsTrue, OnErr, OnOk};
+ghost use Rattle.sqlite.specs.State.{HasCleanDisk, IsUnchanged, KeepsCommit, Survives};
+ghost use Rattle.sqlite.specs.Held.{state};
+ghost use Rattle.tally_schema.specs.Made.{HasFirstTables};
+ghost use Rattle.tally_schema.specs.Tables.{former_schema};
+ghost use Rattle.tally_statements.specs.Office.{HasTables};
+ghost use Rattle.tally_opening.specs.Crash.{LeavesTakenOver};
+ghost use Rattle.tally_opening.specs.Create.{IsAsBefore};
+ghost use Rattle.tally_opening.specs.Office.{IsSettled};
+ghost use Rattle.tally_opening.specs.Open.{IsOpened, former_version};
+ghost use Rattle.tally_opening.specs.Opening.{IsFormerFault, IsFormerJudgedFault, IsFormerSetupFault, IsJudged, IsReady, IsShownFault, IsShownSetup, HasSetupRow, IsTaken};
+
+use crate::judging::judge_office;
+use crate::making::VERSION;
+use crate::opening::{open_fault_of, setup_shown, stored_setup};
+use sqlite::{Alter, Connection, Error, Row, Transaction};
+use std::alloc::Global;
+use tally_faults::OpenFault;
+use tally_rules::Setup;
+use tally_schema::create_past;
+use tally_statements::{all_setup, update_version};
+
+/// The version of the tables before there was a table `past`.
+const FORMER_VERSION: u32 = 1;
+
+/// The setup of version 1 that is shown of the table `setup`. Where today's version is shown, the table
+/// `past` is missing.
+fn former_setup(alloc: Global, rows: &[Row]) -> Result<Setup, OpenFault>
+    ensures setup { IfOk result (IsShownSetup rows.now) }
+    ensures fault { IfErr result (IsShownFault rows.now) }
+{
+    let Some((found, text)) = setup_shown(rows) else {
+        return Err(OpenFault::BadTables);
+    };
+    if found == VERSION {
+        return Err(OpenFault::NoTables);
+    }
+    if found != FORMER_VERSION {
+        return Err(OpenFault::BadTables);
+    }
+    stored_setup(alloc, text)
+}
+
+/// The setup whose text `setup` has, where it has its one row, of version 1.
+fn read_former<S: Alter>(
+    alloc: Global,
+    tx: &mut Transaction<'_, S>,
+) -> Result<Result<Setup, OpenFault>, Error>
+    ensures same_reference { tx.new.conn.ghost_name ≡ tx.old.conn.ghost_name }
+    ensures kept { HasCleanDisk (state S.Store tx.new.conn.now) → HasTables (state S.Store tx.old.conn.now) →
+        KeepsCommit (state S.Store tx.old.conn.now) (state S.Store tx.new.conn.now) }
+    ensures stored { HasCleanDisk (state S.Store tx.new.conn.now) → HasTables (state S.Store tx.old.conn.now) →
+        IfOk result (λ r. IfOk r (λ setup. HasSetupRow former_version setup (state S.Store tx.old.conn.now))) }
+    ensures fault { HasCleanDisk (state S.Store tx.new.conn.now) → HasTables (state S.Store tx.old.conn.now) →
+        IfOk result (λ r. IfErr r (IsFormerSetupFault (state S.Store tx.old.conn.now).now.trees)) }
+    ensures same { HasCleanDisk (state S.Store tx.new.conn.now) → HasTables (state S.Store tx.old.conn.now) →
+        OnOk result (IsUnchanged (state S.Store tx.old.conn.now) (state S.Store tx.new.conn.now)) }
+    ensures survives { Survives (state S.Store tx.old.conn.now) (state S.Store tx.new.conn.now) (λ _. ⊥) }
+{
+    let rows = all_setup(tx)?;
+    Ok(former_setup(alloc, &rows))
+}
+
+/// The setup of version 1, where the tables beside an empty `past` are those of a lawful state over it.
+fn judge_former<S: Alter>(
+    alloc: Global,
+    tx: &mut Transaction<'_, S>,
+) -> Result<Result<Setup, OpenFault>, Error>
+    ensures same_reference { tx.new.conn.ghost_name ≡ tx.old.conn.ghost_name }
+    ensures kept { HasCleanDisk (state S.Store tx.new.conn.now) → HasTables (state S.Store tx.old.conn.now) →
+        KeepsCommit (state S.Store tx.old.conn.now) (state S.Store tx.new.conn.now) }
+    ensures stored { HasCleanDisk (state S.Store tx.new.conn.now) → HasTables (state S.Store tx.old.conn.now) →
+        IfOk result (λ r. IfOk r (λ setup. HasSetupRow former_version setup (state S.Store tx.old.conn.now))) }
+    ensures judged { HasCleanDisk (state S.Store tx.new.conn.now) → HasTables (state S.Store tx.old.conn.now) →
+        IfOk result (λ r. IfOk r (λ setup. IsJudged setup (state S.Store tx.old.conn.now))) }
+    ensures fault { HasCleanDisk (state S.Store tx.new.conn.now) → HasTables (state S.Store tx.old.conn.now) →
+        IfOk result (λ r. IfErr r (IsFormerJudgedFault (state S.Store tx.old.conn.now))) }
+    ensures same { HasCleanDisk (state S.Store tx.new.conn.now) → HasTables (state S.Store tx.old.conn.now) →
+        OnOk result (IsUnchanged (state S.Store tx.old.conn.now) (state S.Store tx.new.conn.now)) }
+    ensures survives { Survives (state S.Store tx.old.conn.now) (state S.Store tx.new.conn.now) (λ _. ⊥) }
+{
+    let setup = match read_former(alloc, tx)? {
+        Ok(setup) => setup,
+        Err(fault) => return Ok(Err(fault)),
+    };
+    match judge_office(alloc, tx, setup)? {
+        Some(setup) => Ok(Ok(setup)),
+        None => Ok(Err(OpenFault::BadTables)),
+    }
+}
+
+/// Makes the table `past`, and judges the tables with it.
+fn judge_with_past<S: Alter>(
+    alloc: Global,
+    tx: &mut Transaction<'_, S>,
+) -> Result<Result<Setup, OpenFault>, Error>
+    ensures same_reference { tx.new.conn.ghost_name ≡ tx.old.conn.ghost_name }
+    ensures kept { HasCleanDisk (state S.Store tx.new.conn.now) → HasFirstTables 8 (state S.Store tx.old.conn.now) →
+        KeepsCommit (state S.Store tx.old.conn.now) (state S.Store tx.new.conn.now) }
+    ensures ready { HasCleanDisk (state S.Store tx.new.conn.now) → HasFirstTables 8 (state S.Store tx.old.conn.now) →
+        IfOk result (λ r. IfOk r (λ setup. IsReady setup (state S.Store tx.old.conn.now) (state S.Store tx.new.conn.now))) }
+    ensures fault { HasCleanDisk (state S.Store tx.new.conn.now) → HasFirstTables 8 (state S.Store tx.old.conn.now) →
+        IfOk result (λ r. IfErr r (IsFormerFault (state S.Store tx.old.conn.now).now.trees)) }
+    ensures survives { Survives (state S.Store tx.old.conn.now) (state S.Store tx.new.conn.now) (λ _. ⊥) }
+{
+    create_past(tx)?;
+    judge_former(alloc, tx)
+}
+
+/// Takes the tables of version 1 over, where they are those of a lawful state.
+fn take_over<S: Alter>(
+    alloc: Global,
+    tx: &mut Transaction<'_, S>,
+) -> Result<Result<Setup, OpenFault>, Error>
+    ensures same_reference { tx.new.conn.ghost_name ≡ tx.old.conn.ghost_name }
+    ensures kept { HasCleanDisk (state S.Store tx.new.conn.now) → HasFirstTables 8 (state S.Store tx.old.conn.now) →
+        KeepsCommit (state S.Store tx.old.conn.now) (state S.Store tx.new.conn.now) }
+    ensures taken { HasCleanDisk (state S.Store tx.new.conn.now) → HasFirstTables 8 (state S.Store tx.old.conn.now) →
+        IfOk result (λ r. IfOk r (λ setup. IsTaken setup (state S.Store tx.old.conn.now) (state S.Store tx.new.conn.now))) }
+    ensures fault { HasCleanDisk (state S.Store tx.new.conn.now) → HasFirstTables 8 (state S.Store tx.old.conn.now) →
+        IfOk result (λ r. IfErr r (IsFormerFault (state S.Store tx.old.conn.now).now.trees)) }
+    ensures survives { Survives (state S.Store tx.old.conn.now) (state S.Store tx.new.conn.now) (λ _. ⊥) }
+{
+    let setup = match judge_with_past(alloc, tx)? {
+        Ok(setup) => setup,
+        Err(fault) => return Ok(Err(fault)),
+    };
+    update_version(tx, VERSION)?;
+    Ok(Ok(setup))
+}
+
+/// The setup of an office whose tables were of version 1. They are taken over in one transaction; on a
+/// fault they are as they were.
+pub(crate) fn open_former<S: Alter>(
+    alloc: Global,
+    conn: &mut Connection<S>,
+) -> Result<Setup, OpenFault>
+    requires autocommit { conn.old.in_transaction ≡ false }
+    requires schema { (state S.Store conn.old).now.schema ≡ former_schema }
+    requires settled { IsSettled (state S.Store conn.old) }
+    ensures ended { conn.new.in_transaction ≡ false }
+    ensures opened { HasCleanDisk (state S.Store conn.new) →
+        IfOk result (λ setup. IsOpened setup (state S.Store conn.old) (state S.Store conn.new)) }
+    ensures fault { HasCleanDisk (state S.Store conn.new) →
+        IfErr result (IsFormerFault (state S.Store conn.old).now.trees) }
+    ensures same { HasCleanDisk (state S.Store conn.new) → IsTrue (state S.Store conn.new).is_open →
+        OnErr result (IsAsBefore (state S.Store conn.old) (state S.Store conn.new)) }
+    ensures crash { Survives (state S.Store conn.old) (state S.Store conn.new)
+        (LeavesTakenOver (state S.Store conn.old).now) }
+{
+    let mut tx = conn.transaction();
+    match take_over(alloc, &mut tx) {
+        Ok(Ok(setup)) => match tx.commit() {
+            Ok(()) => Ok(setup),
+            Err(error) => Err(open_fault_of(&error)),
+        },
+        Ok(Err(fault)) => {
+            tx.rollback();
+            Err(fault)
+        }
+        Err(error) => {
+            tx.rollback();
+            Err(open_fault_of(&error))
+        }
+    }
+}

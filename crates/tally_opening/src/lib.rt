@@ -1,0 +1,15 @@
+//! An office in a database, made and opened: the tables of an office that opens, and the judgement whether
+//! the tables that are there are those of a lawful state. What is done over an office that stands is
+//! `tally_store`'s.
+#![tactic(auto)]
+
+mod create;
+mod former;
+mod judging;
+mod making;
+mod open;
+mod opening;
+
+pub use create::create_in;
+pub use open::open_in;
+pub use tally_faults::{CreateFault, OpenFault};

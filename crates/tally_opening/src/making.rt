@@ -1,0 +1,129 @@
+//! Making the tables of an office that opens.
+
+ghost use Rattle.std.specs.Prelude.{◌≡◌, ◌∷◌, [], false, IsTrue, OnOk, OnErr};
+ghost use Rattle.sqlite.specs.State.{HasCleanDisk, Survives};
+ghost use Rattle.sqlite.specs.Held.{state};
+ghost use Rattle.tally_rules.specs.Limits.{IsSetup};
+ghost use Rattle.tally_returns.specs.State.{opening};
+ghost use Rattle.tally_schema.specs.Tables.{schema_with};
+ghost use Rattle.tally_statements.specs.Office.{KeepsCommitIfClean};
+ghost use Rattle.tally_tables.specs.TablesOfState.{AreTables};
+ghost use Rattle.tally_opening.specs.Create.{IsAsBefore};
+ghost use Rattle.tally_opening.specs.Making.{no_list_rows, no_vote_rows, Totalled, Opened, Made};
+ghost use Rattle.tally_opening.specs.Office.{HasState, IsSettled};
+
+use sqlite::{Alter, Connection, Error, Transaction};
+use tally_rules::{Constituency, Setup};
+use tally_schema::create_tables;
+use tally_statements::{insert_con, insert_setup, insert_total};
+
+/// The version of the tables.
+pub(crate) const VERSION: u32 = 2;
+
+/// The item of the spoiled votes, behind those of 60 lists.
+const SPOILED: u32 = 61;
+
+/// Adds a sum of 0 for each list.
+fn insert_list_totals<S: Alter>(
+    tx: &mut Transaction<'_, S>,
+    con: &str,
+    lists: u32,
+) -> Result<(), Error>
+    ensures same_reference { tx.new.conn.ghost_name ≡ tx.old.conn.ghost_name }
+    ensures kept { KeepsCommitIfClean (state S.Store tx.old.conn.now) (state S.Store tx.new.conn.now) }
+    ensures added { Totalled (no_list_rows con.now lists)
+        (state S.Store tx.old.conn.now) (state S.Store tx.new.conn.now) result }
+    ensures survives { Survives (state S.Store tx.old.conn.now) (state S.Store tx.new.conn.now) (λ _. ⊥) }
+{
+    for list in 0..lists {
+        insert_total(tx, con, list + 1, 0)?;
+    }
+    Ok(())
+}
+
+/// Adds the sums of a constituency without returns.
+fn insert_totals<S: Alter>(tx: &mut Transaction<'_, S>, con: &str, lists: u32) -> Result<(), Error>
+    ensures same_reference { tx.new.conn.ghost_name ≡ tx.old.conn.ghost_name }
+    ensures kept { KeepsCommitIfClean (state S.Store tx.old.conn.now) (state S.Store tx.new.conn.now) }
+    ensures added { Totalled (no_vote_rows con.now lists)
+        (state S.Store tx.old.conn.now) (state S.Store tx.new.conn.now) result }
+    ensures survives { Survives (state S.Store tx.old.conn.now) (state S.Store tx.new.conn.now) (λ _. ⊥) }
+{
+    insert_total(tx, con, 0, 0)?;
+    insert_list_totals(tx, con, lists)?;
+    insert_total(tx, con, SPOILED, 0)
+}
+
+/// Adds the rows of a constituency that opens.
+fn insert_opening<S: Alter>(tx: &mut Transaction<'_, S>, con: &Constituency) -> Result<(), Error>
+    ensures same_reference { tx.new.conn.ghost_name ≡ tx.old.conn.ghost_name }
+    ensures kept { KeepsCommitIfClean (state S.Store tx.old.conn.now) (state S.Store tx.new.conn.now) }
+    ensures opened { Opened (con.now ∷ []) (state S.Store tx.old.conn.now) (state S.Store tx.new.conn.now) result }
+    ensures survives { Survives (state S.Store tx.old.conn.now) (state S.Store tx.new.conn.now) (λ _. ⊥) }
+{
+    insert_con(tx, con.code.as_str(), 1, false, "")?;
+    insert_totals(tx, con.code.as_str(), con.lists.len() as u32)
+}
+
+/// Adds the rows of constituencies that open.
+fn insert_openings<S: Alter>(
+    tx: &mut Transaction<'_, S>,
+    cons: &[Constituency],
+) -> Result<(), Error>
+    ensures same_reference { tx.new.conn.ghost_name ≡ tx.old.conn.ghost_name }
+    ensures kept { KeepsCommitIfClean (state S.Store tx.old.conn.now) (state S.Store tx.new.conn.now) }
+    ensures opened { Opened cons.now (state S.Store tx.old.conn.now) (state S.Store tx.new.conn.now) result }
+    ensures survives { Survives (state S.Store tx.old.conn.now) (state S.Store tx.new.conn.now) (λ _. ⊥) }
+{
+    for con in cons {
+        insert_opening(tx, con)?;
+    }
+    Ok(())
+}
+
+/// Makes the tables of an office that opens, in a database without tables.
+fn make_office<S: Alter>(
+    tx: &mut Transaction<'_, S>,
+    setup: &Setup,
+    text: &str,
+) -> Result<(), Error>
+    ensures same_reference { tx.new.conn.ghost_name ≡ tx.old.conn.ghost_name }
+    ensures kept { KeepsCommitIfClean (state S.Store tx.old.conn.now) (state S.Store tx.new.conn.now) }
+    ensures made { Made setup.now text.now (state S.Store tx.old.conn.now) (state S.Store tx.new.conn.now) result }
+    ensures limits { OnOk result (IsSetup setup.now) }
+    ensures survives { Survives (state S.Store tx.old.conn.now) (state S.Store tx.new.conn.now) (λ _. ⊥) }
+{
+    create_tables(tx)?;
+    insert_setup(tx, VERSION, text)?;
+    insert_openings(tx, setup.cons())
+}
+
+/// Makes the tables of an office that opens, in a database without tables, in one transaction. With an
+/// error the database is as it was.
+pub(crate) fn make_in<S: Alter>(
+    conn: &mut Connection<S>,
+    setup: &Setup,
+    text: &str,
+) -> Result<(), Error>
+    requires autocommit { conn.old.in_transaction ≡ false }
+    requires unset { (state S.Store conn.old).now.schema ≡ schema_with 0 }
+    requires settled { IsSettled (state S.Store conn.old) }
+    ensures ended { conn.new.in_transaction ≡ false }
+    ensures made { HasCleanDisk (state S.Store conn.new) →
+        OnOk result (HasState setup.now text.now (opening setup.now) (state S.Store conn.new)) }
+    ensures limits { OnOk result (IsSetup setup.now) }
+    ensures open { HasCleanDisk (state S.Store conn.new) → OnOk result (IsTrue (state S.Store conn.new).is_open) }
+    ensures same { HasCleanDisk (state S.Store conn.new) → IsTrue (state S.Store conn.new).is_open →
+        OnErr result (IsAsBefore (state S.Store conn.old) (state S.Store conn.new)) }
+    ensures crash { Survives (state S.Store conn.old) (state S.Store conn.new)
+        (AreTables setup.now text.now (opening setup.now)) }
+{
+    let mut tx = conn.transaction();
+    match make_office(&mut tx, setup, text) {
+        Ok(()) => tx.commit(),
+        Err(error) => {
+            tx.rollback();
+            Err(error)
+        }
+    }
+}

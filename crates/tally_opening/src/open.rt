@@ -1,0 +1,67 @@
+//! Opening a database, of today's version or of version 1.
+
+ghost use Rattle.std.specs.Prelude.{◌≡◌, false, IfErr, IfOk, IsTrue, OnErr, OnOk};
+ghost use Rattle.sqlite.specs.State.{HasCleanDisk, KeepsCounts, Survives};
+ghost use Rattle.sqlite.specs.Held.{state};
+ghost use Rattle.tally_opening.specs.Crash.{HasPast, IsUnwritten, LeavesTakenOver};
+ghost use Rattle.tally_opening.specs.Create.{IsAsBefore};
+ghost use Rattle.tally_opening.specs.Open.{IsOpenFault, IsOpened};
+ghost use Rattle.tally_opening.specs.Opening.{IsFormerSchema, IsSchemaFault, IsTodaySchema};
+
+use crate::former::open_former;
+use crate::opening::{open_fault_of, open_today};
+use sqlite::{Alter, Connection};
+use sqlite_schema::schema::Schema;
+use std::alloc::Global;
+use tally_faults::OpenFault;
+use tally_rules::Setup;
+use tally_schema::{has_former_tables, has_past, is_former_schema, is_office_schema};
+
+/// Whether the tables are those of today, or those of version 1.
+fn is_of_today(alloc: Global, schema: &Schema) -> Result<bool, OpenFault>
+    ensures today { IfOk result (λ today. IsTrue today → IsTodaySchema schema.now) }
+    ensures former { IfOk result (λ today. today ≡ false → IsFormerSchema schema.now) }
+    ensures fault { IfErr result (IsSchemaFault schema.now) }
+{
+    if !has_former_tables(schema) {
+        return Err(OpenFault::NoTables);
+    }
+    if has_past(schema) {
+        return match is_office_schema(alloc, schema) {
+            Ok(true) => Ok(true),
+            Ok(false) => Err(OpenFault::Store),
+            Err(error) => Err(open_fault_of(&error)),
+        };
+    }
+    match is_former_schema(alloc, schema) {
+        Ok(true) => Ok(false),
+        Ok(false) => Err(OpenFault::Store),
+        Err(error) => Err(open_fault_of(&error)),
+    }
+}
+
+/// The setup of an office whose tables are those of a lawful state. Tables of version 1 are taken over.
+pub fn open_in<S: Alter>(alloc: Global, conn: &mut Connection<S>) -> Result<Setup, OpenFault>
+    requires autocommit { conn.old.in_transaction ≡ false }
+    ensures ended { conn.new.in_transaction ≡ false }
+    ensures opened { HasCleanDisk (state S.Store conn.new) →
+        IfOk result (λ setup. IsOpened setup (state S.Store conn.old) (state S.Store conn.new)) }
+    ensures fault { HasCleanDisk (state S.Store conn.new) →
+        IfErr result (IsOpenFault (state S.Store conn.old).now) }
+    ensures same { HasCleanDisk (state S.Store conn.new) → IsTrue (state S.Store conn.new).is_open →
+        OnErr result (IsAsBefore (state S.Store conn.old) (state S.Store conn.new)) }
+    ensures crash { Survives (state S.Store conn.old) (state S.Store conn.new)
+        (LeavesTakenOver (state S.Store conn.old).now) }
+    ensures unwritten { HasPast (state S.Store conn.old).now → IsUnwritten (state S.Store conn.old) (state S.Store conn.new) }
+    ensures counts { HasPast (state S.Store conn.old).now → HasCleanDisk (state S.Store conn.new) →
+        OnOk result (KeepsCounts (state S.Store conn.old) (state S.Store conn.new)) }
+{
+    if !conn.is_autocommit() {
+        return Err(OpenFault::Store);
+    }
+    match is_of_today(alloc, conn.schema()) {
+        Ok(true) => open_today(alloc, conn),
+        Ok(false) => open_former(alloc, conn),
+        Err(fault) => Err(fault),
+    }
+}

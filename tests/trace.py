@@ -1,0 +1,328 @@
+#!/usr/bin/env python3
+"""Checks what the documents name, where their links lead, and the words that they use.
+
+    python3 tests/trace.py
+
+A link with a name as its text, such as [`allot`](../crates/tally_allot/src/allotment.rt): `allotment`, has to lead to a
+file that has this function, definition, test or edit, and the labels that follow have to be clauses of the function.
+That is checked in every document; `docs/LAW.md` has to have such a link in each of its cells. The last line is
+`N passed, M failed`. It needs nothing but Python, and takes a few seconds.
+"""
+
+import re
+import sys
+from functools import cache
+from pathlib import Path
+
+ROOT = Path(__file__).resolve().parent.parent
+DOCUMENTS = sorted(
+    path
+    for pattern in ("*.md", "docs/*.md", "examples/*.md", "bench/*.md", "deploy/**/*.md", "crates/*/README.md")
+    for path in ROOT.glob(pattern)
+)
+LAW = ROOT / "docs/LAW.md"
+COLUMNS = ["The law or the rule", "Definition", "Code", "Clause", "Test", "Wrong body"]
+LINK = re.compile(r"\[([^\]]*)\]\(([^)\s]+)\)")
+# A link with a name as its text, and the labels that follow it.
+NAMED = re.compile(r"\[`([^`\]]+)`\]\(([^)\s]+)\)(: `[^`]+`(?:(?:, | and )`[^`]+`)*)?")
+
+# What is not written, and what is written for it. The words are looked for in the documents, and there in the text and
+# not in names and examples. Comments and help texts of the crates are not looked at: some of them have such words still.
+WORDS = {
+    r"\bwant of memory\b|\bmemory ran out\b": "out of memory",
+    r"\bstands?\b(?! (?:out|for|alone|apart))": "is, exists, is recorded",
+    r"\bstood\b": "was, was recorded",
+    r"\btold\b(?! to )": "answered, reported, known",
+    r"\bcounts count\b": "is added to the totals",
+    r"\bwhich is this\b": "the present one",
+    r"\bof which nothing is known\b": "of unknown content",
+    r"\bfront of the text\b": "a prefix of the text",
+    r"\bon the errors\b": "on standard error",
+    r"\bkeeps nothing\b": "stores nothing",
+    r"\bis no text of returns\b": "is not a file of returns",
+    r"\b(?:does not|never) gives? up\b": "returns an answer",
+    r"\blet go\b": "freed, dropped",
+    r"\bown profile\b": "this project's own rule",
+    r"\b(?:proved|written) anew\b": "proved again, rewritten",
+    r"\bbehind\b(?! (?:a (?:reverse )?proxy|one address|nginx))": "after",
+}
+
+
+def text_of(path):
+    return path.read_text(encoding="utf-8")
+
+
+def shown(path):
+    return str(path.relative_to(ROOT))
+
+
+def prose(text):
+    """The text without its blocks, names and links: what is left is words."""
+    text = re.sub(r"^(?:```|~~~).*?^(?:```|~~~)", "", text, flags=re.M | re.S)
+    text = "\n".join("" if line.startswith("    ") else line for line in text.split("\n"))
+    text = re.sub(r"`[^`\n]*`", "`", text)
+    return re.sub(r"\]\([^)\s]*\)", "]", text)
+
+
+@cache
+def anchors(path):
+    """The anchors of the headings of a document, as a browser of repositories makes them."""
+    found = {}
+    for heading in re.findall(r"^#+ +(.*)$", re.sub(r"^```.*?^```", "", text_of(path), flags=re.M | re.S), re.M):
+        heading = LINK.sub(r"\1", heading)
+        name = re.sub(r"[^\w\- ]", "", heading.lower()).replace(" ", "-")
+        count = found.get(name, 0)
+        found[name] = count + 1
+        if count:
+            found[f"{name}-{count}"] = 1
+    return set(found)
+
+
+@cache
+def functions(path):
+    """The contracts of the functions of a file of code, by name: the text from each `fn` up to its body."""
+    found = {}
+    for name, contract in re.findall(r"\bfn (\w+)\b(.*?)(?:^\s*\{|;\s*$)", text_of(path), re.M | re.S):
+        found.setdefault(name, []).append(contract)
+    return found
+
+
+def has_name(path, name):
+    """Whether a file has what a link to it names."""
+    if path.as_posix().endswith(f"/{name}"):
+        return True
+    last = re.escape(name.split("::")[-1])
+    text = text_of(path) if path.is_file() else ""
+    if path.suffix == ".antt":
+        return path.stem == name or re.search(rf"^\s*(?:(?:abbrev|unfoldable|pub|record|data|ghost)\s+)*{last}\s", text, re.M) is not None
+    if path.suffix == ".rt":
+        if path.stem == name:
+            return True
+        first = re.escape(name.split("::")[0])
+        of_type = "::" not in name or re.search(rf"\b{first}\b|mod {first}\b", text + path.stem) is not None
+        words = rf"\b(?:fn|struct|enum|trait|const|type|mod) {last}\b|\bghost {last}:|\bfor {last}\b|^    {last}\b"
+        return of_type and re.search(words, text, re.M) is not None
+    if path.suffix == ".py":
+        return re.search(rf"^def (?:test_)?{last}\b", text, re.M) is not None
+    if path.suffix == ".edit":
+        return path.stem == name
+    return True
+
+
+def has_label(path, name, label):
+    """Whether a clause of a function has this label; of a type, whether one of the file has it."""
+    contracts = functions(path).get(name.split("::")[-1], [text_of(path)])
+    return any(re.search(rf"\b(?:ensures|requires|ghost) {re.escape(label)}\b", it) for it in contracts)
+
+
+def named(path):
+    """The links of a document with a name as their text: the name, the file and the labels."""
+    for name, target, labels in NAMED.findall(text_of(path)):
+        if "://" not in target and not target.startswith("#"):
+            yield name, (path.parent / target.split("#")[0]).resolve(), re.findall(r"`([^`]+)`", labels or "")
+
+
+def rows(path):
+    """The rows of all tables of a document, cell by cell; the rule below the heads is left out."""
+    for line in text_of(path).splitlines():
+        if line.startswith("|") and not set(line) <= set("|-: "):
+            yield [cell.strip().replace("\\|", "|") for cell in re.split(r"(?<!\\)\|", line.strip()[1:-1])]
+
+
+def test_every_link_leads_to_a_file():
+    wrong, count = [], 0
+    for path in DOCUMENTS:
+        for _, target in LINK.findall(text_of(path)):
+            if "://" not in target and not target.startswith(("#", "mailto:")):
+                count += 1
+                if not (path.parent / target.split("#")[0]).exists():
+                    wrong.append(f"{shown(path)}: {target}")
+    return count, wrong
+
+
+def test_every_anchor_is_a_heading():
+    wrong, count = [], 0
+    for path in DOCUMENTS:
+        for _, target in LINK.findall(text_of(path)):
+            file, _, anchor = target.partition("#")
+            to = (path.parent / file).resolve() if file else path
+            if "://" not in target and anchor and to.suffix == ".md" and to.is_file():
+                count += 1
+                if anchor not in anchors(to):
+                    wrong.append(f"{shown(path)}: {target}")
+    return count, wrong
+
+
+def test_what_a_link_names_is_in_its_file():
+    wrong, count = [], 0
+    for path in DOCUMENTS:
+        for name, file, _ in named(path):
+            count += 1
+            if not has_name(file, name):
+                wrong.append(f"{shown(path)}: `{name}` in {file.name}")
+    return count, wrong
+
+
+def test_the_labels_behind_a_link_are_clauses():
+    wrong, count = [], 0
+    for path in DOCUMENTS:
+        for name, file, labels in named(path):
+            for label in labels if file.suffix == ".rt" and file.is_file() else ():
+                count += 1
+                if not has_label(file, name, label):
+                    wrong.append(f"{shown(path)}: {name}: {label}, in {file.name}")
+    return count, wrong
+
+
+def test_each_name_of_a_recipe_or_a_page_is_in_the_sources():
+    """Names in backticks in HOW_TO_CHANGE, ARCHITECTURE, PROMISES and the pages of the crates, linked or not."""
+    sources = [path for folder in ("crates", "tests", "examples") for path in (ROOT / folder).rglob("*") if "out" not in path.parts]
+    sources = [path for path in sources if path.is_file() and path.suffix != ".md"]
+    words = {word for path in sources for word in re.findall(r"\w[\w-]*", path.stem + " " + path.read_text(encoding="utf-8", errors="ignore"))}
+    documents = [ROOT / f"docs/{name}.md" for name in ("HOW_TO_CHANGE", "ARCHITECTURE", "PROMISES")]
+    documents += [path for path in DOCUMENTS if path.parent.parent == ROOT / "crates"]
+    wrong, count = [], 0
+    for path in documents:
+        for name in re.findall(r"`([A-Za-z_][\w-]{3,})`", text_of(path)):
+            count += 1
+            if name not in words and not name.startswith(("tally_", "_")) and name not in ("Host", "Origin"):
+                wrong.append(f"{shown(path)}: {name}")
+    return count, wrong
+
+
+def test_each_row_of_the_law_has_all_its_links():
+    wrong, count = [], 0
+    for row in rows(LAW):
+        if row == COLUMNS:
+            continue
+        count += 1
+        if len(row) != len(COLUMNS):
+            wrong.append(f"{len(row)} cells: {row[0][:60]}")
+            continue
+        endings = ((".antt",), (".rt",), (".rt",), (".rt", ".py"), (".edit",))
+        for column, cell, ending in zip(COLUMNS[1:], row[1:], endings):
+            targets = [target for _, target in LINK.findall(cell)]
+            if not targets or not all(target.endswith(ending) for target in targets):
+                wrong.append(f"{column}: {row[0][:60]}")
+    return count, wrong if count >= 20 else [*wrong, f"only {count} rows"]
+
+
+def test_a_clause_of_the_law_without_a_label_is_the_only_one():
+    wrong, count = [], 0
+    for row in rows(LAW):
+        for name, target, labels in NAMED.findall(row[3]) if len(row) == len(COLUMNS) and row != COLUMNS else ():
+            if not labels:
+                count += 1
+                contracts = functions((LAW.parent / target).resolve()).get(name.split("::")[-1], [])
+                if not any(len(re.findall(r"\bensures\b", it)) == 1 for it in contracts):
+                    wrong.append(name)
+    return count, wrong
+
+
+def test_the_law_quotes_its_definitions_word_by_word():
+    wrong, count = [], 0
+    for row in rows(LAW):
+        if row == COLUMNS or len(row) != len(COLUMNS):
+            continue
+        files = [(LAW.parent / target).resolve() for _, target in LINK.findall(row[1])]
+        text = " ".join(" ".join(text_of(file).split()) for file in files if file.is_file())
+        for quote in re.findall(r"`([^`]+)`", NAMED.sub("", row[1])):
+            count += 1
+            if " ".join(quote.split()) not in text:
+                wrong.append(quote)
+    return count, wrong
+
+
+def test_definitions_in_blocks_are_word_by_word():
+    """A block of a document that holds a definition (`pub record`, `abbrev pub`) is in a file that the document links."""
+    wrong, count = [], 0
+    for path in DOCUMENTS:
+        files = {(path.parent / target).resolve() for _, target in LINK.findall(text_of(path)) if target.endswith(".antt")}
+        text = " ".join(" ".join(text_of(file).split()) for file in files if file.is_file())
+        for block in re.findall(r"(?:^    .*\n)+", text_of(path), re.M):
+            if re.search(r"\bpub record\b|\babbrev pub\b", block):
+                count += 1
+                if " ".join(block.split()) not in text:
+                    wrong.append(f"{shown(path)}: {block.split(chr(10))[0].strip()}")
+    return count, wrong
+
+
+def test_each_wrong_body_is_named_by_its_definition():
+    text = text_of(ROOT / "docs/DEFINITIONS.md")
+    edits = [*ROOT.glob("crates/*/must-fail/*.edit"), *ROOT.glob("tests/wrong_bodies/*/*.edit")]
+    return len(edits), sorted(path.stem for path in edits if f"[`{path.stem}`]" not in text)
+
+
+def test_the_words_of_the_documents():
+    wrong, count = [], 0
+    for path in DOCUMENTS:
+        count += 1
+        for number, line in enumerate(prose(text_of(path)).split("\n"), 1):
+            for pattern, better in WORDS.items():
+                for found in re.findall(pattern, line, re.I):
+                    wrong.append(f"{shown(path)}:{number}: {found!r} (write: {better})")
+    return count, wrong
+
+
+def test_no_document_names_a_place_on_one_machine():
+    places = re.compile("[/](?:opt|work|farm|root|tmp)[/][a-z]")
+    return len(DOCUMENTS), [f"{shown(path)}: {found}" for path in DOCUMENTS for found in places.findall(text_of(path))]
+
+
+def crates():
+    lines = [line.split("#")[0].split(":")[0].strip() for line in text_of(ROOT / "crates.txt").splitlines()]
+    return [line for line in lines if line]
+
+
+def test_each_crate_is_on_the_map():
+    text = text_of(ROOT / "docs/ARCHITECTURE.md")
+    return len(crates()), [name for name in crates() if not re.search(rf"\b{name}\b", text)]
+
+
+def test_the_layers_have_the_same_headings():
+    """Those of `crates.txt`, of the table of layers in ARCHITECTURE and of README, with the same crates under each."""
+    layers, name = {}, None
+    for line in text_of(ROOT / "crates.txt").splitlines():
+        if line.startswith("# ---- "):
+            name = line[7:].split(":")[0].strip()
+            layers[name] = set()
+        elif name and re.match(r"\w+:", line):
+            layers[name].add(line.split(":")[0])
+    rows = re.findall(r"^\| \*\*(.+?)\*\* \| (.*) \|$", text_of(ROOT / "docs/ARCHITECTURE.md"), re.M)
+    wrong = [] if not layers or list(layers) == [name for name, _ in rows] else [f"crates.txt has {list(layers)}"]
+    for name, cell in rows:
+        if name not in text_of(ROOT / "README.md"):
+            wrong.append(f"{name}: not on README")
+        listed = set(re.findall(r"(?:\[|`|, )(tally_\w+)(?:\]|`|(?=[,:]))", cell))
+        missing = layers.get(name, set()) - listed
+        if missing:
+            wrong.append(f"{name}: {', '.join(sorted(missing))}")
+    return len(rows), wrong
+
+
+def test_each_crate_has_a_page_of_at_most_40_lines():
+    wrong = []
+    for name in crates():
+        page = ROOT / "crates" / name / "README.md"
+        if not page.is_file():
+            wrong.append(f"{name}: none")
+        elif len(text_of(page).splitlines()) > 40:
+            wrong.append(f"{name}: {len(text_of(page).splitlines())} lines")
+    return len(crates()), wrong
+
+
+def main():
+    failed = 0
+    tests = [(name, test) for name, test in globals().items() if name.startswith("test_")]
+    for name, test in tests:
+        count, wrong = test()
+        failed += bool(wrong)
+        print(f"{'FAIL' if wrong else 'ok  '} {name.removeprefix('test_').replace('_', ' ')} ({count})")
+        for line in wrong:
+            print(f"     {line}")
+    print(f"{len(tests) - failed} passed, {failed} failed")
+    return 1 if failed else 0
+
+
+if __name__ == "__main__":
+    sys.exit(main())
