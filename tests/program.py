@@ -583,10 +583,11 @@ def quoted(text):
 def test_texts_as_programs_save_them():
     """Each has the same three returns: with semicolons, ends of lines as of other systems, quotes, a byte order mark, no last line end."""
     new(THREE_STATIONS, "new.db")
-    crlf, mark = RETURNS.replace("\n", "\r\n"), "\ufeff"
+    mark = "\ufeff"
     commas = (
-        RETURNS, crlf, RETURNS.replace("\n", "\r"), RETURNS.rstrip(), quoted(RETURNS), quoted(crlf), quoted(RETURNS).rstrip(), mark + RETURNS,
-        mark + quoted(crlf), RETURNS.replace("\n", "\n\r\n"), RETURNS.replace("s2,p2", 's2,"p2"'), RETURNS.replace("30,40", "030,000000040"),
+        RETURNS, RETURNS.replace("\n", "\r\n"), RETURNS.replace("\n", "\r"), RETURNS.replace("\n", "\n\r\n"), RETURNS.rstrip(), mark + RETURNS,
+        quoted(RETURNS), quoted(RETURNS).rstrip(), mark + quoted(RETURNS).replace("\n", "\r\n"), RETURNS.replace("s2,p2", 's2,"p2"'),
+        RETURNS.replace("30,40", "030,000000040"),
     )
     lodged = '{"bad":0,"differs":0,"first":null,"lodged":3,"ok":"import","refused":0,"same":0}'
     wanted = None
@@ -1218,14 +1219,16 @@ def given_up(desk, message):
 
 
 def waits_for(db, message):
-    """What one client sees that keeps the office waiting, while the next one is there already and then gets its answer."""
+    """What one client sees that keeps the office waiting, while the next one is there already and then gets its answer, as a third does."""
     new(db=db)
-    with serving(db, 2, failed=1) as desk, ThreadPoolExecutor(1) as other:
+    with serving(db, 3, failed=1) as desk, ThreadPoolExecutor(1) as other:
         waited = other.submit(given_up, desk, message)
         # So that it is the second in the line.
         time.sleep(0.5)
         desk.get("/progress", PROGRESS)
-        return waited.result()
+        seconds = waited.result()
+        desk.get("/progress", PROGRESS)
+        return seconds
 
 
 def test_clients_that_keep_the_office_waiting():
