@@ -6,28 +6,20 @@ import tempfile
 from dataclasses import dataclass, field
 from pathlib import Path
 
-from building import HERE
+from building import HERE, ROOT
 from check import ELECTORS, LISTS, codes, short_row
 from measuring import Numbers, run_timed
 from serving import office, post
+
+sys.path.append(str(ROOT / "tests"))
+from office import constituency, party_list, profile, station
 
 PROGRAM = HERE.parent / "crates" / "tally_office" / "out" / "tally_office"
 
 # Where files are kept in memory.
 MEMORY = Path("/dev/shm")
 
-PROFILES = """[[profile]]
-code = "divisors"
-method = "dhondt"
-threshold = 0
-base = "valid"
-
-[[profile]]
-code = "quotas"
-method = "hare"
-threshold = 0
-base = "valid"
-"""
+PROFILES = profile("divisors") + "\n" + profile("quotas", "hare")
 
 
 @dataclass
@@ -42,15 +34,12 @@ class Con:
 
     def setup(self):
         """Its part of a setup, with a table for each list and each station."""
-        head = f'code = "{self.code}"\nname = "Whole"\nseats = {self.seats}\nprofile = "{self.profile}"\n'
-        names = ", ".join(f'"Candidate {place}"' for place in (1, 2, 3))
-        lists = (f'code = "{code}"\nname = "List {code}"\ncandidates = [{names}]\n' for code in self.lists)
-        tables = (f'code = "{code}"\nelectors = {ELECTORS}\n' for code in self.stations)
-        return "\n".join(
+        names = [f"Candidate {place}" for place in (1, 2, 3)]
+        return "".join(
             [
-                f"\n[[constituency]]\n{head}",
-                *(f"[[constituency.list]]\n{table}" for table in lists),
-                *(f"[[constituency.station]]\n{table}" for table in tables),
+                constituency(self.code, "Whole", self.seats, self.profile),
+                *(party_list(code, f"List {code}", *names) for code in self.lists),
+                *(station(code, ELECTORS) for code in self.stations),
             ]
         )
 

@@ -16,9 +16,12 @@ import sys
 
 # What is imported from here is not to be left beside it in compiled form.
 sys.dont_write_bytecode = True
-from building import keeper_program
+from building import ROOT, keeper_program
 from check import ELECTORS, LISTS, codes, distinct_rows, long_row, short_row, text_of
 from measuring import Numbers
+
+sys.path.append(str(ROOT / "tests"))
+from office import constituency, party_list, profile, station
 
 # As many as a constituency may have.
 STATIONS = 5_000
@@ -28,31 +31,13 @@ GOAL = 2
 
 CALLS = ["import", "check"]
 
-HEAD = """[[profile]]
-code = "loreg"
-method = "dhondt"
-threshold = 300
-base = "valid"
-
-[[constituency]]
-code = "whole"
-name = "Whole"
-seats = 9
-profile = "loreg"
-"""
-
 
 def setup_of(stations):
     """A setup of one constituency, with a table for each list and each station."""
-    lists = (
-        f'\n[[constituency.list]]\ncode = "{code}"\nname = "List {code}"\ncandidates = ["Ana"]\n'
-        for code in codes("list", LISTS)
-    )
-    tables = (
-        f'\n[[constituency.station]]\ncode = "{code}"\nelectors = {ELECTORS}\n'
-        for code in codes("station", stations)
-    )
-    return HEAD + "".join(lists) + "".join(tables)
+    head = profile("loreg", threshold=300) + constituency("whole", "Whole", 9, "loreg")
+    lists = (party_list(code, f"List {code}", "Ana") for code in codes("list", LISTS))
+    tables = (station(code, ELECTORS) for code in codes("station", stations))
+    return head + "".join(lists) + "".join(tables)
 
 
 def shuffled(rows):

@@ -22,6 +22,7 @@ from pathlib import Path
 sys.dont_write_bytecode = True
 sys.path.insert(0, str(Path(__file__).resolve().parent.parent / "tests"))
 import deploy
+from office import CONSTITUENCY, PROFILE, party_list, station
 
 # A client in a process of its own: threads that ask, over TLS or without.
 CLIENT = """
@@ -58,9 +59,8 @@ print(clients * asks / (time.monotonic() - began))
 
 
 def setup(many, stations):
-    lists = "".join(f'\n[[constituency.list]]\ncode = "L{n}"\nname = "List {n}"\ncandidates = ["First of {n}"]\n' for n in range(many))
-    head = deploy.SETUP[:deploy.SETUP.index("\n[[constituency.list]]")]
-    return head + lists + "".join(f'\n[[constituency.station]]\ncode = "s{n}"\nelectors = 100000\n' for n in range(stations))
+    lists = "".join(party_list(f"L{n}", f"List {n}", f"First of {n}") for n in range(many))
+    return PROFILE + CONSTITUENCY + lists + "".join(station(f"s{n}", 100_000) for n in range(stations))
 
 
 def fill(port, lists, stations):

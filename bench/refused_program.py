@@ -41,7 +41,8 @@ from pathlib import Path
 sys.dont_write_bytecode = True
 ROOT = Path(__file__).resolve().parent.parent
 sys.path[:0] = [str(ROOT / "bench"), str(ROOT / "tests")]
-from program import RETURNS, SCRIPT, SETUP, THREE_STATIONS, close_return, database
+from office import RETURNS, SETUP, THREE_STATIONS, constituency, party_list, profile, station
+from program import SCRIPT, close_return, database
 from refused_memory import PROGRAM, WHOLE, Runs, ended, has_no_compiler, library_in
 
 DB, LOG = "office.db", "office.db-wal"
@@ -54,33 +55,9 @@ UNAVAILABLE = (
 )
 
 # A second constituency, by Hare: its certificate has a report of quotas.
-RIVERS = """
-[[profile]]
-code = "h0"
-method = "hare"
-threshold = 0
-base = "lists"
-
-[[constituency]]
-code = "h1"
-name = "Three Rivers"
-seats = 5
-profile = "h0"
-
-[[constituency.list]]
-code = "C"
-name = "Gamma"
-candidates = ["Cid", "Cora"]
-
-[[constituency.list]]
-code = "D"
-name = "Delta"
-candidates = ["Dan"]
-
-[[constituency.station]]
-code = "r1"
-electors = 1000
-"""
+RIVERS = "\n" + profile("h0", "hare", 0, "lists") + constituency("h1", "Three Rivers", 5, "h0") + (
+    party_list("C", "Gamma", "Cid", "Cora") + party_list("D", "Delta", "Dan") + station("r1", 1000)
+)
 
 REPORTS = ("tally", "seats", "quotients", "awards", "quota", "short", "holders", "past")
 

@@ -20,8 +20,11 @@ from pathlib import Path
 
 # What is imported from here is not to be left beside it in compiled form.
 sys.dont_write_bytecode = True
-from building import HERE, build_office, processor
+from building import HERE, ROOT, build_office, processor
 from measuring import run
+
+sys.path.append(str(ROOT / "tests"))
+from office import constituency, party_list, profile, station
 
 CONSTITUENCIES = 200
 LISTS = 60
@@ -31,44 +34,23 @@ PRIME = 1_000_003
 MOST_BYTES = 8 * 1024 * 1024
 GOAL = 3
 
-PROFILES = """[[profile]]
-code = "loreg"
-method = "dhondt"
-threshold = 300
-base = "valid"
-
-[[profile]]
-code = "shares"
-method = "hare"
-threshold = 0
-base = "lists"
-"""
+PROFILES = profile("loreg", threshold=300) + "\n" + profile("shares", "hare", 0, "lists")
 
 
 def head_of(con):
     """A constituency without its lists and stations."""
-    profile = ["loreg", "shares"][con % 2]
-    return (
-        f'\n[[constituency]]\ncode = "con-{con:03}"\nname = "Constituency {con}"\n'
-        f'seats = {1 + con % 500}\nprofile = "{profile}"\n'
-    )
+    return constituency(f"con-{con:03}", f"Constituency {con}", 1 + con % 500, ["loreg", "shares"][con % 2])
 
 
 def list_of(con, number):
-    names = ", ".join(f'"Candidate {number}.{n}"' for n in range(1, CANDIDATES + 1))
-    code, name = f"list-{number:02}", f"List {number} of {con}"
-    return f'\n[[constituency.list]]\ncode = "{code}"\nname = "{name}"\ncandidates = [{names}]\n'
+    names = (f"Candidate {number}.{n}" for n in range(1, CANDIDATES + 1))
+    return party_list(f"list-{number:02}", f"List {number} of {con}", *names)
 
 
 def station_of(con, number):
     """The code of a station and its electors. The codes are in no order, and no two are the same."""
     place = con * MOST_STATIONS + number
     return f"station-{place * 387_420_489 % PRIME:07}", 1 + place * 7919 % 1_000_000
-
-
-def station_table(con, number):
-    code, electors = station_of(con, number)
-    return f'\n[[constituency.station]]\ncode = "{code}"\nelectors = {electors}\n'
 
 
 def inline_station(con, number):
@@ -79,7 +61,7 @@ def inline_station(con, number):
 def tables(con, stations):
     """A constituency whose lists and stations each have a table of their own."""
     lists = [list_of(con, number) for number in range(1, LISTS + 1)]
-    return "".join([head_of(con), *lists, *(station_table(con, number) for number in range(stations))])
+    return "".join([head_of(con), *lists, *(station(*station_of(con, number)) for number in range(stations))])
 
 
 def inline(con, stations):

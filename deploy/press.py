@@ -59,7 +59,15 @@ class Office:
         self.opener = urllib.request.build_opener(urllib.request.ProxyHandler({}))
 
     def get(self, target):
-        """Status and text of an answer."""
+        """Status and text of an answer. A proxy that limits how often it is asked is asked again."""
+        end = time.monotonic() + PATIENCE
+        while True:
+            status, text = self.get_once(target)
+            if status != 429 or time.monotonic() > end:
+                return status, text
+            time.sleep(0.5)
+
+    def get_once(self, target):
         self.asked += 1
         try:
             with self.opener.open(self.address + target, timeout=PATIENCE) as answer:
@@ -390,10 +398,13 @@ def votes_section(con, rule):
     rows = [[list_name(row["code"], place, row["name"]), number(row["votes"]), row["share"] + " %",
              "yes" if row["eligible"] else "no"] for place, row in enumerate(con["tally"]["lists"])]
     base = f" of {BASES[rule['base']]}" if rule else ""
-    return (f'<section><h2>Votes</h2>\n<div class="pair">\n{vote_bars(con["tally"], rule)}'
+    closed, stations = con["tally"]["closed"], con["tally"]["stations"]
+    so_far = "" if closed == stations else (
+        f'<p class="none"><b>Not all votes.</b> {number(closed)} of {number(stations)} returns are closed, and these are their votes.</p>\n')
+    return (f'<section><h2>Votes</h2>\n{so_far}<div class="pair">\n{vote_bars(con["tally"], rule)}'
             + table("Votes of each list", ("List", "#votes", "#share", "takes part"), rows)
-            + f"</div>\n<p>The share is per cent{base}. A list takes part in the award of seats if it has votes and reaches the "
-              "threshold.</p></section>\n")
+            + f"</div>\n<p>Shares are in per cent{base}, rounded down. A list takes part in the award of seats if it has votes and "
+              "reaches the threshold, which is compared without rounding.</p></section>\n")
 
 
 def holders_section(con, places, candidates):
@@ -493,7 +504,8 @@ def page(title, body, moment, above=""):
             f"<style>\n{STYLE.read_text(encoding='utf-8')}</style>\n</head>\n<body>\n<header>{above}\n<h1>{title}</h1>\n"
             f'<p class="moment">As the office had it on {moment_text(moment)}.</p>\n<!--age--><!--/age-->\n</header>\n<main>\n'
             f"{body}</main>\n<footer><p>Every number on this page is the office’s own; only the lengths of bars are computed from "
-            "them. Nothing on it is asked of another site.</p></footer>\n</body>\n</html>\n")
+            "them. The edition of a constituency is raised by each lot, certificate and reopening. Nothing on this page is asked of "
+            "another site.</p></footer>\n</body>\n</html>\n")
 
 
 def moment_text(moment):
@@ -529,8 +541,8 @@ def index_page(progress, text, cons, names, moment):
     certified = sum(row["certified"] for row in progress)
     said = f"{certified} of {len(progress)} constituencies certified"
     bar = f'<div class="progress" role="img" aria-label="{said}"><i style="width:{certified / max(len(progress), 1) * 100:.2f}%"></i></div>\n'
-    files = ('<section><h2>For programs</h2>\n<ul>\n<li><a href="index.csv">This table (CSV)</a></li>\n'
-             '<li><a href="index.json">This table (JSON)</a></li>\n</ul></section>\n')
+    files = ('<section><h2>For programs</h2>\n<ul>\n<li><a href="results.csv">Votes and seats of all constituencies (CSV)</a></li>\n'
+             '<li><a href="index.csv">This table (CSV)</a></li>\n<li><a href="index.json">This table (JSON)</a></li>\n</ul></section>\n')
     return page("Results of the election", f"<section><h2>The constituencies</h2>\n<p>{said}.</p>\n{bar}"
                 + table("Progress of the constituencies", heads, rows, "index") + "</section>\n" + files
                 + texts_section({"progress": text}), moment)
@@ -556,11 +568,21 @@ def json_text(value):
     return json.dumps(value, ensure_ascii=False, indent=1) + "\n"
 
 
-def con_csv(con):
+LIST_COLUMNS = ["list", "name", "votes", "share", "takes_part", "seats"]
+
+
+def list_rows(con):
     seats = con["seats"]["seats"] if "seats" in con else {}
-    rows = [[row["code"], row["name"], row["votes"], row["share"], "yes" if row["eligible"] else "no",
+    return [[row["code"], row["name"], row["votes"], row["share"], "yes" if row["eligible"] else "no",
              seats.get(row["code"], "")] for row in con["tally"]["lists"]]
-    return csv_text(["list", "name", "votes", "share", "takes_part", "seats"], rows)
+
+
+def results_csv(cons):
+    """Votes and seats of all constituencies that are known, in one table."""
+    keys = ("stations", "closed", "edition", "certified")
+    rows = [[code, con["tally"]["name"], *(str(con["view"][key]).lower() for key in keys), *row]
+            for code, con in cons.items() for row in list_rows(con)]
+    return csv_text(["con", "con_name", *keys, *LIST_COLUMNS], rows)
 
 
 def con_json(con, row, moment):
@@ -614,17 +636,18 @@ def write_con(office, folder, row, entry, before):
     returns = write_returns(office, folder, code, con, entry)
     moment = datetime.now().astimezone()
     put(folder, f"con-{code}.html", con_page(code, con, row, entry, returns, moment))
-    put(folder, f"con-{code}.csv", con_csv(con))
+    put(folder, f"con-{code}.csv", csv_text(LIST_COLUMNS, list_rows(con)))
     put(folder, f"con-{code}.json", con_json(con, row, moment))
     return con
 
 
-def write_index(folder, progress, text, cons, setup):
+def write_index(folder, progress, text, cons, setup, seen):
     names = {code: entry["name"] for code, entry in setup.items()} | {code: con["tally"]["name"] for code, con in cons.items()}
     moment = datetime.now().astimezone()
     put(folder, "index.html", index_page(progress, text, cons, names, moment))
     put(folder, "index.csv", csv_text(progress[0].keys(), [[str(value).lower() for value in row.values()] for row in progress]))
     put(folder, "index.json", json_text({"time": moment.isoformat(timespec="seconds"), "constituencies": progress}))
+    put(folder, "results.csv", results_csv({row["con"]: seen[row["con"]] for row in progress if row["con"] in seen}))
 
 
 def write_all(office, folder, setup, seen):
@@ -644,7 +667,7 @@ def write_all(office, folder, setup, seen):
             mark_old(folder / f"con-{row['con']}.html", datetime.now().astimezone())
             failures.append(str(error))
     seen.update(cons)
-    write_index(folder, progress, text, cons, setup)
+    write_index(folder, progress, text, cons, setup, seen)
     return 1 + len(cons), failures
 
 

@@ -16,7 +16,8 @@ from pathlib import Path
 
 import openapi
 import program
-from program import RETURNS, SETUP, THREE_STATIONS, imports, new, only, rows, same, serving, show, take
+from office import RETURNS, SETUP, THREE_STATIONS, constituency, party_list, profile, station
+from program import imports, new, only, rows, same, serving, show, take
 
 # The tables but `setup`, and their columns, those of the key first.
 COLUMNS = {
@@ -226,26 +227,7 @@ def differing(found, wanted):
 # ---- rows of each table, changed
 
 
-LONG_SHORE = """
-[[constituency]]
-code = "c2"
-name = "Long Shore"
-seats = 2
-profile = "d0"
-
-[[constituency.list]]
-code = "A"
-name = "Alpha"
-candidates = ["Ada"]
-
-[[constituency.station]]
-code = "t1"
-electors = 300
-
-[[constituency.station]]
-code = "t2"
-electors = 300
-"""
+LONG_SHORE = constituency("c2", "Long Shore", 2, "d0") + party_list("A", "Alpha", "Ada") + station("t1") + station("t2")
 
 # In c1 a lot was drawn; a certificate was reopened and another one given; a candidate is gone. In c2 a return is queried and one is
 # closed.
@@ -315,28 +297,10 @@ def test_a_changed_row_of_two_towns():
 # ---- the same by other rules
 
 # Hare with a threshold of 5 per cent of the valid votes; 5 seats.
-THREE_RIVERS = """
-[[profile]]
-code = "h5"
-method = "hare"
-threshold = 500
-base = "valid"
-
-[[constituency]]
-code = "c2"
-name = "Three Rivers"
-seats = 5
-profile = "h5"
-""" + "".join(f'\n[[constituency.list]]\ncode = "{code}"\nname = "List {code}"\ncandidates = [{names}]\n' for code, names in (
-    ("A", '"Ana", "Abel", "Ada"'), ("B", '"Bea", "Ben"'), ("C", '"Cid"'), ("D", '"Dan"'))) + """
-[[constituency.station]]
-code = "r1"
-electors = 1000
-
-[[constituency.station]]
-code = "r2"
-electors = 1000
-"""
+THREE_RIVERS = "\n" + profile("h5", "hare", 500) + constituency("c2", "Three Rivers", 5, "h5") + "".join(
+    party_list(code, f"List {code}", *names) for code, names in (
+        ("A", ("Ana", "Abel", "Ada")), ("B", ("Bea", "Ben")), ("C", ("Cid",)), ("D", ("Dan",)))
+) + station("r1", 1000) + station("r2", 1000)
 
 # In c1 lots alternate: the lot B, A is turned round for second seats, so that the third seat is A's. A certificate was reopened and
 # another one given; a candidate is gone.

@@ -6,7 +6,8 @@
 With no file it is the program that `./office` or `rt ci` built, `crates/tally_office/out/tally_office`. With names of tests, only those;
 with a folder, pictures of the pages are left there. Everything runs in a temporary folder, on ports that are free, and is ended
 at the end. A test that needs nginx, Chromium, openssl or systemd-analyze is skipped where that is missing, and counted as
-skipped. The last line is `N passed, M failed, K skipped`. It needs Python 3.11 or later.
+skipped. The last line is `N passed, M failed, K skipped`. With COUNTRY_STATIONS=1154 the country of `a_country_of_52` has 60,000
+stations, and with TIMES=1 the time of each test is printed. It needs Python 3.11 or later.
 """
 
 import base64
@@ -19,6 +20,7 @@ import http.client
 import json
 import os
 import re
+import resource
 import shutil
 import signal
 import socket
@@ -34,6 +36,8 @@ import traceback
 from pathlib import Path
 
 import browser
+import model
+from office import TABLES, constituency, party_list, profile, station, with_stations
 
 ROOT = Path(__file__).resolve().parent.parent
 DEPLOY = ROOT / "deploy"
@@ -42,31 +46,6 @@ PICTURES = None
 NAME = "office.example"
 # nginx is mostly where only the administrator's PATH has it.
 NGINX = shutil.which("nginx", path=f"{os.environ.get('PATH', '')}:/usr/sbin:/usr/local/sbin")
-TABLES = ("setup", "returns", "counts", "cons", "lots", "seats", "gone", "totals", "past")
-
-SETUP = """\
-[[profile]]
-code = "d0"
-method = "dhondt"
-threshold = 0
-base = "valid"
-
-[[constituency]]
-code = "c1"
-name = "Twin Town"
-seats = 3
-profile = "d0"
-
-[[constituency.list]]
-code = "A"
-name = "Alpha"
-candidates = ["Ana", "Abel"]
-
-[[constituency.list]]
-code = "B"
-name = "Beta"
-candidates = ["Bea"]
-"""
 
 EXAMPLES = (ROOT / "examples/setup.toml").read_text(encoding="utf-8")
 # The stations of the example, of which the first file of returns lacks two.
@@ -86,7 +65,7 @@ def needs(*found):
         def run():
             for name in found:
                 if not {"nginx": NGINX, "chromium": browser.CHROMIUM and browser.DRIVER}.get(name, shutil.which(name)):
-                    raise Skipped(f"{name} is not there")
+                    raise Skipped(f"{'Chromium or its driver' if name == 'chromium' else name} is not there")
             test()
         return run
     return wrap
@@ -96,17 +75,20 @@ def same(found, wanted):
     assert found == wanted, f"\n  found  {found!r}\n  wanted {wanted!r}"
 
 
-def with_stations(count, electors=300):
-    """The setup of Twin Town with stations s1, s2, .."""
-    return SETUP + "".join(f'\n[[constituency.station]]\ncode = "s{n}"\nelectors = {electors}\n' for n in range(1, count + 1))
-
-
 # ---- the office
 
 
+PORTS = set()
+
+
 def free_port():
-    with socket.create_server(("127.0.0.1", 0)) as free:
-        return free.getsockname()[1]
+    """A port that is free, another one each time."""
+    while True:
+        with socket.create_server(("127.0.0.1", 0)) as free:
+            port = free.getsockname()[1]
+        if port not in PORTS:
+            PORTS.add(port)
+            return port
 
 
 def ran(*words, status=0):
@@ -740,11 +722,21 @@ def test_the_record_replayed():
     same([line["role"] for line in record[:3]], ["clerk", "station", "station"])
     assert all(re.fullmatch(r"\d{4}-\d\d-\d\dT\d\d:\d\d:\d\d[+-]\d\d:\d\d", line["time"]) for line in record)
     with serving(EXAMPLES, "again.db") as desk:
-        for line in record:
-            if line["desk"] == "200":
-                method, target, _ = line["request"].split(" ")
-                same(plain(desk.port, method, target, line["body"].encode(errors="surrogateescape")).status, 200)
+        same(replay(desk, front), (0, "sent 25, to look at 0\n"))
+        # Once more: the import and the two returns are the same, and nothing else is done a second time.
+        status, said = replay(desk, front)
+        assert status == 1 and said.endswith("\nsent 25, to look at 22\n") and '"word":"stale"' in said, said
+        same(replay(desk, front, "--since", "2100-01-01T00:00:00+00:00"), (0, "sent 0, to look at 0\n"))
+        same(replay(desk, front, "--since", record[0]["time"])[1], said)
     same(rows("again.db"), rows("office.db"))
+
+
+def replay(desk, front, *words):
+    with open(front.folder / "log/commands.log", "rb") as log:
+        done = subprocess.run([DEPLOY / "replay", f"http://127.0.0.1:{desk.port}", *words], stdin=log, capture_output=True, text=True,
+                              timeout=120)
+    same(done.stderr, "")
+    return done.returncode, done.stdout
 
 
 def plain(port, method, target, body=None):
@@ -759,9 +751,10 @@ def plain(port, method, target, body=None):
 # ---- the backup and the units
 
 
-def backup(*words, program=None):
-    done = subprocess.run([DEPLOY / "backup", *words], env={**os.environ, "OFFICE": str(program or PROGRAM)},
-                          capture_output=True, text=True, timeout=60)
+def backup(*words, largest=resource.RLIM_INFINITY):
+    """Runs the script, with a limit of bytes that a file may have."""
+    done = subprocess.run([DEPLOY / "backup", *words], env={**os.environ, "OFFICE": str(PROGRAM)}, capture_output=True, text=True,
+                          timeout=60, preexec_fn=lambda: resource.setrlimit(resource.RLIMIT_FSIZE, (largest, largest)))
     return done.returncode, done.stdout, done.stderr
 
 
@@ -782,6 +775,15 @@ def test_a_backup():
     # Nothing has changed: no second copy.
     same(backup("office.db", "copies"), (0, f"copies/{copy.name} is the same already\n", ""))
     same(len(list(Path("copies").iterdir())), 1)
+
+
+def test_a_backup_that_finds_no_room():
+    """It leaves no half of a copy."""
+    new(EXAMPLES)
+    status, out, _ = backup("office.db", "copies", largest=50_000)
+    assert status and not out, (status, out)
+    same(os.listdir("copies"), [])
+    same(backup("office.db", "copies")[0], 0)
 
 
 def test_a_backup_of_what_is_no_office():
@@ -974,6 +976,8 @@ def test_a_page_of_the_press():
             assert f">{said}</pre>" in text, target
     same(text.count("<circle"), 3)
     same(read("con-c1.csv"), "list,name,votes,share,takes_part,seats\nA,Alpha,100,50.00,yes,1\nB,Beta,100,50.00,yes,2\n")
+    same(read("results.csv"), "con,con_name,stations,closed,edition,certified,list,name,votes,share,takes_part,seats\n"
+                              "c1,Twin Town,1,1,3,true,A,Alpha,100,50.00,yes,1\nc1,Twin Town,1,1,3,true,B,Beta,100,50.00,yes,2\n")
     same(read("stations-c1-3.csv"), "station,slip,blank,spoiled,A,B\ns1,p1,0,0,100,100\n")
     same(read("index.csv"), "con,stations,missing,received,queried,corrected,closed,edition,certified\nc1,1,0,0,0,0,1,3,true\n")
     found = json.loads(read("con-c1.json"))
@@ -995,6 +999,20 @@ def test_a_page_without_a_certificate():
     same((page.figures, text.count("<circle")), (1, 0))
     same(read("con-c1.csv").splitlines()[1:], ["A,Alpha,100,50.00,yes,", "B,Beta,100,50.00,yes,"])
     same(page_of("index.html").tables["Progress of the constituencies"][1][:3], ["Twin Town", "no certificate yet", "–"])
+
+
+def test_a_page_of_a_part_of_the_votes():
+    """While returns are open the page says so where the votes are, and not once all are closed."""
+    answers = REOPENED | {
+        "/progress": "c1                    3      2      0      0      0      1      4 open\n",
+        "/con/c1": REOPENED["/con/c1"] | {"stations": 3},
+        "/con/c1/tally": TWIN["/con/c1/tally"].replace("stations 1", "stations 3")}
+    for desk, partly in ((answers, True), (REOPENED, False)):
+        with answering_desk(desk) as (port, _):
+            press(port)
+        page_of("con-c1.html")
+        same("<b>Not all votes.</b> 1 of 3 returns are closed, and these are their votes." in read("con-c1.html"), partly)
+        same("Not all votes" in read("con-c1.html"), partly)
 
 
 def test_a_page_by_quotas():
@@ -1076,6 +1094,14 @@ def test_a_page_of_one_moment():
         same(page_of("con-c1.html").tables["Votes of each list"][1][1], "100")
 
 
+def test_pages_through_a_proxy_that_limits():
+    """It answers 429 for a while: what it did not answer is asked again, and the page is written."""
+    first = iter([429, 429])
+    with answering_desk(TWIN | {"/con/c1/tally": lambda: next(first, TWIN["/con/c1/tally"])}) as (port, asked):
+        assert " pages 2 failed 0 GETs 12 " in press(port), asked
+        same(asked.count("/con/c1/tally"), 3)
+
+
 def test_pages_that_are_written_again_and_again():
     """Where nothing has changed a round takes two GETs; a file is whole whenever it is read."""
     with answering_desk(TWIN) as (port, asked):
@@ -1093,24 +1119,96 @@ def test_pages_that_are_written_again_and_again():
     same([int(re.search(r"GETs (\d+)", line)[1]) for line in lines], [10, 2, 2, 2, 2, 2])
 
 
+# How many stations each of the 52 constituencies has. With 1154 they are a country of 60,000, which takes some minutes.
+COUNTRY_STATIONS = int(os.environ.get("COUNTRY_STATIONS", 20))
+# What a round of the pages may cost the office: so many seconds of the processor, and of few stations one request of it so
+# many times as much as the request for a return.
+ROUND_SECONDS = 5
+BESIDE_A_RETURN = 10
+
+
+def country(stations):
+    """A setup of 52 constituencies with five lists each, and their returns: by constituency and station, blank, spoiled, votes."""
+    names = [f"List {code}" for code in "ABCDE"]
+    setup, returns = profile("loreg", threshold=300), {}
+    for c in range(1, 53):
+        setup += constituency(f"c{c}", f"Province {c}", 7, "loreg")
+        setup += "".join(party_list(name[-1], name, *(f"Candidate {n}" for n in range(1, 8))) for name in names)
+        setup += "".join(station(f"s{c}-{n}", 1500) for n in range(1, stations + 1))
+        returns[f"c{c}"] = {f"s{c}-{n}": [n % 5, n % 3, *((c * 37 + n * 11 + k * 53) % 90 + 300 // (k + 1) for k in range(4)), c % 9]
+                            for n in range(1, stations + 1)}
+    return setup, returns
+
+
+def close_all(sums):
+    """Closes every return of an office that was ended. The next opening compares the sums with the returns."""
+    ran(PROGRAM, "show", "--db", "office.db", "--report", "progress")  # takes the log into the file
+    with contextlib.closing(sqlite3.connect("office.db")) as it, it:
+        it.execute("UPDATE returns SET status = 4, rev = 2")
+        it.executemany("UPDATE totals SET n = ? WHERE con = ? AND item = ?", [
+            (n, con, item) for con, column in sums.items() for item, n in zip((0, 61, 1, 2, 3, 4, 5), column)])
+
+
+def spent(desk):
+    """Seconds that the office has been on a processor."""
+    return int(Path(f"/proc/{desk.process.pid}/schedstat").read_text().split()[0]) / 1e9
+
+
 def test_a_country_of_52():
-    """52 constituencies: each is asked nine times, and that the pages are written takes less than five seconds beside the answers."""
-    codes = [f"c{n}" for n in range(1, 53)]
-    answers = {"/progress": "".join(TWIN["/progress"].replace("c1 ", f"{code:3}", 1) for code in codes)}
-    for code in codes:
-        for target, said in TWIN.items():
-            if target.startswith("/con/"):
-                answers[target.replace("c1", code)] = said.replace(" c1 ", f" {code} ", 1) if isinstance(said, str) else said | {"con": code}
-    with answering_desk(answers) as (port, asked):
-        last = press(port)
-        same((" pages 53 failed 0 GETs 469 " in last, len(asked)), (True, 469))
-        began = time.monotonic()
-        for target in list(asked):
-            plain(port, "GET", target)
-        alone = time.monotonic() - began
-    took = float(last.split()[-2])
-    assert took - alone < 5, f"{took} s, and its GETs alone {alone} s"
+    """An office of 52 constituencies, all certified: its pages have the sums of the returns and the seats of the rule, and cost
+    the office little."""
+    setup, returns = country(COUNTRY_STATIONS)
+    sums = {con: [sum(column) for column in zip(*of.values())] for con, of in returns.items()}
+    with contextlib.ExitStack() as held:
+        if os.path.isdir("/dev/shm"):  # no command then waits for a disk
+            os.chdir(held.enter_context(tempfile.TemporaryDirectory(prefix="office-deploy-", dir="/dev/shm")))
+        with serving(setup) as desk:
+            for con, of in returns.items():
+                rows_of = "".join(f"{name},p1,{','.join(map(str, row))}\n" for name, row in of.items())
+                imported = plain(desk.port, "POST", f"/con/{con}/import", f"station,slip,blank,spoiled,A,B,C,D,E\n{rows_of}")
+                same(json.loads(imported.body)["lodged"], len(of))
+        close_all(sums)
+        desk.start()
+        held.callback(desk.end)
+        for con in returns:
+            same(plain(desk.port, "POST", f"/con/{con}/certify", '{"edition":1}').body, b'{"edition":2,"ok":"edition"}')
+        began = spent(desk)
+        last = press(desk.port)
+        took = spent(desk) - began
+        assert " pages 53 failed 0 GETs 469 " in last, last
+        began = spent(desk)
+        for name in list(returns["c1"])[:20] * 5:
+            plain(desk.port, "GET", f"/station/{name}")
+        of_return = (spent(desk) - began) / 100
+        print(f"a round of {52 * COUNTRY_STATIONS} stations: {took:.2f} s of the office, a GET {took / 469 * 1e3:.2f} ms, "
+              f"that of a return {of_return * 1e3:.2f} ms; {last.split(' in ')[1]} by the clock")
+        look_at_country(returns, sums)
+        assert took < ROUND_SECONDS, f"{took} s of the office"
+        assert COUNTRY_STATIONS > 20 or took < 469 * BESIDE_A_RETURN * of_return, f"{took} s, and a return {of_return} s"
+        # With the setup every return is published too.
+        last = press(desk.port, "--setup", "setup.toml")
+        assert f" pages 53 failed 0 GETs {469 + 52 * (COUNTRY_STATIONS + 1)} " in last, last
+        print(f"a round that publishes every return: {last.split(' in ')[1]} by the clock")
+        for con, of in returns.items():
+            same(read(f"stations-{con}-2.csv").splitlines()[1:], [f"{name},p1,{','.join(map(str, row))}" for name, row in of.items()])
+        desk.end()
+        same(ran(sys.executable, ROOT / "examples/recount.py", "office.db"), "".join(f"{con} agrees\n" for con in returns))
+
+
+def look_at_country(returns, sums):
+    """The pages of the country have its sums, and the seats of an allotment in plain Python."""
     same(len(page_of("index.html").tables["Progress of the constituencies"]), 53)
+    results = [line.split(",") for line in read("results.csv").splitlines()[1:]]
+    same([(row[0], int(row[8])) for row in results], [(con, n) for con in returns for n in sums[con][2:]])
+    same(sum(int(row[11]) for row in results), 52 * 7)
+    for con in returns:
+        blank, spoiled, *votes = sums[con]
+        poll = model.Poll({"method": "dhondt", "threshold": 300, "base": "valid"}, 7, votes, blank)
+        found = json.loads(read(f"con-{con}.json"))["view"]
+        same((found["votes"], found["blank"], found["spoiled"], found["stations"]), (votes, blank, spoiled, COUNTRY_STATIONS))
+        same(found["seats"], poll.allotted())
+        same([int(row[1].replace(",", "")) for row in page_of(f"con-{con}.html").tables["Votes of each list"][1:]], votes)
+        same([row[1] for row in page_of(f"con-{con}.html").tables["Seats of each list"][1:-1]], [str(n) for n in found["seats"]])
 
 
 def without_time(text):
@@ -1311,12 +1409,15 @@ def clerks_part(it, desk):
     same([it.visible(f"#{form}") for form in ("import", "certify", "reopen", "lodge")], [True, False, False, False])
     it.of_session("POST", f"/element/{it.find('#import input[type=file]')}/value", {"text": str(ROOT / "examples/returns.csv")})
     it.click("#import button")
-    said(it, "Lodged 13, the same 1, differing 2, refused 2, unreadable 2. The first that was not accepted is row 11")
+    said(it, "Lodged 13, the same 1, differing 2, refused 2, unreadable 2. The first that was not accepted is row 11, below the header: "
+             "another return of its station is recorded.")
     for station, lodged in LATE.items():
         choose_station(it, station)
         same(it.text("#return"), f"Station {station} has no return yet.")
+        same(it.run("return document.activeElement.name"), "slip")
         enter(it, "lodge", lodged)
         said(it, "Lodged, revision 1.")
+        it.wait("return document.activeElement.id === 'station'")
     # The slip a second time, right and wrong.
     enter(it, "lodge", LATE["04-002-A"])
     said(it, "Both entries are the same; recorded in revision 1.")
@@ -1402,14 +1503,20 @@ def confirmed(it, button, question, words):
 
 @needs("chromium", "nginx", "openssl")
 def test_a_station_in_the_clerks_page():
-    """A station sees its own return alone, and may lodge it."""
-    with answering_desk(REOPENED | {"/station/s1": (404, '{"refused":8,"word":"no_return"}')}) as (port, asked), proxy(port) as front:
-        Path("setup.toml").write_text(with_stations(2), encoding="utf-8")
-        press(port, "--setup", "setup.toml", folder=str(front.folder / "pages"))
+    """A station sees its own return alone, and may lodge it; what is wrong in it a clerk corrects."""
+    with office_and_proxy(with_stations(2)) as (desk, front):
+        press(desk.port, "--setup", "setup.toml", folder=str(front.folder / "pages"))
         front.name("stations", "s1")
         with clerks_browser(front, "s1") as it:
             same([it.visible(f"#{part}") for part in ("of-con", "choice", "lodge", "close", "query")], [False, False, True, False, False])
             same(it.run("return [document.getElementById('station').value, document.getElementById('station').readOnly]"), ["s1", True])
+            lodged = {"slip": "p1", "votes": [20, 30], "blank": 1, "spoiled": 0}
+            enter(it, "lodge", lodged)
+            said(it, "Lodged, revision 1.")
+            enter(it, "lodge", lodged | {"votes": [20, 31]})
+            said(it, "if the recorded one is wrong, tell the office: a clerk corrects it.")
+            same([it.visible(f"#{part}") for part in ("of-con", "choice", "lodge", "close", "query")], [False, False, True, False, False])
+        same(json.loads(plain(desk.port, "GET", "/station/s1").body)["votes"], [20, 30])
 
 
 def test_what_the_clerks_page_is():

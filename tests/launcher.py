@@ -456,7 +456,7 @@ def a_failed_build_shows_the_open_goal_first(copy):
 
 def a_build_says_what_it_needs_and_how_many_crates_are_left(copy):
     lines = copy.run("check")[2].splitlines()
-    assert all(need in lines[1] for need in ("8 GB of disk", "of memory", "about an hour")), lines
+    assert all(need in lines[1] for need in ("8 GB of disk", "of memory", "some 40 minutes")), lines
     assert lines[2:] == [
         f"office: tally_frac is proved, 28 functions: {CRATES - 1} of {CRATES} crates left",
         f"office: tally_office is proved, 28 functions: {CRATES - 2} of {CRATES} crates left",

@@ -20,6 +20,19 @@ TESTED = "\n".join(
     for crate in ("tally_desk_tests", "tally_http_tests")
     for path in sorted((ROOT / "crates" / crate / "src").glob("*.rt"))
 ).replace('\\"', '"')
+# The refusals of the checks that a request goes through (`Lodge`, `Moves`, `Decide` of tally_returns; `Certification` of
+# tally_steps). The other routes to a constituency have its own alone.
+CHECKS = {
+    "/station/{s}": {1, 8},
+    "/station/{s}/lodge": {1, 4, 6, 7},
+    "/station/{s}/query": {1, 5, 8, 9, 11, 12, 13},
+    "/station/{s}/correct": {1, 4, 6, 8, 9, 11, 12, 13},
+    "/station/{s}/close": {1, 8, 9, 11, 12, 13},
+    "/con/{c}/draw": {2, 9, 11, 12, 14, 15, 16, 17, 18},
+    "/con/{c}/certify": {2, 9, 11, 12, 14, 15, 19},
+    "/con/{c}/reopen": {2, 5, 10, 11, 12},
+    "/con/{c}/vacate": {2, 3, 5, 10, 20, 21},
+}
 PHRASES = {
     "200": "OK",
     "400": "Bad Request",
@@ -147,7 +160,7 @@ def test_every_part_is_used():
 
 
 def test_the_routes_are_those_of_the_desk():
-    routes = dict(re.findall(r'\("(/[^"]*)", Route::(\w+)\)', ROUTES))
+    routes = dict(re.findall(r'"(/[^"]*)",\s*Route::(\w+)', ROUTES))
     gets = set(re.findall(r"Route::(\w+)", ROUTES.split("pub fn takes_get", 1)[1].split("=> false", 1)[0].rsplit("=> true", 1)[0]))
     want = {(path, "get" if name in gets else "post") for path, name in routes.items()}
     assert len(want) == 21, f"{len(want)} routes were found"
@@ -179,6 +192,14 @@ def test_each_refusal_has_its_number_word_and_status():
         assert schema["properties"]["word"]["enum"] == [word]
         found = {s for _, s, _, _, value in answers() if isinstance(value, dict) and value.get("refused") == number}
         assert found == {status}, f"{word}: {found}"
+
+
+def test_each_route_has_the_refusals_of_its_checks():
+    for path, method, operation in operations():
+        named = (re.search(r"/Refused_(\d+)_", name) for name in references(operation["responses"]))
+        found = {int(number.group(1)) for number in named if number}
+        want = CHECKS.get(path, {2} if path.startswith("/con/") else set())
+        assert found == want, f"{method} {path}: {sorted(found)}"
 
 
 def test_each_word_has_its_status():

@@ -11,40 +11,10 @@ import os
 import sys
 
 import program
+from office import CONSTITUENCY, LISTS, PROFILE, station
 from program import Ran, office, same, write
 
-PROFILE = """\
-[[profile]]
-code = "d0"
-method = "dhondt"
-threshold = 0
-base = "valid"
-"""
-
-CONSTITUENCY = """\
-[[constituency]]
-code = "c1"
-name = "Twin Town"
-seats = 3
-profile = "d0"
-"""
-
-LISTS = """\
-[[constituency.list]]
-code = "A"
-name = "Alpha"
-candidates = ["Ana", "Abel"]
-[[constituency.list]]
-code = "B"
-name = "Beta"
-candidates = ["Bea"]
-"""
-
-STATION = """\
-[[constituency.station]]
-code = "s1"
-electors = 300
-"""
+STATION = station("s1")
 
 EXAMPLE = PROFILE + CONSTITUENCY + LISTS + STATION
 

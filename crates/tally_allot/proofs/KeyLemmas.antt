@@ -14,7 +14,7 @@ use Rattle.tally_contest.specs.internal.Orders.{MayBeTaken}
 use Rattle.tally_contest.specs.internal.Pairs.{last_place, turns, place_at}
 use Rattle.tally_rules.specs.declared.profile.LotRule.{LotRule}
 use Rattle.tally_law.specs.Poll.{Poll}
-use Rattle.tally_contest.specs.internal.Terms.{AreDivisors, IsClassOf, IsSound}
+use Rattle.tally_contest.specs.internal.Terms.{AreDivisors, IsClassOf, IsSound, Terms, divisor_under, lot_rule_of}
 use Rattle.tally_allot.proofs.LotLaws.{IsPlaced, at_name, at_setup, placed_at}
 use Rattle.tally_contest.proofs.Vectors.{get_or-le-sum}
 
@@ -72,12 +72,12 @@ place_at-limits lot_rule lot l k few one last = by_turn (cases_Bool (turns lot_r
         let at : place_at lot_rule lot l k ≡ place_of lot l = ap (λ b. cond b (last_place lot + 1 - place_of lot l) (place_of lot l)) e in
         (omega (arith, at, one), omega (arith, at, last))
 
-pub have_keys : (nth : ℕ → ℕ) (lot_rule : LotRule) → AreDivisors nth → ((k : ℕ) → 1 ≤ k → k ≤ 501 → nth k ≤ 5005) → (poll : Poll) → IsSound poll → sum poll.votes ≤ 5000000000 → length poll.votes ≤ 60 → (lot : List ℕ) → length lot ≤ length poll.votes → HaveKeys nth lot_rule poll lot
-have_keys nth lot_rule d most poll sound few_votes few_lists lot few l k e one last =
-    let place = place_at-limits lot_rule lot l k (omega (arith, few, few_lists)) (place_from_one lot l) (omega (arith, place_up_to lot l (length poll.votes) few (sound.listed l e), few_lists)) in
+pub have_keys : (terms : Terms) → AreDivisors (divisor_under terms.rule) → ((k : ℕ) → 1 ≤ k → k ≤ 501 → divisor_under terms.rule k ≤ 5005) → IsSound terms.poll → sum terms.poll.votes ≤ 5000000000 → length terms.poll.votes ≤ 60 → length terms.lot ≤ length terms.poll.votes → HaveKeys terms
+have_keys terms d most sound few_votes few_lists few l k e one last =
+    let place = place_at-limits (lot_rule_of terms.rule) terms.lot l k (omega (arith, few, few_lists)) (place_from_one terms.lot l) (omega (arith, place_up_to terms.lot l (length terms.poll.votes) few (sound.listed l e), few_lists)) in
     record {
       some_votes = sound.with_votes l e;
-      votes_limit = omega (arith, get_or-le-sum poll.votes l, few_votes);
+      votes_limit = omega (arith, get_or-le-sum terms.poll.votes l, few_votes);
       some_divisor = d.positive k one;
       divisor_limit = most k one last;
       some_place = place.0;

@@ -6,7 +6,7 @@ use Rattle.std.proofs.lemmas.List.Folds.{Any-from_list_any, list_any_at}
 use Rattle.std.specs.Cmp.{both_ways}
 use Rattle.tally_law.specs.Poll.{Poll, IsEligible, votes_of}
 use Rattle.tally_rules.specs.ListSet.{has_place}
-use Rattle.tally_law.specs.Lot.{place_from, place_of, is_named, IsOrderOf}
+use Rattle.tally_law.specs.Lot.{place_in_lot, place_of, is_named, IsOrderOf}
 use Rattle.tally_law.specs.Allotment.{IsAllotmentByVotes}
 use Rattle.tally_law.specs.LotNeed.{IsLotNeeded, IsDecidedByVotes, IsNeed, IsLotTaken, IsLotWrong}
 use Rattle.tally_contest.specs.internal.Race.{IsFair, IsTie}
@@ -17,18 +17,18 @@ use Rattle.tally_contest.proofs.TermsRace.{AreRaces}
 
 -- a list is named in the lot and has that place, or is not named and has the setup's
 pub data IsPlaced (n : ℕ) (lot : List ℕ) (l : ℕ) : Type 0 where
-  at_name : (i : ℕ) → i < length lot → get_or lot i 0 ≡ l + 1 → place_from n lot l ≡ n + i → IsPlaced n lot l
-  at_setup : ((i : ℕ) → i < length lot → get_or lot i 0 ≢ l + 1) → place_from n lot l ≡ l + 1 → IsPlaced n lot l
+  at_name : (i : ℕ) → i < length lot → get_or lot i 0 ≡ l + 1 → place_in_lot n lot l ≡ n + i → IsPlaced n lot l
+  at_setup : ((i : ℕ) → i < length lot → get_or lot i 0 ≢ l + 1) → place_in_lot n lot l ≡ l + 1 → IsPlaced n lot l
 
 pub placed_at : (n : ℕ) (lot : List ℕ) (l : ℕ) → IsPlaced n lot l
 placed_at n [] l = at_setup (λ i lt. absurd (omega arith)) refl
 placed_at n (p ∷ rest) l = by_test (cases_Bool (eqb p (l + 1))) (placed_at (n + 1) rest l)
   where
-    here : eqb p (l + 1) ≡ true → place_from n (p ∷ rest) l ≡ n + 0
-    here e = ap (λ b. cond b n (place_from (n + 1) rest l)) e ∙ omega arith
+    here : eqb p (l + 1) ≡ true → place_in_lot n (p ∷ rest) l ≡ n + 0
+    here e = ap (λ b. cond b n (place_in_lot (n + 1) rest l)) e ∙ omega arith
 
-    there : eqb p (l + 1) ≡ false → place_from n (p ∷ rest) l ≡ place_from (n + 1) rest l
-    there e = ap (λ b. cond b n (place_from (n + 1) rest l)) e
+    there : eqb p (l + 1) ≡ false → place_in_lot n (p ∷ rest) l ≡ place_in_lot (n + 1) rest l
+    there e = ap (λ b. cond b n (place_in_lot (n + 1) rest l)) e
 
     by_test : (eqb p (l + 1) ≡ true) ⊎ (eqb p (l + 1) ≡ false) → IsPlaced (n + 1) rest l → IsPlaced n (p ∷ rest) l
     by_test (inl e) _ = at_name 0 (omega arith) (eqb-true p (l + 1) e) (here e)

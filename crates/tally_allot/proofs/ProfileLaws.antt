@@ -20,7 +20,7 @@ use Rattle.tally_contest.proofs.Vectors.{Exchange, equal_or_exchange, get_or-le-
 use Rattle.tally_contest.proofs.Sums.{sum-is}
 use Rattle.tally_contest.proofs.PollLemmas.{sound_under}
 use Rattle.tally_contest.proofs.TermsRace.{are_races, one_allotment}
-use Rattle.tally_law.specs.Reordering.{IsReordering, reordered}
+use Rattle.tally_law.specs.Reordering.{IsReordering, numbers_in_order}
 use Rattle.tally_law.specs.LawStatements.{AllotmentsAreUnique, AllotmentsExist, LotsChooseAmongWhatVotesAllow, VotesDecideOrALotIsNeeded, NoLotIsNeededWhereVotesDecide, GroupsAreOfOneNumberOfVotes, EachOrderGivesAChoice, EachChoiceComesFromAnOrder, TheOrderOfTheSetupIsNothingWhereVotesDecide}
 use Rattle.tally_allot.proofs.LotLaws.{decided_not_needed, proper_if_taken, proper_without_lot}
 use Rattle.tally_allot.proofs.AllotmentLaws.{exists, by_votes, choice_of_order, group_of_votes}
@@ -69,10 +69,10 @@ order_gives rule poll seats group in_question lot d s some need order =
 
 -- the poll of a profile where the lists stand in another order
 module _ (profile : Profile) (votes : List ℕ) (blank : ℕ) (order : List ℕ) (perm : IsReordering (length votes) order) where
-  same_sum : sum (reordered votes order) ≡ sum votes
+  same_sum : sum (numbers_in_order votes order) ≡ sum votes
   same_sum = sum_over (poll_of profile votes blank) order perm (λ l. get_or votes l 0) ∙ sym (sum-is votes)
 
-  same_base : (base : Base) → base_of base (reordered votes order) blank ≡ base_of base votes blank
+  same_base : (base : Base) → base_of base (numbers_in_order votes order) blank ≡ base_of base votes blank
   same_base Valid = ap (λ n. n + blank) same_sum
   same_base Lists = same_sum
 
@@ -87,11 +87,11 @@ module _ (profile : Profile) (votes : List ℕ) (blank : ℕ) (order : List ℕ)
   marks t base [] = refl
   marks t base (l ∷ ls) = λ i. mark_at t base l i ∷ marks t base ls i
 
-  profile_reordered : poll_of profile (reordered votes order) blank ≡ reordered_poll (poll_of profile votes blank) order
+  profile_reordered : poll_of profile (numbers_in_order votes order) blank ≡ reordered_poll (poll_of profile votes blank) order
   profile_reordered =
-      let e : map (is_eligible profile.threshold (base_of profile.base (reordered votes order) blank)) (reordered votes order) ≡ map (λ l. get_or (map (is_eligible profile.threshold (base_of profile.base votes blank)) votes) l false) order =
-      ap (λ base. map (is_eligible profile.threshold base) (reordered votes order)) (same_base profile.base) ∙ marks profile.threshold (base_of profile.base votes blank) order in
-      λ i. record { votes = reordered votes order; eligible = e i }
+      let e : map (is_eligible profile.threshold (base_of profile.base (numbers_in_order votes order) blank)) (numbers_in_order votes order) ≡ map (λ l. get_or (map (is_eligible profile.threshold (base_of profile.base votes blank)) votes) l false) order =
+      ap (λ base. map (is_eligible profile.threshold base) (numbers_in_order votes order)) (same_base profile.base) ∙ marks profile.threshold (base_of profile.base votes blank) order in
+      λ i. record { votes = numbers_in_order votes order; eligible = e i }
 
 -- the laws
 
@@ -125,5 +125,5 @@ setup-order profile votes blank seats order a some perm decided is =
     let poll = poll_of profile votes blank in
     let d = rule-is profile in
     let s = poll-sound profile votes blank in
-    let P : Poll → Type 0 = λ p. IsDecidedByVotes rule p seats × IsAllotment rule p [] seats (reordered a order) in
+    let P : Poll → Type 0 = λ p. IsDecidedByVotes rule p seats × IsAllotment rule p [] seats (numbers_in_order a order) in
     subst P (sym (profile_reordered profile votes blank order perm)) (setup_order_decides rule poll seats order a d s some perm decided is, setup_order_is_nothing rule poll seats order a d s some perm decided is)

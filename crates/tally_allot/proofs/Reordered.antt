@@ -10,7 +10,7 @@ use Rattle.tally_law.specs.Poll.{Poll, IsEligible, votes_of, eligible_votes}
 use Rattle.tally_law.specs.Allotment.{Rule, divisors, hare, IsAllotment}
 use Rattle.tally_law.specs.LotNeed.{IsDecidedByVotes}
 use Rattle.tally_contest.specs.internal.Race.{Race, IsFair, IsTie}
-use Rattle.tally_law.specs.Reordering.{IsReordering, reordered}
+use Rattle.tally_law.specs.Reordering.{IsReordering, numbers_in_order}
 use Rattle.tally_contest.specs.internal.Sums.{sum_before}
 use Rattle.tally_contest.specs.internal.Terms.{Terms, IsRule, IsSound, vote_race, placed_race}
 use Rattle.tally_contest.proofs.Vectors.{two-le-sum, Exchange, equal_or_exchange}
@@ -158,28 +158,28 @@ module _ (rule : Rule) (poll : Poll) (seats : ℕ) (d : IsRule rule) (s : IsSoun
     together : AreAlike poll order perm (vote_race new) (vote_race old)
     together = alike poll order perm rule seats
 
-    at_seats : (l : ℕ) → l < length poll.votes → get_or (reordered a order) l 0 ≡ get_or a (get_or order l 0) 0
+    at_seats : (l : ℕ) → l < length poll.votes → get_or (numbers_in_order a order) l 0 ≡ get_or a (get_or order l 0) 0
     at_seats l lt = at poll order perm (λ x. get_or a x 0) l lt
 
-    long_seats : length (reordered a order) ≡ length poll.votes
+    long_seats : length (numbers_in_order a order) ≡ length poll.votes
     long_seats = length-map order (λ x. get_or a x 0) ∙ long poll order perm
 
-    past : (l : ℕ) → length poll.votes ≤ l → ((vote_race new).floor l ≡ 0) × (get_or (reordered a order) l 0 ≡ 0)
-    past l ge = ((r'.ineligible l (λ e. absurd (omega (arith, listed_in poll order perm l e)))).0, get_or_past (reordered a order) l 0 (omega (arith, long_seats)))
+    past : (l : ℕ) → length poll.votes ≤ l → ((vote_race new).floor l ≡ 0) × (get_or (numbers_in_order a order) l 0 ≡ 0)
+    past l ge = ((r'.ineligible l (λ e. absurd (omega (arith, listed_in poll order perm l e)))).0, get_or_past (numbers_in_order a order) l 0 (omega (arith, long_seats)))
 
-    limits : (l : ℕ) → ((vote_race new).floor l ≤ get_or (reordered a order) l 0) × (get_or (reordered a order) l 0 ≤ (vote_race new).cap l)
+    limits : (l : ℕ) → ((vote_race new).floor l ≤ get_or (numbers_in_order a order) l 0) × (get_or (numbers_in_order a order) l 0 ≤ (vote_race new).cap l)
     limits l = by_cases (cases_lt l (length poll.votes))
       where
-        by_cases : (l < length poll.votes) ⊎ (length poll.votes ≤ l) → ((vote_race new).floor l ≤ get_or (reordered a order) l 0) × (get_or (reordered a order) l 0 ≤ (vote_race new).cap l)
+        by_cases : (l < length poll.votes) ⊎ (length poll.votes ≤ l) → ((vote_race new).floor l ≤ get_or (numbers_in_order a order) l 0) × (get_or (numbers_in_order a order) l 0 ≤ (vote_race new).cap l)
         by_cases (inl lt) = (omega (arith, together.floor_is l lt, at_seats l lt, f.low (get_or order l 0)), omega (arith, together.cap_is l lt, at_seats l lt, f.high (get_or order l 0)))
         by_cases (inr ge) = let p = past l ge in (omega (arith, p), omega (arith, p))
 
-    whole : sum (reordered a order) ≡ seats
+    whole : sum (numbers_in_order a order) ≡ seats
     whole =
         let e : sum_before (λ x. get_or a x 0) (length a) ≡ sum_before (λ x. get_or a x 0) (length poll.votes) = ap (sum_before (λ x. get_or a x 0)) (f.one_each ∙ r.count_is) in
         sum_over poll order perm (λ x. get_or a x 0) ∙ sym e ∙ sym (sum-is a) ∙ f.total
 
-    new_above : (l m : ℕ) → l ≢ m → (vote_race new).floor l < get_or (reordered a order) l 0 → get_or (reordered a order) m 0 < (vote_race new).cap m → (vote_race new).Above l (get_or (reordered a order) l 0) m (get_or (reordered a order) m 0 + 1)
+    new_above : (l m : ℕ) → l ≢ m → (vote_race new).floor l < get_or (numbers_in_order a order) l 0 → get_or (numbers_in_order a order) m 0 < (vote_race new).cap m → (vote_race new).Above l (get_or (numbers_in_order a order) l 0) m (get_or (numbers_in_order a order) m 0 + 1)
     new_above l m ne win room =
         let ll : l < length poll.votes = omega (arith, r'.within l (omega (arith, win, limits l)), r'.count_is, count_is poll order perm) in
         let lm : m < length poll.votes = omega (arith, r'.within m (omega (arith, room, limits m)), r'.count_is, count_is poll order perm) in
@@ -187,7 +187,7 @@ module _ (rule : Rule) (poll : Poll) (seats : ℕ) (d : IsRule rule) (s : IsSoun
         let up = together.above_is l _ m _ ll lm ab in
         rw (at_seats l ll, at_seats m lm) up
 
-    reordered_fair : IsFair (placed_race new) seats (reordered a order)
+    reordered_fair : IsFair (placed_race new) seats (numbers_in_order a order)
     reordered_fair =
         record {
           one_each = omega (arith, long_seats, r'.same_count, r'.count_is, count_is poll order perm);
@@ -198,32 +198,32 @@ module _ (rule : Rule) (poll : Poll) (seats : ℕ) (d : IsRule rule) (s : IsSoun
               r'.placed.asym l _ m _ (omega (arith, limits l, r'.same_cap l)) (omega (arith, limits m, r'.same_floor m)) (r'.refines _ _ _ _ (new_above l m ne (omega (arith, r'.same_floor l)) (omega (arith, r'.same_cap m))));
         }
 
-    pub reordered_allotment : IsAllotment rule (reordered_poll poll order) [] seats (reordered a order)
-    reordered_allotment = from_placed new r' (proper_without_lot (reordered_poll poll order)) (reordered a order) reordered_fair
+    pub reordered_allotment : IsAllotment rule (reordered_poll poll order) [] seats (numbers_in_order a order)
+    reordered_allotment = from_placed new r' (proper_without_lot (reordered_poll poll order)) (numbers_in_order a order) reordered_fair
 
-    new_fair : IsFair (vote_race new) seats (reordered a order)
-    new_fair = fair_by_votes new r' seats (reordered a order) reordered_fair
+    new_fair : IsFair (vote_race new) seats (numbers_in_order a order)
+    new_fair = fair_by_votes new r' seats (numbers_in_order a order) reordered_fair
 
-    same_as : (b : List ℕ) → IsAllotmentByVotes rule (reordered_poll poll order) seats b → b ≡ reordered a order
+    same_as : (b : List ℕ) → IsAllotmentByVotes rule (reordered_poll poll order) seats b → b ≡ numbers_in_order a order
     same_as b wb =
         let fb = r'.to_fair b wb in
-        by_cases fb (equal_or_exchange (reordered a order) b (omega (arith, new_fair.one_each, fb.one_each)) (omega (arith, new_fair.total, fb.total)))
+        by_cases fb (equal_or_exchange (numbers_in_order a order) b (omega (arith, new_fair.one_each, fb.one_each)) (omega (arith, new_fair.total, fb.total)))
       where
-        by_cases : IsFair (vote_race new) seats b → (reordered a order ≡ b) ⊎ Exchange (reordered a order) b → b ≡ reordered a order
+        by_cases : IsFair (vote_race new) seats b → (numbers_in_order a order ≡ b) ⊎ Exchange (numbers_in_order a order) b → b ≡ numbers_in_order a order
         by_cases fb (inl e) = sym e
         by_cases fb (inr x) =
-            let w = one_seat (vote_race new) r'.by_votes seats (reordered a order) b new_fair fb x.l x.m x.more x.less in
+            let w = one_seat (vote_race new) r'.by_votes seats (numbers_in_order a order) b new_fair fb x.l x.m x.more x.less in
             absurd (w.below (new_above x.l x.m w.apart w.wins.0 (omega (arith, w.is_next))))
 
     pub reordered_decided : IsDecidedByVotes rule (reordered_poll poll order) seats
-    reordered_decided = (reordered a order, r'.from_fair (reordered a order) new_fair, same_as)
+    reordered_decided = (numbers_in_order a order, r'.from_fair (numbers_in_order a order) new_fair, same_as)
 
 pub setup_order_decides : (rule : Rule) (poll : Poll) (seats : ℕ) (order a : List ℕ) → IsRule rule → IsSound poll → 1 ≤ seats → IsReordering (length poll.votes) order → IsDecidedByVotes rule poll seats → IsAllotment rule poll [] seats a → IsDecidedByVotes rule (reordered_poll poll order) seats
 setup_order_decides rule poll seats order a d s some perm decided w =
     let r = are_races rule poll [] seats d s some in
     reordered_decided rule poll seats d s some decided a (r.to_fair a (r.to_by_votes a w)) order perm
 
-pub setup_order_is_nothing : (rule : Rule) (poll : Poll) (seats : ℕ) (order a : List ℕ) → IsRule rule → IsSound poll → 1 ≤ seats → IsReordering (length poll.votes) order → IsDecidedByVotes rule poll seats → IsAllotment rule poll [] seats a → IsAllotment rule (reordered_poll poll order) [] seats (reordered a order)
+pub setup_order_is_nothing : (rule : Rule) (poll : Poll) (seats : ℕ) (order a : List ℕ) → IsRule rule → IsSound poll → 1 ≤ seats → IsReordering (length poll.votes) order → IsDecidedByVotes rule poll seats → IsAllotment rule poll [] seats a → IsAllotment rule (reordered_poll poll order) [] seats (numbers_in_order a order)
 setup_order_is_nothing rule poll seats order a d s some perm decided w =
     let r = are_races rule poll [] seats d s some in
     reordered_allotment rule poll seats d s some decided a (r.to_fair a (r.to_by_votes a w)) order perm

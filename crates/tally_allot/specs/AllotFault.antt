@@ -2,12 +2,11 @@
 use Rattle.std.specs.Prelude.{ℕ, ◌≡◌, List, [], Option, MatchOption}
 use Rattle.tally_law.specs.Poll.{Poll, HasEligible}
 use Rattle.tally_law.specs.Allotment.{Rule}
-use Rattle.tally_law.specs.LotNeed.{IsNeed, IsDecidedByVotes, IsLotTaken, IsLotWrong}
+use Rattle.tally_law.specs.LotNeed.{IsNeed, IsDecidedByVotes, IsLotWrong}
 use Rattle.tally_allot.specs.declared.fault.AllotFault.{AllotFault}
-use Rattle.tally_allot.specs.declared.fault.AllotFault.TheVariants.{NoEligible, LotMissing, WrongLot, Memory}
+use Rattle.tally_allot.specs.declared.fault.AllotFault.TheVariants.{NoEligible, LotMissing}
+use Rattle.tally_allot.specs.declared.fault.AllotFault.TheVariants.{WrongLot, Memory}
 use Rattle.tally_contest.specs.declared.need.Need.{Need}
-use Rattle.tally_allot.specs.declared.verdict.LotVerdict.{LotVerdict}
-use Rattle.tally_allot.specs.declared.verdict.LotVerdict.TheVariants.{Right, Missing, Wrong}
 
 -- What each fault says. Memory may come at any time.
 abbrev pub IsFaultOf : Rule → Poll → ℕ → List ℕ → AllotFault → Type 0
@@ -27,7 +26,8 @@ number_of Memory = 4
 -- No lot, where the votes decide, and else the lot that is needed.
 abbrev pub IsNeedOrNone : Rule → Poll → ℕ → Option Need → Type 0
 IsNeedOrNone rule poll seats need =
-    MatchOption need (IsDecidedByVotes rule poll seats) (λ need. IsNeed rule poll seats need.group need.seats)
+    MatchOption need (IsDecidedByVotes rule poll seats)
+    (λ need. IsNeed rule poll seats need.group need.seats)
 
 -- What the faults say where a lot is asked for. No fault speaks of a lot.
 abbrev pub IsNeedFaultOf : Poll → AllotFault → Type 0
@@ -35,9 +35,3 @@ IsNeedFaultOf poll NoEligible = ¬ HasEligible poll
 IsNeedFaultOf poll (LotMissing group in_question) = ⊥
 IsNeedFaultOf poll WrongLot = ⊥
 IsNeedFaultOf poll Memory = Unit {0}
-
--- What a verdict on a lot says.
-abbrev pub IsVerdictOn : Rule → Poll → ℕ → List ℕ → LotVerdict → Type 0
-IsVerdictOn rule poll seats lot Right = IsLotTaken rule poll seats lot
-IsVerdictOn rule poll seats lot (Missing need) = IsNeed rule poll seats need.group need.seats × (lot ≡ [])
-IsVerdictOn rule poll seats lot Wrong = IsLotWrong rule poll seats lot

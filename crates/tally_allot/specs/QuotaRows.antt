@@ -1,6 +1,6 @@
 -- The rows of the lists under Hare's rule.
-use Rattle.std.specs.Prelude.{ℕ, zero, suc, ◌≡◌, ◌+◌, List, [], ◌∷◌, ◌++◌, false, nat_lt, length, slice_index}
-use Rattle.std.specs.Prelude.{slice_index_or, if◌then◌else◌}
+use Rattle.std.specs.Prelude.{ℕ, zero, suc, ◌≡◌, ◌+◌, List, [], ◌∷◌, ◌++◌, false, nat_lt, length}
+use Rattle.std.specs.Prelude.{slice_index, slice_index_or, if◌then◌else◌}
 use Rattle.tally_allot.specs.declared.quota_row.QuotaRow.{QuotaRow}
 use Rattle.tally_law.specs.Poll.{Poll}
 use Rattle.tally_law.specs.HareAllotment.{IsHareAllotment, whole_quotas, remainder}
@@ -25,4 +25,5 @@ quota_rows poll seats a (suc n) =
 -- the rows of the eligible lists, where the seats are those of the Hare allotment
 abbrev pub AreQuotaRows : Poll → List ℕ → ℕ → List QuotaRow → Type 0
 AreQuotaRows poll lot seats rows =
-    (a : List ℕ) × IsHareAllotment poll lot seats a × (rows ≡ quota_rows poll seats a (length poll.votes))
+    (a : List ℕ) × IsHareAllotment poll lot seats a ×
+    (rows ≡ quota_rows poll seats a (length poll.votes))

@@ -1,18 +1,23 @@
--- Votes short: how many more votes a list needs for one seat more. The allotments are those of the law (LOREG article
--- 163.1), with ties by votes; the number itself is this project's own term.
-use Rattle.std.specs.Prelude.{ℕ, ◌≡◌, ◌+◌, ◌-◌, ◌<◌, ◌≤◌, ◌⊎◌, ◌↔◌, List, Option, None, Some, length, slice_index}
-use Rattle.std.specs.Prelude.{slice_index_or, slice_set}
+-- Votes short: how many more votes a list needs for one more seat. The allotments are those of the
+-- law (LOREG article 163.1), with ties by votes; the number itself is this project's own term.
+use Rattle.std.specs.Prelude.{ℕ, ◌≡◌, ◌+◌, ◌-◌, ◌<◌, ◌≤◌, ◌⊎◌, ◌↔◌, List, Option, None, Some}
+use Rattle.std.specs.Prelude.{length, slice_index, slice_index_or, slice_set}
 use Rattle.tally_law.specs.Poll.{Poll, IsEligible, votes_of}
 use Rattle.tally_law.specs.Allotment.{Rule, IsAllotment, IsAllotmentByVotes}
 
--- the poll with x votes more for list m; the other votes and the set of eligible lists are unchanged
+-- the poll with x more votes for list m; the other votes and the set of eligible lists are
+-- unchanged
 abbrev pub with_more_votes : Poll → ℕ → ℕ → Poll
-with_more_votes poll m x = record { votes = slice_set poll.votes m (votes_of poll m + x); eligible = poll.eligible }
+with_more_votes poll m x = record {
+  votes = slice_set poll.votes m (votes_of poll m + x);
+  eligible = poll.eligible;
+}
 
--- With x votes more every allotment by the votes alone gives list m more seats than it holds.
+-- With x more votes every allotment by the votes alone gives list m more seats than it holds.
 abbrev pub IsSureOfMore : Rule → Poll → ℕ → ℕ → ℕ → ℕ → Type 0
 IsSureOfMore rule poll seats held m x =
-    (b : List ℕ) → IsAllotmentByVotes rule (with_more_votes poll m x) seats b → held < slice_index b m
+    (b : List ℕ) → IsAllotmentByVotes rule (with_more_votes poll m x) seats b →
+    held < slice_index b m
 
 -- Votes short: the least x >= 1 with which list m is sure of more seats than it holds.
 pub record IsVotesShort (rule : Rule) (poll : Poll) (seats held m x : ℕ) : Type 0 where
@@ -20,7 +25,7 @@ pub record IsVotesShort (rule : Rule) (poll : Poll) (seats held m x : ℕ) : Typ
   pub enough : IsSureOfMore rule poll seats held m x
   pub least : (y : ℕ) → 1 ≤ y → IsSureOfMore rule poll seats held m y → x ≤ y
 
--- With one vote less some allotment by the votes alone gives list m no more than it holds; with
+-- With one vote fewer some allotment by the votes alone gives list m no more than it holds; with
 -- this or any greater number every one gives it more. However many votes are added, there is one.
 pub record IsLeastNumber (rule : Rule) (poll : Poll) (seats held m x : ℕ) : Type 0 where
   pub one_less : (b : List ℕ) × IsAllotmentByVotes rule (with_more_votes poll m (x - 1)) seats b ×

@@ -1,18 +1,17 @@
 //! Seats from votes.
 
-ghost use Rattle.std.specs.Prelude.{◌≡◌, ℕ, ◌≤◌, ◌<◌, ◌↔◌, IsTrue, IfOk, IfErr, OnOk, length, slice_index, sum};
+ghost use Rattle.std.specs.Prelude.{◌≡◌, ℕ, ◌≤◌, ◌<◌, ◌↔◌, IsTrue, IfOk, IfErr, OnOk, length, sum};
 ghost use Rattle.tally_frac.specs.Limits.{most_lists, most_seats};
-ghost use Rattle.tally_rules.specs.Threshold.{IsWithinVotes};
 ghost use Rattle.tally_contest.specs.internal.KeptPoll.{kept_poll};
-ghost use Rattle.tally_law.specs.Poll.{IsEligible};
 ghost use Rattle.tally_law.specs.Allotment.{IsAllotment, divisors as by_divisors, hare};
 ghost use Rattle.tally_law.specs.Conditions.{AreLimitsKept};
 ghost use Rattle.tally_law.specs.Poll.{HasEligible};
 ghost use Rattle.tally_allot.specs.AllotFault.{IsFaultOf, IsNeedFaultOf, IsNeedOrNone};
-ghost use Rattle.tally_law.specs.LotNeed.{IsDecidedByVotes, IsNeed, IsLotTaken, IsAllotmentUnderLot};
+ghost use Rattle.tally_allot.specs.internal.OnTerms.{IsUnderLotOn};
+ghost use Rattle.tally_contest.specs.internal.Needs.{IsNeedOn};
+ghost use Rattle.tally_law.specs.LotNeed.{IsLotTaken, IsAllotmentUnderLot};
 ghost use Rattle.tally_law.specs.Rules.{rule_of, poll_of};
-ghost use Rattle.tally_contest.specs.internal.Race.{IsFair};
-ghost use Rattle.tally_contest.specs.internal.Terms.{AreSound, placed_race};
+ghost use Rattle.tally_contest.specs.internal.Terms.{AreSound};
 
 use crate::divisor_rule::DivisorRule;
 use crate::fault::AllotFault;
@@ -39,11 +38,13 @@ pub fn allot(
 ) -> Result<Vec<u32>, AllotFault>
     requires { AreLimitsKept profile.now seats votes.now blank }
     ensures allotment { IfOk result (λ given.
-        IsAllotment (rule_of profile.now) (poll_of profile.now votes.now blank) lot.now seats given.items) }
+        IsAllotment (rule_of profile.now) (poll_of profile.now votes.now blank) lot.now seats
+        given.items) }
     ensures lot_taken { OnOk result
         (IsLotTaken (rule_of profile.now) (poll_of profile.now votes.now blank) seats lot.now) }
     ensures eligible { OnOk result (HasEligible (poll_of profile.now votes.now blank)) }
-    ensures fault { IfErr result (IsFaultOf (rule_of profile.now) (poll_of profile.now votes.now blank) seats lot.now) }
+    ensures fault { IfErr result
+        (IsFaultOf (rule_of profile.now) (poll_of profile.now votes.now blank) seats lot.now) }
 {
     let poll = Poll::new(profile, votes, blank);
     match DivisorRule::of(profile.method) {
@@ -63,8 +64,8 @@ pub(crate) fn seats_by_divisors<D: Divisors + Copy>(
     requires some_seat { 1 ≤ seats }
     requires few_seats { seats ≤ most_seats }
     ensures allotment { IfOk result (λ given.
-        IsAllotment (by_divisors (D.divisor divisors) (D.unit_of divisors) lot_rule) (kept_poll poll.now) lot.now seats
-        given.items) }
+        IsAllotment (by_divisors (D.divisor divisors) (D.unit_of divisors) lot_rule)
+        (kept_poll poll.now) lot.now seats given.items) }
     ensures lot_taken { OnOk result
         (IsLotTaken (by_divisors (D.divisor divisors) (D.unit_of divisors) lot_rule)
         (kept_poll poll.now) seats lot.now) }
@@ -85,7 +86,8 @@ fn seats_by_quotas(
 ) -> Result<Vec<u32>, AllotFault>
     requires some_seat { 1 ≤ seats }
     requires few_seats { seats ≤ most_seats }
-    ensures allotment { IfOk result (λ given. IsAllotment hare (kept_poll poll.now) lot.now seats given.items) }
+    ensures allotment { IfOk result (λ given.
+        IsAllotment hare (kept_poll poll.now) lot.now seats given.items) }
     ensures lot_taken { OnOk result (IsLotTaken hare (kept_poll poll.now) seats lot.now) }
     ensures eligible { OnOk result (HasEligible (kept_poll poll.now)) }
     ensures fault { IfErr result (IsFaultOf hare (kept_poll poll.now) seats lot.now) }
@@ -94,8 +96,8 @@ fn seats_by_quotas(
     seats_by_remainders(alloc, &contest)
 }
 
-/// The lot that is needed, or `None` where the votes decide (LOREG article 163.1 d)). Of the faults
-/// it answers `NoEligible` and `Memory`.
+/// The lot that is needed, or `None` where the votes decide (LOREG article 163.1 d)). The only
+/// faults that it answers are `NoEligible` and `Memory`.
 pub fn lot_need(
     alloc: Global,
     profile: &Profile,
@@ -104,7 +106,8 @@ pub fn lot_need(
     blank: u64,
 ) -> Result<Option<Need>, AllotFault>
     requires { AreLimitsKept profile.now seats votes.now blank }
-    ensures need { IfOk result (IsNeedOrNone (rule_of profile.now) (poll_of profile.now votes.now blank) seats) }
+    ensures need { IfOk result
+        (IsNeedOrNone (rule_of profile.now) (poll_of profile.now votes.now blank) seats) }
     ensures eligible { OnOk result (HasEligible (poll_of profile.now votes.now blank)) }
     ensures fault { IfErr result (IsNeedFaultOf (poll_of profile.now votes.now blank)) }
 {
@@ -125,7 +128,8 @@ fn need_by_divisors<D: Divisors + Drop>(
     requires some_seat { 1 ≤ seats }
     requires few_seats { seats ≤ most_seats }
     ensures need { IfOk result
-        (IsNeedOrNone (by_divisors (D.divisor divisors) (D.unit_of divisors) lot_rule) (kept_poll poll.now) seats) }
+        (IsNeedOrNone (by_divisors (D.divisor divisors) (D.unit_of divisors) lot_rule)
+        (kept_poll poll.now) seats) }
     ensures eligible { OnOk result (HasEligible (kept_poll poll.now)) }
     ensures fault { IfErr result (IsNeedFaultOf (kept_poll poll.now)) }
 {
@@ -146,8 +150,7 @@ fn need_by_quotas(alloc: Global, poll: &Poll, seats: u32) -> Result<Option<Need>
 
 fn need_in<C: Contest>(alloc: Global, contest: &C) -> Result<Option<Need>, AllotFault>
     requires sound { AreSound (C.terms contest.now) }
-    ensures need { IfOk result
-        (IsNeedOrNone (C.terms contest.now).rule (C.terms contest.now).poll (C.terms contest.now).seats) }
+    ensures need { IfOk result (IsNeedOn (C.terms contest.now)) }
     ensures eligible { OnOk result (HasEligible (C.terms contest.now).poll) }
     ensures fault { IfErr result (IsNeedFaultOf (C.terms contest.now).poll) }
 {
@@ -171,7 +174,8 @@ pub fn is_allotment(
 ) -> bool
     requires { AreLimitsKept profile.now seats votes.now blank }
     ensures { IsTrue result ↔
-        IsAllotmentUnderLot (rule_of profile.now) (poll_of profile.now votes.now blank) lot.now seats given.now }
+        IsAllotmentUnderLot (rule_of profile.now) (poll_of profile.now votes.now blank) lot.now
+        seats given.now }
 {
     let poll = Poll::new(profile, votes, blank);
     match DivisorRule::of(profile.method) {
@@ -193,8 +197,8 @@ fn is_allotment_by_divisors<D: Divisors + Drop>(
     requires some_seat { 1 ≤ seats }
     requires few_seats { seats ≤ most_seats }
     ensures { IsTrue result ↔
-        IsAllotmentUnderLot (by_divisors (D.divisor divisors) (D.unit_of divisors) lot_rule) (kept_poll poll.now)
-        lot.now seats given.now }
+        IsAllotmentUnderLot (by_divisors (D.divisor divisors) (D.unit_of divisors) lot_rule)
+        (kept_poll poll.now) lot.now seats given.now }
 {
     let contest = DivisorContest::new(divisors, lot_rule, poll, lot, seats);
     is_allotment_in(&contest, given)
@@ -203,7 +207,8 @@ fn is_allotment_by_divisors<D: Divisors + Drop>(
 fn is_allotment_by_quotas(poll: &Poll, seats: u32, lot: &[u32], given: &[u32]) -> bool
     requires some_seat { 1 ≤ seats }
     requires few_seats { seats ≤ most_seats }
-    ensures { IsTrue result ↔ IsAllotmentUnderLot hare (kept_poll poll.now) lot.now seats given.now }
+    ensures { IsTrue result ↔
+        IsAllotmentUnderLot hare (kept_poll poll.now) lot.now seats given.now }
 {
     let contest = HareContest::new(poll, lot, seats);
     is_allotment_in(&contest, given)
@@ -211,9 +216,7 @@ fn is_allotment_by_quotas(poll: &Poll, seats: u32, lot: &[u32], given: &[u32]) -
 
 fn is_allotment_in<C: Contest>(contest: &C, given: &[u32]) -> bool
     requires sound { AreSound (C.terms contest.now) }
-    ensures { IsTrue result ↔
-        IsAllotmentUnderLot (C.terms contest.now).rule (C.terms contest.now).poll (C.terms contest.now).lot
-        (C.terms contest.now).seats given.now }
+    ensures { IsTrue result ↔ IsUnderLotOn (C.terms contest.now) given.now }
 {
     if !has_eligible(contest) {
         return false;

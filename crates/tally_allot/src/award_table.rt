@@ -39,11 +39,13 @@ pub fn awards(
     requires limits { AreLimitsKept profile.now seats votes.now blank }
     requires by_divisors { profile.now.method ≢ by_hare }
     ensures awards { IfOk result (λ awards.
-        AreAwardsBy (rule_of profile.now) (poll_of profile.now votes.now blank) lot.now seats awards.items) }
+        AreAwardsBy (rule_of profile.now) (poll_of profile.now votes.now blank) lot.now seats
+        awards.items) }
     ensures lot_taken { OnOk result
         (IsLotTaken (rule_of profile.now) (poll_of profile.now votes.now blank) seats lot.now) }
     ensures eligible { OnOk result (HasEligible (poll_of profile.now votes.now blank)) }
-    ensures fault { IfErr result (IsFaultOf (rule_of profile.now) (poll_of profile.now votes.now blank) seats lot.now) }
+    ensures fault { IfErr result
+        (IsFaultOf (rule_of profile.now) (poll_of profile.now votes.now blank) seats lot.now) }
 {
     let poll = Poll::new(profile, votes, blank);
     let Some(divisors) = DivisorRule::of(profile.method) else {
@@ -63,7 +65,8 @@ fn awards_by<D: Divisors + Copy>(
     requires some_seat { 1 ≤ seats }
     requires few_seats { seats ≤ most_seats }
     ensures awards { IfOk result (λ awards.
-        AreAwards (D.divisor divisors) (D.unit_of divisors) lot_rule (kept_poll poll.now) lot.now seats awards.items) }
+        AreAwards (D.divisor divisors) (D.unit_of divisors) lot_rule (kept_poll poll.now)
+        lot.now seats awards.items) }
     ensures lot_taken { OnOk result
         (IsLotTaken (by_divisors (D.divisor divisors) (D.unit_of divisors) lot_rule)
         (kept_poll poll.now) seats lot.now) }
@@ -85,8 +88,8 @@ fn awards_of<D: Divisors>(
 ) -> Result<Vec<Award>, AllocError>
     requires { AreRows (length poll.now.votes.now) given.now.rows.items }
     ensures { IfOk result (λ awards. (lot_rule : rule_of_lots) →
-        IsTableOf (D.divisor divisors.now) (D.unit_of divisors.now) lot_rule (kept_poll poll.now) given.now.seats.items
-        given.now.rows.items awards.items) }
+        IsTableOf (D.divisor divisors.now) (D.unit_of divisors.now) lot_rule (kept_poll poll.now)
+        given.now.seats.items given.now.rows.items awards.items) }
 {
     let mut awards = Vec::with_capacity(alloc, given.rows.len())?;
     for row in &given.rows {
@@ -97,7 +100,8 @@ fn awards_of<D: Divisors>(
 
 fn award_of<D: Divisors>(divisors: &D, poll: &Poll, row: Won) -> Award
     requires { IsRow (length poll.now.votes.now) row }
-    ensures { result ≡ spec.award_of (D.divisor divisors.now) (D.unit_of divisors.now) (kept_poll poll.now) row }
+    ensures { result ≡
+        spec.award_of (D.divisor divisors.now) (D.unit_of divisors.now) (kept_poll poll.now) row }
 {
     Award {
         list: row.list as u32 + 1,

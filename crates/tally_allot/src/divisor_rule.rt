@@ -3,8 +3,8 @@
 ghost use Rattle.std.specs.Prelude.{◌≡◌, ◌≢◌, None};
 ghost use Rattle.tally_allot.specs.internal.DivisorRules.{divisor_of, rule_with, unit_of};
 ghost use Rattle.tally_allot.specs.internal.DivisorRuleLaws.{divisors-positive, divisors-rise};
-ghost use Rattle.tally_allot.specs.internal.DivisorRuleLaws.{divisors-at_most};
-ghost use Rattle.tally_allot.specs.internal.DivisorRuleLaws.{units-from_one, units-to_five};
+ghost use Rattle.tally_allot.specs.internal.DivisorRuleLaws.{divisors-at_most, units-from_one};
+ghost use Rattle.tally_allot.specs.internal.DivisorRuleLaws.{units-to_five};
 ghost use Rattle.tally_law.specs.Rules.{rule_by};
 ghost use Rattle.tally_rules.specs.declared.profile.LotRule.{LotRule as rule_of_lots};
 ghost use Rattle.tally_rules.specs.declared.profile.Method.TheVariants.{Hare as by_hare};

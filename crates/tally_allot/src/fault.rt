@@ -8,8 +8,8 @@ use std::alloc::{AllocError, AllocFailed};
 use tally_rules::ListSet;
 use thiserror::Error;
 
-/// Why the seats of a poll are not allotted, in the order in which it is looked at. Memory may
-/// come at any time.
+/// Why the seats of a poll are not allotted, in the order in which this is checked. Memory may come
+/// at any time.
 #[derive(Clone, Copy, Debug, PartialEq, Eq, Error)]
 pub enum AllotFault {
     /// 1: no list is eligible.

@@ -1,8 +1,10 @@
 //! The laws of allotments and lots. The functions do nothing: each contract is a law.
 
-ghost use Rattle.tally_law.specs.LawStatements.{AllotmentsAreUnique, AllotmentsExist, EachChoiceComesFromAnOrder};
-ghost use Rattle.tally_law.specs.LawStatements.{EachOrderGivesAChoice, GroupsAreOfOneNumberOfVotes};
-ghost use Rattle.tally_law.specs.LawStatements.{LotsChooseAmongWhatVotesAllow, NoLotIsNeededWhereVotesDecide};
+ghost use Rattle.tally_law.specs.LawStatements.{AllotmentsAreUnique, AllotmentsExist};
+ghost use Rattle.tally_law.specs.LawStatements.{EachChoiceComesFromAnOrder, EachOrderGivesAChoice};
+ghost use Rattle.tally_law.specs.LawStatements.{GroupsAreOfOneNumberOfVotes};
+ghost use Rattle.tally_law.specs.LawStatements.{LotsChooseAmongWhatVotesAllow};
+ghost use Rattle.tally_law.specs.LawStatements.{NoLotIsNeededWhereVotesDecide};
 ghost use Rattle.tally_law.specs.LawStatements.{TheOrderOfTheSetupIsNothingWhereVotesDecide};
 ghost use Rattle.tally_law.specs.LawStatements.{VotesDecideOrALotIsNeeded};
 

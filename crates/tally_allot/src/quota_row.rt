@@ -10,6 +10,6 @@ pub struct QuotaRow {
     pub whole: u32,
     /// What they leave of its votes, times the seats.
     pub rem: u64,
-    /// Whether it has one seat more.
+    /// Whether it has one more seat.
     pub extra: bool,
 }

@@ -7,6 +7,7 @@ ghost use Rattle.tally_contest.specs.internal.ContestTerms.{hare_terms};
 ghost use Rattle.tally_contest.specs.internal.Terms.{AreSound};
 ghost use Rattle.tally_law.specs.Allotment.{hare};
 ghost use Rattle.tally_allot.specs.AllotFault.{IsFaultOf};
+ghost use Rattle.tally_allot.specs.internal.OnTerms.{IsFaultOn, IsLotTakenOn};
 ghost use Rattle.tally_law.specs.Conditions.{AreLimitsKept};
 ghost use Rattle.tally_allot.specs.QuotaRows.{quota_rows, AreQuotaRows};
 ghost use Rattle.tally_law.specs.Rules.{poll_of};
@@ -32,10 +33,13 @@ pub fn quotas(
 ) -> Result<Vec<QuotaRow>, AllotFault>
     requires limits { AreLimitsKept profile.now seats votes.now blank }
     requires by_quotas { profile.now.method ≡ by_hare }
-    ensures rows { IfOk result (λ rows. AreQuotaRows (poll_of profile.now votes.now blank) lot.now seats rows.items) }
-    ensures lot_taken { OnOk result (IsLotTaken hare (poll_of profile.now votes.now blank) seats lot.now) }
+    ensures rows { IfOk result (λ rows.
+        AreQuotaRows (poll_of profile.now votes.now blank) lot.now seats rows.items) }
+    ensures lot_taken { OnOk result
+        (IsLotTaken hare (poll_of profile.now votes.now blank) seats lot.now) }
     ensures eligible { OnOk result (HasEligible (poll_of profile.now votes.now blank)) }
-    ensures fault { IfErr result (IsFaultOf hare (poll_of profile.now votes.now blank) seats lot.now) }
+    ensures fault { IfErr result
+        (IsFaultOf hare (poll_of profile.now votes.now blank) seats lot.now) }
 {
     let poll = Poll::new(profile, votes, blank);
     let contest = HareContest::new(&poll, lot, seats);
@@ -45,11 +49,11 @@ pub fn quotas(
 fn quotas_in(alloc: Global, contest: &HareContest) -> Result<Vec<QuotaRow>, AllotFault>
     requires sound { AreSound (hare_terms contest.now) }
     ensures rows { IfOk result (λ rows.
-        AreQuotaRows (kept_poll contest.now.poll) contest.now.lot.now contest.now.seats rows.items) }
-    ensures lot_taken { OnOk result
-        (IsLotTaken hare (kept_poll contest.now.poll) contest.now.seats contest.now.lot.now) }
+        AreQuotaRows (kept_poll contest.now.poll) contest.now.lot.now contest.now.seats
+        rows.items) }
+    ensures lot_taken { OnOk result (IsLotTakenOn (hare_terms contest.now)) }
     ensures eligible { OnOk result (HasEligible (kept_poll contest.now.poll)) }
-    ensures fault { IfErr result (IsFaultOf hare (kept_poll contest.now.poll) contest.now.seats contest.now.lot.now) }
+    ensures fault { IfErr result (IsFaultOn (hare_terms contest.now)) }
 {
     let given = seats_by_remainders(alloc, contest)?;
     let rows = rows_of(alloc, contest, &given)?;
@@ -59,7 +63,8 @@ fn quotas_in(alloc: Global, contest: &HareContest) -> Result<Vec<QuotaRow>, Allo
 fn rows_of(alloc: Global, contest: &HareContest, given: &[u32]) -> Result<Vec<QuotaRow>, AllocError>
     requires { length given.now ≡ length contest.now.poll.votes.now }
     ensures { IfOk result (λ rows.
-        rows.items ≡ quota_rows (kept_poll contest.now.poll) contest.now.seats given.now (length given.now)) }
+        rows.items ≡
+        quota_rows (kept_poll contest.now.poll) contest.now.seats given.now (length given.now)) }
 {
     let mut rows = Vec::new(alloc);
     for list in 0..given.len() {

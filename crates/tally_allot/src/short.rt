@@ -1,18 +1,20 @@
 //! Votes short.
 
-ghost use Rattle.std.specs.Prelude.{◌≡◌, ◌≢◌, ℕ, ◌+◌, ◌≤◌, ◌<◌, ◌↔◌, IsTrue, IfOk, IfErr, OnOk, length, slice_index};
+ghost use Rattle.std.specs.Prelude.{◌≡◌, ◌≢◌, ℕ, ◌+◌, ◌≤◌, ◌<◌, ◌↔◌, IsTrue, IfOk, IfErr, OnOk};
+ghost use Rattle.std.specs.Prelude.{length, slice_index};
 ghost use Rattle.tally_frac.specs.Limits.{greatest_divisor, most_seats, most_votes};
 ghost use Rattle.tally_rules.specs.declared.profile.LotRule.{LotRule as rule_of_lots};
 ghost use Rattle.tally_rules.specs.declared.profile.Method.TheVariants.{Hare as by_hare};
 ghost use Rattle.tally_contest.specs.internal.KeptPoll.{kept_poll};
-ghost use Rattle.tally_law.specs.Allotment.{IsAllotment, divisors as by_divisors};
+ghost use Rattle.tally_law.specs.Allotment.{divisors as by_divisors};
 ghost use Rattle.tally_law.specs.LotNeed.{IsLotTaken};
 ghost use Rattle.tally_law.specs.Poll.{HasEligible};
 ghost use Rattle.tally_law.specs.Rules.{poll_of, rule_of};
 ghost use Rattle.tally_allot.specs.AllotFault.{IsFaultOf};
 ghost use Rattle.tally_law.specs.Conditions.{AreLimitsKept};
-ghost use Rattle.tally_allot.specs.internal.ShortSteps.{RiseSlowly, VotesRankAbove, IsByVotes, AreFewestAbove};
-ghost use Rattle.tally_allot.specs.internal.ShortSteps.{IsLowestOther, IsAnswerOf, AreAnswers, AreAnswersOf};
+ghost use Rattle.tally_allot.specs.internal.ShortSteps.{RiseSlowly, VotesRankAbove, IsByVotes};
+ghost use Rattle.tally_allot.specs.internal.ShortSteps.{AreFewestAbove, IsLowestOther, IsAnswerOf};
+ghost use Rattle.tally_allot.specs.internal.ShortSteps.{AreAnswers, AreAnswersOf};
 ghost use Rattle.tally_allot.specs.VotesShort.{AreVotesShort, AreBelow};
 
 use crate::allotment::seats_by_divisors;
@@ -23,7 +25,7 @@ use tally_contest::Poll;
 use tally_frac::Divisors;
 use tally_rules::{LotRule, Profile};
 
-/// How many more votes each list needs for one seat more than it has now, in order of place, for a
+/// How many more votes each list needs for one more seat than it has now, in order of place, for a
 /// profile by a divisor rule: with so many, whatever lot is drawn, it has more, and with one fewer
 /// it may not. The other votes and the lists that are eligible are taken as they are. `None` where
 /// a list is not eligible or has all seats. It refuses as `allot` does.
@@ -45,7 +47,8 @@ pub fn votes_short(
     ensures lot_taken { OnOk result
         (IsLotTaken (rule_of profile.now) (poll_of profile.now votes.now blank) seats lot.now) }
     ensures eligible { OnOk result (HasEligible (poll_of profile.now votes.now blank)) }
-    ensures fault { IfErr result (IsFaultOf (rule_of profile.now) (poll_of profile.now votes.now blank) seats lot.now) }
+    ensures fault { IfErr result
+        (IsFaultOf (rule_of profile.now) (poll_of profile.now votes.now blank) seats lot.now) }
 {
     let poll = Poll::new(profile, votes, blank);
     let Some(divisors) = DivisorRule::of(profile.method) else {
@@ -66,8 +69,8 @@ fn short_by<D: Divisors + Copy>(
     requires few_seats { seats ≤ most_seats }
     requires slowly { RiseSlowly (D.divisor divisors) }
     ensures numbers { IfOk result (λ numbers.
-        AreAnswersOf (by_divisors (D.divisor divisors) (D.unit_of divisors) lot_rule) (kept_poll poll.now) lot.now seats
-        numbers.items) }
+        AreAnswersOf (by_divisors (D.divisor divisors) (D.unit_of divisors) lot_rule)
+        (kept_poll poll.now) lot.now seats numbers.items) }
     ensures lot_taken { OnOk result
         (IsLotTaken (by_divisors (D.divisor divisors) (D.unit_of divisors) lot_rule)
         (kept_poll poll.now) seats lot.now) }
@@ -93,8 +96,8 @@ fn numbers_of<D: Divisors>(
     requires slowly { RiseSlowly (D.divisor divisors.now) }
     requires allotment { IsByVotes (D.divisor divisors.now) (kept_poll poll.now) seats held.now }
     ensures { IfOk result (λ numbers. (lot_rule : rule_of_lots) →
-        AreAnswers (by_divisors (D.divisor divisors.now) (D.unit_of divisors.now) lot_rule) (kept_poll poll.now) seats
-        held.now (length held.now) numbers.items) }
+        AreAnswers (by_divisors (D.divisor divisors.now) (D.unit_of divisors.now) lot_rule)
+        (kept_poll poll.now) seats held.now (length held.now) numbers.items) }
 {
     let mut numbers = Vec::with_capacity(alloc, held.len())?;
     for list in 0..held.len() {
@@ -116,8 +119,8 @@ fn number_of<D: Divisors>(
     requires allotment { IsByVotes (D.divisor divisors.now) (kept_poll poll.now) seats held.now }
     requires list { list < length held.now }
     ensures { (lot_rule : rule_of_lots) →
-        IsAnswerOf (by_divisors (D.divisor divisors.now) (D.unit_of divisors.now) lot_rule) (kept_poll poll.now) seats
-        held.now list result }
+        IsAnswerOf (by_divisors (D.divisor divisors.now) (D.unit_of divisors.now) lot_rule)
+        (kept_poll poll.now) seats held.now list result }
 {
     if !poll.is_eligible(list) || held[list] == seats {
         return None;
@@ -137,7 +140,8 @@ fn number_of<D: Divisors>(
 fn lowest_other<D: Divisors>(divisors: &D, poll: &Poll, held: &[u32], list: usize) -> Option<usize>
     requires few_seats { (p : ℕ) → slice_index held.now p ≤ most_seats }
     requires one_each { length held.now ≡ length poll.now.votes.now }
-    ensures { IsLowestOther (D.divisor divisors.now) (kept_poll poll.now) held.now list (length held.now) result }
+    ensures { IsLowestOther (D.divisor divisors.now) (kept_poll poll.now) held.now list
+        (length held.now) result }
 {
     let mut lowest = None;
     for other in 0..held.len() {
@@ -158,8 +162,10 @@ fn lower_of<D: Divisors>(
     requires few_seats { (p : ℕ) → slice_index held.now p ≤ most_seats }
     requires one_each { length held.now ≡ length poll.now.votes.now }
     requires other { other < length held.now }
-    requires before { IsLowestOther (D.divisor divisors.now) (kept_poll poll.now) held.now list other before }
-    ensures { IsLowestOther (D.divisor divisors.now) (kept_poll poll.now) held.now list (other + 1) result }
+    requires before { IsLowestOther (D.divisor divisors.now) (kept_poll poll.now) held.now list
+        other before }
+    ensures { IsLowestOther (D.divisor divisors.now) (kept_poll poll.now) held.now list
+        (other + 1) result }
 {
     let seat = held[other];
     if other == list || seat == 0 {

@@ -3,13 +3,15 @@
 ghost use Rattle.std.specs.Prelude.{◌≡◌, ◌≤◌, IfOk, IfErr, OnOk, length};
 ghost use Rattle.tally_frac.specs.Limits.{most_seats};
 ghost use Rattle.tally_allot.specs.AllotFault.{IsFaultOf};
+ghost use Rattle.tally_allot.specs.internal.OnTerms.{IsAllotmentOn, IsFaultOn, IsLotTakenOn};
 ghost use Rattle.tally_contest.specs.internal.KeptPoll.{kept_poll};
-ghost use Rattle.tally_law.specs.Allotment.{IsAllotment, divisors as by_divisors, hare};
+ghost use Rattle.tally_law.specs.Allotment.{divisors as by_divisors};
 ghost use Rattle.tally_contest.specs.internal.ContestTerms.{divisor_terms, hare_terms};
 ghost use Rattle.tally_law.specs.LotNeed.{IsLotTaken};
 ghost use Rattle.tally_law.specs.Poll.{HasEligible};
 ghost use Rattle.tally_law.specs.DivisorAllotment.{IsDivisorAllotment};
-ghost use Rattle.tally_contest.specs.internal.Terms.{AreSound, IsProperLot, placed_divisor_race, placed_race};
+ghost use Rattle.tally_contest.specs.internal.Terms.{AreSound, IsProperLot, placed_divisor_race};
+ghost use Rattle.tally_contest.specs.internal.Terms.{placed_race};
 ghost use Rattle.tally_contest.specs.internal.Won.{AreRows, AreWon};
 
 use crate::fault::AllotFault;
@@ -34,11 +36,12 @@ pub(crate) fn award_under_lot<D: Divisors + Copy>(
     requires some_seat { 1 ≤ seats }
     requires few_seats { seats ≤ most_seats }
     ensures allotment { IfOk result (λ given.
-        IsDivisorAllotment (D.divisor divisors) (D.unit_of divisors) lot_rule (kept_poll poll.now) lot.now seats
-        given.seats.items) }
+        IsDivisorAllotment (D.divisor divisors) (D.unit_of divisors) lot_rule
+        (kept_poll poll.now) lot.now seats given.seats.items) }
     ensures won { IfOk result (λ given.
-        AreWon (placed_divisor_race (D.divisor divisors) lot_rule (kept_poll poll.now) lot.now seats) given.seats.items
-        given.rows.items) }
+        AreWon (placed_divisor_race (D.divisor divisors) lot_rule
+        (kept_poll poll.now) lot.now seats)
+        given.seats.items given.rows.items) }
     ensures rows { IfOk result (λ given. AreRows (length poll.now.votes.now) given.rows.items) }
     ensures proper { OnOk result (IsProperLot (kept_poll poll.now) lot.now) }
     ensures lot_taken { OnOk result
@@ -56,19 +59,18 @@ pub(crate) fn award_under_lot<D: Divisors + Copy>(
 fn award_in<D: Divisors>(alloc: Global, contest: &DivisorContest<D>) -> Result<Given, AllotFault>
     requires sound { AreSound (divisor_terms D.divisor D.unit_of contest.now) }
     ensures allotment { IfOk result (λ given.
-        IsDivisorAllotment (D.divisor contest.now.divisors) (D.unit_of contest.now.divisors) contest.now.lot_rule
-        (kept_poll contest.now.poll) contest.now.lot.now contest.now.seats given.seats.items) }
+        IsAllotmentOn (divisor_terms D.divisor D.unit_of contest.now) given.seats.items) }
     ensures won { IfOk result (λ given.
-        AreWon (placed_race (divisor_terms D.divisor D.unit_of contest.now)) given.seats.items given.rows.items) }
-    ensures rows { IfOk result (λ given. AreRows (length contest.now.poll.votes.now) given.rows.items) }
+        AreWon (placed_race (divisor_terms D.divisor D.unit_of contest.now)) given.seats.items
+        given.rows.items) }
+    ensures rows { IfOk result (λ given.
+        AreRows (length contest.now.poll.votes.now) given.rows.items) }
     ensures proper { OnOk result (IsProperLot (kept_poll contest.now.poll) contest.now.lot.now) }
     ensures lot_taken { OnOk result
-        (IsLotTaken (divisor_terms D.divisor D.unit_of contest.now).rule (kept_poll contest.now.poll) contest.now.seats
-        contest.now.lot.now) }
+        (IsLotTakenOn (divisor_terms D.divisor D.unit_of contest.now)) }
     ensures eligible { OnOk result (HasEligible (kept_poll contest.now.poll)) }
     ensures fault { IfErr result
-        (IsFaultOf (divisor_terms D.divisor D.unit_of contest.now).rule (kept_poll contest.now.poll) contest.now.seats
-        contest.now.lot.now) }
+        (IsFaultOn (divisor_terms D.divisor D.unit_of contest.now)) }
 {
     if !has_eligible(contest) {
         return Err(AllotFault::NoEligible);
@@ -96,12 +98,10 @@ pub(crate) fn seats_by_remainders(
     contest: &HareContest,
 ) -> Result<Vec<u32>, AllotFault>
     requires sound { AreSound (hare_terms contest.now) }
-    ensures allotment { IfOk result (λ seats.
-        IsAllotment hare (kept_poll contest.now.poll) contest.now.lot.now contest.now.seats seats.items) }
-    ensures lot_taken { OnOk result
-        (IsLotTaken hare (kept_poll contest.now.poll) contest.now.seats contest.now.lot.now) }
+    ensures allotment { IfOk result (λ seats. IsAllotmentOn (hare_terms contest.now) seats.items) }
+    ensures lot_taken { OnOk result (IsLotTakenOn (hare_terms contest.now)) }
     ensures eligible { OnOk result (HasEligible (kept_poll contest.now.poll)) }
-    ensures fault { IfErr result (IsFaultOf hare (kept_poll contest.now.poll) contest.now.seats contest.now.lot.now) }
+    ensures fault { IfErr result (IsFaultOn (hare_terms contest.now)) }
 {
     if !has_eligible(contest) {
         return Err(AllotFault::NoEligible);

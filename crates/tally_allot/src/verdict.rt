@@ -1,8 +1,7 @@
 //! What is to be said of a lot.
 
-ghost use Rattle.tally_allot.specs.AllotFault.{IsVerdictOn};
-ghost use Rattle.tally_contest.specs.internal.Race.{IsFair};
-ghost use Rattle.tally_contest.specs.internal.Terms.{AreSound, placed_race};
+ghost use Rattle.tally_allot.specs.internal.OnTerms.{IsVerdictOn};
+ghost use Rattle.tally_contest.specs.internal.Terms.{AreFairSeats, AreSound};
 
 use tally_contest::{Contest, Need, is_order_of, need_of};
 
@@ -13,15 +12,15 @@ pub(crate) enum LotVerdict {
     Right,
     /// A lot is needed, and none is given.
     Missing(Need),
+    /// It is given where none is needed, or is not an order of the group.
     Wrong,
 }
 
 /// What is to be said of the contest's lot, seen from seats that the votes allow.
 pub(crate) fn verdict_on_lot<C: Contest>(contest: &C, seats: &[u32]) -> LotVerdict
     requires sound { AreSound (C.terms contest.now) }
-    requires fair { IsFair (placed_race (C.terms contest.now)) (C.terms contest.now).seats seats.now }
-    ensures { IsVerdictOn (C.terms contest.now).rule (C.terms contest.now).poll (C.terms contest.now).seats
-        (C.terms contest.now).lot result }
+    requires fair { AreFairSeats (C.terms contest.now) seats.now }
+    ensures { IsVerdictOn (C.terms contest.now) result }
 {
     let lot = contest.lot();
     match need_of(contest, seats) {

@@ -1,5 +1,5 @@
--- The bytes of an answer: an HTTP/1.1 response (RFC 9112, section 4) from its status, the type of its body and its
--- body.
+-- The bytes of an answer: an HTTP/1.1 response (RFC 9112, section 4) from its status, the type of
+-- its body and its body.
 use Rattle.std.specs.Prelude.{ℕ, List, [], ◌++◌, length, codes, decimal, unwrap_or}
 use Rattle.http.specs.StatusCode.{reason_phrase}
 use Rattle.tally_answer.specs.declared.status.AnswerStatus.{AnswerStatus}
@@ -28,7 +28,8 @@ type_name body.Text = codes "text/plain; charset=utf-8"
 
 -- The lines of a head, each with its line end.
 abbrev pub status_line : AnswerStatus → List ℕ
-status_line s = codes "HTTP/1.1 " ++ decimal (status_number s) ++ codes " " ++ phrase s ++ codes "\r\n"
+status_line s =
+    codes "HTTP/1.1 " ++ decimal (status_number s) ++ codes " " ++ phrase s ++ codes "\r\n"
 
 abbrev pub type_line : BodyType → List ℕ
 type_line t = codes "Content-Type: " ++ type_name t ++ codes "\r\n"
@@ -50,7 +51,7 @@ allow_line status.Unavailable = []
 abbrev pub close_line : List ℕ
 close_line = codes "Connection: close\r\n"
 
--- the fields of an answer whose body has so many bytes, and the empty line behind them
+-- the fields of an answer whose body has so many bytes, and the empty line after them
 abbrev pub fields_text : AnswerStatus → BodyType → ℕ → List ℕ
 fields_text s t n = type_line t ++ length_line n ++ allow_line s ++ close_line ++ codes "\r\n"
 

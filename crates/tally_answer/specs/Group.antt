@@ -8,7 +8,7 @@ abbrev pub is_begun : List ListEntry → Bool
 is_begun [] = false
 is_begun (list ∷ lists) = true
 
--- what is written of a list, behind others or not, that is marked or not
+-- what is written of a list, after others or not, that is marked or not
 abbrev pub code_of : Bool → Bool → ListEntry → List ℕ
 code_of others false list = []
 code_of false true list = quoted_code list

@@ -1,4 +1,5 @@
--- What is shown of a return and of a constituency, as JSON objects whose keys are in the order of their bytes.
+-- What is shown of a return and of a constituency, as JSON objects whose keys are in the order of
+-- their bytes.
 use Rattle.std.specs.Prelude.{ℕ, zero, suc, List, [], map, codes, option_map, unwrap_or}
 use Rattle.std.specs.List.{slice_get}
 use Rattle.serde_json.specs.Data.{Data, boolean, number, unsigned, string, array, object, Members, member, no_members}
@@ -15,18 +16,26 @@ whole n = number (unsigned n)
 abbrev pub wholes : List ℕ → Data
 wholes ns = array (items_of (map whole ns))
 
+-- the members of a return from that of its spoiled votes on
+abbrev pub members_from_spoiled : List ℕ → StationReturn → Members
+members_from_spoiled station kept =
+    member (codes "spoiled") (whole kept.counts.spoiled) (member (codes "station") (string station)
+    (member (codes "status") (string (status_word kept.status))
+    (member (codes "votes") (wholes kept.counts.votes) no_members)))
+
 abbrev pub shown_return : List ℕ → StationReturn → Data
 shown_return station kept =
-    object (member (codes "blank") (whole kept.counts.blank) (member (codes "note") (string kept.note)
+    object (member (codes "blank") (whole kept.counts.blank)
+    (member (codes "note") (string kept.note)
     (member (codes "rev") (whole kept.rev) (member (codes "slip") (string kept.slip)
-    (member (codes "spoiled") (whole kept.counts.spoiled) (member (codes "station") (string station)
-    (member (codes "status") (string (status_word kept.status))
-    (member (codes "votes") (wholes kept.counts.votes) no_members))))))))
+    (members_from_spoiled station kept)))))
 
--- the code of the list at a place, from 1; a place without a list has none, and no lawful state has such a place
+-- the code of the list at a place, from 1; a place without a list has none, and no lawful state has
+-- such a place
 abbrev pub code_at : List ListEntry → ℕ → List ℕ
 code_at lists zero = []
-code_at lists (suc l) = unwrap_or (option_map (λ (list : ListEntry). list.code) (slice_get lists l)) []
+code_at lists (suc l) =
+    unwrap_or (option_map (λ (list : ListEntry). list.code) (slice_get lists l)) []
 
 -- the codes of the lists at some places
 abbrev pub list_codes : List ListEntry → List ℕ → Data
@@ -34,13 +43,14 @@ list_codes lists places = array (items_of (map (λ place. string (code_at lists 
 
 abbrev pub shown_gone : List ListEntry → GoneCandidate → Data
 shown_gone lists gone =
-    object (member (codes "list") (string (code_at lists gone.list)) (member (codes "note") (string gone.note)
+    object (member (codes "list") (string (code_at lists gone.list))
+    (member (codes "note") (string gone.note)
     (member (codes "place") (whole gone.place) no_members)))
 
 abbrev pub all_gone : List ListEntry → List GoneCandidate → Data
 all_gone lists all = array (items_of (map (shown_gone lists) all))
 
--- the members of a constituency behind those who are gone
+-- the members of a constituency after those who are gone
 abbrev pub members_behind_gone : Constituency → View → Members
 members_behind_gone con v =
     member (codes "lot") (list_codes con.lists v.lot)

@@ -1,5 +1,5 @@
--- The answers that are a word alone: where a message asks for nothing that the desk has, where a body, an import or a
--- report is refused, and where nothing was accepted.
+-- The answers that are a word alone: where a message asks for nothing that the desk has, where a
+-- body, an import or a report is refused, and where a request was not accepted.
 use Rattle.std.specs.Prelude.{ℕ, List, ◌++◌, codes}
 use Rattle.tally_answer.specs.declared.status.AnswerStatus.{AnswerStatus}
 use Rattle.tally_answer.specs.declared.status.AnswerStatus.TheVariants as status

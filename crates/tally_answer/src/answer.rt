@@ -47,7 +47,8 @@ fn push_length(out: &mut Vec<u8>, length: usize)
 
 fn push_last(out: &mut Vec<u8>, status: AnswerStatus)
     requires { vec_len out.old + 48 ≤ vec_capacity out.old }
-    ensures items { out.new.items ≡ out.old.items ++ (allow_line status ++ close_line ++ codes "\r\n") }
+    ensures items { out.new.items
+        ≡ out.old.items ++ (allow_line status ++ close_line ++ codes "\r\n") }
     ensures len { vec_len out.new ≤ vec_len out.old + 48 }
     ensures room { vec_capacity out.old ≤ vec_capacity out.new }
 {
@@ -76,8 +77,8 @@ fn push_head(out: &mut Vec<u8>, status: AnswerStatus, body: BodyType, length: us
     push_fields(out, status, body, length);
 }
 
-/// Writes an answer of this status, type and body into a buffer that is empty and has room for it: that of the body
-/// and `HEAD_ROOM`. It takes no memory.
+/// Writes an answer of this status, type and body into a buffer that is empty and has room for it:
+/// that of the body and `HEAD_ROOM`. It takes no memory.
 pub fn write_answer(out: &mut Vec<u8>, status: AnswerStatus, body: BodyType, text: &[u8])
     requires empty { out.old.items ≡ [] }
     requires room { length text.now + 256 ≤ vec_capacity out.old }

@@ -20,7 +20,8 @@ fn push_code(out: &mut Vec<u8>, list: &ListEntry)
     push(out, b"\"");
 }
 
-/// Appends the code of a list that is marked, behind others if any have come, and answers whether any has come now.
+/// Appends the code of a list that is marked, after others if any have come, and answers whether
+/// any has come now.
 fn push_marked(out: &mut Vec<u8>, list: &ListEntry, others: bool, mark: bool) -> bool
     requires { vec_len out.old + 19 ≤ vec_capacity out.old }
     ensures items { out.new.items ≡ out.old.items ++ code_of others mark list.now }

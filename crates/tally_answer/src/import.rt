@@ -1,48 +1,24 @@
 //! The answer to an import.
 
 ghost use Rattle.std.specs.Prelude.{◌≡◌, ◌≤◌, ◌+◌, ◌++◌, [], vec_len, vec_capacity};
-ghost use Rattle.tally_answer.specs.Import.{counts_before, counts_behind, first_text, import_body, import_text, pair_text};
+ghost use Rattle.tally_answer.specs.Import.{counts_before, counts_after, first_text, import_body, import_text, pair_text};
 
 use crate::answer::write_answer;
 use crate::push::{push, push_around};
 use crate::status::{AnswerStatus, BodyType};
+use tally_keeper::{FirstRow, ImportCount};
 
-/// The first row of an import that was neither lodged nor there already.
-#[derive(Clone, Copy, Debug, PartialEq, Eq)]
-pub struct FirstOther {
-    /// Its number, from 1.
-    pub row: u32,
-    /// The number of its refusal, or 0 for a bad row.
-    pub number: u32,
-}
-
-/// How many rows of an import were answered what.
-#[derive(Clone, Copy, Debug, PartialEq, Eq)]
-pub struct Imported {
-    /// Rows that cannot be read.
-    pub bad: u32,
-    /// Rows of a station where another return stands (refusal 7).
-    pub differs: u32,
-    pub first: Option<FirstOther>,
-    /// Rows that were lodged.
-    pub lodged: u32,
-    /// Rows that were refused for another reason.
-    pub refused: u32,
-    /// Rows whose return stood already.
-    pub same: u32,
-}
-
-fn push_before(out: &mut Vec<u8>, imported: &Imported)
+fn push_before(out: &mut Vec<u8>, count: &ImportCount)
     requires { vec_len out.old + 64 ≤ vec_capacity out.old }
-    ensures items { out.new.items ≡ out.old.items ++ counts_before imported.now }
+    ensures items { out.new.items ≡ out.old.items ++ counts_before count.now }
     ensures len { vec_len out.new ≤ vec_len out.old + 64 }
     ensures room { vec_capacity out.old ≤ vec_capacity out.new }
 {
-    push_around(out, b"{\"bad\":", imported.bad, b",\"differs\":");
-    push_around(out, b"", imported.differs, b",\"first\":");
+    push_around(out, b"{\"bad\":", count.bad, b",\"differs\":");
+    push_around(out, b"", count.differs, b",\"first\":");
 }
 
-fn push_pair(out: &mut Vec<u8>, first: &FirstOther)
+fn push_pair(out: &mut Vec<u8>, first: &FirstRow)
     requires { vec_len out.old + 32 ≤ vec_capacity out.old }
     ensures items { out.new.items ≡ out.old.items ++ pair_text first.now }
     ensures len { vec_len out.new ≤ vec_len out.old + 32 }
@@ -52,7 +28,7 @@ fn push_pair(out: &mut Vec<u8>, first: &FirstOther)
     push_around(out, b"", first.number, b"]");
 }
 
-fn push_first(out: &mut Vec<u8>, first: &Option<FirstOther>)
+fn push_first(out: &mut Vec<u8>, first: &Option<FirstRow>)
     requires { vec_len out.old + 32 ≤ vec_capacity out.old }
     ensures items { out.new.items ≡ out.old.items ++ first_text first.now }
     ensures len { vec_len out.new ≤ vec_len out.old + 32 }
@@ -64,41 +40,41 @@ fn push_first(out: &mut Vec<u8>, first: &Option<FirstOther>)
     }
 }
 
-fn push_behind(out: &mut Vec<u8>, imported: &Imported)
+fn push_after(out: &mut Vec<u8>, count: &ImportCount)
     requires { vec_len out.old + 96 ≤ vec_capacity out.old }
-    ensures items { out.new.items ≡ out.old.items ++ counts_behind imported.now }
+    ensures items { out.new.items ≡ out.old.items ++ counts_after count.now }
     ensures len { vec_len out.new ≤ vec_len out.old + 96 }
     ensures room { vec_capacity out.old ≤ vec_capacity out.new }
 {
     push_around(
         out,
         b",\"lodged\":",
-        imported.lodged,
+        count.lodged,
         b",\"ok\":\"import\",\"refused\":",
     );
-    push_around(out, b"", imported.refused, b",\"same\":");
-    push_around(out, b"", imported.same, b"}");
+    push_around(out, b"", count.refused, b",\"same\":");
+    push_around(out, b"", count.same, b"}");
 }
 
-fn push_import(out: &mut Vec<u8>, imported: &Imported)
+fn push_import(out: &mut Vec<u8>, count: &ImportCount)
     requires { vec_len out.old + 192 ≤ vec_capacity out.old }
-    ensures items { out.new.items ≡ out.old.items ++ import_body imported.now }
+    ensures items { out.new.items ≡ out.old.items ++ import_body count.now }
     ensures len { vec_len out.new ≤ vec_len out.old + 192 }
 {
-    push_before(out, imported);
-    push_first(out, &imported.first);
-    push_behind(out, imported);
+    push_before(out, count);
+    push_first(out, &count.first);
+    push_after(out, count);
 }
 
-/// Writes the answer to an import by way of its body, into buffers that are empty and have `ANSWER_ROOM` and
-/// `BODY_ROOM`. It takes no memory.
-pub fn write_import(out: &mut Vec<u8>, body: &mut Vec<u8>, imported: &Imported)
+/// Writes the answer to an import by way of its body, into buffers that are empty and have
+/// `ANSWER_ROOM` and `BODY_ROOM`. It takes no memory.
+pub fn write_import(out: &mut Vec<u8>, body: &mut Vec<u8>, count: &ImportCount)
     requires empty { out.old.items ≡ [] }
     requires no_body { body.old.items ≡ [] }
     requires room { 2048 ≤ vec_capacity out.old }
     requires body_room { 1280 ≤ vec_capacity body.old }
-    ensures { out.new.items ≡ import_text imported.now }
+    ensures { out.new.items ≡ import_text count.now }
 {
-    push_import(body, imported);
+    push_import(body, count);
     write_answer(out, AnswerStatus::Done, BodyType::Json, body);
 }

@@ -15,7 +15,7 @@ use tally_rules::ListEntry;
 /// The room that an answer to a command needs.
 pub const ANSWER_ROOM: usize = 2_048;
 
-/// The room that the body of one needs: 60 codes of 16 characters, and what stands around them.
+/// The room that the body of one needs: 60 codes of 16 characters, and what is around them.
 pub const BODY_ROOM: usize = 1_280;
 
 fn status_of(outcome: &Result<Reply, Refusal>) -> AnswerStatus
@@ -87,7 +87,8 @@ fn push_wrong_status(out: &mut Vec<u8>, status: Status)
 fn push_wrong_group(out: &mut Vec<u8>, lists: &[ListEntry], group: &ListSet)
     requires few { length lists.now ≤ 60 }
     requires room { vec_len out.old + 1280 ≤ vec_capacity out.old }
-    ensures items { out.new.items ≡ out.old.items ++ (refusal_answer lists.now (LotWrongGroup group.now)).1 }
+    ensures items { out.new.items
+        ≡ out.old.items ++ (refusal_answer lists.now (LotWrongGroup group.now)).1 }
     ensures len { vec_len out.new ≤ vec_len out.old + 1280 }
     ensures room { vec_capacity out.old ≤ vec_capacity out.new }
 {
@@ -99,7 +100,8 @@ fn push_wrong_group(out: &mut Vec<u8>, lists: &[ListEntry], group: &ListSet)
 fn push_lot_missing(out: &mut Vec<u8>, lists: &[ListEntry], group: &ListSet, seats: u32)
     requires few { length lists.now ≤ 60 }
     requires room { vec_len out.old + 1280 ≤ vec_capacity out.old }
-    ensures items { out.new.items ≡ out.old.items ++ (refusal_answer lists.now (LotMissing group.now seats)).1 }
+    ensures items { out.new.items
+        ≡ out.old.items ++ (refusal_answer lists.now (LotMissing group.now seats)).1 }
     ensures len { vec_len out.new ≤ vec_len out.old + 1280 }
     ensures room { vec_capacity out.old ≤ vec_capacity out.new }
 {
@@ -178,8 +180,8 @@ fn push_outcome(out: &mut Vec<u8>, lists: &[ListEntry], outcome: &Result<Reply, 
     }
 }
 
-/// Writes the answer to a command on a constituency with these lists, or on a station of one, by way of its body. It
-/// takes no memory.
+/// Writes the answer to a command on a constituency with these lists, or on a station of one, by
+/// way of its body. It takes no memory.
 pub fn write_outcome(
     out: &mut Vec<u8>,
     body: &mut Vec<u8>,

@@ -1,9 +1,12 @@
 //! What GET shows of a return and of a constituency.
 
-ghost use Rattle.std.specs.Prelude.{◌≡◌, IfOk, string_bytes};
+ghost use Rattle.std.specs.Prelude.{◌≡◌, IfOk, OnOk, string_bytes};
+ghost use Rattle.serde_json.specs.Data.{no_members, object, put as with_member, string};
 ghost use Rattle.serde_json.specs.View.{view, members_view};
 ghost use Rattle.serde_json.specs.Written.{compact_text};
-ghost use Rattle.tally_answer.specs.Shown.{wholes, code_at, list_codes, shown_return, shown_gone, all_gone, members_behind_gone, shown_con};
+ghost use Rattle.tally_answer.specs.Shown.{all_gone, code_at, list_codes, members_behind_gone};
+ghost use Rattle.tally_answer.specs.Shown.{members_from_spoiled};
+ghost use Rattle.tally_answer.specs.Shown.{shown_con, shown_gone, shown_return, whole, wholes};
 
 use crate::outcome::status_word;
 use serde_json::{Map, Value, json};
@@ -31,25 +34,76 @@ fn long_wholes(alloc: Global, numbers: &[u64]) -> Result<Value, AllocError>
     Ok(Value::from(items))
 }
 
+// Members are put in from the last to the first, so that each goes before those that are there.
+fn put_text(
+    map: &mut Map<String, Value>,
+    alloc: Global,
+    key: &str,
+    text: &str,
+) -> Result<(), AllocError>
+    ensures { OnOk result (members_view map.new.entries
+        ≡ with_member key.now (string text.now) (members_view map.old.entries)) }
+{
+    serde_json::put(map, alloc, key, Value::try_from_str(alloc, text)?)
+}
+
+fn put_number(
+    map: &mut Map<String, Value>,
+    alloc: Global,
+    key: &str,
+    number: u32,
+) -> Result<(), AllocError>
+    ensures { OnOk result (members_view map.new.entries
+        ≡ with_member key.now (whole number) (members_view map.old.entries)) }
+{
+    serde_json::put(map, alloc, key, Value::from(number))
+}
+
+fn put_from_spoiled(
+    map: &mut Map<String, Value>,
+    alloc: Global,
+    station: &str,
+    kept: &Return,
+) -> Result<(), AllocError>
+    requires { members_view map.old.entries ≡ no_members }
+    ensures { OnOk result
+        (members_view map.new.entries ≡ members_from_spoiled station.now kept.now) }
+{
+    serde_json::put(map, alloc, "votes", wholes(alloc, &kept.counts.votes)?)?;
+    put_text(map, alloc, "status", status_word(kept.status))?;
+    put_text(map, alloc, "station", station)?;
+    put_number(map, alloc, "spoiled", kept.counts.spoiled)
+}
+
+fn put_return(
+    map: &mut Map<String, Value>,
+    alloc: Global,
+    station: &str,
+    kept: &Return,
+) -> Result<(), AllocError>
+    requires { members_view map.old.entries ≡ no_members }
+    ensures { OnOk result
+        (object (members_view map.new.entries) ≡ shown_return station.now kept.now) }
+{
+    put_from_spoiled(map, alloc, station, kept)?;
+    put_text(map, alloc, "slip", kept.slip.as_str())?;
+    put_number(map, alloc, "rev", kept.rev)?;
+    put_text(map, alloc, "note", &kept.note)?;
+    put_number(map, alloc, "blank", kept.counts.blank)
+}
+
 fn return_value(alloc: Global, station: &str, kept: &Return) -> Result<Value, AllocError>
     ensures { IfOk result (λ value. view value ≡ shown_return station.now kept.now) }
 {
-    let votes = wholes(alloc, &kept.counts.votes)?;
-    json!(in alloc; {
-        "blank": kept.counts.blank,
-        "note": &kept.note,
-        "rev": kept.rev,
-        "slip": kept.slip.as_str(),
-        "spoiled": kept.counts.spoiled,
-        "station": station,
-        "status": status_word(kept.status),
-        "votes": votes
-    })
+    let mut map = Map::new(alloc);
+    put_return(&mut map, alloc, station, kept)?;
+    Ok(Value::Object(map))
 }
 
 /// The JSON of a station's return.
 pub fn return_text(alloc: Global, station: &str, kept: &Return) -> Result<String, AllocError>
-    ensures { IfOk result (λ text. string_bytes text ≡ compact_text (shown_return station.now kept.now)) }
+    ensures { IfOk result
+        (λ text. string_bytes text ≡ compact_text (shown_return station.now kept.now)) }
 {
     return_value(alloc, station, kept)?.to_string(alloc)
 }
@@ -96,40 +150,46 @@ fn all_gone(alloc: Global, lists: &[ListEntry], all: &[Gone]) -> Result<Value, A
     Ok(Value::from(items))
 }
 
-// Members are put in from the last to the first, so that each goes before those that are there.
-fn members_behind_gone(
+fn put_behind_gone(
+    map: &mut Map<String, Value>,
     alloc: Global,
     con: &Constituency,
     seen: &ConView,
-) -> Result<Map<String, Value>, AllocError>
-    ensures { IfOk result (λ map. members_view map.entries ≡ members_behind_gone con.now seen.now) }
+) -> Result<(), AllocError>
+    requires { members_view map.old.entries ≡ no_members }
+    ensures { OnOk result (members_view map.new.entries ≡ members_behind_gone con.now seen.now) }
 {
-    let lot = codes_at(alloc, &con.lists, &seen.lot)?;
-    let seats = wholes(alloc, &seen.seats)?;
-    let votes = long_wholes(alloc, &seen.votes)?;
-    let note = Value::try_from_str(alloc, &seen.note)?;
-    let mut map = Map::new(alloc);
-    serde_json::put(&mut map, alloc, "votes", votes)?;
-    serde_json::put(&mut map, alloc, "stations", Value::from(seen.stations))?;
-    serde_json::put(&mut map, alloc, "spoiled", Value::from(seen.spoiled))?;
-    serde_json::put(&mut map, alloc, "seats", seats)?;
-    serde_json::put(&mut map, alloc, "note", note)?;
-    serde_json::put(&mut map, alloc, "lot", lot)?;
-    Ok(map)
+    serde_json::put(map, alloc, "votes", long_wholes(alloc, &seen.votes)?)?;
+    put_number(map, alloc, "stations", seen.stations)?;
+    serde_json::put(map, alloc, "spoiled", Value::from(seen.spoiled))?;
+    serde_json::put(map, alloc, "seats", wholes(alloc, &seen.seats)?)?;
+    put_text(map, alloc, "note", &seen.note)?;
+    serde_json::put(map, alloc, "lot", codes_at(alloc, &con.lists, &seen.lot)?)
+}
+
+fn put_con(
+    map: &mut Map<String, Value>,
+    alloc: Global,
+    con: &Constituency,
+    seen: &ConView,
+) -> Result<(), AllocError>
+    requires { members_view map.old.entries ≡ no_members }
+    ensures { OnOk result (object (members_view map.new.entries) ≡ shown_con con.now seen.now) }
+{
+    put_behind_gone(map, alloc, con, seen)?;
+    serde_json::put(map, alloc, "gone", all_gone(alloc, &con.lists, &seen.gone)?)?;
+    put_number(map, alloc, "edition", seen.edition)?;
+    put_text(map, alloc, "con", con.code.as_str())?;
+    put_number(map, alloc, "closed", seen.closed)?;
+    serde_json::put(map, alloc, "certified", Value::from(seen.certified))?;
+    serde_json::put(map, alloc, "blank", Value::from(seen.blank))
 }
 
 fn con_value(alloc: Global, con: &Constituency, seen: &ConView) -> Result<Value, AllocError>
     ensures { IfOk result (λ value. view value ≡ shown_con con.now seen.now) }
 {
-    let gone = all_gone(alloc, &con.lists, &seen.gone)?;
-    let code = Value::try_from_str(alloc, con.code.as_str())?;
-    let mut map = members_behind_gone(alloc, con, seen)?;
-    serde_json::put(&mut map, alloc, "gone", gone)?;
-    serde_json::put(&mut map, alloc, "edition", Value::from(seen.edition))?;
-    serde_json::put(&mut map, alloc, "con", code)?;
-    serde_json::put(&mut map, alloc, "closed", Value::from(seen.closed))?;
-    serde_json::put(&mut map, alloc, "certified", Value::from(seen.certified))?;
-    serde_json::put(&mut map, alloc, "blank", Value::from(seen.blank))?;
+    let mut map = Map::new(alloc);
+    put_con(&mut map, alloc, con, seen)?;
     Ok(Value::Object(map))
 }
 

@@ -7,7 +7,7 @@ ghost use Rattle.tally_answer.specs.declared.word.Word.TheVariants.{Unavailable}
 use crate::answer::write_answer;
 use crate::status::{AnswerStatus, BodyType};
 
-/// The room that an answer needs which is a word alone.
+/// The room that an answer needs that is a word alone.
 pub const WORD_ROOM: usize = 320;
 
 /// What is answered in place of a reply, a refusal or what is shown.
@@ -41,11 +41,12 @@ pub enum Word {
     NotCertified,
     /// The report is on divisors and the seats are allotted by quotas, or the other way round.
     OtherMethod,
-    /// Want of memory, or a refusal of the database: nothing was accepted.
+    /// Out of memory, or a refusal of the database: the request was not accepted. Where a commit
+    /// failed, the files may hold its change, and the next opening of the database shows it.
     Unavailable,
 }
 
-/// The answer where nothing was accepted, which takes no memory.
+/// The answer where a request was not accepted, which takes no memory.
 const UNAVAILABLE: &[u8] =
     b"HTTP/1.1 503 Service Unavailable\r\nContent-Type: application/json\r\nContent-Length: 22\r\nConnection: close\r\n\r\n{\"word\":\"unavailable\"}";
 
@@ -85,7 +86,8 @@ fn body_of(word: Word) -> &'static [u8]
     }
 }
 
-/// Writes the answer that is a word alone into a buffer that is empty and has `WORD_ROOM`. It takes no memory.
+/// Writes the answer that is a word alone into a buffer that is empty and has `WORD_ROOM`. It takes
+/// no memory.
 pub fn write_word(out: &mut Vec<u8>, word: Word)
     requires empty { out.old.items ≡ [] }
     requires room { 320 ≤ vec_capacity out.old }
@@ -94,7 +96,7 @@ pub fn write_word(out: &mut Vec<u8>, word: Word)
     write_answer(out, status_of_word(word), BodyType::Json, body_of(word));
 }
 
-/// The answer where nothing was accepted.
+/// The answer where a request was not accepted.
 pub fn unavailable_text() -> &'static [u8]
     ensures { result.now ≡ word_text Unavailable }
 {

@@ -7,8 +7,10 @@ use Rattle.serde_json.specs.Find.{get, as_array, as_number, as_str, as_u64}
 use Rattle.tally_rules.specs.Code.{code_of}
 use Rattle.tally_returns.specs.AskSeen.{AskSeen, lodge, query, correct, close, draw, certify, reopen, vacate}
 use Rattle.tally_returns.specs.Counts.{VoteCounts}
-use Rattle.tally_asks.specs.declared.routes.Route.{Route}
-use Rattle.tally_asks.specs.declared.routes.Route.TheVariants as route
+use Rattle.tally_asks.specs.declared.routes.ConCommand.{ConCommand}
+use Rattle.tally_asks.specs.declared.routes.ConCommand.TheVariants as on_con
+use Rattle.tally_asks.specs.declared.routes.StationCommand.{StationCommand}
+use Rattle.tally_asks.specs.declared.routes.StationCommand.TheVariants as on_station
 
 -- the value that a body is, or none
 abbrev pub IsBody : List ℕ → Option Data → Type 0
@@ -109,26 +111,21 @@ vacate_in con body = do
   note ← text_at (codes "note") body
   Some (vacate con list place note)
 
--- The command of a route on the station or the constituency of this code. The other routes have none in their bodies.
-abbrev pub command_in : Route → List ℕ → Data → Option AskSeen
-command_in route.Progress of body = None
-command_in route.Station of body = None
-command_in route.Con of body = None
-command_in route.Tally of body = None
-command_in route.Seats of body = None
-command_in route.Quotients of body = None
-command_in route.Awards of body = None
-command_in route.Quota of body = None
-command_in route.Short of body = None
-command_in route.Holders of body = None
-command_in route.Past of body = None
-command_in route.Lodge of body = lodge_in of body
-command_in route.Query of body = query_in of body
-command_in route.Correct of body = correct_in of body
-command_in route.Close of body = close_in of body
-command_in route.Draw of body = draw_in of body
-command_in route.Certify of body = certify_in of body
-command_in route.Reopen of body = reopen_in of body
-command_in route.Vacate of body = vacate_in of body
-command_in route.Import of body = None
-command_in route.ImportSemicolon of body = None
+-- The command that a JSON value is, of one of these commands on the station or the constituency of
+-- this code.
+abbrev pub station_command : StationCommand → List ℕ → Data → Option AskSeen
+station_command on_station.Lodge station body = lodge_in station body
+station_command on_station.Query station body = query_in station body
+station_command on_station.Correct station body = correct_in station body
+station_command on_station.Close station body = close_in station body
+
+abbrev pub con_command : ConCommand → List ℕ → Data → Option AskSeen
+con_command on_con.Draw con body = draw_in con body
+con_command on_con.Certify con body = certify_in con body
+con_command on_con.Reopen con body = reopen_in con body
+con_command on_con.Vacate con body = vacate_in con body
+
+-- The command that a body is, by what each JSON value is: none, where it is no such command.
+abbrev pub IsCommand : (Data → Option AskSeen) → List ℕ → Option AskSeen → Type 0
+IsCommand command body seen =
+    (value : Option Data) × IsBody body value × (seen ≡ option_and_then command value)

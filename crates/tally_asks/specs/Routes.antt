@@ -1,5 +1,5 @@
--- The routes of the desk, as `matchit` reads and finds them, the method that each takes (RFC 9110, section 9), and the
--- code in a target.
+-- The routes of the desk, as `matchit` reads and finds them, the method that each takes (RFC 9110,
+-- section 9), and the code in a target.
 use Rattle.std.specs.Prelude.{◌≡◌, ℕ, Bool, true, false, if◌then◌else◌, List, [], ◌∷◌, codes, length, Option, Some, None, Result, Ok, Err, IsUtf8, take, drop, position, bytes_eq, ◌==◌}
 use Rattle.std.specs.Option.{option_and_then}
 use Rattle.matchit.specs.Rows.{RowsOf}
@@ -9,43 +9,47 @@ use Rattle.matchit.specs.Route.{Scan, parse_route}
 use Rattle.matchit.specs.Router.{RouteOf, route_from}
 use Rattle.matchit.specs.declared.error.InsertError.{InsertError}
 use Rattle.tally_rules.specs.Code.{code_of}
+use Rattle.tally_records.specs.declared.separator.Sep.TheVariants as separator
+use Rattle.tally_report.specs.declared.report.Report.TheVariants as report
+use Rattle.tally_asks.specs.declared.routes.ConCommand.TheVariants as on_con
 use Rattle.tally_asks.specs.declared.routes.Route.{Route}
 use Rattle.tally_asks.specs.declared.routes.Route.TheVariants as route
+use Rattle.tally_asks.specs.declared.routes.StationCommand.TheVariants as on_station
 
 -- the routes of the whole office and of a station
 abbrev pub station_routes : List (List ℕ × Route)
 station_routes =
     (codes "/progress", route.Progress)
-    ∷ (codes "/station/{s}", route.Station)
-    ∷ (codes "/station/{s}/lodge", route.Lodge)
-    ∷ (codes "/station/{s}/query", route.Query)
-    ∷ (codes "/station/{s}/correct", route.Correct)
-    ∷ (codes "/station/{s}/close", route.Close)
+    ∷ (codes "/station/{s}", route.Return)
+    ∷ (codes "/station/{s}/lodge", route.OnStation on_station.Lodge)
+    ∷ (codes "/station/{s}/query", route.OnStation on_station.Query)
+    ∷ (codes "/station/{s}/correct", route.OnStation on_station.Correct)
+    ∷ (codes "/station/{s}/close", route.OnStation on_station.Close)
     ∷ []
 
 -- what is shown of a constituency
 abbrev pub con_routes : List (List ℕ × Route)
 con_routes =
     (codes "/con/{c}", route.Con)
-    ∷ (codes "/con/{c}/tally", route.Tally)
-    ∷ (codes "/con/{c}/seats", route.Seats)
-    ∷ (codes "/con/{c}/quotients", route.Quotients)
-    ∷ (codes "/con/{c}/awards", route.Awards)
-    ∷ (codes "/con/{c}/quota", route.Quota)
-    ∷ (codes "/con/{c}/short", route.Short)
-    ∷ (codes "/con/{c}/holders", route.Holders)
-    ∷ (codes "/con/{c}/past", route.Past)
+    ∷ (codes "/con/{c}/tally", route.Report report.Tally)
+    ∷ (codes "/con/{c}/seats", route.Report report.Seats)
+    ∷ (codes "/con/{c}/quotients", route.Report report.Quotients)
+    ∷ (codes "/con/{c}/awards", route.Report report.Awards)
+    ∷ (codes "/con/{c}/quota", route.Report report.Quota)
+    ∷ (codes "/con/{c}/short", route.Report report.Short)
+    ∷ (codes "/con/{c}/holders", route.Report report.Holders)
+    ∷ (codes "/con/{c}/past", route.Report report.Past)
     ∷ []
 
 -- the commands on a constituency and the imports into it
 abbrev pub command_routes : List (List ℕ × Route)
 command_routes =
-    (codes "/con/{c}/draw", route.Draw)
-    ∷ (codes "/con/{c}/certify", route.Certify)
-    ∷ (codes "/con/{c}/reopen", route.Reopen)
-    ∷ (codes "/con/{c}/vacate", route.Vacate)
-    ∷ (codes "/con/{c}/import", route.Import)
-    ∷ (codes "/con/{c}/import/semicolon", route.ImportSemicolon)
+    (codes "/con/{c}/draw", route.OnCon on_con.Draw)
+    ∷ (codes "/con/{c}/certify", route.OnCon on_con.Certify)
+    ∷ (codes "/con/{c}/reopen", route.OnCon on_con.Reopen)
+    ∷ (codes "/con/{c}/vacate", route.OnCon on_con.Vacate)
+    ∷ (codes "/con/{c}/import", route.Import separator.Comma)
+    ∷ (codes "/con/{c}/import/semicolon", route.Import separator.Semicolon)
     ∷ []
 
 abbrev pub Rows : Type 0
@@ -74,26 +78,12 @@ IsRouted target None = IsUtf8 target → first desk_rows target ≡ None
 -- whether a route takes GET; the others take POST
 abbrev pub takes_get : Route → Bool
 takes_get route.Progress = true
-takes_get route.Station = true
+takes_get route.Return = true
 takes_get route.Con = true
-takes_get route.Tally = true
-takes_get route.Seats = true
-takes_get route.Quotients = true
-takes_get route.Awards = true
-takes_get route.Quota = true
-takes_get route.Short = true
-takes_get route.Holders = true
-takes_get route.Past = true
-takes_get route.Lodge = false
-takes_get route.Query = false
-takes_get route.Correct = false
-takes_get route.Close = false
-takes_get route.Draw = false
-takes_get route.Certify = false
-takes_get route.Reopen = false
-takes_get route.Vacate = false
-takes_get route.Import = false
-takes_get route.ImportSemicolon = false
+takes_get (route.Report which) = true
+takes_get (route.OnStation command) = false
+takes_get (route.OnCon command) = false
+takes_get (route.Import sep) = false
 
 -- the method that a route takes
 abbrev pub method_of : Route → List ℕ
@@ -108,12 +98,16 @@ abbrev pub before_slash : List ℕ → List ℕ
 before_slash text = up_to text (position (λ b. b == 47) text)
 
 -- what follows a prefix, where the text begins with it
-abbrev pub after : List ℕ → List ℕ → Option (List ℕ)
-after prefix text = if bytes_eq (take (length prefix) text) prefix then Some (drop (length prefix) text) else None
+abbrev pub rest_after : List ℕ → List ℕ → Option (List ℕ)
+rest_after prefix text =
+    if bytes_eq (take (length prefix) text) prefix
+    then Some (drop (length prefix) text)
+    else None
 
--- the code that stands in a target between a prefix and the next slash, or the end
+-- the code in a target between a prefix and the next slash, or the end
 abbrev pub code_behind : List ℕ → List ℕ → Option (List ℕ)
-code_behind prefix target = option_and_then (λ rest. code_of (before_slash rest)) (after prefix target)
+code_behind prefix target =
+    option_and_then (λ rest. code_of (before_slash rest)) (rest_after prefix target)
 
 -- the station that a target names
 abbrev pub station_in : List ℕ → Option (List ℕ)

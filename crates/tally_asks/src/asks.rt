@@ -1,20 +1,20 @@
 //! Commands.
 
-ghost use Rattle.std.specs.Prelude.{◌≡◌, Option, codes, option_map, option_and_then, IfOk, string_bytes};
-ghost use Rattle.serde_json.specs.Data.{Data};
+ghost use Rattle.std.specs.Prelude.{◌≡◌, codes, option_map, IfOk, string_bytes};
 ghost use Rattle.serde_json.specs.View.{view};
 ghost use Rattle.tally_returns.specs.AskSeen.{ask_seen};
-ghost use Rattle.tally_asks.specs.Bodies.{IsBody, text_at, lodge_in, query_in, correct_in, close_in, draw_in, certify_in, reopen_in, vacate_in, command_in};
+ghost use Rattle.tally_asks.specs.Bodies.{IsCommand, text_at, lodge_in, query_in, correct_in, close_in, draw_in, certify_in, reopen_in, vacate_in, con_command, station_command};
 
 use crate::fields::{code_under, codes_under, counts_in, number_under, text_under, value_of};
-use crate::routes::Route;
+use crate::routes::{ConCommand, StationCommand};
 use serde_json::Value;
 use std::alloc::{AllocError, Global};
 use tally_returns::Ask;
 use tally_rules::Code;
 
 fn note_in(alloc: Global, value: &Value) -> Result<Option<String>, AllocError>
-    ensures { IfOk result (λ found. option_map string_bytes found ≡ text_at (codes "note") (view value.now)) }
+    ensures { IfOk result
+        (λ found. option_map string_bytes found ≡ text_at (codes "note") (view value.now)) }
 {
     match text_under(value, "note") {
         Some(text) => Ok(Some(String::from_str(alloc, text)?)),
@@ -54,7 +54,8 @@ fn query(alloc: Global, station: Code, value: &Value) -> Result<Option<Ask>, All
 
 #[tactic(auto, unfolding(crate::specs::Bodies::correct_in))]
 fn correct(alloc: Global, station: Code, value: &Value) -> Result<Option<Ask>, AllocError>
-    ensures { IfOk result (λ found. option_map ask_seen found ≡ correct_in station (view value.now)) }
+    ensures { IfOk result
+        (λ found. option_map ask_seen found ≡ correct_in station (view value.now)) }
 {
     let Some(rev) = number_under(value, "rev") else {
         return Ok(None);
@@ -140,35 +141,70 @@ fn vacate(alloc: Global, con: Code, value: &Value) -> Result<Option<Ask>, AllocE
     }))
 }
 
-/// The command of a JSON value.
-fn command_in(
+/// The command on a station that a JSON value is.
+fn station_command(
     alloc: Global,
-    route: Route,
-    of: Code,
+    command: StationCommand,
+    station: Code,
     value: &Value,
 ) -> Result<Option<Ask>, AllocError>
-    ensures { IfOk result (λ found. option_map ask_seen found ≡ command_in route of (view value.now)) }
+    ensures { IfOk result
+        (λ found. option_map ask_seen found ≡ station_command command station (view value.now)) }
 {
-    match route {
-        Route::Lodge => lodge(alloc, of, value),
-        Route::Query => query(alloc, of, value),
-        Route::Correct => correct(alloc, of, value),
-        Route::Close => Ok(close(of, value)),
-        Route::Draw => draw(alloc, of, value),
-        Route::Certify => Ok(certify(of, value)),
-        Route::Reopen => reopen(alloc, of, value),
-        Route::Vacate => vacate(alloc, of, value),
-        _ => Ok(None),
+    match command {
+        StationCommand::Lodge => lodge(alloc, station, value),
+        StationCommand::Query => query(alloc, station, value),
+        StationCommand::Correct => correct(alloc, station, value),
+        StationCommand::Close => Ok(close(station, value)),
     }
 }
 
-/// The command that a body is on a route, on the station or the constituency of this code. None is a bad body.
-pub fn ask_in(alloc: Global, route: Route, of: Code, body: &[u8]) -> Result<Option<Ask>, AllocError>
-    ensures { IfOk result (λ found. (value : Option Data) × IsBody body.now value
-        × (option_map ask_seen found ≡ option_and_then (command_in route of) value)) }
+/// The command on a constituency that a JSON value is.
+fn con_command(
+    alloc: Global,
+    command: ConCommand,
+    con: Code,
+    value: &Value,
+) -> Result<Option<Ask>, AllocError>
+    ensures { IfOk result
+        (λ found. option_map ask_seen found ≡ con_command command con (view value.now)) }
+{
+    match command {
+        ConCommand::Draw => draw(alloc, con, value),
+        ConCommand::Certify => Ok(certify(con, value)),
+        ConCommand::Reopen => reopen(alloc, con, value),
+        ConCommand::Vacate => vacate(alloc, con, value),
+    }
+}
+
+/// The command on the station of this code that a body is. None is a bad body.
+pub fn ask_on_station(
+    alloc: Global,
+    command: StationCommand,
+    station: Code,
+    body: &[u8],
+) -> Result<Option<Ask>, AllocError>
+    ensures { IfOk result (λ ask.
+        IsCommand (station_command command station) body.now (option_map ask_seen ask)) }
 {
     match value_of(alloc, body)? {
-        Some(value) => command_in(alloc, route, of, &value),
+        Some(value) => station_command(alloc, command, station, &value),
+        None => Ok(None),
+    }
+}
+
+/// The command on the constituency of this code that a body is. None is a bad body.
+pub fn ask_on_con(
+    alloc: Global,
+    command: ConCommand,
+    con: Code,
+    body: &[u8],
+) -> Result<Option<Ask>, AllocError>
+    ensures { IfOk result (λ ask.
+        IsCommand (con_command command con) body.now (option_map ask_seen ask)) }
+{
+    match value_of(alloc, body)? {
+        Some(value) => con_command(alloc, command, con, &value),
         None => Ok(None),
     }
 }

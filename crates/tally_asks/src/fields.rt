@@ -59,7 +59,8 @@ pub(crate) fn code_under(value: &Value, key: &str) -> Option<Code>
 }
 
 fn wholes(alloc: Global, values: &[Value]) -> Result<Option<Vec<u32>>, AllocError>
-    ensures { IfOk result (λ found. option_map (λ all. all.items) found ≡ all_items whole (items_view values.now)) }
+    ensures { IfOk result
+        (λ found. option_map (λ all. all.items) found ≡ all_items whole (items_view values.now)) }
 {
     let mut numbers = Vec::with_capacity(alloc, values.len())?;
     for value in values {
@@ -72,7 +73,8 @@ fn wholes(alloc: Global, values: &[Value]) -> Result<Option<Vec<u32>>, AllocErro
 }
 
 fn all_codes(alloc: Global, values: &[Value]) -> Result<Option<Vec<Code>>, AllocError>
-    ensures { IfOk result (λ found. option_map (λ all. all.items) found ≡ all_items code (items_view values.now)) }
+    ensures { IfOk result
+        (λ found. option_map (λ all. all.items) found ≡ all_items code (items_view values.now)) }
 {
     let mut all = Vec::with_capacity(alloc, values.len())?;
     for value in values {
@@ -85,7 +87,8 @@ fn all_codes(alloc: Global, values: &[Value]) -> Result<Option<Vec<Code>>, Alloc
 }
 
 fn array_under<'v>(value: &'v Value, key: &str) -> Option<&'v [Value]>
-    ensures { option_map (λ r. items_view r.now) result ≡ option_and_then as_array (get key.now (view value.now)) }
+    ensures { option_map (λ r. items_view r.now) result
+        ≡ option_and_then as_array (get key.now (view value.now)) }
 {
     match value.get(key)?.as_array() {
         Some(values) => Some(values),
@@ -98,7 +101,8 @@ pub(crate) fn codes_under(
     value: &Value,
     key: &str,
 ) -> Result<Option<Vec<Code>>, AllocError>
-    ensures { IfOk result (λ found. option_map (λ all. all.items) found ≡ codes_at key.now (view value.now)) }
+    ensures { IfOk result
+        (λ found. option_map (λ all. all.items) found ≡ codes_at key.now (view value.now)) }
 {
     match array_under(value, key) {
         Some(values) => all_codes(alloc, values),
@@ -107,7 +111,8 @@ pub(crate) fn codes_under(
 }
 
 fn numbers_under(alloc: Global, value: &Value, key: &str) -> Result<Option<Vec<u32>>, AllocError>
-    ensures { IfOk result (λ found. option_map (λ numbers. numbers.items) found ≡ numbers_at key.now (view value.now)) }
+    ensures { IfOk result
+        (λ found. option_map (λ all. all.items) found ≡ numbers_at key.now (view value.now)) }
 {
     match array_under(value, key) {
         Some(values) => wholes(alloc, values),

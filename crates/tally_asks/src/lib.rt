@@ -6,6 +6,6 @@ mod fields;
 mod routes;
 mod target;
 
-pub use asks::ask_in;
-pub use routes::{Route, desk_router, route_of, takes, takes_get};
+pub use asks::{ask_on_con, ask_on_station};
+pub use routes::{ConCommand, Route, StationCommand, desk_router, route_of, takes, takes_get};
 pub use target::{con_in, station_in};

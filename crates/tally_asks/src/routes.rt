@@ -8,64 +8,89 @@ use http::Method;
 use matchit::{InsertError, Router};
 use std::alloc::Global;
 use std::str;
+use tally_records::Sep;
+use tally_report::Report;
 
-/// What a target names.
+/// The commands on a station.
 #[derive(Clone, Copy, Debug, PartialEq, Eq)]
-pub enum Route {
-    Progress,
-    Station,
+pub enum StationCommand {
     Lodge,
     Query,
     Correct,
     Close,
-    Con,
-    Tally,
-    Seats,
-    Quotients,
-    Awards,
-    Quota,
-    Short,
-    Holders,
-    Past,
+}
+
+/// The commands on a constituency.
+#[derive(Clone, Copy, Debug, PartialEq, Eq)]
+pub enum ConCommand {
     Draw,
     Certify,
     Reopen,
     Vacate,
-    Import,
-    ImportSemicolon,
+}
+
+/// What a target names.
+#[derive(Clone, Copy, Debug, PartialEq, Eq)]
+pub enum Route {
+    /// How far each constituency has come.
+    Progress,
+    /// The return of a station.
+    Return,
+    /// A constituency.
+    Con,
+    /// A report of a constituency.
+    Report(Report),
+    /// A command on a station.
+    OnStation(StationCommand),
+    /// A command on a constituency.
+    OnCon(ConCommand),
+    /// An import into a constituency, of rows with this separator.
+    Import(Sep),
 }
 
 // The routes of the whole office and of a station.
 const STATION_ROUTES: [(&str, Route); 6] = [
     ("/progress", Route::Progress),
-    ("/station/{s}", Route::Station),
-    ("/station/{s}/lodge", Route::Lodge),
-    ("/station/{s}/query", Route::Query),
-    ("/station/{s}/correct", Route::Correct),
-    ("/station/{s}/close", Route::Close),
+    ("/station/{s}", Route::Return),
+    (
+        "/station/{s}/lodge",
+        Route::OnStation(StationCommand::Lodge),
+    ),
+    (
+        "/station/{s}/query",
+        Route::OnStation(StationCommand::Query),
+    ),
+    (
+        "/station/{s}/correct",
+        Route::OnStation(StationCommand::Correct),
+    ),
+    (
+        "/station/{s}/close",
+        Route::OnStation(StationCommand::Close),
+    ),
 ];
 
 // What is shown of a constituency.
 const CON_ROUTES: [(&str, Route); 9] = [
     ("/con/{c}", Route::Con),
-    ("/con/{c}/tally", Route::Tally),
-    ("/con/{c}/seats", Route::Seats),
-    ("/con/{c}/quotients", Route::Quotients),
-    ("/con/{c}/awards", Route::Awards),
-    ("/con/{c}/quota", Route::Quota),
-    ("/con/{c}/short", Route::Short),
-    ("/con/{c}/holders", Route::Holders),
-    ("/con/{c}/past", Route::Past),
+    ("/con/{c}/tally", Route::Report(Report::Tally)),
+    ("/con/{c}/seats", Route::Report(Report::Seats)),
+    ("/con/{c}/quotients", Route::Report(Report::Quotients)),
+    ("/con/{c}/awards", Route::Report(Report::Awards)),
+    ("/con/{c}/quota", Route::Report(Report::Quota)),
+    ("/con/{c}/short", Route::Report(Report::Short)),
+    ("/con/{c}/holders", Route::Report(Report::Holders)),
+    ("/con/{c}/past", Route::Report(Report::Past)),
 ];
 
 // The commands on a constituency and the imports into it.
 const COMMAND_ROUTES: [(&str, Route); 6] = [
-    ("/con/{c}/draw", Route::Draw),
-    ("/con/{c}/certify", Route::Certify),
-    ("/con/{c}/reopen", Route::Reopen),
-    ("/con/{c}/vacate", Route::Vacate),
-    ("/con/{c}/import", Route::Import),
-    ("/con/{c}/import/semicolon", Route::ImportSemicolon),
+    ("/con/{c}/draw", Route::OnCon(ConCommand::Draw)),
+    ("/con/{c}/certify", Route::OnCon(ConCommand::Certify)),
+    ("/con/{c}/reopen", Route::OnCon(ConCommand::Reopen)),
+    ("/con/{c}/vacate", Route::OnCon(ConCommand::Vacate)),
+    ("/con/{c}/import", Route::Import(Sep::Comma)),
+    ("/con/{c}/import/semicolon", Route::Import(Sep::Semicolon)),
 ];
 
 /// Adds a route.
@@ -78,7 +103,8 @@ fn add(router: &mut Router<Route>, text: &str, route: Route) -> Result<(), Inser
 
 /// Adds the routes of a table.
 fn add_all(router: &mut Router<Route>, table: &[(&str, Route)]) -> Result<(), InsertError>
-    ensures { OnOk result (router.new ≡ with_routes router.old (map (λ row. (row.0.now, row.1)) table.now)) }
+    ensures { OnOk result (router.new
+        ≡ with_routes router.old (map (λ row. (row.0.now, row.1)) table.now)) }
 {
     for (text, route) in table {
         add(router, text, *route)?;
@@ -118,7 +144,8 @@ pub fn desk_router(alloc: Global) -> Result<Router<Route>, InsertError>
 /// The route of a target, as `matchit` finds it.
 pub fn route_of(router: &Router<Route>, target: &[u8]) -> Option<Route>
     requires { router.now ≡ desk_rows }
-    ensures { (row : Option (RouteOf Route)) × IsRouted target.now row × (result ≡ option_map (λ e. e.value) row) }
+    ensures { (row : Option (RouteOf Route)) × IsRouted target.now row
+        × (result ≡ option_map (λ e. e.value) row) }
 {
     let Ok(text) = str::from_utf8(target) else {
         return None;
@@ -134,12 +161,8 @@ pub fn takes_get(route: Route) -> bool
     ensures { result ≡ takes_get route }
 {
     match route {
-        Route::Progress | Route::Station | Route::Con => true,
-        Route::Tally | Route::Seats | Route::Quotients | Route::Awards => true,
-        Route::Quota | Route::Short | Route::Holders | Route::Past => true,
-        Route::Lodge | Route::Query | Route::Correct | Route::Close => false,
-        Route::Draw | Route::Certify | Route::Reopen | Route::Vacate => false,
-        Route::Import | Route::ImportSemicolon => false,
+        Route::Progress | Route::Return | Route::Con | Route::Report(_) => true,
+        Route::OnStation(_) | Route::OnCon(_) | Route::Import(_) => false,
     }
 }
 

@@ -28,14 +28,16 @@ fn code_behind(target: &[u8], prefix: &[u8]) -> Option<Code>
     Code::new(before_slash(rest))
 }
 
-/// The station that a target names: what stands between `/station/` and the next slash, if it is a code.
+/// The station that a target names: what is between `/station/` and the next slash, if it is a
+/// code.
 pub fn station_in(target: &[u8]) -> Option<Code>
     ensures { result ≡ station_in target.now }
 {
     code_behind(target, b"/station/")
 }
 
-/// The constituency that a target names: what stands between `/con/` and the next slash, if it is a code.
+/// The constituency that a target names: what is between `/con/` and the next slash, if it is a
+/// code.
 pub fn con_in(target: &[u8]) -> Option<Code>
     ensures { result ≡ con_in target.now }
 {

@@ -15,8 +15,8 @@ use Rattle.tally_keeper.specs.Keeper.{Happens, request}
 use Rattle.tally_report.specs.declared.fault.ReportFault.{ReportFault}
 use Rattle.tally_report.specs.declared.fault.ReportFault.TheVariants as fault
 use Rattle.tally_report.specs.Fault.{IsRefused}
-use Rattle.tally_desk.specs.Reports.{report_fault}
-use Rattle.tally_desk.specs.declared.report.Report.{Report}
+use Rattle.tally_report.specs.Reports.{report_fault}
+use Rattle.tally_report.specs.declared.report.Report.{Report}
 use Rattle.tally_commands.specs.Show.{IsProgressTrouble, IsReportTrouble, IsWithheld, Shows, refusal_trouble}
 use Rattle.tally_commands.specs.Trouble.{report_trouble}
 use Rattle.tally_commands.specs.declared.trouble.Trouble.{Trouble}

@@ -1,17 +1,20 @@
 -- Imports of returns, and what they come to.
-use Rattle.std.specs.Prelude.{◌≡◌, ℕ, List, Option, Some, None, Ok, Err}
+use Rattle.std.specs.Prelude.{◌≡◌, ℕ, List, Option, Some, None, Ok, Err, option_map}
 use Rattle.tally_rules.specs.Constituency.{Constituency}
+use Rattle.tally_rules.specs.Setup.{constituency_with}
+use Rattle.tally_records.specs.declared.separator.Sep.{Sep}
 use Rattle.tally_returns.specs.State.{State}
 use Rattle.tally_keeper.specs.Keeper.{Imports}
 use Rattle.tally_keeper.specs.Source.{Coming, Ending}
 use Rattle.tally_keeper.specs.declared.import.ImportCount.{ImportCount}
 use Rattle.tally_keeper.specs.declared.source.ImportFault.{ImportFault}
 use Rattle.tally_import.specs.Check.{count_text}
+use Rattle.tally_import.specs.ReturnRows.{text_coming}
 use Rattle.tally_commands.specs.Trouble.{import_trouble}
 use Rattle.tally_commands.specs.declared.trouble.Trouble.{Trouble}
 use Rattle.tally_commands.specs.declared.trouble.Trouble.TheVariants.{NoConstituency, Memory}
 
--- No constituency has the code; or it is there, and memory ran out over its copy.
+-- No constituency has the code; or one has it, and its copy ran out of memory.
 abbrev pub IsFindTrouble : Option Constituency → Trouble → Type 0
 IsFindTrouble None t = t ≡ NoConstituency
 IsFindTrouble (Some con) t = t ≡ Memory
@@ -20,12 +23,35 @@ IsFindTrouble (Some con) t = t ≡ Memory
 abbrev pub IsCountText : List ℕ → Type 0
 IsCountText text = (count : ImportCount) × (text ≡ count_text count)
 
--- All rows that come were imported, where it is known what comes, and the text is the six lines of their count.
+-- All rows that come were imported, where it is known what comes, and the text is the six lines of
+-- their count.
 abbrev pub IsImported : List Constituency → Option State → Option Coming → List ℕ → Option State → Type 0
 IsImported setup old known text new =
     (ended : Ending) × (count : ImportCount) × Imports setup old known ended (Ok count) new × (text ≡ count_text count)
 
--- The import had a fault, and changed nothing.
+-- The import had a fault: it changed nothing, unless a disk that failed has shut the keeper.
 abbrev pub IsImportTrouble : List Constituency → Option State → Option Coming → Trouble → Option State → Type 0
 IsImportTrouble setup old known t new =
     (ended : Ending) × (fault : ImportFault) × Imports setup old known ended (Err fault) new × (t ≡ import_trouble fault)
+
+-- ---- texts of which the bytes may be known
+
+-- what is to come of a text, for a constituency
+abbrev pub coming_of : Constituency → Sep → Option (List ℕ) → Option Coming
+coming_of con sep bytes = option_map (text_coming con sep) bytes
+
+-- The rows of a text were imported into the constituency of this code, and these are the six lines
+-- of their count.
+abbrev pub IsTextImported : List ℕ → Sep → Option (List ℕ) → List Constituency → Option State → List ℕ → Option State → Type 0
+IsTextImported code sep bytes setup old lines new =
+    (con : Constituency) × (constituency_with code setup ≡ Some con)
+    × IsImported setup old (coming_of con sep bytes) lines new
+
+-- No constituency has the code, and nothing was done; or the import had a fault.
+abbrev pub IsTroubleIn : Option Constituency → Sep → Option (List ℕ) → List Constituency → Option State → Trouble → Option State → Type 0
+IsTroubleIn None sep bytes setup old t new = (t ≡ NoConstituency) × (new ≡ old)
+IsTroubleIn (Some con) sep bytes setup old t new = IsImportTrouble setup old (coming_of con sep bytes) t new
+
+-- Why the rows of a text were not imported into the constituency of this code.
+abbrev pub IsTextTrouble : List ℕ → Sep → Option (List ℕ) → List Constituency → Option State → Trouble → Option State → Type 0
+IsTextTrouble code sep bytes setup = IsTroubleIn (constituency_with code setup) sep bytes setup

@@ -3,3 +3,4 @@ pub mod Trouble
 pub mod Show
 pub mod Imported
 pub mod Made
+pub mod Served

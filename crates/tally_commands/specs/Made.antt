@@ -1,4 +1,4 @@
--- What is told of an office that was made.
+-- What is reported of an office that was made.
 use Rattle.std.specs.Prelude.{◌≡◌, ℕ, List, length, codes}
 use Rattle.tally_import.specs.Check.{named_number}
 use Rattle.tally_rules.specs.Constituency.{Constituency}

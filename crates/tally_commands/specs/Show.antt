@@ -1,4 +1,5 @@
--- What the office shows as text, and why it does not. Nothing changes; only a disk that fails may shut a keeper meanwhile.
+-- What the office shows as text, and why it does not. Nothing changes; only a disk that fails may
+-- shut a keeper meanwhile.
 use Rattle.std.specs.Prelude.{◌≡◌, ℕ, List, Option, Some, None, Result, Ok, Err, Vec}
 use Rattle.std.specs.declared.alloc.Global.{Global}
 use Rattle.tally_rules.specs.Constituency.{Constituency}
@@ -16,8 +17,8 @@ use Rattle.tally_keeper.specs.Keeper.{Happens, request}
 use Rattle.tally_report.specs.ProgressText.{progress_text}
 use Rattle.tally_report.specs.declared.fault.ReportFault.{ReportFault}
 use Rattle.tally_report.specs.declared.fault.ReportFault.TheVariants as fault
-use Rattle.tally_desk.specs.Reports.{IsReport, report_fault}
-use Rattle.tally_desk.specs.declared.report.Report.{Report}
+use Rattle.tally_report.specs.Reports.{IsReport, report_fault}
+use Rattle.tally_report.specs.declared.report.Report.{Report}
 use Rattle.tally_commands.specs.Trouble.{report_trouble}
 use Rattle.tally_commands.specs.declared.trouble.Trouble.{Trouble}
 use Rattle.tally_commands.specs.declared.trouble.Trouble.TheVariants as trouble
@@ -44,7 +45,8 @@ HasFault setup old code which why new =
     (con : Constituency) × (view : View) × (constituency_with code setup ≡ Some con)
     × Shows setup old (ShowCon code) (reply.Con view) new × (report_fault con view which ≡ Some why)
 
--- No constituency has the code; there is a fault of the report; memory ran out, or the database failed. No other trouble comes.
+-- No constituency has the code; there is a fault of the report; it is out of memory, or the
+-- database failed. No other trouble comes.
 abbrev pub IsReportTrouble : List Constituency → Option State → List ℕ → Report → Trouble → Option State → Type 0
 IsReportTrouble setup old code which trouble.NoConstituency new = (constituency_with code setup ≡ None) × (new ≡ old)
 IsReportTrouble setup old code which trouble.NotCertified new = HasFault setup old code which fault.NotCertified new
@@ -55,12 +57,12 @@ IsReportTrouble setup old code which other new = ⊥
 
 -- ---- progress
 
--- The text tells how far each constituency has come.
+-- The text shows how far each constituency has come.
 abbrev pub IsProgressShown : List Constituency → Option State → List ℕ → Option State → Type 0
 IsProgressShown setup old text new =
     (rows : Vec ProgressRow Global) × Shows setup old ShowProgress (reply.Progress rows) new × (text ≡ progress_text rows.items)
 
--- Memory ran out, or the database failed.
+-- It is out of memory, or the database failed.
 abbrev pub IsProgressTrouble : List Constituency → Option State → Trouble → Option State → Type 0
 IsProgressTrouble setup old trouble.Memory new = Happens setup old (request ShowProgress (Err refusal.Memory)) new
 IsProgressTrouble setup old trouble.Store new = Happens setup old (request ShowProgress (Err refusal.Store)) new
@@ -73,7 +75,8 @@ abbrev pub IsWithheld : Option ReportFault → Trouble → Type 0
 IsWithheld (Some why) t = t ≡ report_trouble why
 IsWithheld None t = t ≡ trouble.Memory
 
--- the trouble where a request that shows something is refused: a keeper that is trusted refuses it for nothing else
+-- the trouble where a request that shows something is refused: a keeper that is trusted refuses it
+-- for nothing else
 abbrev pub refusal_trouble : Refusal → Trouble
 refusal_trouble refusal.Memory = trouble.Memory
 refusal_trouble other = trouble.Store

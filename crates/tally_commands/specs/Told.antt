@@ -1,4 +1,4 @@
--- What is written on the standard error.
+-- What is written on standard error.
 use Rattle.std.specs.Prelude.{ℕ, List, Option, take}
 use Rattle.std.specs.Io.KnownBytes.{Appends}
 

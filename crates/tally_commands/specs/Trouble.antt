@@ -1,7 +1,10 @@
--- Why a command was not done: the line on the standard error, the exit status, and the faults that it comes of.
-use Rattle.std.specs.Prelude.{◌++◌, ℕ, List, codes}
+-- Why a command was not done: the line on standard error, the exit status, and the faults that
+-- it comes of.
+use Rattle.std.specs.Prelude.{◌≡◌, ◌⊎◌, ◌++◌, ℕ, List, Result, Ok, Err, codes}
 use Rattle.tally_rules.specs.declared.fault.SetupFault.{SetupFault}
 use Rattle.tally_rules.specs.declared.fault.SetupFault.TheVariants as setup
+use Rattle.tally_import.specs.declared.CheckFault.{CheckFault}
+use Rattle.tally_import.specs.declared.CheckFault.TheVariants as check
 use Rattle.tally_keeper.specs.declared.source.ImportFault.{ImportFault}
 use Rattle.tally_keeper.specs.declared.source.ImportFault.TheVariants as lodging
 use Rattle.tally_report.specs.declared.fault.ReportFault.{ReportFault}
@@ -11,11 +14,13 @@ use Rattle.tally_faults.specs.declared.fault.CreateFault.TheVariants as create
 use Rattle.tally_faults.specs.declared.fault.OpenFault.{OpenFault}
 use Rattle.tally_faults.specs.declared.fault.OpenFault.TheVariants as opening
 use Rattle.tally_commands.specs.declared.trouble.Trouble.{Trouble}
-use Rattle.tally_commands.specs.declared.trouble.Trouble.TheVariants.{Setup, NotEmpty, NoTables, BadTables, BadSetup, NoConstituency, BadHeader, TooLong, NotCertified, OtherMethod, Memory, Store, File, Read, Write, Port}
+use Rattle.tally_commands.specs.declared.trouble.Trouble.TheVariants.{Setup, NotEmpty, NoTables, BadTables, BadSetup}
+use Rattle.tally_commands.specs.declared.trouble.Trouble.TheVariants.{NoConstituency, BadHeader, TooLong, NotCertified}
+use Rattle.tally_commands.specs.declared.trouble.Trouble.TheVariants.{OtherMethod, Memory, Store, File, Read, Write, Port}
 
 -- ---- the line
 
--- of a text that is no setup
+-- of a text that is not a setup
 abbrev pub setup_line : SetupFault → List ℕ
 setup_line setup.NotToml = codes "refused: not_toml\n"
 setup_line (setup.Missing key) = codes "refused: missing " ++ key.now ++ codes "\n"
@@ -98,3 +103,40 @@ abbrev pub report_trouble : ReportFault → Trouble
 report_trouble report.NotCertified = NotCertified
 report_trouble report.OtherMethod = OtherMethod
 report_trouble report.Memory = Memory
+
+abbrev pub check_trouble : CheckFault → Trouble
+check_trouble check.BadHeader = BadHeader
+check_trouble check.TooLong = TooLong
+check_trouble check.Read = Read
+check_trouble check.Memory = Memory
+check_trouble check.Write = Write
+
+-- ---- which troubles there are
+
+-- of a database that is open
+abbrev pub IsTroubleOfDatabase : Trouble → Type 0
+IsTroubleOfDatabase t = (t ≡ Memory) ⊎ (t ≡ Store)
+
+-- of making an office
+abbrev pub IsTroubleOfMaking : Trouble → Type 0
+IsTroubleOfMaking t = ((fault : SetupFault) × (t ≡ Setup fault)) ⊎ (t ≡ NotEmpty) ⊎ IsTroubleOfDatabase t
+
+-- of opening one
+abbrev pub IsTroubleOfOpening : Trouble → Type 0
+IsTroubleOfOpening t = (t ≡ NoTables) ⊎ (t ≡ BadTables) ⊎ (t ≡ BadSetup) ⊎ IsTroubleOfDatabase t
+
+-- of importing the rows of a text
+abbrev pub IsTroubleOfRows : Trouble → Type 0
+IsTroubleOfRows t = (t ≡ BadHeader) ⊎ (t ≡ TooLong) ⊎ (t ≡ Read) ⊎ IsTroubleOfDatabase t
+
+-- of importing a text into the constituency of a code
+abbrev pub IsTroubleOfText : Trouble → Type 0
+IsTroubleOfText t = (t ≡ NoConstituency) ⊎ IsTroubleOfRows t
+
+-- of showing a report
+abbrev pub IsTroubleOfReport : Trouble → Type 0
+IsTroubleOfReport t = (t ≡ NoConstituency) ⊎ (t ≡ NotCertified) ⊎ (t ≡ OtherMethod) ⊎ IsTroubleOfDatabase t
+
+-- of showing the progress
+abbrev pub IsTroubleOfProgress : Trouble → Type 0
+IsTroubleOfProgress t = IsTroubleOfDatabase t

@@ -1,9 +1,10 @@
 //! Imports of returns.
 
-ghost use Rattle.std.specs.Prelude.{◌≡◌, IfErr, IfOk, Some, option_map, string_bytes};
-ghost use Rattle.tally_import.specs.ReturnRows.{text_coming};
+ghost use Rattle.std.specs.Prelude.{◌≡◌, IfErr, IfOk, Some, is_some, string_bytes};
 ghost use Rattle.tally_rules.specs.Setup.{constituency_with};
 ghost use Rattle.tally_commands.specs.Imported.{IsCountText, IsFindTrouble, IsImportTrouble, IsImported};
+ghost use Rattle.tally_commands.specs.Imported.{IsTextImported, IsTextTrouble, coming_of};
+ghost use Rattle.tally_commands.specs.Trouble.{IsTroubleOfText, IsTroubleOfRows};
 
 use crate::named::con_named;
 use crate::room::push_count;
@@ -17,8 +18,15 @@ use tally_rules::{Constituency, Setup};
 /// The most bytes that the counts of an import have as text.
 const COUNT_ROOM: usize = 128;
 
+/// Whether the setup has a constituency of this code.
+pub fn has_con(setup: &Setup, code: &str) -> bool
+    ensures { result ≡ is_some (constituency_with code.now setup.now) }
+{
+    con_named(setup, code).is_some()
+}
+
 /// A copy of the constituency of a code, which an import needs.
-pub fn find_con(alloc: Global, setup: &Setup, code: &str) -> Result<Constituency, Trouble>
+fn find_con(alloc: Global, setup: &Setup, code: &str) -> Result<Constituency, Trouble>
     ensures found { IfOk result (λ con. constituency_with code.now setup.now ≡ Some con) }
     ensures trouble { IfErr result (IsFindTrouble (constituency_with code.now setup.now)) }
 {
@@ -31,9 +39,35 @@ pub fn find_con(alloc: Global, setup: &Setup, code: &str) -> Result<Constituency
     }
 }
 
-/// Imports the rows of a text into a constituency: all of them, or with a trouble none. Answers how
-/// many were lodged, as text, whose room is reserved before: nothing takes memory once they are.
-pub fn import_rows<K: Keeper, R: Read + Drop>(
+/// Imports the rows of a text into the constituency of a code: all of them, or with a trouble none,
+/// unless a disk that failed has shut the keeper. Answers how many were lodged, as text.
+pub fn import_text<K: Keeper, R: Read + Drop>(
+    alloc: Global,
+    keeper: &mut K,
+    code: &str,
+    sep: Sep,
+    reader: R,
+) -> Result<String, Trouble>
+    ensures setup { K.constituencies keeper.new ≡ K.constituencies keeper.old }
+    ensures trusted { K.IsTrusted keeper.new → K.IsTrusted keeper.old }
+    ensures text { IfOk result (λ text. IsCountText (string_bytes text)) }
+    ensures named { IfErr result IsTroubleOfText }
+    ensures imported { K.IsTrusted keeper.new → IfOk result (λ text.
+        IsTextImported code.now sep (R.remaining reader)
+        (K.constituencies keeper.old) (K.content keeper.old) (string_bytes text) (K.content keeper.new)) }
+    ensures trouble { K.IsTrusted keeper.new → IfErr result (λ trouble.
+        IsTextTrouble code.now sep (R.remaining reader)
+        (K.constituencies keeper.old) (K.content keeper.old) trouble (K.content keeper.new)) }
+{
+    match find_con(alloc, keeper.setup(), code) {
+        Ok(con) => import_rows(alloc, keeper, con, sep, reader),
+        Err(trouble) => Err(trouble),
+    }
+}
+
+/// Imports the rows of a text into a constituency. The room of what it answers is reserved before:
+/// nothing takes memory once rows are lodged.
+fn import_rows<K: Keeper, R: Read + Drop>(
     alloc: Global,
     keeper: &mut K,
     con: Constituency,
@@ -43,12 +77,13 @@ pub fn import_rows<K: Keeper, R: Read + Drop>(
     ensures setup { K.constituencies keeper.new ≡ K.constituencies keeper.old }
     ensures trusted { K.IsTrusted keeper.new → K.IsTrusted keeper.old }
     ensures text { IfOk result (λ text. IsCountText (string_bytes text)) }
+    ensures named { IfErr result IsTroubleOfRows }
     ensures imported { K.IsTrusted keeper.new → IfOk result (λ text.
-        IsImported (K.constituencies keeper.old) (K.content keeper.old) (option_map (text_coming con sep) (R.remaining reader))
-        (string_bytes text) (K.content keeper.new)) }
+        IsImported (K.constituencies keeper.old) (K.content keeper.old)
+        (coming_of con sep (R.remaining reader)) (string_bytes text) (K.content keeper.new)) }
     ensures trouble { K.IsTrusted keeper.new → IfErr result (λ trouble.
-        IsImportTrouble (K.constituencies keeper.old) (K.content keeper.old) (option_map (text_coming con sep) (R.remaining reader))
-        trouble (K.content keeper.new)) }
+        IsImportTrouble (K.constituencies keeper.old) (K.content keeper.old)
+        (coming_of con sep (R.remaining reader)) trouble (K.content keeper.new)) }
 {
     let Ok(mut text) = String::with_capacity(alloc, COUNT_ROOM) else {
         return Err(Trouble::Memory);

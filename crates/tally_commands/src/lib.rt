@@ -1,18 +1,21 @@
-//! What the commands of the program do over an office that is open: reports and the progress as text,
-//! imports, and why a command was not done.
+//! What the commands of the program do over an office that is open: reports and the progress as
+//! text, imports, and why a command was not done.
 #![tactic(auto)]
 
 mod import;
 mod make;
 mod named;
 mod room;
+mod serve;
 mod show;
-mod tell;
+mod standard_error;
 mod trouble;
 
-pub use import::{find_con, import_rows};
+pub use import::{has_con, import_text};
 pub use make::{CONSTITUENCIES_ROOM, constituencies_text};
+pub use serve::{SERVED_ROOM, served_text};
 pub use show::{show_progress, show_report};
-pub use tally_desk::Report;
+pub use standard_error::tell;
 pub use tally_import::Sep;
+pub use tally_report::Report;
 pub use trouble::{FAILED, REFUSED, Trouble};

@@ -1,4 +1,4 @@
-//! What is told of an office that was made.
+//! What is reported of an office that was made.
 
 ghost use Rattle.std.specs.Prelude.{◌≡◌, ◌≤◌, ◌+◌, ◌++◌, IsOk, OnErr, OnOk, string_bytes, string_len, string_capacity};
 ghost use Rattle.tally_commands.specs.Made.{constituencies_text};

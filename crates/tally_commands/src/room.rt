@@ -6,7 +6,7 @@ ghost use Rattle.tally_import.specs.Check.{count_text, first_text, named_number}
 use itoa::Buffer;
 use tally_keeper::{FirstRow, ImportCount};
 
-fn push(text: &mut String, piece: &str)
+pub(crate) fn push(text: &mut String, piece: &str)
     requires { string_len text.old + length piece.now ≤ string_capacity text.old }
     ensures bytes { string_bytes text.new ≡ string_bytes text.old ++ piece.now }
     ensures len { string_len text.new ≡ string_len text.old + length piece.now }

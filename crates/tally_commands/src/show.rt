@@ -6,15 +6,16 @@ ghost use Rattle.tally_report.specs.ProgressText.{progress_text};
 ghost use Rattle.tally_returns.specs.View.{FitsView};
 ghost use Rattle.tally_rules.specs.Constituency as value;
 ghost use Rattle.tally_rules.specs.Setup.{constituency_with};
-ghost use Rattle.tally_desk.specs.Reports.{IsReport, report_fault};
+ghost use Rattle.tally_report.specs.Reports.{IsReport, report_fault};
+ghost use Rattle.tally_commands.specs.Trouble.{IsTroubleOfDatabase, IsTroubleOfProgress, IsTroubleOfReport};
 ghost use Rattle.tally_commands.specs.Show.{IsGiven, IsProgressShown, IsProgressTrouble, IsReportShown, IsReportTrouble, IsWithheld, refusal_trouble};
 
 use crate::named::code_named;
 use crate::trouble::Trouble;
 use std::alloc::Global;
-use tally_desk::{Report, progress_of, report_text, view_of};
+use tally_desk::{progress_of, view_of};
 use tally_keeper::{ConView, Keeper, ProgressRow, Refusal};
-use tally_report::progress_text;
+use tally_report::{Report, progress_text, report_text};
 use tally_rules::{Code, Setup};
 
 /// A report of the constituency of a code. It is shown, and nothing changes.
@@ -28,6 +29,7 @@ pub fn show_report<K: Keeper>(
     ensures trusted { K.IsTrusted keeper.new → K.IsTrusted keeper.old }
     ensures unknown { constituency_with con.now (K.constituencies keeper.old) ≡ None
         → (result ≡ Err Trouble.NoConstituency) × (keeper.new ≡ keeper.old) }
+    ensures named { IfErr result IsTroubleOfReport }
     ensures shown { K.IsTrusted keeper.new → IfOk result (λ text.
         IsReportShown (K.constituencies keeper.old) (K.content keeper.old) con.now which (string_bytes text) (K.content keeper.new)) }
     ensures trouble { K.IsTrusted keeper.new → IfErr result (λ trouble.
@@ -46,6 +48,7 @@ pub fn show_report<K: Keeper>(
 pub fn show_progress<K: Keeper>(alloc: Global, keeper: &mut K) -> Result<String, Trouble>
     ensures setup { K.constituencies keeper.new ≡ K.constituencies keeper.old }
     ensures trusted { K.IsTrusted keeper.new → K.IsTrusted keeper.old }
+    ensures named { IfErr result IsTroubleOfProgress }
     ensures shown { K.IsTrusted keeper.new → IfOk result (λ text.
         IsProgressShown (K.constituencies keeper.old) (K.content keeper.old) (string_bytes text) (K.content keeper.new)) }
     ensures trouble { K.IsTrusted keeper.new → IfErr result (λ trouble.
@@ -66,6 +69,7 @@ fn text_of(
     which: Report,
 ) -> Result<String, Trouble>
     requires { (con : value.Constituency) → constituency_with code setup.now ≡ Some con → FitsView con view.now }
+    ensures named { IfErr result IsTroubleOfReport }
     ensures text { IfOk result (λ text. (con : value.Constituency) → constituency_with code setup.now ≡ Some con
         → IsLawfulView con view.now → IsGiven con view.now which (string_bytes text)) }
     ensures trouble { IfErr result (λ trouble. (con : value.Constituency) → constituency_with code setup.now ≡ Some con
@@ -92,7 +96,8 @@ fn text_of_rows(alloc: Global, rows: &[ProgressRow]) -> Result<String, Trouble>
 
 /// Why something that the office has is not shown.
 fn trouble_of(refusal: Refusal) -> Trouble
-    ensures { result ≡ refusal_trouble refusal }
+    ensures trouble { result ≡ refusal_trouble refusal }
+    ensures named { IsTroubleOfDatabase result }
 {
     match refusal {
         Refusal::Memory => Trouble::Memory,

@@ -2,11 +2,14 @@
 
 ghost use Rattle.std.specs.Prelude.{◌≡◌};
 ghost use Rattle.tally_commands.specs.Told.{Told};
-ghost use Rattle.tally_commands.specs.Trouble.{create_trouble, import_trouble, open_trouble, report_trouble, setup_line, setup_status, trouble_line, trouble_status};
+ghost use Rattle.tally_commands.specs.Trouble.{check_trouble, create_trouble, import_trouble, open_trouble, report_trouble};
+ghost use Rattle.tally_commands.specs.Trouble.{IsTroubleOfMaking, IsTroubleOfOpening, IsTroubleOfReport, IsTroubleOfRows};
+ghost use Rattle.tally_commands.specs.Trouble.{setup_line, setup_status, trouble_line, trouble_status};
 
-use crate::tell::{tell, tell_named};
+use crate::standard_error::{tell, tell_named};
 use std::io::Write;
 use tally_faults::{CreateFault, OpenFault};
+use tally_import::CheckFault;
 use tally_keeper::ImportFault;
 use tally_report::ReportFault;
 use tally_rules::SetupFault;
@@ -14,13 +17,14 @@ use tally_rules::SetupFault;
 /// The exit status where what was asked is refused.
 pub const REFUSED: u8 = 1;
 
-/// The exit status where memory, the database, a file, a read, a write or the port failed.
+/// The exit status where it is out of memory, or the database, a file, a read, a write or the port
+/// failed.
 pub const FAILED: u8 = 3;
 
 /// Why a command was not done.
 #[derive(Clone, Copy, Debug, PartialEq, Eq)]
 pub enum Trouble {
-    /// The text is no setup, or memory ran out over it.
+    /// The text is not a setup, or its reading is out of memory.
     Setup(SetupFault),
     /// The database has tables of these names.
     NotEmpty,
@@ -28,7 +32,7 @@ pub enum Trouble {
     NoTables,
     /// The tables are those of no state, or their version is unknown.
     BadTables,
-    /// The text that the database has is no setup.
+    /// The text that the database has is not a setup.
     BadSetup,
     /// No constituency has the code.
     NoConstituency,
@@ -40,11 +44,11 @@ pub enum Trouble {
     NotCertified,
     /// The report is of a rule by which the seats are not allotted.
     OtherMethod,
-    /// Want of memory.
+    /// Out of memory.
     Memory,
     /// The database failed.
     Store,
-    /// The file of the database cannot be opened.
+    /// The file of a setup or of returns cannot be opened.
     File,
     /// A read failed.
     Read,
@@ -57,7 +61,8 @@ pub enum Trouble {
 impl Trouble {
     /// Why no office was made in a database.
     pub fn from_create(fault: &CreateFault) -> Trouble
-        ensures { result ≡ create_trouble fault.now }
+        ensures trouble { result ≡ create_trouble fault.now }
+        ensures named { IsTroubleOfMaking result }
     {
         match fault {
             CreateFault::Setup(fault) => Trouble::Setup(copy_of(fault)),
@@ -69,7 +74,8 @@ impl Trouble {
 
     /// Why a database was not opened.
     pub fn from_open(fault: &OpenFault) -> Trouble
-        ensures { result ≡ open_trouble fault.now }
+        ensures trouble { result ≡ open_trouble fault.now }
+        ensures named { IsTroubleOfOpening result }
     {
         match fault {
             OpenFault::NoTables => Trouble::NoTables,
@@ -82,7 +88,8 @@ impl Trouble {
 
     /// Why an import was not done.
     pub fn from_import(fault: ImportFault) -> Trouble
-        ensures { result ≡ import_trouble fault }
+        ensures trouble { result ≡ import_trouble fault }
+        ensures named { IsTroubleOfRows result }
     {
         match fault {
             ImportFault::BadHeader => Trouble::BadHeader,
@@ -95,12 +102,26 @@ impl Trouble {
 
     /// Why a report is not given.
     pub fn from_report(fault: ReportFault) -> Trouble
-        ensures { result ≡ report_trouble fault }
+        ensures trouble { result ≡ report_trouble fault }
+        ensures named { IsTroubleOfReport result }
     {
         match fault {
             ReportFault::NotCertified => Trouble::NotCertified,
             ReportFault::OtherMethod => Trouble::OtherMethod,
             ReportFault::Memory => Trouble::Memory,
+        }
+    }
+
+    /// Why a text was not checked.
+    pub fn from_check(fault: CheckFault) -> Trouble
+        ensures { result ≡ check_trouble fault }
+    {
+        match fault {
+            CheckFault::BadHeader => Trouble::BadHeader,
+            CheckFault::TooLong => Trouble::TooLong,
+            CheckFault::Read => Trouble::Read,
+            CheckFault::Memory => Trouble::Memory,
+            CheckFault::Write => Trouble::Write,
         }
     }
 
@@ -162,7 +183,7 @@ impl Trouble {
     }
 }
 
-/// A copy, field by field: the borrow checker takes no other one from behind a reference.
+/// A copy, field by field: the borrow checker accepts no other one through a reference.
 fn copy_of(fault: &SetupFault) -> SetupFault
     ensures { result ≡ fault.now }
 {

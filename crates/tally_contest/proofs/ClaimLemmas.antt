@@ -11,7 +11,7 @@ use Rattle.tally_contest.specs.internal.Claims.{IsClaimOf, claim_cmp, is_by, one
 use Rattle.tally_law.specs.HareAllotment.{Claim, claim_of, ClaimsAbove}
 use Rattle.tally_law.specs.Poll.{Poll}
 use Rattle.tally_contest.specs.internal.Race.{IsHighestNext}
-use Rattle.tally_contest.specs.internal.Terms.{placed_remainder_race, quotas_for, most_for}
+use Rattle.tally_contest.specs.internal.Terms.{Terms, placed_remainder_race, quotas_for, most_for}
 use Rattle.tally_contest.specs.declared.remainder_award.SeatClaim.{SeatClaim}
 use Rattle.tally_contest.proofs.HareRace.{eligible_if_runs, quotas_for-eligible, most_for-eligible}
 use Rattle.tally_contest.proofs.HeapLemmas.{found}
@@ -73,21 +73,21 @@ one_seat poll seats l n h =
     omega (arith, quotas_for-eligible poll seats l e, most_for-eligible poll seats l e)
 
 -- a claim in place of what it says
-seen_is : (poll : Poll) (lot : List ℕ) (seats : ℕ) (x : SeatClaim) → IsClaimOf poll lot seats x → seen x ≡ claim_of poll lot seats x.list
-seen_is poll lot seats x c = rw (c.remainder_is, c.votes_is, c.place_is) refl
+seen_is : (terms : Terms) (x : SeatClaim) → IsClaimOf terms x → seen x ≡ claim_of terms.poll terms.lot terms.seats x.list
+seen_is terms x c = rw (c.remainder_is, c.votes_is, c.place_is) refl
 
 -- a heap without claims holds none of a list that may hold more
-pub some_claim : (poll : Poll) (lot : List ℕ) (seats n : ℕ) (a : List ℕ) (items : List SeatClaim) → AreClaims poll lot seats n a items → length items ≡ 0 → (l : ℕ) → l < n → most_for poll seats l ≤ get_or a l 0
-some_claim poll lot seats n a [] claims e l lt = by_cases (cases_lt (get_or a l 0) (most_for poll seats l))
+pub some_claim : (terms : Terms) (n : ℕ) (a : List ℕ) (items : List SeatClaim) → AreClaims terms n a items → length items ≡ 0 → (l : ℕ) → l < n → most_for terms.poll terms.seats l ≤ get_or a l 0
+some_claim terms n a [] claims e l lt = by_cases (cases_lt (get_or a l 0) (most_for terms.poll terms.seats l))
   where
-    by_cases : (get_or a l 0 < most_for poll seats l) ⊎ (most_for poll seats l ≤ get_or a l 0) → most_for poll seats l ≤ get_or a l 0
-    by_cases (inl h) = absurd (omega (arith, claims.once l lt, more poll seats a l h))
+    by_cases : (get_or a l 0 < most_for terms.poll terms.seats l) ⊎ (most_for terms.poll terms.seats l ≤ get_or a l 0) → most_for terms.poll terms.seats l ≤ get_or a l 0
+    by_cases (inl h) = absurd (omega (arith, claims.once l lt, more terms.poll terms.seats a l h))
     by_cases (inr h) = h
-some_claim poll lot seats n a (x ∷ xs) claims e l lt = absurd (omega (arith, e))
+some_claim terms n a (x ∷ xs) claims e l lt = absurd (omega (arith, e))
 
-module _ (poll : Poll) (lot : List ℕ) (seats n : ℕ) (a : List ℕ) (items rest : List SeatClaim) (x : SeatClaim) (claims : AreClaims poll lot seats n a items) (popped : IsPermutation items (x ∷ rest)) where
+module _ (terms : Terms) (n : ℕ) (a : List ℕ) (items rest : List SeatClaim) (x : SeatClaim) (claims : AreClaims terms n a items) (popped : IsPermutation items (x ∷ rest)) where
   abbrev IsOne : SeatClaim → Type 0
-  IsOne y = IsClaimOf poll lot seats y
+  IsOne y = IsClaimOf terms y
 
   parts : All IsOne (x ∷ rest)
   parts = All-permutation IsOne items (x ∷ rest) popped claims.each
@@ -105,28 +105,28 @@ module _ (poll : Poll) (lot : List ℕ) (seats n : ℕ) (a : List ℕ) (items re
       by_cases (inl lt) = lt
       by_cases (inr ge) = absurd (omega (arith, counts x.list, claims.no_later x.list ge, is_by_same x.list x refl))
 
-  pub popped_runs : get_or a x.list 0 < most_for poll seats x.list
-  popped_runs = if_more poll seats a x.list (omega (arith, counts x.list, claims.once x.list popped_listed, is_by_same x.list x refl))
+  pub popped_runs : get_or a x.list 0 < most_for terms.poll terms.seats x.list
+  popped_runs = if_more terms.poll terms.seats a x.list (omega (arith, counts x.list, claims.once x.list popped_listed, is_by_same x.list x refl))
 
   none_left : sum_by (is_by x.list) rest ≡ 0
-  none_left = omega (arith, counts x.list, claims.once x.list popped_listed, is_by_same x.list x refl, more poll seats a x.list popped_runs)
+  none_left = omega (arith, counts x.list, claims.once x.list popped_listed, is_by_same x.list x refl, more terms.poll terms.seats a x.list popped_runs)
 
   -- what no claim is greater than is that of the list with the highest next pair
-  pub popped_highest : ((m : ℕ) → get_or a m 0 < most_for poll seats m → m < n) → IsUpperBound claim_cmp x items → IsHighestNext (placed_remainder_race poll lot seats) a x.list
+  pub popped_highest : ((m : ℕ) → get_or a m 0 < most_for terms.poll terms.seats m → m < n) → IsUpperBound claim_cmp x items → IsHighestNext (placed_remainder_race terms.poll terms.lot terms.seats) a x.list
   popped_highest listed bound = record { runs = popped_runs; highest = highest }
     where
-      highest : (m : ℕ) → get_or a m 0 < most_for poll seats m → ¬ ClaimsAbove (claim_of poll lot seats m) (claim_of poll lot seats x.list)
+      highest : (m : ℕ) → get_or a m 0 < most_for terms.poll terms.seats m → ¬ ClaimsAbove (claim_of terms.poll terms.lot terms.seats m) (claim_of terms.poll terms.lot terms.seats x.list)
       highest m runs above =
-          let f = found (is_by m) items (omega (arith, claims.once m (listed m runs), more poll seats a m runs)) in
+          let f = found (is_by m) items (omega (arith, claims.once m (listed m runs), more terms.poll terms.seats a m runs)) in
           let y = get_or items f.0 x in
           let list : y.list ≡ m = by_list m y (f.2 x) in
-          let is : seen y ≡ claim_of poll lot seats m = seen_is poll lot seats y (claims.each f.0 x f.1) ∙ ap (claim_of poll lot seats) list in
-          let P : Claim → Type 0 = λ c. ClaimsAbove c (claim_of poll lot seats x.list) in
+          let is : seen y ≡ claim_of terms.poll terms.lot terms.seats m = seen_is terms y (claims.each f.0 x f.1) ∙ ap (claim_of terms.poll terms.lot terms.seats) list in
+          let P : Claim → Type 0 = λ c. ClaimsAbove c (claim_of terms.poll terms.lot terms.seats x.list) in
           let Q : Claim → Type 0 = λ c. ClaimsAbove (seen y) c in
-          false≢true (sym (upper_at x items bound f.0 x f.1) ∙ below_is_less x y (subst Q (sym (seen_is poll lot seats x popped_is)) (subst P (sym is) above)))
+          false≢true (sym (upper_at x items bound f.0 x f.1) ∙ below_is_less x y (subst Q (sym (seen_is terms x popped_is)) (subst P (sym is) above)))
 
   -- once its list has one seat more and so its most
-  pub popped_rest : x.list < length a → most_for poll seats x.list ≤ get_or a x.list 0 + 1 → AreClaims poll lot seats n (set a x.list (get_or a x.list 0 + 1)) rest
+  pub popped_rest : x.list < length a → most_for terms.poll terms.seats x.list ≤ get_or a x.list 0 + 1 → AreClaims terms n (set a x.list (get_or a x.list 0 + 1)) rest
   popped_rest inside full = record { each = All-tail IsOne x rest parts; once = λ l lt. once l lt (cases_eq l x.list); no_later = λ l ge. omega (arith, counts l, claims.no_later l ge) }
     where
       b : List ℕ
@@ -135,30 +135,30 @@ module _ (poll : Poll) (lot : List ℕ) (seats n : ℕ) (a : List ℕ) (items re
       at_list : get_or b x.list 0 ≡ get_or a x.list 0 + 1
       at_list = get_or-set_same a x.list (get_or a x.list 0 + 1) 0 inside
 
-      once : (l : ℕ) → l < n → (l ≡ x.list) ⊎ (l ≡ x.list → ⊥) → sum_by (is_by l) rest ≡ one_if_more poll seats b l
+      once : (l : ℕ) → l < n → (l ≡ x.list) ⊎ (l ≡ x.list → ⊥) → sum_by (is_by l) rest ≡ one_if_more terms.poll terms.seats b l
       once l lt (inl e) =
-          let P : ℕ → Type 0 = λ i. sum_by (is_by i) rest ≡ one_if_more poll seats b i in
-          subst P (sym e) (none_left ∙ sym (no_more poll seats b x.list (omega (arith, at_list, full))))
+          let P : ℕ → Type 0 = λ i. sum_by (is_by i) rest ≡ one_if_more terms.poll terms.seats b i in
+          subst P (sym e) (none_left ∙ sym (no_more terms.poll terms.seats b x.list (omega (arith, at_list, full))))
       once l lt (inr ne) =
-          let same : one_if_more poll seats b l ≡ one_if_more poll seats a l = ap (λ k. cond (ltb k (most_for poll seats l)) 1 0) (get_or-set_other a x.list l (get_or a x.list 0 + 1) 0 ne) in
+          let same : one_if_more terms.poll terms.seats b l ≡ one_if_more terms.poll terms.seats a l = ap (λ k. cond (ltb k (most_for terms.poll terms.seats l)) 1 0) (get_or-set_other a x.list l (get_or a x.list 0 + 1) 0 ne) in
           omega (arith, same, counts l, claims.once l lt, is_by_other l x (λ e. ne (sym e)))
 
 -- the claims, list by list
-pub no_claims : (poll : Poll) (lot : List ℕ) (seats : ℕ) (a : List ℕ) → AreClaims poll lot seats 0 a []
-no_claims poll lot seats a = record { each = All-nil (IsClaimOf poll lot seats); once = λ l lt. absurd (omega arith); no_later = λ l ge. refl }
+pub no_claims : (terms : Terms) (a : List ℕ) → AreClaims terms 0 a []
+no_claims terms a = record { each = All-nil (IsClaimOf terms); once = λ l lt. absurd (omega arith); no_later = λ l ge. refl }
 
-module _ (poll : Poll) (lot : List ℕ) (seats n : ℕ) (a : List ℕ) (items : List SeatClaim) (claims : AreClaims poll lot seats n a items) where
-  pub one_passed : most_for poll seats n ≤ get_or a n 0 → AreClaims poll lot seats (n + 1) a items
+module _ (terms : Terms) (n : ℕ) (a : List ℕ) (items : List SeatClaim) (claims : AreClaims terms n a items) where
+  pub one_passed : most_for terms.poll terms.seats n ≤ get_or a n 0 → AreClaims terms (n + 1) a items
   one_passed full = record { each = claims.each; once = λ l lt. once l lt (cases_eq l n); no_later = λ l ge. claims.no_later l (omega arith) }
     where
-      once : (l : ℕ) → l < n + 1 → (l ≡ n) ⊎ (l ≡ n → ⊥) → sum_by (is_by l) items ≡ one_if_more poll seats a l
-      once l lt (inl e) = claims.no_later l (omega arith) ∙ sym (ap (one_if_more poll seats a) e ∙ no_more poll seats a n full)
+      once : (l : ℕ) → l < n + 1 → (l ≡ n) ⊎ (l ≡ n → ⊥) → sum_by (is_by l) items ≡ one_if_more terms.poll terms.seats a l
+      once l lt (inl e) = claims.no_later l (omega arith) ∙ sym (ap (one_if_more terms.poll terms.seats a) e ∙ no_more terms.poll terms.seats a n full)
       once l lt (inr ne) = claims.once l (omega arith)
 
-  pub one_pushed : get_or a n 0 < most_for poll seats n → (x : SeatClaim) → IsClaimOf poll lot seats x → x.list ≡ n → (others : List SeatClaim) → IsPermutation (x ∷ items) others → AreClaims poll lot seats (n + 1) a others
+  pub one_pushed : get_or a n 0 < most_for terms.poll terms.seats n → (x : SeatClaim) → IsClaimOf terms x → x.list ≡ n → (others : List SeatClaim) → IsPermutation (x ∷ items) others → AreClaims terms (n + 1) a others
   one_pushed runs x is list others pushed =
       record {
-        each = All-permutation (IsClaimOf poll lot seats) (x ∷ items) others pushed (All-cons (IsClaimOf poll lot seats) x items is claims.each);
+        each = All-permutation (IsClaimOf terms) (x ∷ items) others pushed (All-cons (IsClaimOf terms) x items is claims.each);
         once = λ l lt. once l lt (cases_eq l n);
         no_later = λ l ge. omega (arith, total l, is_by_other l x (λ e. omega (arith, e, list)), claims.no_later l (omega arith));
       }
@@ -166,6 +166,6 @@ module _ (poll : Poll) (lot : List ℕ) (seats n : ℕ) (a : List ℕ) (items : 
       total : (l : ℕ) → sum_by (is_by l) others ≡ is_by l x + sum_by (is_by l) items
       total l = sum_by_pushed (is_by l) x items others pushed
 
-      once : (l : ℕ) → l < n + 1 → (l ≡ n) ⊎ (l ≡ n → ⊥) → sum_by (is_by l) others ≡ one_if_more poll seats a l
-      once l lt (inl e) = omega (arith, total l, is_by_same l x (list ∙ sym e), claims.no_later l (omega arith), ap (one_if_more poll seats a) e, more poll seats a n runs)
+      once : (l : ℕ) → l < n + 1 → (l ≡ n) ⊎ (l ≡ n → ⊥) → sum_by (is_by l) others ≡ one_if_more terms.poll terms.seats a l
+      once l lt (inl e) = omega (arith, total l, is_by_same l x (list ∙ sym e), claims.no_later l (omega arith), ap (one_if_more terms.poll terms.seats a) e, more terms.poll terms.seats a n runs)
       once l lt (inr ne) = omega (arith, total l, is_by_other l x (λ e. ne (sym e ∙ list)), claims.once l (omega arith))

@@ -10,12 +10,10 @@ use Rattle.std.specs.declared.cmp.Ordering.{Ordering}
 use Rattle.std.specs.declared.cmp.Ordering.TheVariants.{Less}
 use Rattle.tally_frac.specs.Rank.{RanksAbove}
 use Rattle.tally_frac.specs.RankOrder.{rank_cmp, rank_cmp-less}
-use Rattle.tally_rules.specs.declared.profile.LotRule.{LotRule}
-use Rattle.tally_contest.specs.internal.Pairs.{pair_of}
-use Rattle.tally_contest.specs.internal.NextPairs.{Keyed, keyed, keyed_cmp, HaveKeys, is_of, one_if_eligible, AreNext}
+use Rattle.tally_contest.specs.internal.NextPairs.{Keyed, keyed_pair, keyed_cmp, HaveKeys, is_of, one_if_eligible, AreNext}
 use Rattle.tally_law.specs.Poll.{Poll, IsEligible}
 use Rattle.tally_contest.specs.internal.Race.{IsHighestNext}
-use Rattle.tally_contest.specs.internal.Terms.{placed_divisor_race}
+use Rattle.tally_contest.specs.internal.Terms.{Terms, divisor_under, lot_rule_of, pair_on, placed_divisor_race}
 use Rattle.tally_contest.proofs.DivisorRace.{seats_for-eligible, runs_if_eligible}
 use Rattle.tally_contest.proofs.Vectors.{get_or-le-sum}
 
@@ -27,10 +25,10 @@ not_less : (a b c : Ordering) → is_lt (ordering_then (ordering_then a b) c) �
 not_less a b c h e = false≢true (sym h ∙ ap (λ o. is_lt (ordering_then (ordering_then o b) c)) e)
 
 -- where a tuple is not less than another, its pair does not rank below
-not_below : (nth : ℕ → ℕ) (lot_rule : LotRule) (poll : Poll) (lot : List ℕ) → HaveKeys nth lot_rule poll lot → (l k m j : ℕ) → IsEligible poll l → IsEligible poll m → 1 ≤ k → k ≤ 501 → 1 ≤ j → j ≤ 501 → is_lt (keyed_cmp (keyed nth lot_rule poll lot l k) (keyed nth lot_rule poll lot m j)) ≡ false → ¬ RanksAbove (pair_of nth lot_rule poll lot m j) (pair_of nth lot_rule poll lot l k)
-not_below nth lot_rule poll lot keys l k m j el em one few one' few' h above =
-    not_less (rank_cmp (pair_of nth lot_rule poll lot l k) (pair_of nth lot_rule poll lot m j)) (nat_cmp l m) (nat_cmp k j) h
-    ((rank_cmp-less (pair_of nth lot_rule poll lot l k) (pair_of nth lot_rule poll lot m j) (keys l k el one few) (keys m j em one' few')).1 above)
+not_below : (terms : Terms) → HaveKeys terms → (l k m j : ℕ) → IsEligible terms.poll l → IsEligible terms.poll m → 1 ≤ k → k ≤ 501 → 1 ≤ j → j ≤ 501 → is_lt (keyed_cmp (keyed_pair terms l k) (keyed_pair terms m j)) ≡ false → ¬ RanksAbove (pair_on terms m j) (pair_on terms l k)
+not_below terms keys l k m j el em one few one' few' h above =
+    not_less (rank_cmp (pair_on terms l k) (pair_on terms m j)) (nat_cmp l m) (nat_cmp k j) h
+    ((rank_cmp-less (pair_on terms l k) (pair_on terms m j) (keys l k el one few) (keys m j em one' few')).1 above)
 
 -- where a total is not 0, some element counts
 pub found : {X : Type 0} (f : X → ℕ) (xs : List X) → 1 ≤ sum_by f xs → (i : ℕ) × (i < length xs) × ((d : X) → 1 ≤ f (get_or xs i d))
@@ -64,9 +62,9 @@ if_marked poll l h = by_test (get_or poll.eligible l false) h
     by_test true h = refl
     by_test false h = absurd (omega (arith, h))
 
-module _ (nth : ℕ → ℕ) (lot_rule : LotRule) (poll : Poll) (lot : List ℕ) (n : ℕ) (a : List ℕ) (items rest : List Keyed) (x : Keyed) (next : AreNext nth lot_rule poll lot n a items) (popped : IsPermutation items (x ∷ rest)) where
+module _ (terms : Terms) (n : ℕ) (a : List ℕ) (items rest : List Keyed) (x : Keyed) (next : AreNext terms n a items) (popped : IsPermutation items (x ∷ rest)) where
   abbrev Next : List ℕ → Keyed → Type 0
-  Next a y = y ≡ keyed nth lot_rule poll lot y.1 (get_or a y.1 0 + 1)
+  Next a y = y ≡ keyed_pair terms y.1 (get_or a y.1 0 + 1)
 
   parts : All (Next a) (x ∷ rest)
   parts = All-permutation (Next a) items (x ∷ rest) popped next.each
@@ -87,85 +85,85 @@ module _ (nth : ℕ → ℕ) (lot_rule : LotRule) (poll : Poll) (lot : List ℕ)
       by_cases (inl lt) = lt
       by_cases (inr ge) = absurd (omega (arith, counts x.1, next.no_later x.1 ge, is_of_same x.1 x refl))
 
-  pub popped_eligible : IsEligible poll x.1
-  popped_eligible = if_marked poll x.1 (omega (arith, counts x.1, next.once x.1 popped_listed, is_of_same x.1 x refl))
+  pub popped_eligible : IsEligible terms.poll x.1
+  popped_eligible = if_marked terms.poll x.1 (omega (arith, counts x.1, next.once x.1 popped_listed, is_of_same x.1 x refl))
 
   none_left : sum_by (is_of x.1) rest ≡ 0
-  none_left = omega (arith, counts x.1, next.once x.1 popped_listed, is_of_same x.1 x refl, marked poll x.1 popped_eligible)
+  none_left = omega (arith, counts x.1, next.once x.1 popped_listed, is_of_same x.1 x refl, marked terms.poll x.1 popped_eligible)
 
   pub popped_few : (seats : ℕ) → sum a < seats → seats ≤ 500 → x.2 + 1 ≤ 501
   popped_few seats room few = omega (arith, popped_seat, get_or-le-sum a x.1)
 
   -- what no tuple is greater than is the highest of the next pairs
-  pub popped_highest : (seats : ℕ) → HaveKeys nth lot_rule poll lot → ((l : ℕ) → IsEligible poll l → l < n) → sum a < seats → seats ≤ 500 → IsUpperBound keyed_cmp x items → IsHighestNext (placed_divisor_race nth lot_rule poll lot seats) a x.1
-  popped_highest seats keys listed room few bound = record { runs = omega (arith, seats_for-eligible poll seats x.1 popped_eligible, get_or-le-sum a x.1, room); highest = highest }
+  pub popped_highest : (seats : ℕ) → HaveKeys terms → ((l : ℕ) → IsEligible terms.poll l → l < n) → sum a < seats → seats ≤ 500 → IsUpperBound keyed_cmp x items → IsHighestNext (placed_divisor_race (divisor_under terms.rule) (lot_rule_of terms.rule) terms.poll terms.lot seats) a x.1
+  popped_highest seats keys listed room few bound = record { runs = omega (arith, seats_for-eligible terms.poll seats x.1 popped_eligible, get_or-le-sum a x.1, room); highest = highest }
     where
-      highest : (m : ℕ) → get_or a m 0 < (placed_divisor_race nth lot_rule poll lot seats).cap m → ¬ RanksAbove (pair_of nth lot_rule poll lot m (get_or a m 0 + 1)) (pair_of nth lot_rule poll lot x.1 (get_or a x.1 0 + 1))
+      highest : (m : ℕ) → get_or a m 0 < (placed_divisor_race (divisor_under terms.rule) (lot_rule_of terms.rule) terms.poll terms.lot seats).cap m → ¬ RanksAbove (pair_on terms m (get_or a m 0 + 1)) (pair_on terms x.1 (get_or a x.1 0 + 1))
       highest m runs =
-          let em : IsEligible poll m = runs_if_eligible poll seats m (get_or a m 0) runs in
-          let f = found (is_of m) items (omega (arith, next.once m (listed m em), marked poll m em)) in
+          let em : IsEligible terms.poll m = runs_if_eligible terms.poll seats m (get_or a m 0) runs in
+          let f = found (is_of m) items (omega (arith, next.once m (listed m em), marked terms.poll m em)) in
           let y = get_or items f.0 x in
           let list : y.1 ≡ m = of_list m y (f.2 x) in
-          let is : y ≡ keyed nth lot_rule poll lot m (get_or a m 0 + 1) = next.each f.0 x f.1 ∙ ap (λ l. keyed nth lot_rule poll lot l (get_or a l 0 + 1)) list in
+          let is : y ≡ keyed_pair terms m (get_or a m 0 + 1) = next.each f.0 x f.1 ∙ ap (λ l. keyed_pair terms l (get_or a l 0 + 1)) list in
           let P : Keyed → Type 0 = λ z. is_lt (keyed_cmp z y) ≡ false in
-          let Q : Keyed → Type 0 = λ z. is_lt (keyed_cmp (keyed nth lot_rule poll lot x.1 (get_or a x.1 0 + 1)) z) ≡ false in
-          not_below nth lot_rule poll lot keys x.1 (get_or a x.1 0 + 1) m (get_or a m 0 + 1) popped_eligible em (omega arith) (omega (arith, get_or-le-sum a x.1, room)) (omega arith) (omega (arith, get_or-le-sum a m, room)) (subst Q is (subst P popped_is (upper_at x items bound f.0 x f.1)))
+          let Q : Keyed → Type 0 = λ z. is_lt (keyed_cmp (keyed_pair terms x.1 (get_or a x.1 0 + 1)) z) ≡ false in
+          not_below terms keys x.1 (get_or a x.1 0 + 1) m (get_or a m 0 + 1) popped_eligible em (omega arith) (omega (arith, get_or-le-sum a x.1, room)) (omega arith) (omega (arith, get_or-le-sum a m, room)) (subst Q is (subst P popped_is (upper_at x items bound f.0 x f.1)))
 
   -- one seat more for its list, whose next pair takes its place
-  pub pushed_next : (more : List Keyed) → x.1 < length a → IsPermutation (keyed nth lot_rule poll lot x.1 (x.2 + 1) ∷ rest) more → AreNext nth lot_rule poll lot n (set a x.1 x.2) more
+  pub pushed_next : (more : List Keyed) → x.1 < length a → IsPermutation (keyed_pair terms x.1 (x.2 + 1) ∷ rest) more → AreNext terms n (set a x.1 x.2) more
   pushed_next more inside pushed = record { each = All-permutation (Next b) (new ∷ rest) more pushed (All-cons (Next b) new rest new_is rest_are); once = λ l lt. omega (arith, total l, counts l, next.once l lt); no_later = λ l ge. omega (arith, total l, counts l, next.no_later l ge) }
     where
       b : List ℕ
       b = set a x.1 x.2
 
       new : Keyed
-      new = keyed nth lot_rule poll lot x.1 (x.2 + 1)
+      new = keyed_pair terms x.1 (x.2 + 1)
 
       total : (l : ℕ) → sum_by (is_of l) more ≡ is_of l x + sum_by (is_of l) rest
       total l = sum_by_pushed (is_of l) new rest more pushed
 
       new_is : Next b new
-      new_is = ap (λ k. keyed nth lot_rule poll lot x.1 (k + 1)) (sym (get_or-set_same a x.1 x.2 0 inside))
+      new_is = ap (λ k. keyed_pair terms x.1 (k + 1)) (sym (get_or-set_same a x.1 x.2 0 inside))
 
       rest_are : All (Next b) rest
       rest_are k d lt =
           let y = get_or rest k d in
           let ne : y.1 ≢ x.1 = λ e. omega (arith, get_or-le-sum_by (is_of x.1) rest k d lt, none_left, is_of_same x.1 y e) in
-          All-tail (Next a) x rest parts k d lt ∙ ap (λ s. keyed nth lot_rule poll lot y.1 (s + 1)) (sym (get_or-set_other a x.1 y.1 x.2 0 ne))
+          All-tail (Next a) x rest parts k d lt ∙ ap (λ s. keyed_pair terms y.1 (s + 1)) (sym (get_or-set_other a x.1 y.1 x.2 0 ne))
 
 -- the first pairs, list by list
-pub no_pairs : (nth : ℕ → ℕ) (lot_rule : LotRule) (poll : Poll) (lot a : List ℕ) → AreNext nth lot_rule poll lot 0 a []
-no_pairs nth lot_rule poll lot a = record { each = All-nil (λ y. y ≡ keyed nth lot_rule poll lot y.1 (get_or a y.1 0 + 1)); once = λ l lt. absurd (omega arith); no_later = λ l ge. refl }
+pub no_pairs : (terms : Terms) (a : List ℕ) → AreNext terms 0 a []
+no_pairs terms a = record { each = All-nil (λ y. y ≡ keyed_pair terms y.1 (get_or a y.1 0 + 1)); once = λ l lt. absurd (omega arith); no_later = λ l ge. refl }
 
-module _ (nth : ℕ → ℕ) (lot_rule : LotRule) (poll : Poll) (lot : List ℕ) (n : ℕ) (a : List ℕ) (items : List Keyed) (next : AreNext nth lot_rule poll lot n a items) where
+module _ (terms : Terms) (n : ℕ) (a : List ℕ) (items : List Keyed) (next : AreNext terms n a items) where
   abbrev IsNext : Keyed → Type 0
-  IsNext y = y ≡ keyed nth lot_rule poll lot y.1 (get_or a y.1 0 + 1)
+  IsNext y = y ≡ keyed_pair terms y.1 (get_or a y.1 0 + 1)
 
-  pub one_passed : get_or poll.eligible n false ≡ false → AreNext nth lot_rule poll lot (n + 1) a items
+  pub one_passed : get_or terms.poll.eligible n false ≡ false → AreNext terms (n + 1) a items
   one_passed not = record { each = next.each; once = once; no_later = λ l ge. next.no_later l (omega arith) }
     where
-      once : (l : ℕ) → l < n + 1 → sum_by (is_of l) items ≡ one_if_eligible poll l
+      once : (l : ℕ) → l < n + 1 → sum_by (is_of l) items ≡ one_if_eligible terms.poll l
       once l lt = by_cases (cases_eq l n)
         where
-          by_cases : (l ≡ n) ⊎ (l ≡ n → ⊥) → sum_by (is_of l) items ≡ one_if_eligible poll l
-          by_cases (inl e) = next.no_later l (omega arith) ∙ sym (ap (λ i. one_if_eligible poll i) e ∙ ap (λ b. cond b 1 0) not)
+          by_cases : (l ≡ n) ⊎ (l ≡ n → ⊥) → sum_by (is_of l) items ≡ one_if_eligible terms.poll l
+          by_cases (inl e) = next.no_later l (omega arith) ∙ sym (ap (λ i. one_if_eligible terms.poll i) e ∙ ap (λ b. cond b 1 0) not)
           by_cases (inr ne) = next.once l (omega arith)
 
-  pub one_pushed : IsEligible poll n → get_or a n 0 ≡ 0 → (more : List Keyed) → IsPermutation (keyed nth lot_rule poll lot n 1 ∷ items) more → AreNext nth lot_rule poll lot (n + 1) a more
+  pub one_pushed : IsEligible terms.poll n → get_or a n 0 ≡ 0 → (more : List Keyed) → IsPermutation (keyed_pair terms n 1 ∷ items) more → AreNext terms (n + 1) a more
   one_pushed e none more pushed = record { each = All-permutation IsNext (new ∷ items) more pushed (All-cons IsNext new items new_is next.each); once = once; no_later = λ l ge. omega (arith, total l, is_of_other l new (λ q. omega arith), next.no_later l (omega arith)) }
     where
       new : Keyed
-      new = keyed nth lot_rule poll lot n 1
+      new = keyed_pair terms n 1
 
       total : (l : ℕ) → sum_by (is_of l) more ≡ is_of l new + sum_by (is_of l) items
       total l = sum_by_pushed (is_of l) new items more pushed
 
       new_is : IsNext new
-      new_is = ap (λ k. keyed nth lot_rule poll lot n (k + 1)) (sym none)
+      new_is = ap (λ k. keyed_pair terms n (k + 1)) (sym none)
 
-      once : (l : ℕ) → l < n + 1 → sum_by (is_of l) more ≡ one_if_eligible poll l
+      once : (l : ℕ) → l < n + 1 → sum_by (is_of l) more ≡ one_if_eligible terms.poll l
       once l lt = by_cases (cases_eq l n)
         where
-          by_cases : (l ≡ n) ⊎ (l ≡ n → ⊥) → sum_by (is_of l) more ≡ one_if_eligible poll l
-          by_cases (inl q) = omega (arith, total l, is_of_same l new (sym q), next.no_later l (omega arith), ap (λ i. one_if_eligible poll i) q, marked poll n e)
+          by_cases : (l ≡ n) ⊎ (l ≡ n → ⊥) → sum_by (is_of l) more ≡ one_if_eligible terms.poll l
+          by_cases (inl q) = omega (arith, total l, is_of_same l new (sym q), next.no_later l (omega arith), ap (λ i. one_if_eligible terms.poll i) q, marked terms.poll n e)
           by_cases (inr ne) = omega (arith, total l, is_of_other l new (λ q. ne (sym q)), next.once l (omega arith))

@@ -3,22 +3,22 @@ use Rattle.std.proofs.Common.{◌≡◌, ℕ, ◌+◌, ◌-◌, ◌%◌, ◌<◌
 use Rattle.std.proofs.lemmas.Bool.{cases_Bool, false≢true, eqb-true, eq-eqb}
 use Rattle.tally_rules.specs.declared.profile.LotRule.{LotRule}
 use Rattle.tally_rules.specs.declared.profile.LotRule.TheVariants.{Fixed, Alternating}
-use Rattle.tally_law.specs.Lot.{place_from, place_of, is_named, IsTurned, ComesFirst}
+use Rattle.tally_law.specs.Lot.{place_in_lot, place_of, is_named, IsTurned, ComesFirst}
 use Rattle.tally_contest.specs.internal.Pairs.{last_place, place_at}
 use Rattle.tally_law.specs.Poll.{Poll, IsEligible, votes_of}
 use Rattle.tally_contest.specs.internal.Premises.{IsProperLot}
 
 -- the place of a list that the lot names is one of the lot
-named_from : (n : ℕ) (lot : List ℕ) (l : ℕ) → is_named lot l ≡ true → place_from n lot l < n + length lot
+named_from : (n : ℕ) (lot : List ℕ) (l : ℕ) → is_named lot l ≡ true → place_in_lot n lot l < n + length lot
 named_from n [] l e = absurd (false≢true e)
 named_from n (p ∷ rest) l e = by_test (cases_Bool (eqb p (l + 1))) (named_from (n + 1) rest l)
   where
-    by_test : (eqb p (l + 1) ≡ true) ⊎ (eqb p (l + 1) ≡ false) → (is_named rest l ≡ true → place_from (n + 1) rest l < n + 1 + length rest) → place_from n (p ∷ rest) l < n + length (p ∷ rest)
+    by_test : (eqb p (l + 1) ≡ true) ⊎ (eqb p (l + 1) ≡ false) → (is_named rest l ≡ true → place_in_lot (n + 1) rest l < n + 1 + length rest) → place_in_lot n (p ∷ rest) l < n + length (p ∷ rest)
     by_test (inl here) further =
-        let place : place_from n (p ∷ rest) l ≡ n = ap (λ b. cond b n (place_from (n + 1) rest l)) here in
+        let place : place_in_lot n (p ∷ rest) l ≡ n = ap (λ b. cond b n (place_in_lot (n + 1) rest l)) here in
         omega (arith, place)
     by_test (inr there) further =
-        let place : place_from n (p ∷ rest) l ≡ place_from (n + 1) rest l = ap (λ b. cond b n (place_from (n + 1) rest l)) there in
+        let place : place_in_lot n (p ∷ rest) l ≡ place_in_lot (n + 1) rest l = ap (λ b. cond b n (place_in_lot (n + 1) rest l)) there in
         omega (arith, place, further (sym (ap (λ b. b || is_named rest l) there) ∙ e))
 
 within_lot : (lot : List ℕ) (l : ℕ) → is_named lot l ≡ true → place_of lot l ≤ length lot

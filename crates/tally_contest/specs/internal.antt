@@ -11,3 +11,4 @@ pub mod Claims
 pub mod Won
 pub mod NextPairs
 pub mod Orders
+pub mod Needs

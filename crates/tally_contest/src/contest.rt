@@ -1,12 +1,14 @@
 //! A contest of lists for the seats of a poll, whichever the rule.
 
-ghost use Rattle.std.specs.Prelude.{◌≡◌, ℕ, ◌+◌, ◌<◌, ◌≤◌, ◌↔◌, IsTrue, MatchOption, length, slice_index};
-ghost use Rattle.std.specs.Prelude.{slice_index_or, sum, false};
+ghost use Rattle.std.specs.Prelude.{◌≡◌, ℕ, ◌+◌, ◌<◌, ◌≤◌, ◌↔◌, IsTrue, MatchOption, length};
+ghost use Rattle.std.specs.Prelude.{slice_index, slice_index_or, sum, false};
 ghost use Rattle.tally_frac.specs.Limits.{most_lists};
 ghost use Rattle.tally_law.specs.Poll.{HasEligible, votes_of};
-ghost use Rattle.tally_contest.specs.internal.Race.{IsPair, IsWithin, IsFair, IsHighestNext, IsLowestLast};
-ghost use Rattle.tally_contest.specs.internal.Race.{IsHighestBefore, IsLowestBefore, IsLastFair, CanHold};
-ghost use Rattle.tally_contest.specs.internal.Terms.{Terms, AreSound, placed_race, vote_race};
+ghost use Rattle.tally_contest.specs.internal.Race.{IsPair, IsWithin, IsFair, IsHighestNext};
+ghost use Rattle.tally_contest.specs.internal.Race.{IsLowestLast, IsHighestBefore, IsLowestBefore};
+ghost use Rattle.tally_contest.specs.internal.Race.{IsLastFair, CanHold, IsNextAbove};
+ghost use Rattle.tally_contest.specs.internal.Terms.{AreFairSoFar, AreSound, Terms, placed_race};
+ghost use Rattle.tally_contest.specs.internal.Terms.{vote_race};
 
 /// The lists that contest the seats of a poll, under a rule and a lot. Lists are numbered from 0.
 /// The pair of a list and a number of a seat, from 1, is one of the contest where that list may
@@ -170,7 +172,7 @@ fn lower_last<C: Contest>(
 /// Gives so many seats more, each to the list whose next pair ranks highest.
 pub(crate) fn award<C: Contest>(contest: &C, seats: &mut [u32], number: u32)
     requires sound { AreSound (C.terms contest.now) }
-    requires fair { IsFair (placed_race (C.terms contest.now)) (sum seats.old) seats.old }
+    requires fair { AreFairSoFar (C.terms contest.now) seats.old }
     requires room { CanHold (placed_race (C.terms contest.now)) (sum seats.old + number) }
     ensures { IsFair (placed_race (C.terms contest.now)) (sum seats.old + number) seats.new }
 {
@@ -187,7 +189,7 @@ pub(crate) fn award<C: Contest>(contest: &C, seats: &mut [u32], number: u32)
 pub fn is_fair<C: Contest>(contest: &C, seats: &[u32]) -> bool
     requires sound { AreSound (C.terms contest.now) }
     requires one_each { length seats.now ≡ length (C.terms contest.now).poll.votes }
-    ensures { IsTrue result ↔ IsFair (placed_race (C.terms contest.now)) (sum seats.now) seats.now }
+    ensures { IsTrue result ↔ AreFairSoFar (C.terms contest.now) seats.now }
 {
     if !is_within(contest, seats) {
         return false;
@@ -245,8 +247,8 @@ fn is_next_above<C: Contest>(
     requires list { list < length (C.terms contest.now).poll.votes }
     requires other { other < length (C.terms contest.now).poll.votes }
     requires pair { IsPair (placed_race (C.terms contest.now)) other other_seat }
-    ensures { IsTrue result ↔ ((slice_index seats.now list < (placed_race (C.terms contest.now)).cap list) ×
-        (placed_race (C.terms contest.now)).Above list (slice_index seats.now list + 1) other other_seat) }
+    ensures { IsTrue result ↔
+        IsNextAbove (placed_race (C.terms contest.now)) seats.now list other other_seat }
 {
     let held = seats[list];
     held < contest.cap(list) && contest.is_above(list, held + 1, other, other_seat)

@@ -1,6 +1,7 @@
 //! Contests under a divisor rule.
 
-ghost use Rattle.std.specs.Prelude.{◌≡◌, ℕ, ◌*◌, ◌<◌, ◌≤◌, ◌⊎◌, ◌↔◌, IsTrue, false, slice_index, slice_index_or};
+ghost use Rattle.std.specs.Prelude.{◌≡◌, ℕ, ◌*◌, ◌<◌, ◌≤◌, ◌⊎◌, ◌↔◌, IsTrue, false, slice_index};
+ghost use Rattle.std.specs.Prelude.{slice_index_or};
 ghost use Rattle.tally_frac.specs.Limits.{greatest_divisor, most_lists, most_seats, most_votes};
 ghost use Rattle.tally_contest.specs.internal.KeptPoll.{kept_poll};
 ghost use Rattle.tally_law.specs.Allotment.{divisors as by_divisors};
@@ -32,7 +33,8 @@ pub struct DivisorContest<'a, D> {
     turning: ListSet,
     ghost few_seats: { seats ≤ most_seats },
     ghost places_are: { (l : ℕ) → l < most_lists → slice_index places l ≡ place_of lot.now l },
-    ghost turning_is: { (l : ℕ) → l < most_lists → slice_index_or turning l false ≡ turns lot_rule lot.now l },
+    ghost turning_is: { (l : ℕ) → l < most_lists →
+        slice_index_or turning l false ≡ turns lot_rule lot.now l },
 }
 
 impl<'a, D: Divisors> DivisorContest<'a, D> {
@@ -49,8 +51,9 @@ impl<'a, D: Divisors> DivisorContest<'a, D> {
     ) -> DivisorContest<'a, D>
         requires some_seat { 1 ≤ seats }
         requires few_seats { seats ≤ most_seats }
-        ensures terms { divisor_terms D.divisor D.unit_of result ≡
-            terms_under (by_divisors (D.divisor divisors) (D.unit_of divisors) lot_rule) poll.now lot.now seats }
+        ensures terms { divisor_terms D.divisor D.unit_of result ≡ terms_under
+            (by_divisors (D.divisor divisors) (D.unit_of divisors) lot_rule)
+            poll.now lot.now seats }
         ensures sound { AreSound (divisor_terms D.divisor D.unit_of result) }
     {
         DivisorContest {

@@ -1,8 +1,9 @@
 //! Contests under Hare's rule.
 
-ghost use Rattle.std.specs.Prelude.{◌≡◌, ℕ, ◌*◌, ◌<◌, ◌≤◌, ◌⊎◌, ◌↔◌, IsTrue, length, slice_index, slice_index_or};
+ghost use Rattle.std.specs.Prelude.{◌≡◌, ℕ, ◌*◌, ◌<◌, ◌≤◌, ◌⊎◌, ◌↔◌, IsTrue, length, slice_index};
+ghost use Rattle.std.specs.Prelude.{slice_index_or};
 ghost use Rattle.tally_frac.specs.Limits.{most_lists, most_seats};
-ghost use Rattle.tally_law.specs.Poll.{eligible_votes, IsEligible};
+ghost use Rattle.tally_law.specs.Poll.{IsEligible};
 ghost use Rattle.tally_law.specs.HareAllotment as spec;
 ghost use Rattle.tally_law.specs.Allotment.{hare};
 ghost use Rattle.tally_law.specs.Lot.{place_of};
@@ -83,7 +84,12 @@ impl<'a> HareContest<'a> {
 }
 
 impl Contest for HareContest<'_> {
-    ghost terms = { λ c. record { rule = hare; poll = kept_poll c.poll; lot = c.lot.now; seats = c.seats } };
+    ghost terms = { λ c. record {
+      rule = hare;
+      poll = kept_poll c.poll;
+      lot = c.lot.now;
+      seats = c.seats;
+    } };
 
     fn count(&self) -> usize {
         self.poll.votes.len()

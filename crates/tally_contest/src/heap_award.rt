@@ -1,21 +1,20 @@
 //! The award of the seats under a divisor rule, from a heap of keys.
 
-ghost use Rattle.std.specs.Prelude.{◌≡◌, ℕ, ◌+◌, ◌<◌, ◌≤◌, IfOk, IfErr, OnOk, Some, length, slice_index, slice_set};
-ghost use Rattle.std.specs.Prelude.{sum};
+ghost use Rattle.std.specs.Prelude.{◌≡◌, ◌+◌, ◌<◌, ◌≤◌, IfOk, OnOk, Some, length, slice_index};
+ghost use Rattle.std.specs.Prelude.{slice_set, sum};
 ghost use Rattle.std.specs.BinaryHeap.{IsHeap, heap_items};
 ghost use Rattle.tally_frac.specs.Limits.{last_divisor, most_lists};
 ghost use Rattle.tally_contest.specs.internal.KeptPoll.{kept_poll};
 ghost use Rattle.tally_contest.specs.internal.ContestTerms.{divisor_terms};
-ghost use Rattle.tally_law.specs.Allotment.{divisors as by_divisors};
 ghost use Rattle.tally_law.specs.Poll.{HasEligible};
-ghost use Rattle.tally_law.specs.LotNeed.{IsLotTaken};
 ghost use Rattle.tally_frac.specs.Rank.{IsWithinLimits};
-ghost use Rattle.tally_contest.specs.internal.Pairs.{pair_of};
-ghost use Rattle.tally_contest.specs.internal.NextPairs.{AreNext, HaveKeys, keyed, keyed_cmp};
+ghost use Rattle.tally_contest.specs.internal.NextPairs.{AreFirstPairs, AreNext, HaveKeys};
+ghost use Rattle.tally_contest.specs.internal.NextPairs.{keyed_cmp, keyed_pair};
 ghost use Rattle.tally_law.specs.Poll.{IsEligible};
-ghost use Rattle.tally_contest.specs.internal.Race.{IsFair, IsHighestNext};
-ghost use Rattle.tally_contest.specs.internal.Terms.{AreSound, IsProperLot, placed_divisor_race, placed_race};
-ghost use Rattle.tally_contest.specs.internal.Won.{AreWon, none_held};
+ghost use Rattle.tally_contest.specs.internal.Race.{IsHighestNext};
+ghost use Rattle.tally_contest.specs.internal.Terms.{AreFairSeats, AreFairSoFar, AreSound};
+ghost use Rattle.tally_contest.specs.internal.Terms.{IsProperLot, pair_on, placed_race};
+ghost use Rattle.tally_contest.specs.internal.Won.{AreWon};
 
 use crate::contest::Contest;
 use crate::divisor_contest::DivisorContest;
@@ -41,13 +40,13 @@ pub fn award_from_heap<D: Divisors>(
 ) -> Result<Given, AllocError>
     requires sound { AreSound (divisor_terms D.divisor D.unit_of contest.now) }
     requires proper { IsProperLot (kept_poll contest.now.poll) contest.now.lot.now }
-    requires keys { HaveKeys (D.divisor contest.now.divisors) contest.now.lot_rule (kept_poll contest.now.poll)
-        contest.now.lot.now }
+    requires keys { HaveKeys (divisor_terms D.divisor D.unit_of contest.now) }
     requires eligible { HasEligible (kept_poll contest.now.poll) }
     ensures fair { IfOk result (λ given.
-        IsFair (placed_race (divisor_terms D.divisor D.unit_of contest.now)) contest.now.seats given.seats.items) }
+        AreFairSeats (divisor_terms D.divisor D.unit_of contest.now) given.seats.items) }
     ensures won { IfOk result (λ given.
-        AreWon (placed_race (divisor_terms D.divisor D.unit_of contest.now)) given.seats.items given.rows.items) }
+        AreWon (placed_race (divisor_terms D.divisor D.unit_of contest.now)) given.seats.items
+        given.rows.items) }
 {
     let mut next = first_pairs(alloc, contest)?;
     let mut seats = no_seats(alloc, contest.count())?;
@@ -65,28 +64,28 @@ fn award_next<D: Divisors>(
     seats: &mut [u32],
 ) -> Result<Won, AllocError>
     requires sound { AreSound (divisor_terms D.divisor D.unit_of contest.now) }
-    requires keys { HaveKeys (D.divisor contest.now.divisors) contest.now.lot_rule (kept_poll contest.now.poll)
-        contest.now.lot.now }
+    requires keys { HaveKeys (divisor_terms D.divisor D.unit_of contest.now) }
     requires eligible { HasEligible (kept_poll contest.now.poll) }
-    requires fair { IsFair (placed_race (divisor_terms D.divisor D.unit_of contest.now)) (sum seats.old) seats.old }
+    requires fair { AreFairSoFar (divisor_terms D.divisor D.unit_of contest.now) seats.old }
     requires room { sum seats.old < contest.now.seats }
     requires order { IsHeap keyed_cmp (heap_items next.old) }
-    requires next { AreNext (D.divisor contest.now.divisors) contest.now.lot_rule (kept_poll contest.now.poll)
-        contest.now.lot.now (length contest.now.poll.votes.now) seats.old (heap_items next.old) }
+    requires next { AreNext (divisor_terms D.divisor D.unit_of contest.now)
+        (length contest.now.poll.votes.now) seats.old (heap_items next.old) }
     ensures highest { IfOk result (λ won.
-        IsHighestNext (placed_race (divisor_terms D.divisor D.unit_of contest.now)) seats.old won.list) }
+        IsHighestNext (placed_race (divisor_terms D.divisor D.unit_of contest.now)) seats.old
+        won.list) }
     ensures seat { IfOk result (λ won. won.seat ≡ slice_index seats.old won.list + 1) }
     ensures seats { IfOk result (λ won. seats.new ≡ slice_set seats.old won.list won.seat) }
     ensures order { OnOk result (IsHeap keyed_cmp (heap_items next.new)) }
     ensures next { OnOk result
-        (AreNext (D.divisor contest.now.divisors) contest.now.lot_rule (kept_poll contest.now.poll)
-        contest.now.lot.now (length contest.now.poll.votes.now) seats.new (heap_items next.new)) }
+        (AreNext (divisor_terms D.divisor D.unit_of contest.now)
+        (length contest.now.poll.votes.now) seats.new (heap_items next.new)) }
 {
     let (list, seat) = match next.pop() {
         Some((_key, list, seat)) => (list, seat),
         None => unreachable!(),
     };
-    // Even a list that holds all seats now has a next pair: it is its 501st at most, and never wins.
+    // Even a list that holds all seats now has a next pair: its 501st at most, which never wins.
     next.push(keyed_pair(contest, list, seat + 1))?;
     seats[list] = seat;
     Ok(Won { list, seat })
@@ -98,12 +97,10 @@ fn first_pairs<D: Divisors>(
     contest: &DivisorContest<D>,
 ) -> Result<BinaryHeap<(RankKey, usize, u32)>, AllocError>
     requires sound { AreSound (divisor_terms D.divisor D.unit_of contest.now) }
-    requires keys { HaveKeys (D.divisor contest.now.divisors) contest.now.lot_rule (kept_poll contest.now.poll)
-        contest.now.lot.now }
+    requires keys { HaveKeys (divisor_terms D.divisor D.unit_of contest.now) }
     ensures order { IfOk result (λ next. IsHeap keyed_cmp (heap_items next)) }
     ensures next { IfOk result (λ next.
-        AreNext (D.divisor contest.now.divisors) contest.now.lot_rule (kept_poll contest.now.poll) contest.now.lot.now
-        (length contest.now.poll.votes.now) (none_held (length contest.now.poll.votes.now)) (heap_items next)) }
+        AreFirstPairs (divisor_terms D.divisor D.unit_of contest.now) (heap_items next)) }
 {
     let mut next = BinaryHeap::with_capacity(alloc, contest.count())?;
     for list in 0..contest.count() {
@@ -125,10 +122,8 @@ fn keyed_pair<D: Divisors>(
     requires eligible { IsEligible (kept_poll contest.now.poll) list }
     requires first { 1 ≤ seat }
     requires last { seat ≤ last_divisor }
-    requires keys { HaveKeys (D.divisor contest.now.divisors) contest.now.lot_rule (kept_poll contest.now.poll)
-        contest.now.lot.now }
-    ensures { result ≡ keyed (D.divisor contest.now.divisors) contest.now.lot_rule (kept_poll contest.now.poll)
-        contest.now.lot.now list seat }
+    requires keys { HaveKeys (divisor_terms D.divisor D.unit_of contest.now) }
+    ensures { result ≡ keyed_pair (divisor_terms D.divisor D.unit_of contest.now) list seat }
 {
     match key_of(contest, list, seat) {
         Some(key) => (key, list, seat),
@@ -142,10 +137,9 @@ fn key_of<D: Divisors>(contest: &DivisorContest<D>, list: usize, seat: u32) -> O
     requires few { length contest.now.poll.votes.now ≤ most_lists }
     requires first { 1 ≤ seat }
     requires last { seat ≤ last_divisor }
-    requires within { IsWithinLimits (pair_of (D.divisor contest.now.divisors) contest.now.lot_rule
-        (kept_poll contest.now.poll) contest.now.lot.now list seat) }
-    ensures { result ≡ Some (pair_of (D.divisor contest.now.divisors) contest.now.lot_rule (kept_poll contest.now.poll)
-        contest.now.lot.now list seat) }
+    requires within { IsWithinLimits
+        (pair_on (divisor_terms D.divisor D.unit_of contest.now) list seat) }
+    ensures { result ≡ Some (pair_on (divisor_terms D.divisor D.unit_of contest.now) list seat) }
 {
     let place = contest.place_at(list, seat) as u32;
     RankKey::new(contest.votes(list), contest.divisors.nth(seat), place)

@@ -1,6 +1,6 @@
-//! The contest of lists for the seats of a poll: who has which pairs of a list and a seat, which of two
-//! ranks above, the award of the seats by each rule, and the lot that is needed. `tally_allot` stands
-//! on it and has the calls for programs.
+//! The contest of lists for the seats of a poll: who has which pairs of a list and a seat, which of
+//! two ranks above, the award of the seats by each rule, and the lot that is needed. `tally_allot`
+//! is built on it and has the calls for programs.
 #![tactic(auto)]
 
 mod contest;

@@ -1,7 +1,7 @@
 //! Lots.
 
-ghost use Rattle.std.specs.Prelude.{◌≡◌, ℕ, ◌+◌, ◌<◌, ◌↔◌, ◌==◌, IsTrue, false, length, slice_index};
-ghost use Rattle.std.specs.Prelude.{slice_index_or, if◌then◌else◌};
+ghost use Rattle.std.specs.Prelude.{◌≡◌, ℕ, ◌+◌, ◌<◌, ◌↔◌, ◌==◌, IsTrue, false, length};
+ghost use Rattle.std.specs.Prelude.{slice_index, slice_index_or, if◌then◌else◌};
 ghost use Rattle.tally_frac.specs.Limits.{most_lists};
 ghost use Rattle.tally_law.specs.Lot as spec;
 ghost use Rattle.tally_contest.specs.internal.Pairs.{turns};
@@ -25,8 +25,8 @@ pub(crate) fn places_under(lot: &[u32]) -> [usize; MOST_LISTS]
 /// Puts in the place of the list that the lot names at an index.
 fn put_entry(places: &mut [usize; MOST_LISTS], lot: &[u32], index: usize)
     requires { index < length lot.now }
-    ensures { (l : ℕ) → l < most_lists →
-        slice_index places.new l ≡ if slice_index lot.now index == l + 1 then index + 1 else slice_index places.old l }
+    ensures { (l : ℕ) → l < most_lists → slice_index places.new l ≡
+        if slice_index lot.now index == l + 1 then index + 1 else slice_index places.old l }
 {
     let place = lot[index] as usize;
     if place >= 1 && place <= MOST_LISTS {

@@ -1,12 +1,11 @@
 //! Whether a lot is needed.
 
-ghost use Rattle.std.specs.Prelude.{◌≡◌, ℕ, ◌<◌, ◌≤◌, ◌↔◌, IsTrue, MatchOption, length, slice_index, sum};
+ghost use Rattle.std.specs.Prelude.{◌≡◌, ℕ, ◌<◌, ◌≤◌, ◌↔◌, IsTrue, length};
 ghost use Rattle.tally_frac.specs.Limits.{most_lists};
-ghost use Rattle.tally_law.specs.LotNeed.{IsDecidedByVotes, IsNeed};
+ghost use Rattle.tally_contest.specs.internal.Needs.{IsNeedOn};
 ghost use Rattle.tally_contest.specs.internal.Orders.{IsOrderOfEquals, MayBeTaken};
-ghost use Rattle.tally_contest.specs.internal.Race.{IsFair};
 ghost use Rattle.tally_contest.specs.internal.Sums.{sum_before, holds_at};
-ghost use Rattle.tally_contest.specs.internal.Terms.{AreSound, HaveVotes, placed_race};
+ghost use Rattle.tally_contest.specs.internal.Terms.{AreFairSeats, AreSound, HaveVotes};
 
 use crate::contest::{Contest, highest_next, lowest_last};
 use crate::lot::is_order_of;
@@ -26,11 +25,8 @@ pub struct Need {
 /// highest that did not win tie.
 pub fn need_of<C: Contest>(contest: &C, seats: &[u32]) -> Option<Need>
     requires sound { AreSound (C.terms contest.now) }
-    requires fair { IsFair (placed_race (C.terms contest.now)) (C.terms contest.now).seats seats.now }
-    ensures { MatchOption result
-        (IsDecidedByVotes (C.terms contest.now).rule (C.terms contest.now).poll (C.terms contest.now).seats)
-        (λ need. IsNeed (C.terms contest.now).rule (C.terms contest.now).poll (C.terms contest.now).seats
-        need.group need.seats) }
+    requires fair { AreFairSeats (C.terms contest.now) seats.now }
+    ensures { IsNeedOn (C.terms contest.now) result }
 {
     let Some(last) = lowest_last(contest, seats) else {
         return None;

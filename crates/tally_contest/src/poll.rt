@@ -55,7 +55,7 @@ impl<'a> Poll<'a> {
         requires { list < length self.now.votes.now }
         ensures { result ≡ slice_index_or (kept_poll self.now).eligible list false }
     {
-        is_eligible(self.votes[list], self.threshold, self.base)
+        is_eligible(self.threshold, self.base, self.votes[list])
     }
 
     /// The votes of the eligible lists together.

@@ -1,16 +1,15 @@
 //! The award of the seats that whole quotas leave over, from a heap of claims.
 
-ghost use Rattle.std.specs.Prelude.{◌≡◌, ℕ, ◌+◌, ◌<◌, ◌≤◌, IfOk, IfErr, OnOk, length, slice_index, sum};
+ghost use Rattle.std.specs.Prelude.{◌≡◌, ℕ, ◌+◌, ◌<◌, ◌≤◌, IfOk, length, sum};
 ghost use Rattle.std.specs.BinaryHeap.{IsHeap, heap_items};
 ghost use Rattle.tally_contest.specs.internal.KeptPoll.{kept_poll};
-ghost use Rattle.tally_law.specs.Allotment.{IsAllotment, hare};
 ghost use Rattle.tally_law.specs.Poll.{HasEligible};
 ghost use Rattle.tally_contest.specs.internal.Claims.{AreClaims, IsClaimOf, claim_cmp};
 ghost use Rattle.tally_contest.specs.internal.ContestTerms.{hare_terms};
-ghost use Rattle.tally_law.specs.LotNeed.{IsLotTaken};
 ghost use Rattle.tally_law.specs.Poll.{IsEligible};
 ghost use Rattle.tally_contest.specs.internal.Race.{IsFair, CanHold};
-ghost use Rattle.tally_contest.specs.internal.Terms.{AreSound, placed_race};
+ghost use Rattle.tally_contest.specs.internal.Terms.{AreFairSeats, AreFairSoFar, AreSound};
+ghost use Rattle.tally_contest.specs.internal.Terms.{placed_race};
 
 use crate::contest::Contest;
 use crate::hare_contest::HareContest;
@@ -34,7 +33,7 @@ pub(crate) struct SeatClaim {
 pub fn award_remainders(alloc: Global, contest: &HareContest) -> Result<Vec<u32>, AllocError>
     requires sound { AreSound (hare_terms contest.now) }
     requires eligible { HasEligible (kept_poll contest.now.poll) }
-    ensures { IfOk result (λ seats. IsFair (placed_race (hare_terms contest.now)) contest.now.seats seats.items) }
+    ensures { IfOk result (λ seats. AreFairSeats (hare_terms contest.now) seats.items) }
 {
     let mut seats = certain_seats(alloc, contest)?;
     let left = contest.seats() - total(&seats);
@@ -51,11 +50,11 @@ fn give_to_greatest(
     number: u32,
 )
     requires sound { AreSound (hare_terms contest.now) }
-    requires fair { IsFair (placed_race (hare_terms contest.now)) (sum seats.old) seats.old }
+    requires fair { AreFairSoFar (hare_terms contest.now) seats.old }
     requires room { CanHold (placed_race (hare_terms contest.now)) (sum seats.old + number) }
     requires order { IsHeap claim_cmp (heap_items claims) }
-    requires claims { AreClaims (kept_poll contest.now.poll) contest.now.lot.now contest.now.seats
-        (length contest.now.poll.votes.now) seats.old (heap_items claims) }
+    requires claims { AreClaims (hare_terms contest.now) (length contest.now.poll.votes.now)
+        seats.old (heap_items claims) }
     ensures { IsFair (placed_race (hare_terms contest.now)) (sum seats.old + number) seats.new }
 {
     for _seat in 0..number {
@@ -77,8 +76,8 @@ fn claims_of(
     requires one_each { length seats.now ≡ length contest.now.poll.votes.now }
     ensures order { IfOk result (λ claims. IsHeap claim_cmp (heap_items claims)) }
     ensures claims { IfOk result (λ claims.
-        AreClaims (kept_poll contest.now.poll) contest.now.lot.now contest.now.seats (length contest.now.poll.votes.now)
-        seats.now (heap_items claims)) }
+        AreClaims (hare_terms contest.now) (length contest.now.poll.votes.now) seats.now
+        (heap_items claims)) }
 {
     let mut claims = BinaryHeap::with_capacity(alloc, contest.count())?;
     for list in 0..contest.count() {
@@ -93,7 +92,7 @@ fn claims_of(
 fn claim_of(contest: &HareContest, list: usize) -> SeatClaim
     requires list { list < length contest.now.poll.votes.now }
     requires eligible { IsEligible (kept_poll contest.now.poll) list }
-    ensures claim { IsClaimOf (kept_poll contest.now.poll) contest.now.lot.now contest.now.seats result }
+    ensures claim { IsClaimOf (hare_terms contest.now) result }
     ensures list { result.list ≡ list }
 {
     SeatClaim {

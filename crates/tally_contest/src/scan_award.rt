@@ -3,8 +3,7 @@
 ghost use Rattle.std.specs.Prelude.{◌≡◌, ◌≤◌, IfOk, sum};
 ghost use Rattle.tally_frac.specs.Limits.{most_seats};
 ghost use Rattle.tally_law.specs.Poll.{HasEligible};
-ghost use Rattle.tally_contest.specs.internal.Race.{IsFair};
-ghost use Rattle.tally_contest.specs.internal.Terms.{AreSound, placed_race};
+ghost use Rattle.tally_contest.specs.internal.Terms.{AreFairSeats, AreFairSoFar, AreSound};
 
 use crate::contest::{Contest, award};
 use std::alloc::{AllocError, Global};
@@ -14,8 +13,7 @@ use std::alloc::{AllocError, Global};
 pub fn contested_seats<C: Contest>(alloc: Global, contest: &C) -> Result<Vec<u32>, AllocError>
     requires sound { AreSound (C.terms contest.now) }
     requires eligible { HasEligible (C.terms contest.now).poll }
-    ensures { IfOk result (λ seats.
-        IsFair (placed_race (C.terms contest.now)) (C.terms contest.now).seats seats.items) }
+    ensures { IfOk result (λ seats. AreFairSeats (C.terms contest.now) seats.items) }
 {
     let mut seats = certain_seats(alloc, contest)?;
     let certain = total(&seats);
@@ -27,7 +25,7 @@ pub fn contested_seats<C: Contest>(alloc: Global, contest: &C) -> Result<Vec<u32
 pub(crate) fn certain_seats<C: Contest>(alloc: Global, contest: &C) -> Result<Vec<u32>, AllocError>
     requires sound { AreSound (C.terms contest.now) }
     requires eligible { HasEligible (C.terms contest.now).poll }
-    ensures fair { IfOk result (λ seats. IsFair (placed_race (C.terms contest.now)) (sum seats.items) seats.items) }
+    ensures fair { IfOk result (λ seats. AreFairSoFar (C.terms contest.now) seats.items) }
     ensures few { IfOk result (λ seats. sum seats.items ≤ (C.terms contest.now).seats) }
 {
     let mut seats = Vec::with_capacity(alloc, contest.count())?;

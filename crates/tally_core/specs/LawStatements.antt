@@ -35,7 +35,8 @@ RequestsOfAKeeperAreARun =
 -- an import is the run of its Lodge commands, and its count is that of the answers
 abbrev pub ImportsAreRuns : Type 0
 ImportsAreRuns =
-    (setup : List Constituency) (rows : List Row) (answered : List RowAnswer) (count : ImportCount) (s t : State)
+    (setup : List Constituency) (rows : List Row) (answered : List RowAnswer) (count : ImportCount)
+    (s t : State)
     → IsImport setup s rows answered count t
     → (count ≡ count_of answered) × IsRun setup s (lodges rows) (lodge_answers answered) t
 
@@ -43,7 +44,8 @@ ImportsAreRuns =
 abbrev pub WhatHappensToAShutKeeperIsARun : Type 0
 WhatHappensToAShutKeeperIsARun =
     (setup : List Constituency) (s : State) (events : List Event)
-    → Happen setup (Some s) events None → (t : State) × IsRun setup s (asks_of events) (answers_of events) t
+    → Happen setup (Some s) events None
+    → (t : State) × IsRun setup s (asks_of events) (answers_of events) t
 
 -- whatever happens to a keeper that is not shut is a run
 abbrev pub WhatHappensToAKeeperIsARun : Type 0
@@ -55,7 +57,8 @@ WhatHappensToAKeeperIsARun =
 abbrev pub KeepersKeepStatesLawful : Type 0
 KeepersKeepStatesLawful =
     (setup : List Constituency) (s t : State) (events : List Event) → All BringsCodes events
-    → IsSetup setup → IsLawfulState setup s → Happen setup (Some s) events (Some t) → IsLawfulState setup t
+    → IsSetup setup → IsLawfulState setup s → Happen setup (Some s) events (Some t)
+    → IsLawfulState setup t
 
 -- whatever happened since a lawful state, a certified constituency has a view with a certificate
 abbrev pub CertificatesOfKeepersStand : Type 0
@@ -63,32 +66,38 @@ CertificatesOfKeepersStand =
     (setup : List Constituency) (s t : State) (events : List Event) → All BringsCodes events
     → IsSetup setup → IsLawfulState setup s → Happen setup (Some s) events (Some t)
     → (code : List ℕ) (con : Constituency) → constituency_with code setup ≡ Some con
-    → (con_state t con.code).certified ≡ true → (view : View) × IsView con t view × IsCertificate con view
+    → (con_state t con.code).certified ≡ true
+    → (view : View) × IsView con t view × IsCertificate con view
 
 -- what is on record stays there, whatever happens to a keeper
 abbrev pub RecordsOfKeepersStay : Type 0
 RecordsOfKeepersStay =
     (setup : List Constituency) (s t : State) (events : List Event)
     → IsLawfulState setup s → Happen setup (Some s) events (Some t)
-    → (code : List ℕ) (edition : ℕ) (seats : List ℕ) → IsOnRecord s code edition seats → IsOnRecord t code edition seats
+    → (code : List ℕ) (edition : ℕ) (seats : List ℕ) → IsOnRecord s code edition seats
+    → IsOnRecord t code edition seats
 
--- Each certificate on record was on record before all that happened, word for word, or a request reopened it. Since the opening state
--- each was reopened, for there nothing is on record.
+-- Each certificate on record was on record before all that happened, word for word, or a request
+-- reopened it. Each was reopened since the opening state, where nothing is on record.
 abbrev pub RecordsOfKeepersAreOfAllotments : Type 0
 RecordsOfKeepersAreOfAllotments =
     (setup : List Constituency) (s t : State) (events : List Event) → All BringsCodes events
     → IsSetup setup → IsLawfulState setup s → Happen setup (Some s) events (Some t)
-    → (code : List ℕ) (con : Constituency) (edition : ℕ) (seats : List ℕ) → constituency_with code setup ≡ Some con
+    → (code : List ℕ) (con : Constituency) (edition : ℕ) (seats : List ℕ)
+    → constituency_with code setup ≡ Some con
     → IsOnRecord t con.code edition seats
-    → IsOnRecord s con.code edition seats ⊎ IsReopenedIn con edition seats setup s (asks_of events) (answers_of events) t
+    → IsOnRecord s con.code edition seats
+    ⊎ IsReopenedIn con edition seats setup s (asks_of events) (answers_of events) t
 
--- where a request acted, the same one at a later place did not; the rows of imports count as requests
+-- where a request acted, the same one at a later place did not; the rows of imports count as
+-- requests
 abbrev pub NoTwoEqualRequestsAct : Type 0
 NoTwoEqualRequestsAct =
     (setup : List Constituency) (s : State) (new : Option State) (events : List Event)
     → Happen setup (Some s) events new
     → (i j : ℕ) (ask other : Ask) (first second : Result Reply Refusal) → i < j
-    → slice_get (asks_of events) i ≡ Some ask → slice_get (asks_of events) j ≡ Some other → IsSameCommand ask other
+    → slice_get (asks_of events) i ≡ Some ask → slice_get (asks_of events) j ≡ Some other
+    → IsSameCommand ask other
     → slice_get (answers_of events) i ≡ Some first → slice_get (answers_of events) j ≡ Some second
     → is_act first ≡ true → is_act second ≡ false
 
@@ -103,13 +112,15 @@ abbrev pub WhatDoesNotActCanBeLeftOut : Type 0
 WhatDoesNotActCanBeLeftOut =
     (setup : List Constituency) (s t : State) (events : List Event)
     → Happen setup (Some s) events (Some t) → (keep : ℕ → Bool)
-    → ((i : ℕ) (event : Event) → slice_get events i ≡ Some event → keep i ≡ false → acts event ≡ false)
+    → ((i : ℕ) (event : Event) → slice_get events i ≡ Some event → keep i ≡ false
+    → acts event ≡ false)
     → Happen setup (Some s) (kept keep events) (Some t)
 
 -- the rows of an import lodge nothing when they come again, whatever happened between
 abbrev pub TheSameImportLodgesNothing : Type 0
 TheSameImportLodgesNothing =
-    (setup : List Constituency) (rows : List Row) (answered others : List RowAnswer) (count again : ImportCount)
+    (setup : List Constituency) (rows : List Row) (answered others : List RowAnswer)
+    (count again : ImportCount)
     → (old mid later new : Option State) (events : List Event)
     → Happens setup old (whole_import rows answered count) mid → Happen setup mid events later
     → Happens setup later (whole_import rows others again) new → again.lodged ≡ 0

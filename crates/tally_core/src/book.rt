@@ -36,7 +36,7 @@ impl Model for Book {
 }
 
 impl Book {
-    /// A keeper of this setup in which no return stands and each constituency is as it opens.
+    /// A keeper of this setup in which no return is recorded and each constituency is as it opens.
     pub fn new(alloc: Global, setup: Setup) -> Result<Book, AllocError>
         ensures { IfOk result (λ book. book ≡ record { setup = setup; state = opening setup }) }
     {

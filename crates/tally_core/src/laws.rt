@@ -19,7 +19,8 @@ pub fn an_import_is_a_run()
 {}
 
 /// Requests and imports in any order are a run of the machine with the answers that they got, so
-/// that the laws of the machine hold of them; with a keeper that a failed disk has shut, up to then.
+/// that the laws of the machine hold of them; with a keeper that a failed disk has shut, up to
+/// then.
 pub fn requests_and_imports_are_a_run()
     ensures shut { law.WhatHappensToAShutKeeperIsARun }
     ensures open { law.WhatHappensToAKeeperIsARun }
@@ -30,12 +31,13 @@ pub fn a_keeper_keeps_a_lawful_state()
     ensures { law.KeepersKeepStatesLawful }
 {}
 
-/// Whatever happened to a keeper since its state was a lawful one, as the opening one is, a certified
-/// constituency has all its stations closed, exactly its seats are allotted, by the one allotment of
-/// its closed votes, and a lot stands wherever one is needed.
+/// Whatever happened to a keeper since its state was a lawful one, as the opening one is, a
+/// certified constituency has all its stations closed, exactly its seats are allotted, by the one
+/// allotment of its closed votes, and a lot is recorded wherever one is needed.
 pub fn a_certificate_of_a_keeper_stands_on_closed_votes()
     ensures { law.CertificatesOfKeepersStand }
 {
+    // Called for what its contract says: the same law of the runs of the machine.
     machine::a_certificate_stands_on_closed_votes();
 }
 
@@ -43,19 +45,21 @@ pub fn a_certificate_of_a_keeper_stands_on_closed_votes()
 pub fn records_stay()
     ensures { law.RecordsOfKeepersStay }
 {
+    // Called for what its contract says: the same law of the runs of the machine.
     machine::records_stay();
 }
 
-/// What is on record after all that happened to a keeper was on record before, with the same seats, or
-/// one of its requests reopened it: then the seats are the one allotment of the closed votes in the
-/// state that the keeper had, in which the constituency was certified at that edition.
+/// What is on record after all that happened to a keeper was on record before, with the same seats,
+/// or one of its requests reopened it: then the seats are the one allotment of the closed votes in
+/// the state that the keeper had, in which the constituency was certified at that edition.
 pub fn records_are_of_allotments()
     ensures { law.RecordsOfKeepersAreOfAllotments }
 {
+    // Called for what its contract says: the same law of the runs of the machine.
     machine::records_are_of_allotments();
 }
 
-/// Of all that happened to a keeper no two equal requests acted: where one acted, the same one at a
+/// No two equal requests of all that happened to a keeper acted: where one acted, the same one at a
 /// later place did not, whatever came between. The rows of imports count as requests.
 pub fn no_two_equal_requests_act()
     ensures { law.NoTwoEqualRequestsAct }

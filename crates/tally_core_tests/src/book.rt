@@ -61,7 +61,8 @@ vacate c1 B 1 resigned = refused 10
 vacate c1 B 1 = refused 5
 vacate c1 Z 1 = refused 3";
 
-// 3 seats and the quotients 100, 100, 50 and 50: a lot names each list of its group once. 16 is LotStands.
+// 3 seats and the quotients 100, 100, 50 and 50: a lot names each list of its group once. 16 is
+// LotStands.
 const LOT: &str = "lodge s1 p1 100,100 = lodged 1
 close s1 1 = moved 2
 certify c1 1 = lot of 1 2 for 1
@@ -77,8 +78,8 @@ draw c1 2 A,B = refused 16
 certify c1 2 = edition 3
 show c1 = certified 3 1/1 [100, 100] [2, 1] [1, 2]";
 
-// 3 seats, and the third is that of the first in the lot. 9 is Certified, 20 AlreadyGone, 21 NotHolder. B has one
-// candidate, so that its second seat is empty.
+// 3 seats, and the third is that of the first in the lot. 9 is Certified, 20 AlreadyGone, 21
+// NotHolder. B has one candidate, so that its second seat is empty.
 const CERTIFIED: &str = "lodge s1 p1 100,100 = lodged 1
 close s1 1 = moved 2
 draw c1 1 B,A = edition 2
@@ -120,7 +121,7 @@ close s1 1 = moved 2
 draw c1 1 B,A = refused 15
 certify c1 1 = refused 15";
 
-// Of Twin Town a method, the number of seats, and a script.
+// A method of Twin Town, the number of seats, and a script.
 const SCRIPTS: [(&str, u32, &str); 11] = [
     ("dhondt", 3, LIFE),
     ("dhondt", 3, ELECTORS),
@@ -155,8 +156,8 @@ const LAST_REVISION: &str = "query s1 9999 sum = refused 12
 close s1 9999 = refused 12
 return s1 = 9999 p1 Corrected [1, 1] 0 0 sum";
 
-// A constituency that is certified and opened again in turn, up to its last edition: there it is open, or, where a
-// lot was an edition too, certified. 9 is Certified, 10 NotCertified.
+// A constituency that is certified and opened again in turn, up to its last edition: there it is
+// open, or, where a lot was an edition too, certified. 9 is Certified, 10 NotCertified.
 const CLOSED: &str = "lodge s1 p1 100,50 = lodged 1
 close s1 1 = moved 2
 ";
@@ -174,8 +175,8 @@ draw c1 1 B,A = edition 2
 const LAST_CERTIFICATE: &str = "certify c1 9999 = refused 9
 reopen c1 9999 count again = refused 12";
 
-/// A script from a revision or an edition up to the last, 9,999: one command where it is odd and another where it is
-/// even, each with its answer but for the next number.
+/// A script from a revision or an edition up to the last, 9,999: one command where it is odd and
+/// another where it is even, each with its answer except the next number.
 fn to_the_last(
     alloc: Global,
     front: &str,

@@ -1,5 +1,5 @@
-//! Checks of a text from a reader that gives few bytes at a time or fails, and into a writer that fails. What a
-//! text comes to is shown on the program, in `tests/check.py`.
+//! Checks of a text from a reader that gives few bytes at a time or fails, and into a writer that
+//! fails. What a text comes to is shown on the program, in `tests/check.py`.
 
 use crate::readers::{Pieces, Room};
 use std::alloc::{AllocError, Global};
@@ -32,7 +32,7 @@ A 80
 B 100
 ";
 
-/// Whether the check of what a reader gives writes just this, with this fault behind it or none.
+/// Whether the check of what a reader gives writes just this, with this fault after it or none.
 fn comes_to(
     alloc: Global,
     mut reader: Pieces,
@@ -45,7 +45,7 @@ fn comes_to(
     output.as_slice() == text && found == fault
 }
 
-/// Whether a read that fails behind this text is answered so, however few bytes come at a time.
+/// Whether a read that fails after this text is answered so, however few bytes come at a time.
 fn fails_behind(alloc: Global, text: &[u8], sep: Sep, fault: CheckFault) -> bool {
     for (piece, kind) in [
         (1, ErrorKind::BrokenPipe),
@@ -82,7 +82,7 @@ fn a_read_that_fails_at_any_byte(rt: HostRuntime) {
     for came in 0..=RETURNS.len() {
         let front = &RETURNS[..came];
         assert!(rt; fails_behind(rt.alloc(), front, Sep::Comma, CheckFault::Read));
-        // with semicolons the first line is no header, once its end has come
+        // with semicolons the first line is not a header, once its end has come
         let other = if came < HEADER.len() {
             CheckFault::Read
         } else {
@@ -107,8 +107,8 @@ fn a_read_that_fails_behind_20_000_rows(rt: HostRuntime) -> Result<(), Fail> {
     Ok(())
 }
 
-// Whether the check of the example into a writer of so much room, which then fails or takes nothing, leaves there
-// what there is room for, and answers whether that was all.
+// Whether the check of the example into a writer of so much room, which then fails or takes
+// nothing, leaves there what there is room for, and answers whether that was all.
 fn fills_room(alloc: Global, left: usize, fails: bool) -> bool {
     let mut reader = RETURNS;
     let mut writer = Room {

@@ -12,7 +12,7 @@ use tally_rules::{Code, Constituency, Setup, Station};
 use tally_scripts::{TWIN_TOWN, code, command, setup, told_refusal};
 
 /// Whether a command may be decided: its station is one of the constituency, and the return that
-/// stands is lawful there.
+/// is recorded is lawful there.
 fn may_decide(con: &Constituency, found: Option<&Return>, ask: &Ask) -> bool
     ensures station { IsTrue result → IsSome (limits_named con.now ask.now) }
     ensures lawful { IsTrue result → ForSome (limits_named con.now ask.now) (λ station. ForSome (option_copied found.entry) (IsLawful station)) }
@@ -66,7 +66,8 @@ fn carry_out(
     }
 }
 
-/// Decides the command of a line, `COMMAND = TEXT`, and carries it out; fails where something else was decided.
+/// Decides the command of a line, `COMMAND = TEXT`, and carries it out; fails where something else
+/// was decided.
 fn check_line(
     alloc: Global,
     con: &Constituency,

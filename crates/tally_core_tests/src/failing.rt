@@ -1,5 +1,5 @@
-//! Scripts and imports over a keeper that fails as a disk does. While it has turns it answers as other keepers do, and
-//! from then on it refuses everything. 23 is Store.
+//! Scripts and imports over a keeper that fails as a disk does. While it has turns it answers as
+//! other keepers do, and from then on it refuses everything. 23 is Store.
 
 use crate::frail::Frail;
 use crate::setups::fresh;
@@ -21,8 +21,8 @@ fn frail(alloc: Global, setup: &str, turns: u32) -> Result<Frail, Fail> {
     })
 }
 
-/// Fails where the first wrong line of a script, with the answer to it, is not this one. It is empty where no line is
-/// wrong.
+/// Fails where the first wrong line of a script, with the answer to it, is not this one. It is
+/// empty where no line is wrong.
 fn check_wrong<K: Keeper>(
     alloc: Global,
     keeper: &mut K,
@@ -46,8 +46,8 @@ fn all_refused(alloc: Global, script: &str) -> Result<String, Fail> {
     Ok(refused)
 }
 
-/// Fails where for a keeper with so many turns the first wrong line of a script is not this one, or where afterwards it
-/// does not refuse each of its commands.
+/// Fails where for a keeper with so many turns the first wrong line of a script is not this one, or
+/// where afterwards it does not refuse each of its commands.
 fn check_turns(
     alloc: Global,
     setup: &str,
@@ -61,8 +61,8 @@ fn check_turns(
     check_wrong(alloc, &mut keeper, refused.as_str(), "")
 }
 
-/// Fails where a keeper with turns for the first lines of a script, from none of them to all, does not answer just
-/// those.
+/// Fails where a keeper with turns for the first lines of a script, from none of them to all, does
+/// not answer just those.
 fn check_each_turn(alloc: Global, setup: &str, script: &str) -> Result<(), Fail> {
     let mut turns = 0u32;
     for line in script.lines() {

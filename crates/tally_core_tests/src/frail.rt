@@ -1,5 +1,5 @@
-//! A keeper that a failed disk shuts after some requests and imports. It takes the branches of the trait
-//! that a keeper in memory never takes.
+//! A keeper that a failed disk shuts after some requests and imports. It takes the branches of the
+//! trait that a keeper in memory never takes.
 
 ghost use Rattle.std.specs.Prelude.{◌≡◌, if◌then◌else◌, true, Some, None};
 

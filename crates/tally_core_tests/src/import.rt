@@ -3,7 +3,7 @@
 use std::test::*;
 use tally_core::{FirstRow, ImportCount, LodgeReply, Refusal};
 
-/// The count of a row that was lodged, one that stood already, and one that differs.
+/// The count of a row that was lodged, one that was recorded already, and one that differs.
 fn counted() -> ImportCount {
     let mut count = ImportCount::new();
     count.add(1, Some(Ok(LodgeReply::Lodged { rev: 1 })));

@@ -1,5 +1,6 @@
-//! Tests of `tally_core`, of the crates that its names come from (`tally_machine` among them), and of `tally_import`,
-//! which over their finished proofs are checked once. Public is the keeper `Frail` alone, which fails as a disk does.
+//! Tests of `tally_core`, of the crates that its names come from (`tally_machine` among them), and
+//! of `tally_import`. They are checked once, over the finished proofs of these crates. Only the
+//! keeper `Frail` is public, which fails as a disk does.
 #![tactic(auto)]
 
 #[cfg(test)]
@@ -12,6 +13,8 @@ mod check;
 mod decide;
 #[cfg(test)]
 mod failing;
+#[cfg(test)]
+mod failures;
 pub mod frail;
 #[cfg(test)]
 mod import;

@@ -6,7 +6,7 @@ use tally_core::{Counts, LodgeReply, Refusal, Return, decide_lodge, holders};
 use tally_rules::Code;
 use tally_scripts::{code, counts, number};
 
-/// The return that stands: slip p1, revision 3, votes 50 and 40, 2 blank and 1 spoiled.
+/// The return that is recorded: slip p1, revision 3, votes 50 and 40, 2 blank and 1 spoiled.
 fn standing(alloc: Global) -> Result<Return, Fail> {
     let mut standing = Return::lodged(alloc, code("p1")?, counts(alloc, "50,40 2 1")?);
     standing.rev = 3;
@@ -72,7 +72,8 @@ fn held(alloc: Global, candidates: u32, seats: u32, gone: &[u32]) -> Result<Stri
     Ok(format!(in alloc; "{places:?}")?)
 }
 
-// Of a list its candidates, its seats, the places of those who are gone, and of those who hold its seats.
+// The candidates and the seats of a list, the places of those who are gone, and of those who hold
+// its seats.
 const HOLDERS: [(u32, u32, &[u32], &str); 6] = [
     (3, 2, &[1], "[2, 3]"),
     (1, 2, &[], "[1]"),

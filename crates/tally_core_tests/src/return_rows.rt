@@ -51,7 +51,7 @@ Ok(Some(Lodge(Lodge { station: \"s1\", slip: \"p1\", counts: Counts { votes: [10
 Ok(None)
 ";
 
-/// The front of the text, cut off within its second row.
+/// A prefix of the text, cut off within its second row.
 const FRONT: &[u8] = b"station,slip,blank,spoiled,A,B\ns1,p1,1,2,10,20\ns9,p1,";
 
 const CUT_OFF: &str = "\

@@ -6,6 +6,7 @@ use crate::setups::{check, fresh};
 use std::alloc::Global;
 use std::test::*;
 use tally_core::{Ask, Book, ImportFault, Keeper, Row, RowSource};
+use tally_keeper::Given;
 use tally_scripts::{TWIN_TOWN, command};
 
 /// Gives rows of these commands, the last first; then it ends, or its reads fail.
@@ -14,13 +15,17 @@ struct Script {
     rows: Vec<Ask>,
     fails: bool,
     over: bool,
+    given: Given,
 }
 
 impl RowSource for Script {
     ghost use Rattle.std.specs.Prelude.{if◌then◌else◌, Some, None};
+    ghost use Rattle.tally_keeper.specs.Given.{rows_of};
     ghost use Rattle.tally_keeper.specs.declared.source.ImportFault.TheVariants.{Read};
 
     ghost coming = { λ _. None };
+
+    ghost given = { λ s. rows_of s.given };
 
     ghost ended = { λ s. if s.over then Some (if s.fails then Some Read else None) else None };
 
@@ -29,7 +34,9 @@ impl RowSource for Script {
     fn next_row(&mut self) -> Result<Option<Row>, ImportFault> {
         if !self.over {
             if let Some(ask) = self.rows.pop() {
-                return Ok(Some(row_of(ask)));
+                let next = Ok(Some(row_of(ask)));
+                self.given.note(&next);
+                return next;
             }
             self.over = true;
         }
@@ -40,7 +47,7 @@ impl RowSource for Script {
     }
 }
 
-/// The row of a command: a bad one, where it is no Lodge.
+/// The row of a command: a bad one, where it is not a Lodge.
 fn row_of(ask: Ask) -> Row
     ensures { IsLodgeOrBad result }
 {
@@ -59,7 +66,7 @@ fn row_of(ask: Ask) -> Row
     })
 }
 
-/// The rows of a text, of which each that is no `lodge` is a bad one.
+/// The rows of a text, of which each that is not a `lodge` is a bad one.
 fn rows_of_text(alloc: Global, text: &str, fails: bool) -> Result<Script, Fail> {
     let mut rows = Vec::new(alloc);
     for line in text.split(";") {
@@ -70,6 +77,7 @@ fn rows_of_text(alloc: Global, text: &str, fails: bool) -> Result<Script, Fail> 
         rows,
         fails,
         over: false,
+        given: Given::new(),
     })
 }
 
@@ -80,8 +88,8 @@ fn imported(alloc: Global, book: &mut Book, text: &str, fails: bool) -> Result<S
     Ok(format!(in alloc; "{outcome:?}")?)
 }
 
-/// Fails where it comes to something else, of a new keeper to which the lines of a script come first, or where the
-/// lines of another script have other answers then.
+/// Fails where it comes to something else, of a new keeper to which the lines of a script come
+/// first, or where the lines of another script have other answers then.
 fn check_import(
     alloc: Global,
     before: &str,
@@ -105,7 +113,7 @@ const PASSED_OVER: &str =
 const COUNTED: &str = "Ok(ImportCount { lodged: 1, same: 1, differs: 1, refused: 1, bad: 2, \
     first: Some(FirstRow { row: 1, number: 0 }) })";
 
-// 8 is NoReturn: where a read fails an import leaves nothing, and a return that stood is there.
+// 8 is NoReturn: where a read fails an import leaves nothing, and an earlier return is still there.
 #[test]
 fn an_import_is_counted_or_leaves_nothing(rt: HostRuntime) -> Result<(), Fail> {
     for (before, rows, fails, wanted, after) in [

@@ -5,7 +5,7 @@ use std::test::Fail;
 use tally_core::Book;
 use tally_scripts::{first_wrong, setup};
 
-/// A keeper of the setup of a text, in which no return stands.
+/// A keeper of the setup of a text, in which no return is recorded.
 pub(crate) fn fresh(alloc: Global, text: &str) -> Result<Book, Fail> {
     let setup = setup(alloc, text)?;
     Ok(Book::new(alloc, setup)?)
@@ -20,7 +20,7 @@ pub(crate) fn check(alloc: Global, book: &mut Book, script: &str) -> Result<(), 
     Err(Fail::from(wrong))
 }
 
-/// The same of a keeper of the setup of a text, in which no return stands.
+/// The same of a keeper of the setup of a text, in which no return is recorded.
 pub(crate) fn check_fresh(alloc: Global, setup: &str, script: &str) -> Result<(), Fail> {
     let mut book = fresh(alloc, setup)?;
     check(alloc, &mut book, script)

@@ -6,7 +6,7 @@ use Rattle.tally_rules.specs.Constituency.{Constituency, ListEntry}
 use Rattle.tally_rules.specs.Limits.{IsSetup}
 use Rattle.tally_rules.specs.Setup.{constituency_with, station_with}
 use Rattle.tally_rules.specs.declared.constituency.Station.{Station}
-use Rattle.tally_returns.specs.AskSeen.{ask_seen}
+use Rattle.tally_returns.specs.AskSeen.{AskSeen, ask_seen}
 use Rattle.tally_returns.specs.State.{State}
 use Rattle.tally_returns.specs.View.{View}
 use Rattle.tally_returns.specs.declared.ask.Ask.{Ask}
@@ -19,17 +19,15 @@ use Rattle.tally_steps.specs.Outcome.{IsLawfulView}
 use Rattle.tally_steps.specs.Step.{IsConStepSeen, con_shown}
 use Rattle.tally_keeper.specs.Keeper.{Happens, request}
 use Rattle.tally_message.specs.declared.message.Message.{Message}
-use Rattle.tally_asks.specs.declared.routes.Route.{Route}
 use Rattle.tally_asks.specs.Routes.{con_in, station_in}
-use Rattle.tally_asks.specs.Bodies.{IsBody, command_in}
-use Rattle.tally_answer.specs.Outcome.{outcome_text}
+use Rattle.tally_asks.specs.Bodies.{IsBody}
 use Rattle.tally_answer.specs.Words.{word_text}
 use Rattle.tally_answer.specs.declared.word.Word.TheVariants.{BadBody}
 use Rattle.std.proofs.Common.{Vec, Global}
 use Rattle.tally_records.specs.declared.separator.Sep.{Sep}
 use Rattle.tally_desk.specs.Gives.{Gives}
 use Rattle.tally_desk.specs.Named.{lists_of_con, lists_of_station}
-use Rattle.tally_desk.specs.Requests.{Asks, Commands, Imports, ImportsText, Named, OnCon, OnNamed, OnStation, Orders, OrdersOf, con_named, station_named}
+use Rattle.tally_desk.specs.Requests.{Commands, Imports, ImportsText, Named, AtCon, AtNamed, AtStation, Orders, OrdersOf, con_named, station_named}
 
 -- ---- what is shown
 
@@ -107,50 +105,50 @@ Answering = List ℕ → Constituency → List ℕ → Option State → Type 0
 -- an answer on the constituency that was found
 pub con-answer : (s setup : List Constituency) (old new : Option State) (m : Message) (t code : List ℕ) (r : Option (List ℕ)) (F : Answering) (text : List ℕ)
     → r ≡ code_in (con_named s t) → s ≡ setup → t ≡ m.target.items → r ≡ Some code
-    → ((con : Constituency) → constituency_with code setup ≡ Some con → F code con text new) → OnCon setup old m F text new
+    → ((con : Constituency) → constituency_with code setup ≡ Some con → F code con text new) → AtCon setup old m F text new
 con-answer s setup old new m t code r F text named setup_is target_is found answer =
     let is : code_in (con_named setup m.target.items) ≡ Some code =
     sym (ap (λ x. code_in (con_named x t)) setup_is ∙ ap (λ x. code_in (con_named setup x)) target_is) ∙ sym named ∙ found in
     let n = con-named setup m.target.items code is in
-    subst (λ (o : Option Named). OnNamed NoConstituency old o F text new) (sym n.1) (answer n.0 n.2)
+    subst (λ (o : Option Named). AtNamed NoConstituency old o F text new) (sym n.1) (answer n.0 n.2)
 
 -- an answer on the station that was found
 pub station-answer : (s setup : List Constituency) (old new : Option State) (m : Message) (t code : List ℕ) (r : Option (List ℕ)) (F : Answering) (text : List ℕ)
     → r ≡ code_in (station_named s t) → s ≡ setup → t ≡ m.target.items → r ≡ Some code
-    → ((place : Constituency × Station) → station_with code setup ≡ Some place → F code place.0 text new) → OnStation setup old m F text new
+    → ((place : Constituency × Station) → station_with code setup ≡ Some place → F code place.0 text new) → AtStation setup old m F text new
 station-answer s setup old new m t code r F text named setup_is target_is found answer =
     let is : code_in (station_named setup m.target.items) ≡ Some code =
     sym (ap (λ x. code_in (station_named x t)) setup_is ∙ ap (λ x. code_in (station_named setup x)) target_is) ∙ sym named ∙ found in
     let n = station-named setup m.target.items code is in
-    subst (λ (o : Option Named). OnNamed NoStation old o F text new) (sym n.1) (answer n.0 n.2)
+    subst (λ (o : Option Named). AtNamed NoStation old o F text new) (sym n.1) (answer n.0 n.2)
 
 -- ---- commands
 
-order-done : (setup : List Constituency) (old new : Option State) (m : Message) (con : Constituency) (route : Route) (code body text : List ℕ) (value : Option Data) (a : Ask)
-    (lists : List ListEntry) → body ≡ m.body.items → IsBody body value → Some (ask_seen a) ≡ option_and_then (command_in route code) value → lists ≡ con.lists
-    → Asks setup old a (λ r t. t ≡ outcome_text lists r) text new → Orders setup old con route code m text new
-order-done setup old new m con route code body text value a lists body_is is seen lists_are asks =
-    let commands : Commands setup old con a text new = subst (λ (l : List ListEntry). Asks setup old a (λ r t. t ≡ outcome_text l r) text new) lists_are asks in
+order-done : (setup : List Constituency) (old new : Option State) (m : Message) (con : Constituency) (read : Data → Option AskSeen) (code body text : List ℕ) (value : Option Data) (a : Ask)
+    (lists : List ListEntry) → body ≡ m.body.items → IsBody body value → Some (ask_seen a) ≡ option_and_then read value → lists ≡ con.lists
+    → Commands setup old lists a text new → Orders setup old con read m text new
+order-done setup old new m con read code body text value a lists body_is is seen lists_are asks =
+    let commands : Commands setup old con.lists a text new = subst (λ (l : List ListEntry). Commands setup old l a text new) lists_are asks in
     (value, subst (λ (b : List ℕ). IsBody b value) body_is is, subst (λ o. OrdersOf setup old con o text new) seen (a, refl, commands))
 
-pub con-ordered : (setup : List Constituency) (old new : Option State) (m : Message) (con : Constituency) (route : Route) (code body text : List ℕ) (value : Option Data) (a : Ask)
-    → body ≡ m.body.items → IsBody body value → Some (ask_seen a) ≡ option_and_then (command_in route code) value → constituency_with code setup ≡ Some con
-    → Asks setup old a (λ r t. t ≡ outcome_text (lists_of_con setup code) r) text new → Orders setup old con route code m text new
-con-ordered setup old new m con route code body text value a body_is is seen found asks =
-    order-done setup old new m con route code body text value a (lists_of_con setup code) body_is is seen
+pub con-ordered : (setup : List Constituency) (old new : Option State) (m : Message) (con : Constituency) (read : Data → Option AskSeen) (code body text : List ℕ) (value : Option Data) (a : Ask)
+    → body ≡ m.body.items → IsBody body value → Some (ask_seen a) ≡ option_and_then read value → constituency_with code setup ≡ Some con
+    → Commands setup old (lists_of_con setup code) a text new → Orders setup old con read m text new
+con-ordered setup old new m con read code body text value a body_is is seen found asks =
+    order-done setup old new m con read code body text value a (lists_of_con setup code) body_is is seen
     (ap (λ o. option_map_or (λ (c : Constituency). c.lists) o []) found) asks
 
-pub station-ordered : (setup : List Constituency) (old new : Option State) (m : Message) (place : Constituency × Station) (route : Route) (code body text : List ℕ) (value : Option Data) (a : Ask)
-    → body ≡ m.body.items → IsBody body value → Some (ask_seen a) ≡ option_and_then (command_in route code) value → station_with code setup ≡ Some place
-    → Asks setup old a (λ r t. t ≡ outcome_text (lists_of_station setup code) r) text new → Orders setup old place.0 route code m text new
-station-ordered setup old new m place route code body text value a body_is is seen found asks =
-    order-done setup old new m place.0 route code body text value a (lists_of_station setup code) body_is is seen
+pub station-ordered : (setup : List Constituency) (old new : Option State) (m : Message) (place : Constituency × Station) (read : Data → Option AskSeen) (code body text : List ℕ) (value : Option Data) (a : Ask)
+    → body ≡ m.body.items → IsBody body value → Some (ask_seen a) ≡ option_and_then read value → station_with code setup ≡ Some place
+    → Commands setup old (lists_of_station setup code) a text new → Orders setup old place.0 read m text new
+station-ordered setup old new m place read code body text value a body_is is seen found asks =
+    order-done setup old new m place.0 read code body text value a (lists_of_station setup code) body_is is seen
     (ap (λ o. option_map_or (λ (p : Constituency × Station). p.0.lists) o []) found) asks
 
 -- a body that is no command of its route
-pub order-bad : (setup : List Constituency) (old : Option State) (m : Message) (con : Constituency) (route : Route) (code body text : List ℕ) (value : Option Data)
-    → body ≡ m.body.items → IsBody body value → None ≡ option_and_then (command_in route code) value → text ≡ word_text BadBody → Orders setup old con route code m text old
-order-bad setup old m con route code body text value body_is is none said =
+pub order-bad : (setup : List Constituency) (old : Option State) (m : Message) (con : Constituency) (read : Data → Option AskSeen) (code body text : List ℕ) (value : Option Data)
+    → body ≡ m.body.items → IsBody body value → None ≡ option_and_then read value → text ≡ word_text BadBody → Orders setup old con read m text old
+order-bad setup old m con read code body text value body_is is none said =
     (value, subst (λ (b : List ℕ). IsBody b value) body_is is, subst (λ o. OrdersOf setup old con o text old) none (said, refl))
 
 -- ---- imports

@@ -1,6 +1,7 @@
 -- What functions of the desk give, and what the office is asked to show as they take it.
 use Rattle.std.specs.Prelude.{◌≡◌, ℕ, List, Option, Some, None, Vec, Result, Ok, Err}
 use Rattle.std.specs.declared.alloc.Global.{Global}
+use Rattle.tally_rules.specs.Constituency.{Constituency}
 use Rattle.tally_returns.specs.Return.{StationReturn}
 use Rattle.tally_returns.specs.State.{State}
 use Rattle.tally_returns.specs.View.{View}
@@ -8,11 +9,20 @@ use Rattle.tally_returns.specs.declared.progress.ProgressRow.{ProgressRow}
 use Rattle.tally_returns.specs.declared.refusal.Refusal.{Refusal}
 use Rattle.tally_returns.specs.declared.reply.Reply.{Reply}
 use Rattle.tally_returns.specs.declared.reply.Reply.TheVariants as reply
+use Rattle.tally_message.specs.declared.message.Message.{Message}
+use Rattle.tally_asks.specs.declared.routes.Route.{Route}
+use Rattle.tally_desk.specs.Requests.{Answer}
+use Rattle.tally_desk.specs.Respond.{IsAnswerOn}
 
--- an answer; or none for want of memory, and then nothing has changed
-abbrev pub Gives : (List ℕ → Option State → Type 0) → Option State → Option (Vec ℕ Global) → Option State → Type 0
+-- an answer; or none where there was no memory for one, and then nothing has changed
+abbrev pub Gives : Answer → Option State → Option (Vec ℕ Global) → Option State → Type 0
 Gives IsAnswer old (Some text) new = IsAnswer text.items new
 Gives IsAnswer old None new = new ≡ old
+
+-- the answer to a message on this route, or none, likewise
+abbrev pub GivesOn : Route → Message → List Constituency
+    → Option State → Option (Vec ℕ Global) → Option State → Type 0
+GivesOn route m setup old result new = Gives (IsAnswerOn setup old route m) old result new
 
 -- what was shown, as the reply that showed it
 abbrev pub as_return : Result StationReturn Refusal → Result Reply Refusal

@@ -8,4 +8,5 @@ abbrev pub lists_of_station : List Constituency → List ℕ → List ListEntry
 lists_of_station setup code = option_map_or (λ place. place.0.lists) (station_with code setup) []
 
 abbrev pub lists_of_con : List Constituency → List ℕ → List ListEntry
-lists_of_con setup code = option_map_or (λ (con : Constituency). con.lists) (constituency_with code setup) []
+lists_of_con setup code =
+    option_map_or (λ (con : Constituency). con.lists) (constituency_with code setup) []

@@ -1,9 +1,10 @@
--- What a route asks of the office and what it answers: the bytes of the answer, and the state then. The office's own
--- part, what happens to it, is the machine's: a refused command changes nothing, and so does one that was not accepted.
+-- What a route asks of the office and what it answers: the bytes of the answer, and the state then.
+-- The office's own part, what happens to it, is the machine's: a refused command changes nothing,
+-- and so does one that was not accepted, unless a disk that failed has shut the office.
 use Rattle.std.specs.Prelude.{◌≡◌, ℕ, List, [], Option, Some, None, option_and_then, option_map, Result, Ok, Err}
 use Rattle.serde_json.specs.Data.{Data}
 use Rattle.serde_json.specs.Written.{compact_text}
-use Rattle.tally_rules.specs.Constituency.{Constituency}
+use Rattle.tally_rules.specs.Constituency.{Constituency, ListEntry}
 use Rattle.tally_rules.specs.Setup.{constituency_with, station_with}
 use Rattle.tally_returns.specs.AskSeen.{AskSeen, ask_seen}
 use Rattle.tally_returns.specs.State.{State}
@@ -15,19 +16,16 @@ use Rattle.tally_returns.specs.declared.reply.Reply.{Reply}
 use Rattle.tally_returns.specs.declared.reply.Reply.TheVariants as reply
 use Rattle.tally_keeper.specs.Keeper as keeper
 use Rattle.tally_keeper.specs.Source.{Ending}
-use Rattle.tally_keeper.specs.declared.import.FirstRow.{FirstRow}
 use Rattle.tally_keeper.specs.declared.import.ImportCount.{ImportCount}
 use Rattle.tally_keeper.specs.declared.source.ImportFault.{ImportFault}
 use Rattle.tally_keeper.specs.declared.source.ImportFault.TheVariants as cause
 use Rattle.tally_records.specs.declared.separator.Sep.{Sep}
 use Rattle.tally_import.specs.ReturnRows.{text_coming}
 use Rattle.tally_report.specs.ProgressText.{progress_text}
+use Rattle.tally_report.specs.declared.report.Report.{Report}
 use Rattle.tally_message.specs.declared.message.Message.{Message}
-use Rattle.tally_asks.specs.declared.routes.Route.{Route}
 use Rattle.tally_asks.specs.Routes.{con_in, station_in}
-use Rattle.tally_asks.specs.Bodies.{IsBody, command_in}
-use Rattle.tally_answer.specs.declared.import.FirstOther.{FirstOther}
-use Rattle.tally_answer.specs.declared.import.Imported.{Imported}
+use Rattle.tally_asks.specs.Bodies.{IsBody}
 use Rattle.tally_answer.specs.declared.status.AnswerStatus.TheVariants as status
 use Rattle.tally_answer.specs.declared.status.BodyType.TheVariants as body
 use Rattle.tally_answer.specs.declared.word.Word.{Word}
@@ -38,7 +36,6 @@ use Rattle.tally_answer.specs.Outcome.{outcome_text}
 use Rattle.tally_answer.specs.Shown.{shown_con, shown_return}
 use Rattle.tally_answer.specs.Words.{word_text}
 use Rattle.tally_desk.specs.Reports.{IsReportText}
-use Rattle.tally_desk.specs.declared.report.Report.{Report}
 
 -- ---- answers of the desk itself, which leave the state
 
@@ -62,45 +59,57 @@ Named = List ℕ × Constituency
 -- the station that a target names, and its constituency
 abbrev pub station_named : List Constituency → List ℕ → Option Named
 station_named setup target =
-    option_and_then (λ code. option_map (λ place. (code, place.0)) (station_with code setup)) (station_in target)
+    option_and_then (λ code. option_map (λ place. (code, place.0)) (station_with code setup))
+    (station_in target)
 
 -- the constituency that a target names
 abbrev pub con_named : List Constituency → List ℕ → Option Named
 con_named setup target =
-    option_and_then (λ code. option_map (λ con. (code, con)) (constituency_with code setup)) (con_in target)
+    option_and_then (λ code. option_map (λ con. (code, con)) (constituency_with code setup))
+    (con_in target)
+
+-- Which answer there is, and which state is left: a statement on the two.
+abbrev pub Answer : Type 1
+Answer = List ℕ → Option State → Type 0
 
 -- what is answered where the path names this, or nothing that the setup has
-abbrev pub OnNamed : Refusal → Option State → Option Named → (List ℕ → Constituency → List ℕ → Option State → Type 0) → List ℕ → Option State → Type 0
-OnNamed why old None IsAnswer text new = Refuses old why text new
-OnNamed why old (Some named) IsAnswer text new = IsAnswer named.0 named.1 text new
+abbrev pub AtNamed :
+    Refusal → Option State → Option Named → (List ℕ → Constituency → Answer) → Answer
+AtNamed why old None IsAnswer text new = Refuses old why text new
+AtNamed why old (Some named) IsAnswer text new = IsAnswer named.0 named.1 text new
 
-abbrev pub OnStation : List Constituency → Option State → Message → (List ℕ → Constituency → List ℕ → Option State → Type 0) → List ℕ → Option State → Type 0
-OnStation setup old m = OnNamed refusal.NoStation old (station_named setup m.target.items)
+abbrev pub AtStation :
+    List Constituency → Option State → Message → (List ℕ → Constituency → Answer) → Answer
+AtStation setup old m = AtNamed refusal.NoStation old (station_named setup m.target.items)
 
-abbrev pub OnCon : List Constituency → Option State → Message → (List ℕ → Constituency → List ℕ → Option State → Type 0) → List ℕ → Option State → Type 0
-OnCon setup old m = OnNamed refusal.NoConstituency old (con_named setup m.target.items)
+abbrev pub AtCon :
+    List Constituency → Option State → Message → (List ℕ → Constituency → Answer) → Answer
+AtCon setup old m = AtNamed refusal.NoConstituency old (con_named setup m.target.items)
 
 -- ---- requests
 
 -- A request is made of the office, and what it is answered has this text.
-abbrev pub Asks : List Constituency → Option State → Ask → (Result Reply Refusal → List ℕ → Type 0) → List ℕ → Option State → Type 0
+abbrev pub Asks :
+    List Constituency → Option State → Ask → (Result Reply Refusal → List ℕ → Type 0) → Answer
 Asks setup old a HasText text new =
     (r : Result Reply Refusal) × keeper.Happens setup old (keeper.request a r) new × HasText r text
 
--- a command on a constituency, or on a station of one
-abbrev pub Commands : List Constituency → Option State → Constituency → Ask → List ℕ → Option State → Type 0
-Commands setup old con a text new = Asks setup old a (λ r t. t ≡ outcome_text con.lists r) text new
+-- a command on a constituency with these lists, or on a station of one
+abbrev pub Commands : List Constituency → Option State → List ListEntry → Ask → Answer
+Commands setup old lists a = Asks setup old a (λ r t. t ≡ outcome_text lists r)
 
 -- the command that a body is, or a bad body
-abbrev pub OrdersOf : List Constituency → Option State → Constituency → Option AskSeen → List ℕ → Option State → Type 0
+abbrev pub OrdersOf : List Constituency → Option State → Constituency → Option AskSeen → Answer
 OrdersOf setup old con None text new = Says old word.BadBody text new
-OrdersOf setup old con (Some seen) text new = (a : Ask) × (ask_seen a ≡ seen) × Commands setup old con a text new
+OrdersOf setup old con (Some seen) text new =
+    (a : Ask) × (ask_seen a ≡ seen) × Commands setup old con.lists a text new
 
--- a command whose JSON is the message's body, on what has this code
-abbrev pub Orders : List Constituency → Option State → Constituency → Route → List ℕ → Message → List ℕ → Option State → Type 0
-Orders setup old con route code m text new =
+-- the command that the message's body is, by what each JSON value is
+abbrev pub Orders :
+    List Constituency → Option State → Constituency → (Data → Option AskSeen) → Message → Answer
+Orders setup old con command m text new =
     (value : Option Data) × IsBody m.body.items value
-    × OrdersOf setup old con (option_and_then (command_in route code) value) text new
+    × OrdersOf setup old con (option_and_then command value) text new
 
 -- ---- what is shown
 
@@ -111,8 +120,8 @@ HasReturnText code (Ok (reply.Return kept)) text =
 HasReturnText code (Ok other) text = ⊥
 HasReturnText code (Err why) text = text ≡ refusal_text why
 
-abbrev pub ShowsReturn : List Constituency → Option State → List ℕ → List ℕ → Option State → Type 0
-ShowsReturn setup old code text new = Asks setup old (ask.ShowReturn code) (HasReturnText code) text new
+abbrev pub ShowsReturn : List Constituency → Option State → List ℕ → Answer
+ShowsReturn setup old code = Asks setup old (ask.ShowReturn code) (HasReturnText code)
 
 -- a constituency, as JSON
 abbrev pub HasConText : Constituency → Result Reply Refusal → List ℕ → Type 0
@@ -121,8 +130,8 @@ HasConText con (Ok (reply.Con view)) text =
 HasConText con (Ok other) text = ⊥
 HasConText con (Err why) text = text ≡ refusal_text why
 
-abbrev pub ShowsCon : List Constituency → Option State → Constituency → List ℕ → List ℕ → Option State → Type 0
-ShowsCon setup old con code text new = Asks setup old (ask.ShowCon code) (HasConText con) text new
+abbrev pub ShowsCon : List Constituency → Option State → Constituency → List ℕ → Answer
+ShowsCon setup old con code = Asks setup old (ask.ShowCon code) (HasConText con)
 
 -- a report of a constituency, as plain text
 abbrev pub HasReportText : Constituency → Report → Result Reply Refusal → List ℕ → Type 0
@@ -130,8 +139,8 @@ HasReportText con which (Ok (reply.Con view)) text = IsReportText con view which
 HasReportText con which (Ok other) text = ⊥
 HasReportText con which (Err why) text = text ≡ refusal_text why
 
-abbrev pub Reports : List Constituency → Option State → Constituency → List ℕ → Report → List ℕ → Option State → Type 0
-Reports setup old con code which text new = Asks setup old (ask.ShowCon code) (HasReportText con which) text new
+abbrev pub Reports : List Constituency → Option State → Constituency → List ℕ → Report → Answer
+Reports setup old con code which = Asks setup old (ask.ShowCon code) (HasReportText con which)
 
 -- how far each constituency has come, as plain text
 abbrev pub HasProgressText : Result Reply Refusal → List ℕ → Type 0
@@ -140,24 +149,10 @@ HasProgressText (Ok (reply.Progress rows)) text =
 HasProgressText (Ok other) text = ⊥
 HasProgressText (Err why) text = text ≡ refusal_text why
 
-abbrev pub ShowsProgress : List Constituency → Option State → List ℕ → Option State → Type 0
-ShowsProgress setup old text new = Asks setup old ask.ShowProgress HasProgressText text new
+abbrev pub ShowsProgress : List Constituency → Option State → Answer
+ShowsProgress setup old = Asks setup old ask.ShowProgress HasProgressText
 
 -- ---- imports
-
-abbrev pub first_other : FirstRow → FirstOther
-first_other first = record { row = first.row; number = first.number }
-
--- the counts of an import, as they are answered
-abbrev pub counts_of : ImportCount → Imported
-counts_of count = record {
-  bad = count.bad;
-  differs = count.differs;
-  first = option_map first_other count.first;
-  lodged = count.lodged;
-  refused = count.refused;
-  same = count.same;
-}
 
 -- what is answered where an import was not done
 abbrev pub import_word : ImportFault → Word
@@ -168,15 +163,17 @@ import_word cause.Memory = word.Unavailable
 import_word cause.Store = word.Unavailable
 
 abbrev pub imported_text : Result ImportCount ImportFault → List ℕ
-imported_text (Ok count) = import_text (counts_of count)
+imported_text (Ok count) = import_text count
 imported_text (Err fault) = word_text (import_word fault)
 
 -- A text is imported into a constituency as rows of CSV (RFC 4180) with this separator.
-abbrev pub ImportsText : List Constituency → Option State → Constituency → Sep → List ℕ → List ℕ → Option State → Type 0
+abbrev pub ImportsText :
+    List Constituency → Option State → Constituency → Sep → List ℕ → Answer
 ImportsText setup old con sep csv text new =
     (ended : Ending) × (r : Result ImportCount ImportFault)
-    × keeper.Imports setup old (Some (text_coming con sep csv)) ended r new × (text ≡ imported_text r)
+    × keeper.Imports setup old (Some (text_coming con sep csv)) ended r new
+    × (text ≡ imported_text r)
 
 -- the same of the body of a message
-abbrev pub Imports : List Constituency → Option State → Constituency → Sep → Message → List ℕ → Option State → Type 0
-Imports setup old con sep m text new = ImportsText setup old con sep m.body.items text new
+abbrev pub Imports : List Constituency → Option State → Constituency → Sep → Message → Answer
+Imports setup old con sep m = ImportsText setup old con sep m.body.items

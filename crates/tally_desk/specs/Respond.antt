@@ -1,23 +1,23 @@
 -- The answer to a message: its bytes, and the office's state then.
 --
--- A message is answered in this order: a fault of the message itself; a target that is on no route (404); another
--- method than the route's (405); a station or a constituency of the path that the setup does not have (404); a body
--- that is not the route's (400); and then what the route asks of the office.
+-- A message is answered in this order: a fault of the message itself; a target that is on no route
+-- (404); a method other than the route's (405); a station or a constituency of the path that the
+-- setup does not have (404); a body that is not the route's (400); and then what the route asks of
+-- the office.
 use Rattle.std.specs.Prelude.{◌≡◌, ◌⊎◌, Bool, true, false, List, ℕ, Option, Some, None, option_map, Result, Ok, Err, bytes_eq}
 use Rattle.matchit.specs.Router.{RouteOf}
 use Rattle.tally_rules.specs.Constituency.{Constituency}
 use Rattle.tally_returns.specs.State.{State}
-use Rattle.tally_records.specs.declared.separator.Sep.TheVariants.{Comma, Semicolon}
 use Rattle.tally_message.specs.declared.message.Message.{Message}
 use Rattle.tally_message.specs.declared.message.MessageFault.{MessageFault}
 use Rattle.tally_message.specs.declared.message.MessageFault.TheVariants as fault
 use Rattle.tally_asks.specs.declared.routes.Route.{Route}
 use Rattle.tally_asks.specs.declared.routes.Route.TheVariants as route
+use Rattle.tally_asks.specs.Bodies.{con_command, station_command}
 use Rattle.tally_asks.specs.Routes.{IsRouted, method_of, takes_get}
 use Rattle.tally_answer.specs.declared.word.Word.{Word}
 use Rattle.tally_answer.specs.declared.word.Word.TheVariants as word
-use Rattle.tally_desk.specs.Requests.{Imports, OnCon, OnStation, Orders, Reports, Says, ShowsCon, ShowsProgress, ShowsReturn}
-use Rattle.tally_desk.specs.declared.report.Report.TheVariants as report
+use Rattle.tally_desk.specs.Requests.{Answer, AtCon, AtStation, Imports, Orders, Reports, Says, ShowsCon, ShowsProgress, ShowsReturn}
 
 -- What is answered to a message that has this fault; nothing where a read failed.
 abbrev pub fault_word : MessageFault → Option Word
@@ -35,33 +35,19 @@ abbrev pub SaysAny : Option State → Option Word → List ℕ → Option State 
 SaysAny old None text new = ⊥
 SaysAny old (Some w) text new = Says old w text new
 
--- Which answer a setup and a state have to a message, and which state is left: `Answer` is a statement on the two.
-abbrev pub Answer : Type 1
-Answer = List ℕ → Option State → Type 0
-
 -- The table of routes: what each asks of the office, by the target and the body of the message.
 abbrev pub IsAnswerOn : List Constituency → Option State → Route → Message → Answer
 IsAnswerOn setup old route.Progress m = ShowsProgress setup old
-IsAnswerOn setup old route.Station m = OnStation setup old m (λ code con. ShowsReturn setup old code)
-IsAnswerOn setup old route.Lodge m = OnStation setup old m (λ code con. Orders setup old con route.Lodge code m)
-IsAnswerOn setup old route.Query m = OnStation setup old m (λ code con. Orders setup old con route.Query code m)
-IsAnswerOn setup old route.Correct m = OnStation setup old m (λ code con. Orders setup old con route.Correct code m)
-IsAnswerOn setup old route.Close m = OnStation setup old m (λ code con. Orders setup old con route.Close code m)
-IsAnswerOn setup old route.Con m = OnCon setup old m (λ code con. ShowsCon setup old con code)
-IsAnswerOn setup old route.Tally m = OnCon setup old m (λ code con. Reports setup old con code report.Tally)
-IsAnswerOn setup old route.Seats m = OnCon setup old m (λ code con. Reports setup old con code report.Seats)
-IsAnswerOn setup old route.Quotients m = OnCon setup old m (λ code con. Reports setup old con code report.Quotients)
-IsAnswerOn setup old route.Awards m = OnCon setup old m (λ code con. Reports setup old con code report.Awards)
-IsAnswerOn setup old route.Quota m = OnCon setup old m (λ code con. Reports setup old con code report.Quota)
-IsAnswerOn setup old route.Short m = OnCon setup old m (λ code con. Reports setup old con code report.Short)
-IsAnswerOn setup old route.Holders m = OnCon setup old m (λ code con. Reports setup old con code report.Holders)
-IsAnswerOn setup old route.Past m = OnCon setup old m (λ code con. Reports setup old con code report.Past)
-IsAnswerOn setup old route.Draw m = OnCon setup old m (λ code con. Orders setup old con route.Draw code m)
-IsAnswerOn setup old route.Certify m = OnCon setup old m (λ code con. Orders setup old con route.Certify code m)
-IsAnswerOn setup old route.Reopen m = OnCon setup old m (λ code con. Orders setup old con route.Reopen code m)
-IsAnswerOn setup old route.Vacate m = OnCon setup old m (λ code con. Orders setup old con route.Vacate code m)
-IsAnswerOn setup old route.Import m = OnCon setup old m (λ code con. Imports setup old con Comma m)
-IsAnswerOn setup old route.ImportSemicolon m = OnCon setup old m (λ code con. Imports setup old con Semicolon m)
+IsAnswerOn setup old route.Return m = AtStation setup old m (λ code con. ShowsReturn setup old code)
+IsAnswerOn setup old route.Con m = AtCon setup old m (λ code con. ShowsCon setup old con code)
+IsAnswerOn setup old (route.Report which) m =
+    AtCon setup old m (λ code con. Reports setup old con code which)
+IsAnswerOn setup old (route.OnStation command) m =
+    AtStation setup old m (λ code con. Orders setup old con (station_command command code) m)
+IsAnswerOn setup old (route.OnCon command) m =
+    AtCon setup old m (λ code con. Orders setup old con (con_command command code) m)
+IsAnswerOn setup old (route.Import sep) m =
+    AtCon setup old m (λ code con. Imports setup old con sep m)
 
 -- the 405 that allows GET, or the one that allows POST
 abbrev pub other_method : Bool → Word
@@ -99,4 +85,5 @@ office setup state = record { setup = setup; state = state }
 abbrev pub Answers : Office → Result Message MessageFault → List ℕ → Office → Type 0
 Answers old message text new =
     (new.setup ≡ old.setup)
-    × (IsAnswer old.setup old.state message text new.state ⊎ Says old.state word.Unavailable text new.state)
+    × (IsAnswer old.setup old.state message text new.state
+    ⊎ Says old.state word.Unavailable text new.state)

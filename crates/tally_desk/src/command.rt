@@ -6,18 +6,19 @@ ghost use Rattle.tally_keeper.specs.Keeper.{Happens, request};
 ghost use Rattle.tally_returns.specs.declared.refusal.Refusal.TheVariants.{NoConstituency, NoStation};
 ghost use Rattle.tally_returns.specs.declared.reply.Reply.{Reply};
 ghost use Rattle.tally_returns.specs.declared.refusal.Refusal.{Refusal};
+ghost use Rattle.tally_asks.specs.declared.routes.Route.TheVariants as route;
 ghost use Rattle.tally_answer.specs.Outcome.{outcome_text};
-ghost use Rattle.tally_desk.specs.Gives.{Gives};
+ghost use Rattle.tally_desk.specs.Gives.{GivesOn};
 ghost use Rattle.tally_desk.specs.Named.{lists_of_con, lists_of_station};
-ghost use Rattle.tally_desk.specs.Requests.{Asks, Imports, ImportsText, OnCon, OnStation, Orders, counts_of, imported_text};
+ghost use Rattle.tally_desk.specs.Requests.{Asks, ImportsText, imported_text};
 
 use crate::named::{con_named, lists_of_con, lists_of_station, station_named};
 use crate::room::Room;
 use std::alloc::Global;
-use tally_answer::{FirstOther, Imported, Word};
-use tally_asks::{Route, ask_in};
+use tally_answer::Word;
+use tally_asks::{ConCommand, StationCommand, ask_on_con, ask_on_station};
 use tally_import::{ReturnRows, Sep};
-use tally_keeper::{Ask, FirstRow, ImportCount, ImportFault, Keeper, Refusal};
+use tally_keeper::{Ask, ImportCount, ImportFault, Keeper, Refusal};
 use tally_message::Message;
 use tally_rules::{Code, Constituency, Setup};
 
@@ -25,8 +26,10 @@ use tally_rules::{Code, Constituency, Setup};
 fn command_on_station<K: Keeper>(room: Room, keeper: &mut K, station: Code, ask: &Ask) -> Vec<u8>
     ensures setup { K.constituencies keeper.new ≡ K.constituencies keeper.old }
     ensures trusted { K.IsTrusted keeper.new → K.IsTrusted keeper.old }
-    ensures asks { K.IsTrusted keeper.new → Asks (K.constituencies keeper.old) (K.content keeper.old) ask.now
-        (λ r t. t ≡ outcome_text (lists_of_station (K.constituencies keeper.old) station) r) result.items (K.content keeper.new) }
+    ensures asks { K.IsTrusted keeper.new
+        → Asks (K.constituencies keeper.old) (K.content keeper.old) ask.now
+        (λ r t. t ≡ outcome_text (lists_of_station (K.constituencies keeper.old) station) r)
+        result.items (K.content keeper.new) }
 {
     let outcome = keeper.answer(ask);
     room.outcome(lists_of_station(keeper.setup(), station), &outcome)
@@ -36,8 +39,10 @@ fn command_on_station<K: Keeper>(room: Room, keeper: &mut K, station: Code, ask:
 fn command_on_con<K: Keeper>(room: Room, keeper: &mut K, con: Code, ask: &Ask) -> Vec<u8>
     ensures setup { K.constituencies keeper.new ≡ K.constituencies keeper.old }
     ensures trusted { K.IsTrusted keeper.new → K.IsTrusted keeper.old }
-    ensures asks { K.IsTrusted keeper.new → Asks (K.constituencies keeper.old) (K.content keeper.old) ask.now
-        (λ r t. t ≡ outcome_text (lists_of_con (K.constituencies keeper.old) con) r) result.items (K.content keeper.new) }
+    ensures asks { K.IsTrusted keeper.new
+        → Asks (K.constituencies keeper.old) (K.content keeper.old) ask.now
+        (λ r t. t ≡ outcome_text (lists_of_con (K.constituencies keeper.old) con) r)
+        result.items (K.content keeper.new) }
 {
     let outcome = keeper.answer(ask);
     room.outcome(lists_of_con(keeper.setup(), con), &outcome)
@@ -47,20 +52,19 @@ fn command_on_con<K: Keeper>(room: Room, keeper: &mut K, con: Code, ask: &Ask) -
 pub(crate) fn order_on_station<K: Keeper>(
     alloc: Global,
     keeper: &mut K,
-    route: Route,
+    command: StationCommand,
     message: &Message,
 ) -> Option<Vec<u8>>
     ensures setup { K.constituencies keeper.new ≡ K.constituencies keeper.old }
     ensures trusted { K.IsTrusted keeper.new → K.IsTrusted keeper.old }
-    ensures gives { K.IsTrusted keeper.new → Gives (OnStation (K.constituencies keeper.old) (K.content keeper.old) message.now
-        (λ code con. Orders (K.constituencies keeper.old) (K.content keeper.old) con route code message.now))
-        (K.content keeper.old) result (K.content keeper.new) }
+    ensures gives { K.IsTrusted keeper.new → GivesOn (route.OnStation command) message.now
+        (K.constituencies keeper.old) (K.content keeper.old) result (K.content keeper.new) }
 {
     let room = Room::reserve(alloc)?;
     let Some(station) = station_named(keeper.setup(), &message.target) else {
         return Some(room.refusal(Refusal::NoStation));
     };
-    match ask_in(alloc, route, station, &message.body) {
+    match ask_on_station(alloc, command, station, &message.body) {
         Ok(Some(ask)) => Some(command_on_station(room, keeper, station, &ask)),
         Ok(None) => Some(room.word(Word::BadBody)),
         Err(_) => None,
@@ -71,39 +75,22 @@ pub(crate) fn order_on_station<K: Keeper>(
 pub(crate) fn order_on_con<K: Keeper>(
     alloc: Global,
     keeper: &mut K,
-    route: Route,
+    command: ConCommand,
     message: &Message,
 ) -> Option<Vec<u8>>
     ensures setup { K.constituencies keeper.new ≡ K.constituencies keeper.old }
     ensures trusted { K.IsTrusted keeper.new → K.IsTrusted keeper.old }
-    ensures gives { K.IsTrusted keeper.new → Gives (OnCon (K.constituencies keeper.old) (K.content keeper.old) message.now
-        (λ code con. Orders (K.constituencies keeper.old) (K.content keeper.old) con route code message.now))
-        (K.content keeper.old) result (K.content keeper.new) }
+    ensures gives { K.IsTrusted keeper.new → GivesOn (route.OnCon command) message.now
+        (K.constituencies keeper.old) (K.content keeper.old) result (K.content keeper.new) }
 {
     let room = Room::reserve(alloc)?;
     let Some(con) = con_named(keeper.setup(), &message.target) else {
         return Some(room.refusal(Refusal::NoConstituency));
     };
-    match ask_in(alloc, route, con, &message.body) {
+    match ask_on_con(alloc, command, con, &message.body) {
         Ok(Some(ask)) => Some(command_on_con(room, keeper, con, &ask)),
         Ok(None) => Some(room.word(Word::BadBody)),
         Err(_) => None,
-    }
-}
-
-fn counts_of(count: &ImportCount) -> Imported
-    ensures { result ≡ counts_of count.now }
-{
-    Imported {
-        bad: count.bad,
-        differs: count.differs,
-        first: match count.first {
-            Some(FirstRow { row, number }) => Some(FirstOther { row, number }),
-            None => None,
-        },
-        lodged: count.lodged,
-        refused: count.refused,
-        same: count.same,
     }
 }
 
@@ -112,7 +99,7 @@ fn import_answer(room: Room, outcome: &Result<ImportCount, ImportFault>) -> Vec<
     ensures { result.items ≡ imported_text outcome.now }
 {
     match outcome {
-        Ok(count) => room.import(&counts_of(count)),
+        Ok(count) => room.import(count),
         Err(ImportFault::BadHeader) => room.word(Word::BadHeader),
         Err(ImportFault::TooLong) => room.word(Word::TooLong),
         Err(ImportFault::Read | ImportFault::Memory | ImportFault::Store) => {
@@ -139,7 +126,8 @@ fn lodge_rows<K: Keeper>(
 ) -> Vec<u8>
     ensures setup { K.constituencies keeper.new ≡ K.constituencies keeper.old }
     ensures trusted { K.IsTrusted keeper.new → K.IsTrusted keeper.old }
-    ensures imports { K.IsTrusted keeper.new → ImportsText (K.constituencies keeper.old) (K.content keeper.old) con sep text.now
+    ensures imports { K.IsTrusted keeper.new
+        → ImportsText (K.constituencies keeper.old) (K.content keeper.old) con sep text.now
         result.items (K.content keeper.new) }
 {
     let mut rows = ReturnRows::new(alloc, text, sep, con);
@@ -156,9 +144,8 @@ pub(crate) fn import<K: Keeper>(
 ) -> Option<Vec<u8>>
     ensures setup { K.constituencies keeper.new ≡ K.constituencies keeper.old }
     ensures trusted { K.IsTrusted keeper.new → K.IsTrusted keeper.old }
-    ensures gives { K.IsTrusted keeper.new → Gives (OnCon (K.constituencies keeper.old) (K.content keeper.old) message.now
-        (λ code con. Imports (K.constituencies keeper.old) (K.content keeper.old) con sep message.now))
-        (K.content keeper.old) result (K.content keeper.new) }
+    ensures gives { K.IsTrusted keeper.new → GivesOn (route.Import sep) message.now
+        (K.constituencies keeper.old) (K.content keeper.old) result (K.content keeper.new) }
 {
     let room = Room::reserve(alloc)?;
     let Some(code) = con_named(keeper.setup(), &message.target) else {

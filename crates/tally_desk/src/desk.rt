@@ -1,11 +1,10 @@
 //! Serving connections from a keeper.
 
-ghost use Rattle.std.specs.Prelude.{◌≡◌, ◌+◌, ◌++◌, List, Some, IfSome, option_to_list, take, drop};
+ghost use Rattle.std.specs.Prelude.{◌≡◌, ◌+◌, IfSome};
 ghost use Rattle.tally_asks.specs.Routes.{desk_rows};
 ghost use Rattle.tally_answer.specs.Words.{word_text};
 ghost use Rattle.tally_answer.specs.declared.word.Word.TheVariants.{Unavailable};
-ghost use Rattle.tally_door.specs.Connection.{Connection, Connections};
-ghost use Rattle.tally_serve.specs.Serving.{Serves};
+ghost use Rattle.tally_serve.specs.Serving.{IsServing};
 ghost use Rattle.tally_desk.specs.Respond.{Answers, Office, office};
 
 use crate::respond::respond;
@@ -70,20 +69,16 @@ impl<K: Keeper> Responder<K> for Desk {
     }
 }
 
-/// Serves so many connections of a door, one after the other: each message is answered from the keeper. A connection
-/// counts as failed where the door had none, where a read of its message failed, and where its answer was not written
-/// whole.
+/// Serves so many connections of a door, one after the other: each message is answered from the
+/// keeper. A connection counts as failed where the door had none, where a read of its message
+/// failed, and where its answer was not written whole.
 pub fn serve<K: Keeper, D: Door>(alloc: Global, keeper: &mut K, door: &mut D, count: u32) -> Served
     ensures count { result.answered + result.failed ≡ count }
     ensures trusted { K.IsTrusted keeper.new → K.IsTrusted keeper.old }
-    ensures serves { (before : Connections) → D.known door.old ≡ Some before
-        → (after : Connections) × (D.known door.new ≡ Some after) × (ended : List Connection)
-        × (after.ended ++ option_to_list after.current
-        ≡ before.ended ++ option_to_list before.current ++ ended)
-        × (after.coming ≡ drop count before.coming)
-        × (K.IsTrusted keeper.new → Serves Answers (office (K.constituencies keeper.old) (K.content keeper.old))
-        (take count before.coming) ended result.answered
-        (office (K.constituencies keeper.new) (K.content keeper.new))) }
+    ensures serves { IsServing Answers (K.IsTrusted keeper.new) count result.answered
+        (D.known door.old) (D.known door.new)
+        (office (K.constituencies keeper.old) (K.content keeper.old))
+        (office (K.constituencies keeper.new) (K.content keeper.new)) }
 {
     let desk = Desk::new(alloc);
     tally_serve::serve(alloc, &desk, keeper, door, count)

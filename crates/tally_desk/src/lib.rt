@@ -11,7 +11,6 @@ mod show;
 mod shown;
 
 pub use desk::serve;
-pub use report::{Report, report_text};
 pub use shown::{progress_of, view_of};
 pub use tally_door::{Door, DoorFault, MemoryConn, MemoryDoor, NoClock, TcpDoor};
 pub use tally_message::{Message, MessageFault, read_message};

@@ -3,18 +3,16 @@
 ghost use Rattle.std.specs.Prelude.{◌≡◌, IfSome, Ok};
 ghost use Rattle.tally_asks.specs.Routes.{desk_rows, takes_get};
 ghost use Rattle.tally_answer.specs.Words.{word_text};
-ghost use Rattle.tally_desk.specs.Gives.{Gives};
-ghost use Rattle.tally_desk.specs.Respond.{ByRoute, IsAnswer, IsAnswerOn, fault_word, other_method};
+ghost use Rattle.tally_desk.specs.Gives.{Gives, GivesOn};
+ghost use Rattle.tally_desk.specs.Respond.{ByRoute, IsAnswer, fault_word, other_method};
 
 use crate::command::{import, order_on_con, order_on_station};
-use crate::report::Report;
 use crate::room::Room;
 use crate::show::{show_con, show_progress, show_report, show_return};
 use matchit::Router;
 use std::alloc::Global;
 use tally_answer::Word;
 use tally_asks::{Route, route_of, takes, takes_get};
-use tally_import::Sep;
 use tally_keeper::Keeper;
 use tally_message::{Message, MessageFault};
 
@@ -59,31 +57,17 @@ fn answer_on<K: Keeper>(
 ) -> Option<Vec<u8>>
     ensures setup { K.constituencies keeper.new ≡ K.constituencies keeper.old }
     ensures trusted { K.IsTrusted keeper.new → K.IsTrusted keeper.old }
-    ensures gives { K.IsTrusted keeper.new → Gives (IsAnswerOn (K.constituencies keeper.old) (K.content keeper.old) route message.now)
-        (K.content keeper.old) result (K.content keeper.new) }
+    ensures gives { K.IsTrusted keeper.new → GivesOn route message.now
+        (K.constituencies keeper.old) (K.content keeper.old) result (K.content keeper.new) }
 {
     match route {
         Route::Progress => show_progress(alloc, keeper),
-        Route::Station => show_return(alloc, keeper, message),
-        Route::Lodge => order_on_station(alloc, keeper, Route::Lodge, message),
-        Route::Query => order_on_station(alloc, keeper, Route::Query, message),
-        Route::Correct => order_on_station(alloc, keeper, Route::Correct, message),
-        Route::Close => order_on_station(alloc, keeper, Route::Close, message),
+        Route::Return => show_return(alloc, keeper, message),
         Route::Con => show_con(alloc, keeper, message),
-        Route::Tally => show_report(alloc, keeper, message, Report::Tally),
-        Route::Seats => show_report(alloc, keeper, message, Report::Seats),
-        Route::Quotients => show_report(alloc, keeper, message, Report::Quotients),
-        Route::Awards => show_report(alloc, keeper, message, Report::Awards),
-        Route::Quota => show_report(alloc, keeper, message, Report::Quota),
-        Route::Short => show_report(alloc, keeper, message, Report::Short),
-        Route::Holders => show_report(alloc, keeper, message, Report::Holders),
-        Route::Past => show_report(alloc, keeper, message, Report::Past),
-        Route::Draw => order_on_con(alloc, keeper, Route::Draw, message),
-        Route::Certify => order_on_con(alloc, keeper, Route::Certify, message),
-        Route::Reopen => order_on_con(alloc, keeper, Route::Reopen, message),
-        Route::Vacate => order_on_con(alloc, keeper, Route::Vacate, message),
-        Route::Import => import(alloc, keeper, Sep::Comma, message),
-        Route::ImportSemicolon => import(alloc, keeper, Sep::Semicolon, message),
+        Route::Report(which) => show_report(alloc, keeper, message, which),
+        Route::OnStation(command) => order_on_station(alloc, keeper, command, message),
+        Route::OnCon(command) => order_on_con(alloc, keeper, command, message),
+        Route::Import(sep) => import(alloc, keeper, sep, message),
     }
 }
 
@@ -97,7 +81,8 @@ fn answer<K: Keeper>(
     requires { router.now ≡ desk_rows }
     ensures setup { K.constituencies keeper.new ≡ K.constituencies keeper.old }
     ensures trusted { K.IsTrusted keeper.new → K.IsTrusted keeper.old }
-    ensures gives { K.IsTrusted keeper.new → Gives (IsAnswer (K.constituencies keeper.old) (K.content keeper.old) (Ok message.now))
+    ensures gives { K.IsTrusted keeper.new
+        → Gives (IsAnswer (K.constituencies keeper.old) (K.content keeper.old) (Ok message.now))
         (K.content keeper.old) result (K.content keeper.new) }
 {
     let Some(route) = route_of(router, &message.target) else {
@@ -109,8 +94,8 @@ fn answer<K: Keeper>(
     answer_on(alloc, keeper, route, message)
 }
 
-/// Answers a message or a fault of one. There is no answer to a failed read, and none where there was no memory for
-/// one: then nothing was accepted.
+/// Answers a message or a fault of one. There is no answer to a failed read, and none where there
+/// was no memory for one: then nothing was accepted.
 pub(crate) fn respond<K: Keeper>(
     alloc: Global,
     router: &Router<Route>,
@@ -120,7 +105,8 @@ pub(crate) fn respond<K: Keeper>(
     requires { router.now ≡ desk_rows }
     ensures setup { K.constituencies keeper.new ≡ K.constituencies keeper.old }
     ensures trusted { K.IsTrusted keeper.new → K.IsTrusted keeper.old }
-    ensures gives { K.IsTrusted keeper.new → Gives (IsAnswer (K.constituencies keeper.old) (K.content keeper.old) message.now)
+    ensures gives { K.IsTrusted keeper.new
+        → Gives (IsAnswer (K.constituencies keeper.old) (K.content keeper.old) message.now)
         (K.content keeper.old) result (K.content keeper.new) }
 {
     match message {

@@ -11,13 +11,14 @@ ghost use Rattle.tally_desk.specs.Requests.{refusal_text};
 
 use std::alloc::Global;
 use tally_answer::{
-    ANSWER_ROOM, AnswerStatus, BODY_ROOM, BodyType, Imported, Word, answer_of, write_import,
-    write_outcome, write_word,
+    ANSWER_ROOM, AnswerStatus, BODY_ROOM, BodyType, Word, answer_of, write_import, write_outcome,
+    write_word,
 };
-use tally_keeper::{Refusal, Reply};
+use tally_keeper::{ImportCount, Refusal, Reply};
 use tally_rules::ListEntry;
 
-/// Room for an answer, which is reserved before the office is asked: what is written into it takes no memory.
+/// Room for an answer, which is reserved before the office is asked: what is written into it takes
+/// no memory.
 #[derive(Drop)]
 pub(crate) struct Room {
     out: Vec<u8>,
@@ -53,11 +54,11 @@ impl Room {
     }
 
     /// The answer to an import.
-    pub(crate) fn import(self, imported: &Imported) -> Vec<u8>
-        ensures { result.items ≡ import_text imported.now }
+    pub(crate) fn import(self, count: &ImportCount) -> Vec<u8>
+        ensures { result.items ≡ import_text count.now }
     {
         let Room { mut out, mut body } = self;
-        write_import(&mut out, &mut body, imported);
+        write_import(&mut out, &mut body, count);
         out
     }
 

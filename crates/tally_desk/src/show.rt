@@ -1,7 +1,6 @@
 //! Answers to GET.
 
 ghost use Rattle.std.specs.Prelude.{◌≡◌, IfSome, Some};
-ghost use Rattle.tally_steps.specs.Outcome.{IsLawfulView};
 ghost use Rattle.tally_returns.specs.View.{FitsView};
 ghost use Rattle.tally_rules.specs.Constituency as value;
 ghost use Rattle.tally_rules.specs.Setup.{constituency_with};
@@ -12,22 +11,25 @@ ghost use Rattle.tally_answer.specs.Shown.{shown_con, shown_return};
 ghost use Rattle.tally_answer.specs.declared.status.AnswerStatus.TheVariants as status;
 ghost use Rattle.tally_answer.specs.declared.status.BodyType.TheVariants as body;
 ghost use Rattle.tally_report.specs.ProgressText.{progress_text};
-ghost use Rattle.tally_desk.specs.Gives.{Gives};
-ghost use Rattle.tally_desk.specs.Requests.{OnCon, OnStation, Reports, ShowsCon, ShowsProgress, ShowsReturn};
+ghost use Rattle.tally_report.specs.Reports.{IsEnoughFor};
+ghost use Rattle.tally_asks.specs.declared.routes.Route.TheVariants as route;
+ghost use Rattle.tally_desk.specs.Gives.{Gives, GivesOn};
+ghost use Rattle.tally_desk.specs.Requests.{ShowsProgress};
 
 use crate::named::{con_named, station_named};
-use crate::report::{Report, report_answer};
+use crate::report::report_answer;
 use crate::room::{Room, json_answer, text_answer};
 use crate::shown::{progress_of, return_of, view_of};
 use std::alloc::Global;
 use tally_answer::{con_text, return_text};
 use tally_keeper::{ConView, Keeper, ProgressRow, Refusal, Return};
 use tally_message::Message;
-use tally_report::progress_text;
+use tally_report::{Report, progress_text};
 use tally_rules::{Code, Constituency, Setup};
 
 fn return_answer(alloc: Global, station: Code, kept: &Return) -> Option<Vec<u8>>
-    ensures { IfSome result (λ text. text.items ≡ answer_text status.Done body.Json (compact_text (shown_return station kept.now))) }
+    ensures { IfSome result (λ text. text.items
+        ≡ answer_text status.Done body.Json (compact_text (shown_return station kept.now))) }
 {
     match return_text(alloc, station.as_str(), kept) {
         Ok(text) => json_answer(alloc, text.as_bytes()),
@@ -36,7 +38,8 @@ fn return_answer(alloc: Global, station: Code, kept: &Return) -> Option<Vec<u8>>
 }
 
 fn con_answer(alloc: Global, con: &Constituency, view: &ConView) -> Option<Vec<u8>>
-    ensures { IfSome result (λ text. text.items ≡ answer_text status.Done body.Json (compact_text (shown_con con.now view.now))) }
+    ensures { IfSome result (λ text. text.items
+        ≡ answer_text status.Done body.Json (compact_text (shown_con con.now view.now))) }
 {
     match con_text(alloc, con, view) {
         Ok(text) => json_answer(alloc, text.as_bytes()),
@@ -45,7 +48,8 @@ fn con_answer(alloc: Global, con: &Constituency, view: &ConView) -> Option<Vec<u
 }
 
 fn progress_answer(alloc: Global, rows: &[ProgressRow]) -> Option<Vec<u8>>
-    ensures { IfSome result (λ text. text.items ≡ answer_text status.Done body.Text (progress_text rows.now)) }
+    ensures { IfSome result (λ text. text.items
+        ≡ answer_text status.Done body.Text (progress_text rows.now)) }
 {
     match progress_text(alloc, rows) {
         Ok(text) => text_answer(alloc, text.as_bytes()),
@@ -55,7 +59,8 @@ fn progress_answer(alloc: Global, rows: &[ProgressRow]) -> Option<Vec<u8>>
 
 /// The answer that shows the constituency of a code.
 fn con_shown(alloc: Global, setup: &Setup, code: Code, view: &ConView) -> Option<Vec<u8>>
-    ensures { IfSome result (λ text. (con : value.Constituency) → constituency_with code setup.now ≡ Some con
+    ensures { IfSome result (λ text. (con : value.Constituency)
+        → constituency_with code setup.now ≡ Some con
         → text.items ≡ answer_text status.Done body.Json (compact_text (shown_con con view.now))) }
 {
     let con = setup.con(code)?;
@@ -71,9 +76,11 @@ fn report_shown(
     view: &ConView,
     which: Report,
 ) -> Option<Vec<u8>>
-    requires { (con : value.Constituency) → constituency_with code setup.now ≡ Some con → FitsView con view.now }
-    ensures { IfSome result (λ text. (con : value.Constituency) → constituency_with code setup.now ≡ Some con
-        → IsLawfulView con view.now → IsReportText con view.now which text.items) }
+    requires { (con : value.Constituency)
+        → constituency_with code setup.now ≡ Some con → FitsView con view.now }
+    ensures { IfSome result (λ text. (con : value.Constituency)
+        → constituency_with code setup.now ≡ Some con
+        → IsEnoughFor which con view.now → IsReportText con view.now which text.items) }
 {
     let con = setup.con(code)?;
     report_answer(alloc, room, con, view, which)
@@ -83,7 +90,8 @@ fn report_shown(
 pub(crate) fn show_progress<K: Keeper>(alloc: Global, keeper: &mut K) -> Option<Vec<u8>>
     ensures setup { K.constituencies keeper.new ≡ K.constituencies keeper.old }
     ensures trusted { K.IsTrusted keeper.new → K.IsTrusted keeper.old }
-    ensures gives { K.IsTrusted keeper.new → Gives (ShowsProgress (K.constituencies keeper.old) (K.content keeper.old))
+    ensures gives { K.IsTrusted keeper.new
+        → Gives (ShowsProgress (K.constituencies keeper.old) (K.content keeper.old))
         (K.content keeper.old) result (K.content keeper.new) }
 {
     let room = Room::reserve(alloc)?;
@@ -101,9 +109,8 @@ pub(crate) fn show_return<K: Keeper>(
 ) -> Option<Vec<u8>>
     ensures setup { K.constituencies keeper.new ≡ K.constituencies keeper.old }
     ensures trusted { K.IsTrusted keeper.new → K.IsTrusted keeper.old }
-    ensures gives { K.IsTrusted keeper.new → Gives (OnStation (K.constituencies keeper.old) (K.content keeper.old) message.now
-        (λ code con. ShowsReturn (K.constituencies keeper.old) (K.content keeper.old) code))
-        (K.content keeper.old) result (K.content keeper.new) }
+    ensures gives { K.IsTrusted keeper.new → GivesOn route.Return message.now
+        (K.constituencies keeper.old) (K.content keeper.old) result (K.content keeper.new) }
 {
     let room = Room::reserve(alloc)?;
     let Some(station) = station_named(keeper.setup(), &message.target) else {
@@ -123,9 +130,8 @@ pub(crate) fn show_con<K: Keeper>(
 ) -> Option<Vec<u8>>
     ensures setup { K.constituencies keeper.new ≡ K.constituencies keeper.old }
     ensures trusted { K.IsTrusted keeper.new → K.IsTrusted keeper.old }
-    ensures gives { K.IsTrusted keeper.new → Gives (OnCon (K.constituencies keeper.old) (K.content keeper.old) message.now
-        (λ code con. ShowsCon (K.constituencies keeper.old) (K.content keeper.old) con code))
-        (K.content keeper.old) result (K.content keeper.new) }
+    ensures gives { K.IsTrusted keeper.new → GivesOn route.Con message.now
+        (K.constituencies keeper.old) (K.content keeper.old) result (K.content keeper.new) }
 {
     let room = Room::reserve(alloc)?;
     let Some(code) = con_named(keeper.setup(), &message.target) else {
@@ -146,9 +152,8 @@ pub(crate) fn show_report<K: Keeper>(
 ) -> Option<Vec<u8>>
     ensures setup { K.constituencies keeper.new ≡ K.constituencies keeper.old }
     ensures trusted { K.IsTrusted keeper.new → K.IsTrusted keeper.old }
-    ensures gives { K.IsTrusted keeper.new → Gives (OnCon (K.constituencies keeper.old) (K.content keeper.old) message.now
-        (λ code con. Reports (K.constituencies keeper.old) (K.content keeper.old) con code which))
-        (K.content keeper.old) result (K.content keeper.new) }
+    ensures gives { K.IsTrusted keeper.new → GivesOn (route.Report which) message.now
+        (K.constituencies keeper.old) (K.content keeper.old) result (K.content keeper.new) }
 {
     let room = Room::reserve(alloc)?;
     let Some(code) = con_named(keeper.setup(), &message.target) else {

@@ -17,9 +17,11 @@ use tally_rules::Code;
 pub(crate) fn return_of<K: Keeper>(keeper: &mut K, station: Code) -> Result<Return, Refusal>
     ensures setup { K.constituencies keeper.new ≡ K.constituencies keeper.old }
     ensures trusted { K.IsTrusted keeper.new → K.IsTrusted keeper.old }
-    ensures shows { K.IsTrusted keeper.new → Happens (K.constituencies keeper.old) (K.content keeper.old)
+    ensures shows { K.IsTrusted keeper.new
+        → Happens (K.constituencies keeper.old) (K.content keeper.old)
         (request (ShowReturn station) (as_return result)) (K.content keeper.new) }
-    ensures kept { K.IsTrusted keeper.new → IfOk result (λ _. K.content keeper.new ≡ K.content keeper.old) }
+    ensures kept { K.IsTrusted keeper.new
+        → IfOk result (λ _. K.content keeper.new ≡ K.content keeper.old) }
 {
     match keeper.answer(&Ask::ShowReturn { station }) {
         Ok(Reply::Return(kept)) => Ok(kept),
@@ -32,14 +34,21 @@ pub(crate) fn return_of<K: Keeper>(keeper: &mut K, station: Code) -> Result<Retu
 pub fn view_of<K: Keeper>(keeper: &mut K, con: Code) -> Result<ConView, Refusal>
     ensures setup { K.constituencies keeper.new ≡ K.constituencies keeper.old }
     ensures trusted { K.IsTrusted keeper.new → K.IsTrusted keeper.old }
-    ensures fits { IfOk result (λ view. (found : value.Constituency) → constituency_with con (K.constituencies keeper.old) ≡ Some found → FitsView found view) }
+    ensures fits { IfOk result (λ view. (found : value.Constituency)
+        → constituency_with con (K.constituencies keeper.old) ≡ Some found
+        → FitsView found view) }
     ensures lawful { K.IsTrusted keeper.new → IfOk result (λ view. (found : value.Constituency)
-        → constituency_with con (K.constituencies keeper.old) ≡ Some found → IsLawfulView found view) }
-    ensures shows { K.IsTrusted keeper.new → Happens (K.constituencies keeper.old) (K.content keeper.old)
+        → constituency_with con (K.constituencies keeper.old) ≡ Some found
+        → IsLawfulView found view) }
+    ensures shows { K.IsTrusted keeper.new
+        → Happens (K.constituencies keeper.old) (K.content keeper.old)
         (request (ShowCon con) (as_con result)) (K.content keeper.new) }
-    ensures kept { K.IsTrusted keeper.new → IfOk result (λ _. K.content keeper.new ≡ K.content keeper.old) }
+    ensures kept { K.IsTrusted keeper.new
+        → IfOk result (λ _. K.content keeper.new ≡ K.content keeper.old) }
 {
+    // Called for what its contract says: each view of a lawful state is lawful.
     a_constituency_has_a_view();
+    // Called for what its contract says: a setup is within its limits.
     let _cons = keeper.setup().cons();
     match keeper.answer(&Ask::ShowCon { con }) {
         Ok(Reply::Con(view)) => Ok(view),
@@ -52,9 +61,11 @@ pub fn view_of<K: Keeper>(keeper: &mut K, con: Code) -> Result<ConView, Refusal>
 pub fn progress_of<K: Keeper>(keeper: &mut K) -> Result<Vec<ProgressRow>, Refusal>
     ensures setup { K.constituencies keeper.new ≡ K.constituencies keeper.old }
     ensures trusted { K.IsTrusted keeper.new → K.IsTrusted keeper.old }
-    ensures shows { K.IsTrusted keeper.new → Happens (K.constituencies keeper.old) (K.content keeper.old)
+    ensures shows { K.IsTrusted keeper.new
+        → Happens (K.constituencies keeper.old) (K.content keeper.old)
         (request ShowProgress (as_progress result)) (K.content keeper.new) }
-    ensures kept { K.IsTrusted keeper.new → IfOk result (λ _. K.content keeper.new ≡ K.content keeper.old) }
+    ensures kept { K.IsTrusted keeper.new
+        → IfOk result (λ _. K.content keeper.new ≡ K.content keeper.old) }
 {
     match keeper.answer(&Ask::ShowProgress) {
         Ok(Reply::Progress(rows)) => Ok(rows),

@@ -31,15 +31,16 @@ use Rattle.tally_records.specs.declared.separator.Sep.{Sep}
 use Rattle.tally_import.specs.ReturnRows.{text_coming}
 use Rattle.tally_message.specs.declared.message.Message.{Message}
 use Rattle.tally_message.specs.declared.message.MessageFault.{MessageFault}
-use Rattle.tally_asks.specs.Bodies.{IsBody, command_in}
+use Rattle.tally_asks.specs.Bodies.{IsBody, con_command, station_command}
 use Rattle.tally_asks.specs.Routes.{IsRouted, method_of, takes_get}
 use Rattle.tally_asks.specs.declared.routes.Route.{Route}
 use Rattle.tally_answer.specs.Outcome.{outcome_text}
 use Rattle.tally_answer.specs.Words.{word_text}
 use Rattle.tally_answer.specs.declared.word.Word.{Word}
 use Rattle.tally_answer.specs.declared.word.Word.TheVariants.{BadBody, NoRoute, Unavailable}
-use Rattle.tally_desk_laws.specs.LawStatements.{ComesTo, IsImportRoute, IsOfImport, IsSame, IsSameMessage, StateStays, TellsNoImport, TellsNothingLodged}
-use Rattle.tally_desk.specs.Requests.{Imports, Named, OnNamed, Orders, OrdersOf, Refuses, Says, con_named, counts_of, import_word, imported_text, station_named}
+use Rattle.tally_message.specs.LawStatements.{IsSame, IsSameMessage}
+use Rattle.tally_desk_laws.specs.LawStatements.{ComesTo, IsImportRoute, IsOfImport, StateStays, TellsNoImport, TellsNothingLodged}
+use Rattle.tally_desk.specs.Requests.{Imports, Named, AtNamed, Orders, OrdersOf, Refuses, Says, con_named, import_word, imported_text, station_named}
 use Rattle.tally_desk.specs.Respond.{Answers, ByMethod, ByRoute, IsAnswer, Office, SaysAny, fault_word, other_method}
 use Rattle.tally_desk_laws.proofs.MessageLemmas.{happen-append}
 use Rattle.tally_desk_laws.proofs.RouteLemmas.{IsImportKind, IsOfKind, IsShown, Kind, import, import-kind, kind, of-kind, order_on_con, order_on_station, shown}
@@ -213,7 +214,7 @@ word-idle IsImport later new w other said = (same-keeps later new said.1, λ of.
 -- both answers are of what the path names
 named-twice : (old mid later new : Option State) (why : Refusal) (o : Option Named) (F G : List ℕ → Constituency → List ℕ → Option State → Type 0) (text other : List ℕ) (Z : Type 0)
     → (Refuses later why other new → Z) → ((of : List ℕ) (con : Constituency) → F of con text mid → G of con other new → Z)
-    → OnNamed why old o F text mid → OnNamed why later o G other new → Z
+    → AtNamed why old o F text mid → AtNamed why later o G other new → Z
 named-twice old mid later new why None F G text other Z refused each first second = refused second
 named-twice old mid later new why (Some named) F G text other Z refused each first second = each named.0 named.1 first second
 
@@ -224,12 +225,12 @@ body-one body (Some v) None first second = sym first.1 ∙ second first.0
 body-one body None (Some w) first second = sym (first second.0) ∙ second.1
 body-one body None None first second = refl
 
-orders-twice : (IsImport : Type 0) → (IsImport → ⊥) → (setup : List Constituency) (old mid later new : Option State) (r : Route) (m n : Message) (text other : List ℕ)
-    → n.body.items ≡ m.body.items → (of : List ℕ) (con : Constituency) → Orders setup old con r of m text mid → Orders setup later con r of n other new
+orders-twice : (IsImport : Type 0) → (IsImport → ⊥) → (setup : List Constituency) (old mid later new : Option State) (read : Data → Option AskSeen) (m n : Message) (text other : List ℕ)
+    → n.body.items ≡ m.body.items → (con : Constituency) → Orders setup old con read m text mid → Orders setup later con read n other new
     → IsTwice IsImport setup old mid later new text other
-orders-twice IsImport none setup old mid later new r m n text other same of con (value, is, done) (value_again, is_again, done_again) =
+orders-twice IsImport none setup old mid later new read m n text other same con (value, is, done) (value_again, is_again, done_again) =
     let again : value_again ≡ value = body-one m.body.items value_again value (subst (λ b. IsBody b value_again) same is_again) is in
-    go (option_and_then (command_in r of) value) done (subst (λ v. OrdersOf setup later con (option_and_then (command_in r of) v) other new) again done_again)
+    go (option_and_then read value) done (subst (λ v. OrdersOf setup later con (option_and_then read v) other new) again done_again)
   where
     go : (o : Option AskSeen) → OrdersOf setup old con o text mid → OrdersOf setup later con o other new → IsTwice IsImport setup old mid later new text other
     go None first second = inl (word-idle IsImport later new BadBody other second)
@@ -267,22 +268,26 @@ shown-keeps : Laws → (setup : List Constituency) (old new : Option State) → 
 shown-keeps laws setup old new (inl same) = same-keeps old new same
 shown-keeps laws setup old new (inr is) = idle-keeps laws setup old new (request is.0 is.1) is.4 is.3
 
-kind-twice : Laws → (k : Kind) (setup : List Constituency) (old mid later new : Option State) (r : Route) (m n : Message) (text other : List ℕ)
-    → n.target.items ≡ m.target.items → n.body.items ≡ m.body.items → IsOfKind k setup old r m text mid → IsOfKind k setup later r n other new
+kind-twice : Laws → (k : Kind) (setup : List Constituency) (old mid later new : Option State) (m n : Message) (text other : List ℕ)
+    → n.target.items ≡ m.target.items → n.body.items ≡ m.body.items → IsOfKind k setup old m text mid → IsOfKind k setup later n other new
     → IsTwice (IsImportKind k) setup old mid later new text other
-kind-twice laws shown setup old mid later new r m n text other target body first second = inl (shown-keeps laws setup later new second, λ never. absurd never)
-kind-twice laws order_on_station setup old mid later new r m n text other target body first second =
-    named-twice old mid later new NoStation (station_named setup m.target.items) (λ of con. Orders setup old con r of m) (λ of con. Orders setup later con r of n) text other (IsTwice ⊥ setup old mid later new text other)
-    (λ refused. inl (same-keeps later new refused.1, λ never. absurd never)) (orders-twice ⊥ (λ never. never) setup old mid later new r m n text other body) first
-    (subst (λ t. OnNamed NoStation later (station_named setup t) (λ of con. Orders setup later con r of n) other new) target second)
-kind-twice laws order_on_con setup old mid later new r m n text other target body first second =
-    named-twice old mid later new NoConstituency (con_named setup m.target.items) (λ of con. Orders setup old con r of m) (λ of con. Orders setup later con r of n) text other (IsTwice ⊥ setup old mid later new text other)
-    (λ refused. inl (same-keeps later new refused.1, λ never. absurd never)) (orders-twice ⊥ (λ never. never) setup old mid later new r m n text other body) first
-    (subst (λ t. OnNamed NoConstituency later (con_named setup t) (λ of con. Orders setup later con r of n) other new) target second)
-kind-twice laws (import sep) setup old mid later new r m n text other target body first second =
+kind-twice laws shown setup old mid later new m n text other target body first second = inl (shown-keeps laws setup later new second, λ never. absurd never)
+kind-twice laws (order_on_station command) setup old mid later new m n text other target body first second =
+    named-twice old mid later new NoStation (station_named setup m.target.items) (λ of con. Orders setup old con (station_command command of) m)
+    (λ of con. Orders setup later con (station_command command of) n) text other (IsTwice ⊥ setup old mid later new text other)
+    (λ refused. inl (same-keeps later new refused.1, λ never. absurd never))
+    (λ of. orders-twice ⊥ (λ never. never) setup old mid later new (station_command command of) m n text other body) first
+    (subst (λ t. AtNamed NoStation later (station_named setup t) (λ of con. Orders setup later con (station_command command of) n) other new) target second)
+kind-twice laws (order_on_con command) setup old mid later new m n text other target body first second =
+    named-twice old mid later new NoConstituency (con_named setup m.target.items) (λ of con. Orders setup old con (con_command command of) m)
+    (λ of con. Orders setup later con (con_command command of) n) text other (IsTwice ⊥ setup old mid later new text other)
+    (λ refused. inl (same-keeps later new refused.1, λ never. absurd never))
+    (λ of. orders-twice ⊥ (λ never. never) setup old mid later new (con_command command of) m n text other body) first
+    (subst (λ t. AtNamed NoConstituency later (con_named setup t) (λ of con. Orders setup later con (con_command command of) n) other new) target second)
+kind-twice laws (import sep) setup old mid later new m n text other target body first second =
     named-twice old mid later new NoConstituency (con_named setup m.target.items) (λ of con. Imports setup old con sep m) (λ of con. Imports setup later con sep n) text other (IsTwice (Unit {0}) setup old mid later new text other)
     (λ refused. inl (same-keeps later new refused.1, λ of. inr refused.0)) (λ of con. imports-twice (Unit {0}) setup old mid later new sep m n text other body con) first
-    (subst (λ t. OnNamed NoConstituency later (con_named setup t) (λ of con. Imports setup later con sep n) other new) target second)
+    (subst (λ t. AtNamed NoConstituency later (con_named setup t) (λ of con. Imports setup later con sep n) other new) target second)
 
 -- a target has one route
 route-one : (target : List ℕ) (v w : Option (RouteOf Route)) → IsRouted target v → IsRouted target w → v ≡ w
@@ -301,7 +306,7 @@ method-twice : Laws → (setup : List Constituency) (old mid later new : Option 
     → IsTwice (IsImportRoute r) setup old mid later new text other
 method-twice laws setup old mid later new r m n text other true target body first second =
     twice-of (IsImportRoute r) (IsImportKind (kind r)) setup old mid later new text other (import-kind r)
-    (kind-twice laws (kind r) setup old mid later new r m n text other target body (of-kind setup old mid r m text first) (of-kind setup later new r n other second))
+    (kind-twice laws (kind r) setup old mid later new m n text other target body (of-kind setup old mid r m text first) (of-kind setup later new r n other second))
 method-twice laws setup old mid later new r m n text other false target body first second = inl (word-idle (IsImportRoute r) later new (other_method (takes_get r)) other second)
 
 message-twice : Laws → (setup : List Constituency) (old mid later new : Option State) (m n : Message) (text other : List ℕ) → IsSameMessage m n
@@ -446,7 +451,7 @@ imports-again laws setup old mid later new text other events are good between =
     go (Err earlier) (Err fault) first fine second said = fault-vain laws setup later new are.coming are.ended_again fault other second said
     go (Ok count) (Ok counted) first fine second said = (
       import-keeps laws setup old mid later new are.coming are.ended are.ended_again count (Ok counted) events first between second,
-      inl (counts_of counted, import-lodges laws setup old mid later new are.coming are.ended are.ended_again count counted events first between second, said),
+      inl (counted, import-lodges laws setup old mid later new are.coming are.ended are.ended_again count counted events first between second, said),
     )
     go (Err fault) (Ok counted) first fine second said =
         absurd (failed-again setup old mid later new are.coming are.ended are.ended_again fault counted fine first second)

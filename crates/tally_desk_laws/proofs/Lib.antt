@@ -2,3 +2,4 @@ pub mod SeenLemmas
 pub mod RouteLemmas
 pub mod MessageLemmas
 pub mod AgainLemmas
+pub mod BytesLemmas

@@ -27,12 +27,15 @@ use Rattle.tally_message.specs.declared.message.Message.{Message}
 use Rattle.tally_message.specs.declared.message.MessageFault.{MessageFault}
 use Rattle.tally_message.specs.declared.message.MessageFault.TheVariants as fault
 use Rattle.tally_serve.specs.Serving.{Follows, IsExchange, Serves}
-use Rattle.tally_asks.specs.Bodies.{◌>>=◌, close_in, code, code_at, command_in, counts_in, codes_at, certify_in, correct_in, draw_in, lodge_in, number_at, query_in, reopen_in, text_at, vacate_in}
+use Rattle.tally_asks.specs.Bodies.{◌>>=◌, close_in, code, code_at, con_command, counts_in, codes_at, certify_in, correct_in, draw_in, lodge_in, number_at, query_in, reopen_in, station_command, text_at, vacate_in}
 use Rattle.tally_asks.specs.Routes.{method_of}
 use Rattle.tally_asks.specs.declared.routes.Route.{Route}
-use Rattle.tally_asks.specs.declared.routes.Route.TheVariants as route
+use Rattle.tally_asks.specs.declared.routes.ConCommand.{ConCommand}
+use Rattle.tally_asks.specs.declared.routes.ConCommand.TheVariants as on_con
+use Rattle.tally_asks.specs.declared.routes.StationCommand.{StationCommand}
+use Rattle.tally_asks.specs.declared.routes.StationCommand.TheVariants as on_station
 use Rattle.tally_desk_laws.specs.LawStatements.{ComesTo}
-use Rattle.tally_desk.specs.Requests.{Imports, Named, OnNamed, Orders, OrdersOf, Says, con_named, station_named}
+use Rattle.tally_desk.specs.Requests.{Imports, Named, AtNamed, Orders, OrdersOf, Says, con_named, station_named}
 use Rattle.tally_desk.specs.Respond.{Answers, ByMethod, ByRoute, IsAnswer, Office, SaysAny, fault_word}
 use Rattle.tally_answer.specs.declared.word.Word.{Word}
 use Rattle.tally_answer.specs.declared.word.Word.TheVariants.{Unavailable}
@@ -150,16 +153,21 @@ vacate-coded of body seen is =
     let note = bind-some (text_at (codes "note") body) _ seen place.2 in
     without seen (of_seen.vacate of list.0 place.0 note.0) note.2 refl
 
-command-coded : (r : Route) (of : List ℕ) (body : Data) (seen : AskSeen) → command_in r of body ≡ Some seen → IsCoded seen
-command-coded route.Lodge of body seen is = lodge-coded of body seen is
-command-coded route.Query of body seen is = query-coded of body seen is
-command-coded route.Correct of body seen is = correct-coded of body seen is
-command-coded route.Close of body seen is = close-coded of body seen is
-command-coded route.Draw of body seen is = draw-coded of body seen is
-command-coded route.Certify of body seen is = certify-coded of body seen is
-command-coded route.Reopen of body seen is = reopen-coded of body seen is
-command-coded route.Vacate of body seen is = vacate-coded of body seen is
-command-coded other of body seen is = absurd (let k = is in cc)
+-- each command that is read has a code as its slip, if it has one
+abbrev ReadsCodes : (Data → Option AskSeen) → Type 0
+ReadsCodes read = (value : Data) (seen : AskSeen) → read value ≡ Some seen → IsCoded seen
+
+station-coded : (command : StationCommand) (of : List ℕ) → ReadsCodes (station_command command of)
+station-coded on_station.Lodge of body seen is = lodge-coded of body seen is
+station-coded on_station.Query of body seen is = query-coded of body seen is
+station-coded on_station.Correct of body seen is = correct-coded of body seen is
+station-coded on_station.Close of body seen is = close-coded of body seen is
+
+con-coded : (command : ConCommand) (of : List ℕ) → ReadsCodes (con_command command of)
+con-coded on_con.Draw of body seen is = draw-coded of body seen is
+con-coded on_con.Certify of body seen is = certify-coded of body seen is
+con-coded on_con.Reopen of body seen is = reopen-coded of body seen is
+con-coded on_con.Vacate of body seen is = vacate-coded of body seen is
 
 -- ---- what a message brings
 
@@ -182,13 +190,13 @@ shown-came setup old new (inl same) = none-came setup old new same
 shown-came setup old new (inr is) = one-came setup old new (request is.0 is.1) is.2 is.4
 
 named-came : (setup : List Constituency) (old new : Option State) (why : Refusal) (o : Option Named) (F : List ℕ → Constituency → List ℕ → Option State → Type 0) (text : List ℕ)
-    → ((of : List ℕ) (con : Constituency) → F of con text new → IsEvent setup old new) → OnNamed why old o F text new → IsEvent setup old new
+    → ((of : List ℕ) (con : Constituency) → F of con text new → IsEvent setup old new) → AtNamed why old o F text new → IsEvent setup old new
 named-came setup old new why None F text each is = none-came setup old new is.1
 named-came setup old new why (Some named) F text each is = each named.0 named.1 is
 
-order-came : (setup : List Constituency) (old new : Option State) (r : Route) (m : Message) (text : List ℕ) (of : List ℕ) (con : Constituency)
-    → Orders setup old con r of m text new → IsEvent setup old new
-order-came setup old new r m text of con is = at-value is.0 is.2
+order-came : (setup : List Constituency) (old new : Option State) (read : Data → Option AskSeen) (m : Message) (text : List ℕ) (con : Constituency)
+    → ReadsCodes read → Orders setup old con read m text new → IsEvent setup old new
+order-came setup old new read m text con codes is = at-value is.0 is.2
   where
     by : (o : Option AskSeen) → ((seen : AskSeen) → o ≡ Some seen → IsCoded seen) → OrdersOf setup old con o text new → IsEvent setup old new
     by None coded said = none-came setup old new said.1
@@ -196,27 +204,29 @@ order-came setup old new r m text of con is = at-value is.0 is.2
         let slip : slip_named done.0 ≡ slip_seen seen = slip-is done.0 ∙ ap slip_seen done.1 in
         one-came setup old new (request done.0 done.2.0) (λ named found. coded seen refl named (sym slip ∙ found)) done.2.1
 
-    at-value : (o : Option Data) → OrdersOf setup old con (option_and_then (command_in r of) o) text new → IsEvent setup old new
+    at-value : (o : Option Data) → OrdersOf setup old con (option_and_then read o) text new → IsEvent setup old new
     at-value None said = none-came setup old new said.1
-    at-value (Some value) done = by (command_in r of value) (command-coded r of value) done
+    at-value (Some value) done = by (read value) (codes value) done
 
 import-came : (setup : List Constituency) (old new : Option State) (known : Option Coming) (ended : Ending) (r : Result ImportCount ImportFault)
     → keeper.Imports setup old known ended r new → IsEvent setup old new
 import-came setup old new known ended (Ok count) is = one-came setup old new (whole_import is.1.0 is.1.1 count) tt is.1.3
 import-came setup old new known ended (Err why) is = one-came setup old new (failed_import why) tt is.1
 
-kind-came : (k : Kind) (setup : List Constituency) (old new : Option State) (r : Route) (m : Message) (text : List ℕ) → IsOfKind k setup old r m text new → IsEvent setup old new
-kind-came shown setup old new r m text is = shown-came setup old new is
-kind-came order_on_station setup old new r m text is =
-    named-came setup old new NoStation (station_named setup m.target.items) (λ of con. Orders setup old con r of m) text (order-came setup old new r m text) is
-kind-came order_on_con setup old new r m text is =
-    named-came setup old new NoConstituency (con_named setup m.target.items) (λ of con. Orders setup old con r of m) text (order-came setup old new r m text) is
-kind-came (import sep) setup old new r m text is =
+kind-came : (k : Kind) (setup : List Constituency) (old new : Option State) (m : Message) (text : List ℕ) → IsOfKind k setup old m text new → IsEvent setup old new
+kind-came shown setup old new m text is = shown-came setup old new is
+kind-came (order_on_station command) setup old new m text is =
+    named-came setup old new NoStation (station_named setup m.target.items) (λ of con. Orders setup old con (station_command command of) m) text
+    (λ of con. order-came setup old new (station_command command of) m text con (station-coded command of)) is
+kind-came (order_on_con command) setup old new m text is =
+    named-came setup old new NoConstituency (con_named setup m.target.items) (λ of con. Orders setup old con (con_command command of) m) text
+    (λ of con. order-came setup old new (con_command command of) m text con (con-coded command of)) is
+kind-came (import sep) setup old new m text is =
     named-came setup old new NoConstituency (con_named setup m.target.items) (λ of con. Imports setup old con sep m) text
     (λ of con done. import-came setup old new (Some (text_coming con sep m.body.items)) done.0 done.1 done.2) is
 
 method-came : (setup : List Constituency) (old new : Option State) (r : Route) (m : Message) (text : List ℕ) (b : Bool) → ByMethod setup old r m b text new → IsEvent setup old new
-method-came setup old new r m text true is = kind-came (kind r) setup old new r m text (of-kind setup old new r m text is)
+method-came setup old new r m text true is = kind-came (kind r) setup old new m text (of-kind setup old new r m text is)
 method-came setup old new r m text false is = none-came setup old new is.1
 
 route-came : (setup : List Constituency) (old new : Option State) (m : Message) (text : List ℕ) (o : Option Route) → ByRoute setup old m o text new → IsEvent setup old new

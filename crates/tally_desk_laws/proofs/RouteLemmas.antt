@@ -12,15 +12,16 @@ use Rattle.tally_returns.specs.declared.reply.Reply.TheVariants as reply
 use Rattle.tally_steps.specs.Runs.{is_act}
 use Rattle.tally_keeper.specs.Keeper.{Happens, request}
 use Rattle.tally_records.specs.declared.separator.Sep.{Sep}
-use Rattle.tally_records.specs.declared.separator.Sep.TheVariants.{Comma, Semicolon}
 use Rattle.tally_message.specs.declared.message.Message.{Message}
+use Rattle.tally_asks.specs.Bodies.{con_command, station_command}
+use Rattle.tally_asks.specs.declared.routes.ConCommand.{ConCommand}
 use Rattle.tally_asks.specs.declared.routes.Route.{Route}
 use Rattle.tally_asks.specs.declared.routes.Route.TheVariants as route
+use Rattle.tally_asks.specs.declared.routes.StationCommand.{StationCommand}
 use Rattle.tally_desk_laws.specs.LawStatements.{IsImportRoute}
-use Rattle.tally_desk.specs.Requests.{Asks, HasConText, HasProgressText, HasReportText, HasReturnText, Imports, Named, OnCon, OnNamed, OnStation, Orders, con_named, station_named}
+use Rattle.tally_desk.specs.Requests.{Asks, HasConText, HasProgressText, HasReportText, HasReturnText, Imports, Named, AtCon, AtNamed, AtStation, Orders, con_named, station_named}
 use Rattle.tally_desk.specs.Respond.{IsAnswerOn}
-use Rattle.tally_desk.specs.declared.report.Report.{Report}
-use Rattle.tally_desk.specs.declared.report.Report.TheVariants as report
+use Rattle.tally_report.specs.declared.report.Report.{Report}
 
 -- ---- what is shown
 
@@ -66,7 +67,7 @@ con-brings code = λ slip none. absurd (let k = none in cc)
 -- ---- what a path names
 
 named-shown : (setup : List Constituency) (old new : Option State) (why : Refusal) (o : Option Named) (F : List ℕ → Constituency → List ℕ → Option State → Type 0) (text : List ℕ)
-    → ((code : List ℕ) (con : Constituency) → F code con text new → IsShown setup old new) → OnNamed why old o F text new → IsShown setup old new
+    → ((code : List ℕ) (con : Constituency) → F code con text new → IsShown setup old new) → AtNamed why old o F text new → IsShown setup old new
 named-shown setup old new why None F text each is = inl is.1
 named-shown setup old new why (Some named) F text each is = each named.0 named.1 is
 
@@ -74,39 +75,25 @@ named-shown setup old new why (Some named) F text each is = each named.0 named.1
 
 pub data Kind : Type 0 where
   shown : Kind
-  order_on_station : Kind
-  order_on_con : Kind
+  order_on_station : StationCommand → Kind
+  order_on_con : ConCommand → Kind
   import : Sep → Kind
 
 abbrev pub kind : Route → Kind
 kind route.Progress = shown
-kind route.Station = shown
+kind route.Return = shown
 kind route.Con = shown
-kind route.Tally = shown
-kind route.Seats = shown
-kind route.Quotients = shown
-kind route.Awards = shown
-kind route.Quota = shown
-kind route.Short = shown
-kind route.Holders = shown
-kind route.Past = shown
-kind route.Lodge = order_on_station
-kind route.Query = order_on_station
-kind route.Correct = order_on_station
-kind route.Close = order_on_station
-kind route.Draw = order_on_con
-kind route.Certify = order_on_con
-kind route.Reopen = order_on_con
-kind route.Vacate = order_on_con
-kind route.Import = import Comma
-kind route.ImportSemicolon = import Semicolon
+kind (route.Report which) = shown
+kind (route.OnStation command) = order_on_station command
+kind (route.OnCon command) = order_on_con command
+kind (route.Import sep) = import sep
 
 -- an answer on a route of this kind
-abbrev pub IsOfKind : Kind → List Constituency → Option State → Route → Message → List ℕ → Option State → Type 0
-IsOfKind shown setup old r m text new = IsShown setup old new
-IsOfKind order_on_station setup old r m text new = OnStation setup old m (λ code con. Orders setup old con r code m) text new
-IsOfKind order_on_con setup old r m text new = OnCon setup old m (λ code con. Orders setup old con r code m) text new
-IsOfKind (import sep) setup old r m text new = OnCon setup old m (λ code con. Imports setup old con sep m) text new
+abbrev pub IsOfKind : Kind → List Constituency → Option State → Message → List ℕ → Option State → Type 0
+IsOfKind shown setup old m text new = IsShown setup old new
+IsOfKind (order_on_station command) setup old m text new = AtStation setup old m (λ code con. Orders setup old con (station_command command code) m) text new
+IsOfKind (order_on_con command) setup old m text new = AtCon setup old m (λ code con. Orders setup old con (con_command command code) m) text new
+IsOfKind (import sep) setup old m text new = AtCon setup old m (λ code con. Imports setup old con sep m) text new
 
 -- where the route is one of an import, it is of that kind
 abbrev pub IsImportKind : Kind → Type 0
@@ -114,8 +101,7 @@ IsImportKind (import sep) = Unit {0}
 IsImportKind other = ⊥
 
 pub import-kind : (r : Route) → IsImportRoute r → IsImportKind (kind r)
-import-kind route.Import is = tt
-import-kind route.ImportSemicolon is = tt
+import-kind (route.Import sep) is = tt
 import-kind other is = absurd is
 
 reported : (setup : List Constituency) (old new : Option State) (con : Constituency) (code : List ℕ) (which : Report) (text : List ℕ)
@@ -123,36 +109,22 @@ reported : (setup : List Constituency) (old new : Option State) (con : Constitue
 reported setup old new con code which text is = asked setup old new (ShowCon code) (HasReportText con which) text (con-brings code) (report-idle con which text) is
 
 report-on : (setup : List Constituency) (old new : Option State) (m : Message) (which : Report) (text : List ℕ)
-    → OnCon setup old m (λ code con. Asks setup old (ShowCon code) (HasReportText con which)) text new → IsShown setup old new
+    → AtCon setup old m (λ code con. Asks setup old (ShowCon code) (HasReportText con which)) text new → IsShown setup old new
 report-on setup old new m which text is =
     named-shown setup old new NoConstituency (con_named setup m.target.items) (λ code con. Asks setup old (ShowCon code) (HasReportText con which)) text
     (λ code con. reported setup old new con code which text) is
 
 -- what an answer on a route is
 pub of-kind : (setup : List Constituency) (old new : Option State) (r : Route) (m : Message) (text : List ℕ)
-    → IsAnswerOn setup old r m text new → IsOfKind (kind r) setup old r m text new
+    → IsAnswerOn setup old r m text new → IsOfKind (kind r) setup old m text new
 of-kind setup old new route.Progress m text is = asked setup old new ShowProgress HasProgressText text progress-brings (progress-idle text) is
-of-kind setup old new route.Station m text is =
+of-kind setup old new route.Return m text is =
     named-shown setup old new NoStation (station_named setup m.target.items) (λ code con. Asks setup old (ShowReturn code) (HasReturnText code)) text
     (λ code con. asked setup old new (ShowReturn code) (HasReturnText code) text (return-brings code) (return-idle code text)) is
 of-kind setup old new route.Con m text is =
     named-shown setup old new NoConstituency (con_named setup m.target.items) (λ code con. Asks setup old (ShowCon code) (HasConText con)) text
     (λ code con. asked setup old new (ShowCon code) (HasConText con) text (con-brings code) (con-idle con text)) is
-of-kind setup old new route.Tally m text is = report-on setup old new m report.Tally text is
-of-kind setup old new route.Seats m text is = report-on setup old new m report.Seats text is
-of-kind setup old new route.Quotients m text is = report-on setup old new m report.Quotients text is
-of-kind setup old new route.Awards m text is = report-on setup old new m report.Awards text is
-of-kind setup old new route.Quota m text is = report-on setup old new m report.Quota text is
-of-kind setup old new route.Short m text is = report-on setup old new m report.Short text is
-of-kind setup old new route.Holders m text is = report-on setup old new m report.Holders text is
-of-kind setup old new route.Past m text is = report-on setup old new m report.Past text is
-of-kind setup old new route.Lodge m text is = is
-of-kind setup old new route.Query m text is = is
-of-kind setup old new route.Correct m text is = is
-of-kind setup old new route.Close m text is = is
-of-kind setup old new route.Draw m text is = is
-of-kind setup old new route.Certify m text is = is
-of-kind setup old new route.Reopen m text is = is
-of-kind setup old new route.Vacate m text is = is
-of-kind setup old new route.Import m text is = is
-of-kind setup old new route.ImportSemicolon m text is = is
+of-kind setup old new (route.Report which) m text is = report-on setup old new m which text is
+of-kind setup old new (route.OnStation command) m text is = is
+of-kind setup old new (route.OnCon command) m text is = is
+of-kind setup old new (route.Import sep) m text is = is

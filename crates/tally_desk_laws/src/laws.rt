@@ -4,6 +4,7 @@ ghost use Rattle.tally_desk_laws.specs.LawStatements as law;
 
 use tally_core::laws as keeper;
 use tally_machine::laws as machine;
+use tally_message::laws as message;
 
 /// What the answer to a message does to an office is one request, one import or nothing, as they
 /// happen to a keeper, and all messages of a serving are requests and imports, one after the other.
@@ -13,17 +14,30 @@ pub fn messages_are_what_happens_to_a_keeper()
     ensures servings { law.ServingsAreWhatHappens }
 {}
 
-/// A message that is sent again acts no second time. Where it acted, it does not when it comes again,
-/// whatever came between. Where it was answered otherwise than with 503, it does not when it comes
-/// again in the state that it left; and an import then lodges nothing at any later time.
+/// A message that is sent again acts no second time. Where it acted, it does not when it comes
+/// again, whatever came between. Where it was answered otherwise than with 503, it does not when it
+/// comes again in the state that it left; and an import then lodges nothing at any later time.
 pub fn a_message_that_is_sent_again_acts_no_second_time()
     ensures later { law.WhatActedActsNoSecondTime }
     ensures at_once { law.WhatComesAgainAtOnceDoesNotAct }
     ensures import { law.ImportsLodgeNothingAgain }
 {
+    // Called for what its contract says: each call here is a law of keepers or of steps.
     keeper::no_two_equal_requests_act();
     keeper::requests_and_imports_are_a_run();
     keeper::the_same_import_again_lodges_nothing();
     keeper::what_does_not_act_can_be_left_out();
     machine::a_step_is_one();
+}
+
+/// Bytes that are sent again act no second time. Where a connection acted, another one that gives
+/// the same bytes does not, whatever came between; and where it brought an import that was answered
+/// otherwise than with 503, the other one lodges nothing.
+pub fn the_same_bytes_act_no_second_time()
+    ensures later { law.SameBytesActNoSecondTime }
+    ensures import { law.SameBytesLodgeNothingAgain }
+{
+    // Called for what its contract says: each call here is a law of messages.
+    message::bytes_are_one_message();
+    a_message_that_is_sent_again_acts_no_second_time();
 }

@@ -72,8 +72,8 @@ fn shown<K: Keeper>(alloc: Global, office: &mut K) -> Result<String, Fail> {
     Ok(text)
 }
 
-// Fails where a connection does not fail, or something is written to it, though a read of the message fails after each
-// number of bytes in turn.
+// Fails where a connection does not fail, or something is written to it, though a read of the
+// message fails after each number of bytes in turn.
 fn check_reads<K: Keeper>(alloc: Global, office: &mut K, text: &str) -> Result<(), Fail> {
     for count in 0..text.len() {
         let (failed, written) = exchange(alloc, office, text, Some(count), ROOM)?;
@@ -84,8 +84,8 @@ fn check_reads<K: Keeper>(alloc: Global, office: &mut K, text: &str) -> Result<(
     Ok(())
 }
 
-// The same, where the office shows another thing after it than before, and where the message sent again is answered
-// otherwise than for the first time.
+// The same, where the office shows another thing after it than before, and where the message sent
+// again is answered otherwise than for the first time.
 fn check_case_of_reads<K: Office>(
     alloc: Global,
     before: &str,
@@ -115,7 +115,8 @@ struct Case<'a> {
     again: &'a str,
 }
 
-// Fails where something is other than in this case though the connection takes only so many bytes of the answer.
+// Fails where something is other than in this case though the connection takes only so many bytes
+// of the answer.
 fn check_write<K: Keeper>(
     alloc: Global,
     office: &mut K,
@@ -137,7 +138,8 @@ fn check_write<K: Keeper>(
     Ok(())
 }
 
-// The same for each number of bytes up to one less than the answer's, each time of an office after these lines.
+// The same for each number of bytes up to one less than the answer's, each time of an office after
+// these lines.
 fn check_writes<K: Office>(alloc: Global, before: &str, case: Case<'_>) -> Result<(), Fail> {
     for room in 0..case.want.len() {
         let mut office = office_after::<K>(alloc, TWIN_TOWN, before)?;
@@ -190,7 +192,7 @@ fn check_bad_head<K: Office>(alloc: Global) -> Result<(), Fail> {
     check_reads(alloc, &mut office, BAD_HEAD)
 }
 
-// A read that fails behind such a line is not answered either.
+// A read that fails after such a line is not answered either.
 #[test]
 fn a_bad_line_before_a_failed_read_is_not_answered(rt: HostRuntime) -> Result<(), Fail> {
     check_bad_head::<Book>(rt.alloc())?;
@@ -216,7 +218,8 @@ Connection: close\r
 \r
 {\"ok\":\"same\",\"rev\":1}";
 
-// Two connections that give the same message: the first takes so many bytes, of the second a read may fail.
+// Two connections that give the same message: the first takes so many bytes, and a read of the
+// second may fail.
 fn two_connections(
     alloc: Global,
     room: usize,
@@ -235,7 +238,7 @@ fn is_written(door: &MemoryDoor, place: usize, text: &str) -> bool {
     }
 }
 
-// Fails where not one of the two was answered and one failed, or another thing was written to them.
+// Fails unless one of the two was answered, the other failed, and just these texts were written.
 fn check_two<K: Office>(
     alloc: Global,
     room: usize,

@@ -1,11 +1,11 @@
 //! Imports.
 
 use crate::books::fresh;
-use crate::outcomes::{check_outcome, check_trouble};
+use crate::outcomes::check_outcome;
 use std::alloc::Global;
 use std::test::*;
-use tally_commands::{Sep, find_con, import_rows};
-use tally_core::{Book, Keeper};
+use tally_commands::{Sep, import_text};
+use tally_core::Book;
 use tally_scripts::TWIN_TOWN;
 
 const OTHER_STATIONS: &str = r#"
@@ -34,7 +34,8 @@ const ONE_DIFFERS: &str = "lodged 0\nsame 2\ndiffers 1\nrefused 0\nbad 0\nfirst 
 
 const OTHER_LISTS: &str = "station,slip,blank,spoiled,B,A\ns2,p2,1,0,30,40\n";
 
-// A constituency, what is between fields, a text, the status, and the counts or the line of the trouble.
+// A constituency, what is between fields, a text, the status, and the counts or the line of the
+// trouble.
 const IMPORTS: [(&str, Sep, &str, u8, &str); 6] = [
     ("zz", Sep::Comma, RETURNS, 1, "refused: no_constituency\n"),
     ("c1", Sep::Comma, OTHER_LISTS, 1, "refused: bad_header\n"),
@@ -59,15 +60,8 @@ fn check_import(
     status: u8,
     want: &'static str,
 ) -> Result<(), Fail> {
-    match find_con(alloc, office.setup(), code) {
-        Ok(con) => check_outcome(
-            alloc,
-            &import_rows(alloc, office, con, sep, text.as_bytes()),
-            status,
-            want,
-        ),
-        Err(trouble) => check_trouble(alloc, &trouble, status, want),
-    }
+    let outcome = import_text(alloc, office, code, sep, text.as_bytes());
+    check_outcome(alloc, &outcome, status, want)
 }
 
 #[test]

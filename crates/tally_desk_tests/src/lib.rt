@@ -1,5 +1,6 @@
-//! Tests of `tally_desk`, over a keeper in memory and over one in a database, and of `tally_commands`, which over their
-//! finished proofs are checked once. Nothing here is public, so there are no must-fail edits.
+//! Tests of `tally_desk`, over a keeper in memory and over one in a database, and of
+//! `tally_commands`. They are checked once, over the finished proofs of these crates. Nothing here
+//! is public, so there are no must-fail edits.
 #![tactic(auto)]
 
 #[cfg(test)]

@@ -5,7 +5,7 @@ use std::alloc::{AllocError, Global};
 use std::test::Fail;
 use tally_core::Keeper;
 
-/// The texts before a mark and behind it; where there is no mark, the whole text and an empty one.
+/// The texts before a mark and after it; where there is no mark, the whole text and an empty one.
 pub(crate) fn cut<'a>(text: &'a str, mark: &str) -> (&'a str, &'a str) {
     text.split_once(mark).unwrap_or((text, ""))
 }

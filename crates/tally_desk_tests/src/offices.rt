@@ -10,7 +10,7 @@ use tally_store::Store;
 
 /// A keeper of which new ones are made.
 pub(crate) trait Office: Keeper + Drop {
-    /// An office of the setup of a text, in which no return stands.
+    /// An office of the setup of a text, in which no return is recorded.
     fn made(alloc: Global, text: &str) -> Result<Self, Fail>;
 }
 
@@ -47,7 +47,8 @@ impl Office for Store<MemStore> {
 /// The most bytes that a connection takes where its writes are not to fail.
 pub(crate) const ROOM: usize = 4_096;
 
-/// A connection that gives a text, or fails once so many bytes of it were given, and takes so many bytes.
+/// A connection that gives a text, or fails once so many bytes of it were given, and takes so many
+/// bytes.
 pub(crate) fn connection(
     alloc: Global,
     text: &str,
@@ -65,7 +66,8 @@ fn first_written(alloc: Global, door: &MemoryDoor) -> Result<String, Fail> {
     }
 }
 
-/// How many connections failed, and what was written, where an office serves one connection that gives a text.
+/// How many connections failed, and what was written, where an office serves one connection that
+/// gives a text.
 pub(crate) fn exchange<K: Keeper>(
     alloc: Global,
     office: &mut K,

@@ -32,7 +32,8 @@ GET /station/s1 = 200 OK|{"blank":0,"note":"sum","rev":4,"slip":"p2","spoiled":0
 POST /station/s1/close {"rev":4} = 200 OK|{"ok":"moved","rev":5}
 POST /station/s1/lodge {"slip":"p1","votes":[100,100],"blank":0,"spoiled":0} = 409 Conflict|{"refused":7,"rev":5,"word":"differs"}"#;
 
-// What a new office has no answer to, in the order in which it looks: the route, the code, the body, the return.
+// What a new office has no answer to, in the order in which it looks: the route, the code, the
+// body, the return.
 const REFUSED: &str = r#"GET /nothing = 404 Not Found|{"word":"no_route"}
 GET /con/zz/tally = 404 Not Found|{"refused":2,"word":"no_constituency"}
 POST /con/zz/certify x = 404 Not Found|{"refused":2,"word":"no_constituency"}
@@ -59,7 +60,8 @@ POST /con/c1/import station,slip,blank,spoiled,A,B|s1,p1,0,0,10,20|s2,p2,1,0,30,
 POST /con/c1/import station,slip,blank,spoiled,A,B|s1,p1,0,0,10,20|s2,p2,1,0,31,40|s3,p3,0,2,50,60 = 200 OK|{"bad":0,"differs":1,"first":[2,7],"lodged":0,"ok":"import","refused":0,"same":2}
 GET /station/s2 = 200 OK|{"blank":1,"note":"","rev":1,"slip":"p2","spoiled":0,"station":"s2","status":"received","votes":[30,40]}"#;
 
-// A row that is bad. A header that is another, and semicolons, do not lodge the return that is missing.
+// A row that is bad. A header that is another, and semicolons, do not lodge the return that is
+// missing.
 const BAD: &str =
     r#"POST /con/c1/import station,slip,blank,spoiled,A,B|s1,p1,0,0,10,20|s2,p2,1,0,x,40|s3,p3,0,2,50,60 = 200 OK|{"bad":1,"differs":0,"first":[2,0],"lodged":2,"ok":"import","refused":0,"same":0}
 POST /con/c1/import station,slip,blank,spoiled,B,A|s2,p2,1,0,40,30 = 400 Bad Request|{"word":"bad_header"}

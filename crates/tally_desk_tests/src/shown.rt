@@ -36,7 +36,8 @@ const AFTER: [(&str, Report, u8, &str); 4] = [
     ("C1", Report::Past, 1, "refused: no_constituency\n"),
 ];
 
-// Of the one station no return is missing, none is received, queried or corrected, and one is closed.
+// There is one station: no return is missing, none is received, queried or corrected, and one is
+// closed.
 const CERTIFIED_PROGRESS: &str =
     "c1                    1      0      0      0      0      1      3 certified\n";
 

@@ -1,4 +1,5 @@
--- Connections in memory: how one begins, and what is known of a list of them by the place of the current one.
+-- Connections in memory: how one begins, and what is known of a list of them by the place of the
+-- current one.
 use Rattle.std.specs.Prelude.{ℕ, Bool, true, false, nat_le, List, [], ◌∷◌, length, take, drop, Option, Some, None}
 use Rattle.tally_door.specs.Connection.{Connection, Connections, connections}
 
@@ -7,13 +8,13 @@ abbrev pub input_until : Option ℕ → List ℕ → List ℕ
 input_until None input = input
 input_until (Some count) input = take count input
 
--- whether a read fails behind them: where the input is shorter than that, its end comes first
+-- whether a read fails after them: where the input is shorter than that, its end comes first
 abbrev pub fails_within : Option ℕ → List ℕ → Bool
 fails_within None input = false
 fails_within (Some count) input = nat_le count (length input)
 
--- A connection that gives this input, whose reads fail once so many bytes were given, and whose writes take so many
--- bytes in all.
+-- A connection that gives this input, whose reads fail once so many bytes were given, and whose
+-- writes take so many bytes in all.
 abbrev pub new_connection : List ℕ → Option ℕ → ℕ → Connection
 new_connection input read_fails room = record {
   input = input_until read_fails input;

@@ -27,12 +27,14 @@ pub trait Door {
         requires { connected self.old ≡ true }
         ensures within { IfOk result (λ n. n ≤ length buf.new) }
         ensures connected { connected self.new ≡ true }
-        ensures known { ChangesCurrent (known self.old) (known self.new) (λ c d. HasRead c buf.new result d) };
+        ensures known { ChangesCurrent (known self.old) (known self.new)
+            (λ c d. HasRead c buf.new result d) };
 
     /// Writes to the current connection, and answers how many of the bytes it took.
     fn write(&mut self, bytes: &[u8]) -> Result<usize, DoorFault>
         requires { connected self.old ≡ true }
         ensures within { IfOk result (λ n. n ≤ length bytes.now) }
         ensures connected { connected self.new ≡ true }
-        ensures known { ChangesCurrent (known self.old) (known self.new) (λ c d. HasWritten c bytes.now result d) };
+        ensures known { ChangesCurrent (known self.old) (known self.new)
+            (λ c d. HasWritten c bytes.now result d) };
 }

@@ -26,14 +26,21 @@ impl Model for MemoryConn {
 
     ghost Value = { Connection };
 
-    ghost view = { λ c. record { input = drop c.at c.input.items; fails = c.fails; read_failed = c.read_failed; room = c.room; written = c.written.items } };
+    ghost view = { λ c. record {
+      input = drop c.at c.input.items;
+      fails = c.fails;
+      read_failed = c.read_failed;
+      room = c.room;
+      written = c.written.items;
+    } };
 
-    ghost invariant = { λ c. (c.at ≤ length c.input.items) × (vec_len c.written + c.room ≤ vec_capacity c.written) };
+    ghost invariant = { λ c. (c.at ≤ length c.input.items)
+        × (vec_len c.written + c.room ≤ vec_capacity c.written) };
 }
 
 impl MemoryConn {
-    /// A connection whose reads fail once `read_fails` bytes were given, and whose writes take `room` bytes in all and
-    /// then fail. Its reads and writes take no memory.
+    /// A connection whose reads fail once `read_fails` bytes were given, and whose writes take
+    /// `room` bytes in all and then fail. Its reads and writes take no memory.
     pub fn new(
         alloc: Global,
         mut input: Vec<u8>,
@@ -122,7 +129,8 @@ impl Model for MemoryDoor {
 
     ghost view = { λ d. connections_at d.conns.items d.at d.connected };
 
-    ghost invariant = { λ d. (d.at ≤ length d.conns.items) × (d.connected ≡ true → d.at < length d.conns.items) };
+    ghost invariant = { λ d. (d.at ≤ length d.conns.items)
+        × (d.connected ≡ true → d.at < length d.conns.items) };
 }
 
 impl MemoryDoor {

@@ -14,10 +14,12 @@ const WAIT_SECONDS: u64 = 10;
 /// How long after a connection was taken its reads fail, where a clock is at hand, in seconds.
 const READING_SECONDS: u64 = 30;
 
-/// How long after the first write of a connection its writes fail, where a clock is at hand, in seconds.
+/// How long after the first write of a connection its writes fail, where a clock is at hand, in
+/// seconds.
 const WRITING_SECONDS: u64 = 30;
 
-/// How long what a client still sends is read and thrown away before its connection is closed, in milliseconds.
+/// How long what a client still sends is read and thrown away before its connection is closed, in
+/// milliseconds.
 const LINGER_MILLISECONDS: u64 = 2_000;
 
 /// How much of that is read.
@@ -40,8 +42,8 @@ impl Clock for NoClock {
     }
 }
 
-/// A connection, whether a write to it was begun, when the time of its reads and that of its writes is over, and how
-/// long its socket waits in a read and in a write, where that was set.
+/// A connection, whether a write to it was begun, when the time of its reads and that of its writes
+/// is over, and how long its socket waits in a read and in a write, where that was set.
 #[derive(Drop)]
 struct Timed {
     stream: TcpStream,
@@ -52,17 +54,18 @@ struct Timed {
     write_wait: Option<Duration>,
 }
 
-/// The connections of a listener, one after the other. Nothing is known of what they give and take.
+/// The connections of a listener, one after the other. It is not known what they give and take.
 ///
-/// A read or a write fails where it waits for longer than ten seconds. With a clock a read also fails thirty seconds
-/// after the connection was taken, and a write thirty seconds after the first one, so that a client cannot hold the
-/// door for as long as it likes. What is done between reading and writing counts with neither time.
+/// A read or a write fails where it waits for longer than ten seconds. With a clock a read also
+/// fails thirty seconds after the connection was taken, and a write thirty seconds after the first
+/// one, so that a client cannot hold the door for as long as it likes. What is done between reading
+/// and writing is counted in neither time.
 ///
-/// Where a connection ends, when the door takes the next one or is dropped, its client can still read what was
-/// written: writing is shut, and what the client still sends is read and thrown away up to its end, 2 MiB or two
-/// seconds. A socket that is closed with bytes unread would be reset, and the client might lose its answer
-/// (RFC 9112, section 9.6). Where no write was begun, as after a read that failed, there is no answer to lose, and the
-/// connection is closed at once.
+/// Where a connection ends, when the door takes the next one or is dropped, its client can still
+/// read what was written: writing is shut, and what the client still sends is read and thrown away
+/// up to its end, 2 MiB or two seconds. A socket that is closed with bytes unread would be reset,
+/// and the client might lose its answer (RFC 9112, section 9.6). Where no write was begun, as after
+/// a read that failed, there is no answer to lose, and the connection is closed at once.
 pub struct TcpDoor<C: Clock + Drop = NoClock> {
     listener: TcpListener,
     clock: C,
@@ -122,7 +125,8 @@ impl TcpDoor<NoClock> {
 }
 
 impl<C: Clock + Drop> TcpDoor<C> {
-    /// A door that also bounds the time in which a connection is read, and that in which it is written.
+    /// A door that also bounds the time in which a connection is read, and that in which it is
+    /// written.
     pub fn timed(listener: TcpListener, clock: C) -> TcpDoor<C> {
         TcpDoor {
             listener,
@@ -153,7 +157,8 @@ fn end_of<C: Clock>(clock: &C, time: Duration) -> Option<Instant> {
     }
 }
 
-/// How long a call may wait: at most so long, and no longer than up to the end of the time. Nothing is left behind it.
+/// How long a call may wait: at most so long, and no longer than up to the end of the time. Nothing
+/// is left after it.
 fn time_left<C: Clock>(clock: &C, end: Option<Instant>, most: Duration) -> Duration {
     let Some(end) = end else {
         return most;
@@ -164,8 +169,9 @@ fn time_left<C: Clock>(clock: &C, end: Option<Instant>, most: Duration) -> Durat
     }
 }
 
-/// Reads what a client still sends and throws it away. This needs no clock: each read counts with the whole time that
-/// it may wait. That is a millisecond, and after each read in which nothing came twice as long.
+/// Reads what a client still sends and throws it away. This needs no clock: each read is counted as
+/// the whole time that it may wait. That is a millisecond, and after each read in which nothing
+/// came twice as long.
 fn discard(stream: &mut TcpStream) -> io::Result<()> {
     let mut piece = [0u8; PIECE];
     let mut bytes = LINGER_BYTES;

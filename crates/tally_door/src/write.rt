@@ -9,8 +9,10 @@ use crate::door::{Door, DoorFault};
 pub fn write_all<D: Door>(door: &mut D, text: &[u8]) -> Result<(), DoorFault>
     requires { D.connected door.old ≡ true }
     ensures connected { D.connected door.new ≡ true }
-    ensures written { ChangesCurrent (D.known door.old) (D.known door.new) (λ c d. d ≡ after_text c text.now) }
-    ensures whole { ChangesCurrent (D.known door.old) (D.known door.new) (λ c _. is_ok result ≡ nat_le (length text.now) c.room) }
+    ensures written { ChangesCurrent (D.known door.old) (D.known door.new)
+        (λ c d. d ≡ after_text c text.now) }
+    ensures whole { ChangesCurrent (D.known door.old) (D.known door.new)
+        (λ c _. is_ok result ≡ nat_le (length text.now) c.room) }
 {
     let mut at = 0;
     while at < text.len() {

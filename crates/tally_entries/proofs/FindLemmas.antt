@@ -13,6 +13,7 @@ use Rattle.sqlite_value.proofs.OrderLemmas.{value_cmp_total}
 use Rattle.sqlite_trees.specs.Tree.{IsAscending}
 use Rattle.sqlite_keyed.proofs.ListLemmas.{all-append, all_weaker, ascending-append, ascending-map, ascending_weaker}
 use Rattle.sqlite.specs.declared.error.Error.{Error}
+use Rattle.sqlite.specs.Effect.{IsDatabase}
 use Rattle.sqlite.specs.State.{State, IsUnchanged}
 use Rattle.tally_rows.specs.Rows.{cells, has_key, HaveDistinctRowids}
 use Rattle.tally_rows.proofs.RisingRowidLemmas.{int_less}
@@ -112,6 +113,7 @@ finds_return setup station s heads counts (Ok found) code with_heads with_counts
 pub inside_still : (old new : State) → IsUnchanged old new → IsInside old → IsInside new
 inside_still old new same inside = record {
   schema = ap (λ d. d.schema) same.0.now_is ∙ inside.schema;
+  sound = subst IsDatabase (sym same.0.now_is) inside.sound;
   distinct = λ t. subst (λ d. HaveDistinctRowids (d.trees (tree_of t))) (sym same.0.now_is) (inside.distinct t);
   inside = same.0.mode ∙ inside.inside;
 }

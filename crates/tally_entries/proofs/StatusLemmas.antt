@@ -1,6 +1,6 @@
 -- How many returns of stations are in each status.
-use Rattle.std.proofs.Common.{◌≡◌, ◌<◌, ◌≤◌, ◌+◌, ℕ, Bool, true, false, cond, pos, List, [], length, take, get_or, Option, None, Some, Ok, Err, Result, IfOk, refl, sym, ap, subst, ◌∙◌, arith}
-use Rattle.std.specs.Prelude.{option_map, option_and_then}
+use Rattle.std.proofs.Common.{◌≡◌, ◌<◌, ◌≤◌, ◌+◌, ℕ, Bool, true, false, true≢false, cond, pos, List, [], length, take, get_or, Option, None, Some, Ok, Err, Result, IfOk, refl, sym, ap, subst, ◌∙◌, arith}
+use Rattle.std.specs.Prelude.{is_some, option_map, option_and_then, unwrap_or}
 use Rattle.std.specs.List.{count_by}
 use Rattle.std.specs.Option.{option_map_or}
 use Rattle.std.specs.FinMap.{get}
@@ -12,9 +12,12 @@ use Rattle.sqlite.specs.declared.error.Error.{Error}
 use Rattle.sqlite.specs.State.{State, IsUnchanged}
 use Rattle.tally_rows.specs.Cells.{number_of}
 use Rattle.tally_rows.specs.Rows.{AreRowsOf}
+use Rattle.tally_rules.specs.Constituency.{Constituency}
 use Rattle.tally_rules.specs.declared.constituency.Station.{Station}
-use Rattle.tally_returns.specs.Progress.{is_received, is_queried, is_corrected, is_closed, stations_in}
+use Rattle.tally_returns.specs.Progress.{is_received, is_queried, is_corrected, is_closed, progress_row, stations_in}
 use Rattle.tally_returns.specs.Return.{StationReturn, Returns as Office}
+use Rattle.tally_returns.specs.State.{ConState, con_state, opening_con}
+use Rattle.tally_returns.specs.declared.progress.ProgressRow.{ProgressRow}
 use Rattle.tally_returns.specs.declared.returns.Status.{Status}
 use Rattle.tally_returns.specs.declared.returns.Status.TheVariants.{Received, Queried, Corrected, Closed}
 use Rattle.tally_statements.specs.declared.table.KeyedTable.TheVariants.{Returns}
@@ -22,7 +25,9 @@ use Rattle.tally_statements.specs.Office.{IsFound, tree_of}
 use Rattle.tally_tables.specs.Cells.{return_rows, status_number}
 use Rattle.tally_tables.specs.Reading.{status_of}
 use Rattle.tally_tables.specs.declared.views.Statuses.{Statuses}
-use Rattle.tally_entries.specs.Found.{AreWithin, FindsStatus, FindsStatuses, status_in, statuses_in, with_station}
+use Rattle.tally_entries.specs.Constituencies.{FindsProgressRow, IsKnown}
+use Rattle.tally_entries.specs.Found.{AreWithin, FindsKnown, FindsStage, FindsStatus, FindsStatuses, row_with, status_in, with_station}
+use Rattle.tally_entries.specs.Statuses.{statuses_in}
 use Rattle.tally_entries.proofs.ReturnLemmas.{heads_keyed}
 use Rattle.tally_entries.proofs.ViewLemmas.{found_none, found_rows}
 
@@ -112,3 +117,34 @@ status_before station old mid found same finds setup returns held = finds setup 
 
 pub statuses_before : (stations : List Station) (old mid : State) (found : Statuses) → IsUnchanged old mid → FindsStatuses stations mid found → FindsStatuses stations old found
 statuses_before stations old mid found same finds setup returns held = finds setup returns (subst (λ d. AreRowsOf (return_rows setup) returns (d.trees (tree_of Returns))) (sym same.0.now_is) held)
+
+-- ---- what is known of a constituency, or was found
+
+pub known_found : (con : Constituency) (known : Option Statuses) (found : Statuses) (s : State) → known ≡ Some found → FindsKnown con known s found
+known_found con known found s is setup returns held rows = subst (IsKnown con returns) is held
+
+pub known_before : (con : Constituency) (known : Option Statuses) (old mid : State) (found : Statuses) → IsUnchanged old mid → FindsKnown con known mid found → FindsKnown con known old found
+known_before con known old mid found same finds setup returns held rows = finds setup returns held (subst (λ d. AreRowsOf (return_rows setup) returns (d.trees (tree_of Returns))) (sym same.0.now_is) rows)
+
+-- ---- how far a constituency has come
+
+pub finds_row : (con : Constituency) (code : List ℕ) (known : Option Statuses) (s : State) (stage : ℕ × Bool) (statuses : Statuses) (row : ProgressRow) → code ≡ con.code → FindsStage con.code s stage → FindsKnown con known s statuses
+    → row ≡ row_with code stage statuses → FindsProgressRow con known s row
+finds_row con code known s stage statuses row own staged counted is setup of there held returns cons = go (get of.cons con.code) refl there
+  where
+    go : (o : Option ConState) → get of.cons con.code ≡ o → is_some o ≡ true → row ≡ progress_row of con
+    go None at some = absurd (true≢false (sym some))
+    go (Some c) at some =
+        let stands : con_state of con.code ≡ c = ap (λ o. unwrap_or o opening_con) at in
+        let here = staged of.cons c at cons in
+        let numbers : statuses ≡ statuses_in of.returns con.stations = counted setup of.returns held returns in
+        is ∙ (λ i. record {
+          con = own i;
+          stations = (numbers i).stations;
+          received = (numbers i).received;
+          queried = (numbers i).queried;
+          corrected = (numbers i).corrected;
+          closed = (numbers i).closed;
+          edition = (here.0 ∙ ap (λ (x : ConState). x.edition) (sym stands)) i;
+          certified = (here.1 ∙ ap (λ (x : ConState). x.certified) (sym stands)) i;
+        })

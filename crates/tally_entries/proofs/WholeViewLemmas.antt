@@ -35,7 +35,8 @@ use Rattle.tally_tables.specs.declared.views.Statuses.{Statuses}
 use Rattle.tally_tables.proofs.ConLemmas.{IsReadablePast, all_gone_are, all_gone_rows, all_past_again, all_past_rows, standing_row, sums_of_view}
 use Rattle.tally_tables.proofs.ItemLemmas.{IsRead, and_then_some, items_are, map_some, number_is, number_reads, number_rows}
 use Rattle.tally_entries.specs.Constituencies.{FindsView}
-use Rattle.tally_entries.specs.Found.{AreFound, FindsStatuses, Rows, statuses_in, view_of_rows}
+use Rattle.tally_entries.specs.Found.{AreFound, FindsKnown, Rows, view_of_rows}
+use Rattle.tally_entries.specs.Statuses.{statuses_in}
 use Rattle.tally_entries.proofs.OrderLemmas.{gone_in_order, gone_keyed, lots_items, numbers_in_order, past_in_order, past_keyed, seats_items, sorted_rise, totals_in_order}
 use Rattle.tally_entries.proofs.ReturnLemmas.{items_keyed}
 use Rattle.tally_entries.proofs.ViewLemmas.{con_row_is, cons_keyed, found_rows, one_sums}
@@ -129,7 +130,7 @@ one_row : (con : Constituency) (statuses : Statuses) (rows : Rows) (v : View) (r
 one_row con statuses rows v row is read = subst (λ l. view_of_rows con statuses (record { cons = l; tables = rows.tables }) ≡ Some v) is read
 
 module _ (setup : List Constituency) (con : Constituency) (s : Seen) (text : List ℕ) (of : State) (limits : IsConstituency con) (known : constituency_with con.code setup ≡ Some con) (lawful : IsLawfulState setup of) (tables : AreTables setup text of s.now.trees) where
-  view_is : (c : ConState) (statuses : Statuses) (rows : Rows) (v : View) → get of.cons con.code ≡ Some c → AreFound con.code s rows → FindsStatuses con.stations s statuses → ReadsAs con statuses (row_of con.code c) rows.tables v
+  view_is : (c : ConState) (statuses : Statuses) (rows : Rows) (v : View) → get of.cons con.code ≡ Some c → AreFound con.code s rows → statuses ≡ statuses_in of.returns con.stations → ReadsAs con statuses (row_of con.code c) rows.tables v
       → v ≡ view_with con c of.returns (tables.given con.code)
   view_is c statuses found_here v there found counted read =
       let rows = found_here.tables in
@@ -155,7 +156,7 @@ module _ (setup : List Constituency) (con : Constituency) (s : Seen) (text : Lis
       one_sums key (sums_of_view v) (totals_of setup of.returns key) rows.totals
       (found_rows Totals (total_rows setup of.returns) (λ e. items_keyed e.0 (items_of (totals_of setup of.returns e.0))) of.cons key s rows.totals c there tables.totals (totals_in_order key (totals_of setup of.returns key) few) found.totals) read.totals
       ∙ known_sums in
-      let numbers : statuses_of v ≡ statuses_in of.returns con.stations = sym read.statuses_are ∙ counted setup of.returns tables.returns in
+      let numbers : statuses_of v ≡ statuses_in of.returns con.stations = sym read.statuses_are ∙ counted in
       λ i. record {
         edition = head.0 i;
         certified = head.1 i;
@@ -178,7 +179,7 @@ module _ (setup : List Constituency) (con : Constituency) (s : Seen) (text : Lis
   held None at some = absurd (true≢false (sym some))
   held (Some c) at some = (c, at)
 
-  is_view : (statuses : Statuses) (rows : Rows) (v : View) → AreFound con.code s rows → FindsStatuses con.stations s statuses → view_of_rows con statuses rows ≡ Some v → IsView con of v
+  is_view : (statuses : Statuses) (rows : Rows) (v : View) → AreFound con.code s rows → statuses ≡ statuses_in of.returns con.stations → view_of_rows con statuses rows ≡ Some v → IsView con of v
   is_view statuses rows v found counted read =
       let there = held (get of.cons con.code) refl (lawful.known con.code ∙ ap is_some known) in
       let stands : con_state of con.code ≡ there.0 = ap (λ o. unwrap_or o opening_con) there.1 in
@@ -187,7 +188,8 @@ module _ (setup : List Constituency) (con : Constituency) (s : Seen) (text : Lis
       let same : v ≡ view_of con of (tables.given con.code) = view_is there.0 statuses rows v there.1 found counted parts ∙ ap (λ c. view_with con c of.returns (tables.given con.code)) (sym stands) in
       subst (IsView con of) (sym same) (refl, tables.allotted con.code con known)
 
-pub finds_view : (setup : List Constituency) (con : Constituency) (s : Seen) (statuses : Statuses) (rows : Rows) (result : Result View Error) → IsConstituency con → AreFound con.code s rows → FindsStatuses con.stations s statuses
-    → IfOk result (λ view. view_of_rows con statuses rows ≡ Some view) → IfOk result (FindsView setup con s)
-finds_view setup con s statuses rows (Err e) limits found counted read = tt
-finds_view setup con s statuses rows (Ok v) limits found counted read = λ text of known lawful tables. is_view setup con s text of limits known lawful tables statuses rows v found counted read
+pub finds_view : (setup : List Constituency) (con : Constituency) (known : Option Statuses) (s : Seen) (statuses : Statuses) (rows : Rows) (result : Result View Error) → IsConstituency con → AreFound con.code s rows
+    → FindsKnown con known s statuses → IfOk result (λ view. view_of_rows con statuses rows ≡ Some view) → IfOk result (FindsView setup con known s)
+finds_view setup con known s statuses rows (Err e) limits found counted read = tt
+finds_view setup con known s statuses rows (Ok v) limits found counted read = λ text of there lawful true_is tables.
+    is_view setup con s text of limits there lawful tables statuses rows v found (counted setup of.returns true_is tables.returns) read

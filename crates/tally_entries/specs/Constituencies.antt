@@ -1,5 +1,5 @@
 -- What writing and looking up a constituency does to its tables.
-use Rattle.std.specs.Prelude.{◌≡◌, ◌≢◌, ◌≤◌, ℕ, Bool, List, [], ◌∷◌, length, map, Some, None, IsSome, Result, OnOk}
+use Rattle.std.specs.Prelude.{◌≡◌, ◌≢◌, ◌≤◌, ℕ, Bool, List, [], ◌∷◌, length, map, Option, Some, None, IfSome, IsSome, Result, OnOk}
 use Rattle.std.specs.FinMap.{FinMap, get, insert}
 use Rattle.sqlite_value.specs.Order.{Row}
 use Rattle.sqlite.specs.declared.error.Error.{Error}
@@ -9,18 +9,22 @@ use Rattle.tally_rules.specs.Code.{code_cmp}
 use Rattle.tally_rules.specs.Constituency.{Constituency}
 use Rattle.tally_rules.specs.Setup.{constituency_with}
 use Rattle.tally_returns.specs.Counts.{VoteCounts}
+use Rattle.tally_returns.specs.Progress.{progress_row}
 use Rattle.tally_returns.specs.Return.{Returns}
 use Rattle.tally_returns.specs.State.{State, ConState}
 use Rattle.tally_returns.specs.View.{View}
+use Rattle.tally_returns.specs.declared.progress.ProgressRow.{ProgressRow}
 use Rattle.tally_steps.specs.LawfulState.{IsLawfulState}
 use Rattle.tally_steps.specs.Step.{IsView}
 use Rattle.tally_schema.specs.Tables.{setup_tree}
 use Rattle.tally_statements.specs.declared.table.KeyedTable.{KeyedTable}
-use Rattle.tally_statements.specs.declared.table.KeyedTable.TheVariants.{Cons, Seats, Totals}
+use Rattle.tally_statements.specs.declared.table.KeyedTable.TheVariants.{Returns as Heads, Cons, Seats, Totals}
 use Rattle.tally_statements.specs.Office.{tree_of, IsInside}
-use Rattle.tally_tables.specs.Cells.{item_row, items_of, con_rows, seat_rows, total_rows, totals_of}
+use Rattle.tally_tables.specs.Cells.{item_row, items_of, con_rows, return_rows, seat_rows, total_rows, totals_of}
 use Rattle.tally_tables.specs.TablesOfState.{AreTables}
+use Rattle.tally_tables.specs.declared.views.Statuses.{Statuses}
 use Rattle.tally_entries.specs.Entries.{stored_in}
+use Rattle.tally_entries.specs.Statuses.{statuses_in}
 
 -- The office's tables are open in a transaction, and only this one may have changed.
 pub record ChangesOnly (t : KeyedTable) (old new : Seen) : Type 0 where
@@ -28,19 +32,21 @@ pub record ChangesOnly (t : KeyedTable) (old new : Seen) : Type 0 where
   pub others : (u : KeyedTable) → tree_of u ≢ tree_of t → stored_in u new ≡ stored_in u old
   pub setup_is : new.now.trees setup_tree ≡ old.now.trees setup_tree
 
--- Where the table had the rows of these constituencies, and the one of the code has come from what it was to this, the table has the
--- rows of the constituencies so.
+-- Where the table had the rows of these constituencies, and the one of the code changed in this
+-- way, the table has the rows of the constituencies after the change.
 abbrev pub MovesRows : KeyedTable → (List ℕ × ConState → List Row) → List ℕ → (ConState → ConState → Type 0) → Seen → Seen → Type 0
 MovesRows t rows_of code Becomes old new =
     (cons : FinMap code_cmp ConState) (before standing : ConState) → get cons code ≡ Some before → Becomes before standing
     → AreRowsOf rows_of cons (stored_in t old) → AreRowsOf rows_of (insert cons code standing) (stored_in t new)
 
--- What a call that wrote the rows of a constituency in a table says, of a disk that returned what was written.
+-- What holds after a call that writes the rows of a constituency in a table, where the disk
+-- returned what was written.
 abbrev pub Writes : KeyedTable → (List ℕ × ConState → List Row) → List ℕ → (ConState → ConState → Type 0) → Seen → Seen → Result Unit Error → Type 0
 Writes t rows_of code Becomes old new result =
     HasCleanDisk new → IsInside old → OnOk result (ChangesOnly t old new × MovesRows t rows_of code Becomes old new)
 
--- What a call that changed the rows of a constituency in a table says, where the table had those of these constituencies.
+-- What holds after a call that changes the rows of a constituency in a table, where the disk
+-- returned what was written and the table had the rows of these constituencies.
 abbrev pub Changes : KeyedTable → (List ℕ × ConState → List Row) → List ℕ → (ConState → ConState → Type 0) → Seen → Seen → Result Unit Error → Type 0
 Changes t rows_of code Becomes old new result =
     HasCleanDisk new → IsInside old → (cons : FinMap code_cmp ConState) (before standing : ConState) → get cons code ≡ Some before → Becomes before standing
@@ -68,14 +74,16 @@ HasRecord edition seats before standing =
 abbrev pub sum_rows : (List ℕ → VoteCounts) → List ℕ × ConState → List Row
 sum_rows sums e = map (item_row e.0) (items_of (sums e.0))
 
--- Where `totals` had sums of these constituencies, of this one for as many lists, it has these sums of it now.
+-- Where `totals` had sums of these constituencies, and those of this one were for as many lists, it
+-- now has these sums for this one. The others are as they were.
 abbrev pub ChangesSums : List ℕ → VoteCounts → Seen → Seen → Result Unit Error → Type 0
 ChangesSums code sums old new result =
     HasCleanDisk new → IsInside old → (cons : FinMap code_cmp ConState) (before standing : List ℕ → VoteCounts) → IsSome (get cons code)
     → length (before code).votes ≡ length sums.votes → standing code ≡ sums → ((other : List ℕ) → other ≢ code → standing other ≡ before other)
     → AreRowsOf (sum_rows before) cons (stored_in Totals old) → OnOk result (ChangesOnly Totals old new × AreRowsOf (sum_rows standing) cons (stored_in Totals new))
 
--- Where `seats` had these seats of the constituencies, it has those of the one of the code now.
+-- Where `seats` had the seats of these constituencies, it now has these for the one of the code.
+-- The others are as they were.
 abbrev pub MovesSeats : List ℕ → List ℕ → Seen → Seen → Type 0
 MovesSeats code seats old new =
     (cons : FinMap code_cmp ConState) (before standing : List ℕ → List ℕ) → IsSome (get cons code)
@@ -92,14 +100,24 @@ abbrev pub FindsCertified : List ℕ → Seen → Bool → Type 0
 FindsCertified code s found =
     (cons : FinMap code_cmp ConState) (standing : ConState) → get cons code ≡ Some standing → AreRowsOf con_rows cons (stored_in Cons s) → found ≡ standing.certified
 
--- What is found of a constituency are the sums of its closed returns, for at most 60 lists.
+-- What is found of a constituency is the sums of its closed returns, for at most 60 lists.
 abbrev pub FindsSums : List ℕ → Seen → VoteCounts → Type 0
 FindsSums code s found =
     (setup : List Constituency) (returns : Returns) (cons : FinMap code_cmp ConState) → IsSome (get cons code) → length (totals_of setup returns code).votes ≤ 60
     → AreRowsOf (total_rows setup returns) cons (stored_in Totals s) → found ≡ totals_of setup returns code
 
--- What is found of a constituency is its view.
-abbrev pub FindsView : List Constituency → Constituency → Seen → View → Type 0
-FindsView setup con s found =
-    (text : List ℕ) (of : State) → constituency_with con.code setup ≡ Some con → IsLawfulState setup of → AreTables setup text of s.now.trees
-    → IsView con of found
+-- What is known of a constituency, if anything, is how many of its returns are in each status.
+abbrev pub IsKnown : Constituency → Returns → Option Statuses → Type 0
+IsKnown con returns known = IfSome known (λ statuses. statuses ≡ statuses_in returns con.stations)
+
+-- What is found of a constituency is its view, where what is known of it is true.
+abbrev pub FindsView : List Constituency → Constituency → Option Statuses → Seen → View → Type 0
+FindsView setup con known s found =
+    (text : List ℕ) (of : State) → constituency_with con.code setup ≡ Some con → IsLawfulState setup of → IsKnown con of.returns known
+    → AreTables setup text of s.now.trees → IsView con of found
+
+-- What is found of a constituency is how far it has come, where what is known of it is true.
+abbrev pub FindsProgressRow : Constituency → Option Statuses → Seen → ProgressRow → Type 0
+FindsProgressRow con known s row =
+    (setup : List Constituency) (of : State) → IsSome (get of.cons con.code) → IsKnown con of.returns known
+    → AreRowsOf (return_rows setup) of.returns (stored_in Heads s) → AreRowsOf con_rows of.cons (stored_in Cons s) → row ≡ progress_row of con

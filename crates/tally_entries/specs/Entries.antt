@@ -26,11 +26,11 @@ keyed_table items.Seats = Seats
 abbrev pub stored_in : KeyedTable → Seen → List Row
 stored_in t s = s.now.trees (tree_of t)
 
--- the table has these rows more
+-- the table has these rows in addition
 abbrev pub Adds : KeyedTable → List Row → Seen → Seen → Type 0
 Adds t rows old new = HasRows t (rows ++ rows_in t old) old new
 
--- What a call that added rows says, of a disk that returned what was written.
+-- What holds after a call that adds rows, where the disk returned what was written.
 abbrev pub AddsRows : KeyedTable → List Row → Seen → Seen → Result Unit Error → Type 0
 AddsRows t rows old new result = HasCleanDisk new → IsInside old → OnOk result (Adds t rows old new)
 
@@ -41,25 +41,26 @@ pub record AreReturnsIn (setup : List Constituency) (returns : Returns) (s : See
   pub heads : AreRowsOf (return_rows setup) returns (stored_in Heads s)
   pub counts : AreRowsOf count_rows returns (stored_in Counts s)
 
--- The tables of returns have this return at the station now, all other returns as they were, and every other table is as it was.
+-- The tables of returns now have this return at the station, and all other returns as they were.
+-- Every other table is as it was.
 pub record PutsReturn (setup : List Constituency) (returns : Returns) (station : List ℕ) (standing : StationReturn) (old new : Seen) : Type 0 where
   pub inside : IsInside new
   pub returns_are : AreReturnsIn setup (insert returns station standing) new
   pub others : (u : KeyedTable) → tree_of u ≢ tree_of Heads → tree_of u ≢ tree_of Counts → stored_in u new ≡ stored_in u old
   pub setup_is : new.now.trees setup_tree ≡ old.now.trees setup_tree
 
--- the return stands at a station that had none
+-- the return is added at a station that had none
 abbrev pub AddsReturn : List ℕ → List ℕ → StationReturn → Seen → Seen → Result Unit Error → Type 0
 AddsReturn con station standing old new result =
     HasCleanDisk new → IsInside old → (setup : List Constituency) (returns : Returns) → constituency_of setup station ≡ con → get returns station ≡ None → AreReturnsIn setup returns old → OnOk result (PutsReturn setup returns station standing old new)
 
--- the return stands in place of one that had the same counts
+-- the return takes the place of one that had the same counts
 abbrev pub ChangesReturn : List ℕ → StationReturn → Seen → Seen → Result Unit Error → Type 0
 ChangesReturn station standing old new result =
     HasCleanDisk new → IsInside old → (setup : List Constituency) (returns : Returns) (before : StationReturn) → get returns station ≡ Some before → before.counts ≡ standing.counts → AreReturnsIn setup returns old
     → OnOk result (PutsReturn setup returns station standing old new)
 
--- the return stands in place of one for as many lists
+-- the return takes the place of one for as many lists
 abbrev pub CorrectsReturn : List ℕ → StationReturn → Seen → Seen → Result Unit Error → Type 0
 CorrectsReturn station standing old new result =
     HasCleanDisk new → IsInside old → (setup : List Constituency) (returns : Returns) (before : StationReturn) → get returns station ≡ Some before → length before.counts.votes ≡ length standing.counts.votes → AreReturnsIn setup returns old
@@ -99,6 +100,7 @@ FindsReturn setup station s found =
 
 -- ---- lots and seats
 
--- The table has these numbers of a constituency, each with its place from 1, and the rows of the others as they were.
+-- The table has these numbers of a constituency, each with its place from 1. It has the rows of the
+-- others as they were.
 abbrev pub PutsNumbers : KeyedTable → List ℕ → List ℕ → Seen → Seen → Result Unit Error → Type 0
 PutsNumbers t con ns old new result = HasCleanDisk new → IsInside old → OnOk result (HasRows t (map (item_row con) (numbered 1 ns) ++ others con (rows_in t old)) old new)

@@ -1,3 +1,4 @@
 pub mod Entries
+pub mod Statuses
 pub mod Constituencies
 pub mod Found

@@ -18,8 +18,8 @@ use tally_statements::{
 };
 use tally_tables::Sums;
 
-/// Writes the lot of a constituency in place of what it had: the places of the lists, in the order of
-/// the lot. None takes the lot out.
+/// Writes the lot of a constituency in place of what it had: the places of the lists, in the order
+/// of the lot. An empty lot leaves no rows.
 pub fn put_lot<S: Alter>(tx: &mut Transaction<'_, S>, con: &str, lot: &[u32]) -> Result<(), Error>
     requires few { length lot.now ≤ 60 }
     ensures stays { Stays S.Store tx.old tx.new }
@@ -32,8 +32,8 @@ pub fn put_lot<S: Alter>(tx: &mut Transaction<'_, S>, con: &str, lot: &[u32]) ->
     insert_numbers(tx, ItemTable::Lots, con, lot)
 }
 
-/// Writes the seats of a constituency in place of what it had, of each list in the setup's order. None
-/// takes them out.
+/// Writes the seats of a constituency in place of what it had: those of each list, in the setup's
+/// order. Without seats no rows are left.
 pub fn put_seats<S: Alter>(
     tx: &mut Transaction<'_, S>,
     con: &str,
@@ -50,7 +50,8 @@ pub fn put_seats<S: Alter>(
     insert_numbers(tx, ItemTable::Seats, con, seats)
 }
 
-/// Writes the edition of a constituency, whether it is certified, and the note of its last reopening.
+/// Writes the edition of a constituency, whether it is certified, and the note of its last
+/// reopening.
 pub fn put_con<S: Alter>(
     tx: &mut Transaction<'_, S>,
     con: &str,

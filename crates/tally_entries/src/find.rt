@@ -44,8 +44,8 @@ fn return_in(
     }
 }
 
-/// The return of a station, by its row of `returns` and its rows of `counts`, if it has one. Rows that
-/// are those of no return of the setup are an error.
+/// The return of a station, by its row of `returns` and its rows of `counts`, if it has one. Rows
+/// that belong to no return of the setup are an error.
 pub fn find_return<S: Alter>(
     alloc: Global,
     tx: &mut Transaction<'_, S>,

@@ -37,8 +37,8 @@ fn insert_head<S: Alter>(
     )
 }
 
-/// Writes the return of a station of a constituency, where the station has none: its row of `returns`,
-/// and a row of `counts` for each of its numbers.
+/// Writes the return of a station of a constituency, where the station has none: its row of
+/// `returns`, and a row of `counts` for each of its numbers.
 pub fn add_return<S: Alter>(
     tx: &mut Transaction<'_, S>,
     con: &str,
@@ -88,8 +88,8 @@ pub fn change_return<S: Alter>(
     update_head(tx, station, standing)
 }
 
-/// Writes the return of a station in place of one for as many lists: its row of `returns`, and the row
-/// of `counts` of each of its numbers.
+/// Writes the return of a station in place of one for as many lists: its row of `returns`, and the
+/// row of `counts` of each of its numbers.
 pub fn correct_return<S: Alter>(
     tx: &mut Transaction<'_, S>,
     station: &str,

@@ -8,20 +8,20 @@ ghost use Rattle.tally_returns.specs.View.{FitsView};
 ghost use Rattle.tally_rows.specs.Cells.{number_of};
 ghost use Rattle.tally_statements.specs.Office.{IsFound, IsInside};
 ghost use Rattle.tally_tables.specs.Reading.{status_of, sums_of};
-ghost use Rattle.tally_entries.specs.Constituencies.{FindsCertified, FindsSums, FindsView};
-ghost use Rattle.tally_entries.specs.Found.{AreFound, AreWithin, FindsStatus, FindsStatuses, certified_in, status_in, view_of_rows, with_station};
+ghost use Rattle.tally_entries.specs.Constituencies.{FindsCertified, FindsProgressRow, FindsSums, FindsView};
+ghost use Rattle.tally_entries.specs.Found.{AreFound, AreWithin, FindsKnown, FindsStage, FindsStatus, FindsStatuses, certified_in, row_with, stage_in, status_in, view_of_rows, with_station};
 ghost use Rattle.tally_statements.specs.Inside.{IsOpenInside, OnlyReads, StaysFrom};
 
 use sqlite::{Alter, Error, ErrorCode, Row, Transaction};
 use std::alloc::Global;
 use std::marker::Model;
-use tally_returns::{ConView, Status};
+use tally_returns::{ConView, ProgressRow, Status};
 use tally_rows::number_at;
-use tally_rules::{Constituency, Setup, Station};
+use tally_rules::{Code, Constituency, Setup, Station};
 use tally_statements::{KeyedTable, rows_of_key};
 use tally_tables::{ConTables, Statuses, Sums, standing_in, status_of, sums_in, view_in};
 
-/// Whether the constituency whose row this is is certified. Other rows are an error.
+/// Whether the constituency that has this row is certified. Other rows are an error.
 fn certified_in(rows: &[Row], con: &str) -> Result<bool, Error>
     ensures { IfOk result (λ found. certified_in con.now rows.now ≡ Some found) }
 {
@@ -205,6 +205,25 @@ fn find_statuses<S: Alter>(
     Ok(found)
 }
 
+/// How many stations a constituency has, and how many of their returns are in each status. Where
+/// that is not known, each return is looked up by its station.
+fn find_known<S: Alter>(
+    tx: &mut Transaction<'_, S>,
+    con: &Constituency,
+    known: Option<Statuses>,
+) -> Result<Statuses, Error>
+    ensures stays { StaysFrom IsOpenInside S.Store tx.old tx.new }
+    ensures found { HasCleanDisk (state S.Store tx.new.conn.now) → IsOpenInside (state S.Store tx.old.conn.now) →
+        IfOk result (λ found. FindsKnown con.now known (state S.Store tx.old.conn.now) found) }
+    ensures same { HasCleanDisk (state S.Store tx.new.conn.now) → IsOpenInside (state S.Store tx.old.conn.now) →
+        OnOk result (IsUnchanged (state S.Store tx.old.conn.now) (state S.Store tx.new.conn.now)) }
+{
+    match known {
+        Some(statuses) => Ok(statuses),
+        None => find_statuses(tx, con.stations.as_slice()),
+    }
+}
+
 /// What is seen of the constituency whose rows these are. Other rows are an error.
 fn view_of_rows(
     alloc: Global,
@@ -249,20 +268,77 @@ fn fitting_view(
     }
 }
 
-/// What is seen of a constituency: its rows, its sums, and the status of the return of each of its
-/// stations, each looked up by its key. Rows that are not of the shape of such a view are an error.
+/// What is seen of a constituency: its rows, its sums, and how many returns are in each status.
+/// Where these numbers are not known, each return is looked up by its station. Rows that do not
+/// have the shape of such a view are an error.
 pub fn find_view<S: Alter>(
     alloc: Global,
     tx: &mut Transaction<'_, S>,
     setup: &Setup,
     con: &Constituency,
+    known: Option<Statuses>,
 ) -> Result<ConView, Error>
     ensures reads { OnlyReads S.Store tx.old tx.new result }
     ensures fits { IfOk result (λ view. FitsView con.now view) }
     ensures found { HasCleanDisk (state S.Store tx.new.conn.now) → IsInside (state S.Store tx.old.conn.now) →
-        IfOk result (λ view. FindsView setup.now con.now (state S.Store tx.old.conn.now) view) }
+        IfOk result (λ view. FindsView setup.now con.now known (state S.Store tx.old.conn.now) view) }
 {
     let rows = rows_of_con(tx, con.code.as_str())?;
-    let statuses = find_statuses(tx, con.stations.as_slice())?;
+    let statuses = find_known(tx, con, known)?;
     fitting_view(alloc, con, statuses, &rows)
+}
+
+/// The edition of the constituency that has this row, and whether it is certified. Other rows are
+/// an error.
+fn stage_in(rows: &[Row], con: &str) -> Result<(u32, bool), Error>
+    ensures { IfOk result (λ found. stage_in con.now rows.now ≡ Some found) }
+{
+    if rows.len() != 1 {
+        return Err(Error::SqliteFailure(ErrorCode::DatabaseCorrupt));
+    }
+    match standing_in(&rows[0], con.as_bytes()) {
+        Some(standing) => Ok((standing.edition, standing.certified)),
+        None => Err(Error::SqliteFailure(ErrorCode::DatabaseCorrupt)),
+    }
+}
+
+/// The edition of a constituency, and whether it is certified.
+fn find_stage<S: Alter>(tx: &mut Transaction<'_, S>, con: &str) -> Result<(u32, bool), Error>
+    ensures reads { OnlyReads S.Store tx.old tx.new result }
+    ensures found { HasCleanDisk (state S.Store tx.new.conn.now) → IsInside (state S.Store tx.old.conn.now) →
+        IfOk result (λ found. FindsStage con.now (state S.Store tx.old.conn.now) found) }
+{
+    let rows = rows_of_key(tx, KeyedTable::Cons, con)?;
+    stage_in(&rows, con)
+}
+
+fn row_with(con: Code, stage: (u32, bool), statuses: Statuses) -> ProgressRow
+    ensures { result ≡ row_with con stage statuses }
+{
+    ProgressRow {
+        con,
+        stations: statuses.stations,
+        received: statuses.received,
+        queried: statuses.queried,
+        corrected: statuses.corrected,
+        closed: statuses.closed,
+        edition: stage.0,
+        certified: stage.1,
+    }
+}
+
+/// How far a constituency has come: its row of `cons`, and how many returns are in each status.
+/// Where these numbers are not known, each return is looked up by its station.
+pub fn find_progress_row<S: Alter>(
+    tx: &mut Transaction<'_, S>,
+    con: &Constituency,
+    known: Option<Statuses>,
+) -> Result<ProgressRow, Error>
+    ensures reads { OnlyReads S.Store tx.old tx.new result }
+    ensures found { HasCleanDisk (state S.Store tx.new.conn.now) → IsInside (state S.Store tx.old.conn.now) →
+        IfOk result (λ row. FindsProgressRow con.now known (state S.Store tx.old.conn.now) row) }
+{
+    let stage = find_stage(tx, con.code.as_str())?;
+    let statuses = find_known(tx, con, known)?;
+    Ok(row_with(con.code, stage, statuses))
 }

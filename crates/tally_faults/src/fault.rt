@@ -6,7 +6,7 @@ use thiserror::Error;
 /// Why no office was made in a database.
 #[derive(Clone, Copy, Debug, PartialEq, Eq, Error)]
 pub enum CreateFault {
-    /// 1: the text is no setup. The fault is never that it is out of memory.
+    /// 1: the text is not a setup. Its fault is never `Memory`.
     #[error("the setup: {0}")]
     Setup(SetupFault),
     /// 2: a table, an index, a view or a trigger has the name of a table of the office.
@@ -29,7 +29,7 @@ pub enum OpenFault {
     /// 2: the rows are those of no state, or the version of the tables is unknown.
     #[error("the tables are those of no state")]
     BadTables,
-    /// 3: the stored text is no setup. The fault is never that it is out of memory.
+    /// 3: the stored text is not a setup. Its fault is never `Memory`.
     #[error("the stored setup: {0}")]
     Setup(SetupFault),
     /// 4: an allocation was refused.

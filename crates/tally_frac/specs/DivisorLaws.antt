@@ -1,4 +1,5 @@
--- Why the divisors of modified Sainte-Laguë are positive, rise and keep their limit. No promise to a caller speaks of it.
+-- Why the divisors of modified Sainte-Laguë are positive, rise and keep their limit. No promise to
+-- a caller speaks of it.
 use Rattle.std.specs.Prelude.{ℕ, ◌≡◌, ◌<◌, ◌≤◌, ◌*◌, ◌-◌, ◌⊎◌, if◌then◌else◌}
 use Rattle.std.proofs.Common.{arith, ap, inl, inr}
 use Rattle.std.proofs.lemmas.Bool.{cases_eq, eq-eqb, ne_eqb}

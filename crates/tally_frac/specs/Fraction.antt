@@ -1,7 +1,9 @@
--- Fractions of whole numbers, compared by cross-multiplication, as Euclid compares ratios (Elements, book VII, proposition 19).
+-- Fractions of whole numbers, compared by cross-multiplication, as Euclid compares ratios
+-- (Elements, book VII, proposition 19).
 use Rattle.std.specs.Prelude.{ℕ, ◌≡◌, ◌*◌, ◌/◌, ◌<◌}
 
--- A fraction of whole numbers. What is said of fractions supposes, where it needs it, that the denominator is at least 1.
+-- A fraction of whole numbers. What is said of fractions supposes, where it needs it, that the
+-- denominator is at least 1.
 pub record Fraction : Type 0 where
   pub num : ℕ
   pub den : ℕ

@@ -1,11 +1,13 @@
--- The order of fractions as an answer of a comparison, and why it is a total order up to level fractions.
+-- The order of fractions as an answer of a comparison, and why it is a total order up to level
+-- fractions.
 use Rattle.std.specs.Prelude.{ℕ, ◌≡◌, ◌*◌, ◌<◌, ◌≤◌}
 use Rattle.std.specs.declared.cmp.Ordering.{Ordering}
 use Rattle.std.specs.declared.cmp.Ordering.TheVariants.{Less, Equal, Greater}
 use Rattle.std.specs.Ordering.{nat_cmp, on, MatchOrdering}
 use Rattle.std.specs.Cmp.{IsTotalOrder, nat_cmp_total, ranks, nat_cmp_is}
 use Rattle.std.proofs.Common.{arith, sym, subst}
-use Rattle.std.proofs.Math.Nat.{lt_of_mul-lt-mul_right, le_of_mul-le-mul_right, mul-lt-mul_of_pos_right, mul-le-mul_right}
+use Rattle.std.proofs.Math.Nat.{lt_of_mul-lt-mul_right, le_of_mul-le-mul_right}
+use Rattle.std.proofs.Math.Nat.{mul-lt-mul_of_pos_right, mul-le-mul_right}
 use Rattle.tally_frac.specs.Fraction.{Fraction}
 
 -- Greater where `IsGreater x y`, Equal where `IsLevel x y`, Less where `IsGreater y x`
@@ -53,7 +55,7 @@ chain_le_le a b c d e f p h k =
     let both : a * f * d ≤ e * b * d = omega arith in
     le_of_mul-le-mul_right both p
 
--- an answer that stands for other facts
+-- the same answer for other facts
 matched : {P Q R P' Q' R' : Type 0} → (P → P') → (Q → Q') → (R → R') → (r : Ordering) → MatchOrdering r P Q R → MatchOrdering r P' Q' R'
 matched f g h Less m = f m
 matched f g h Equal m = g m

@@ -1,4 +1,5 @@
--- The limits of what seats are allotted by. The other crates speak of them by these names.
+-- The limits of what seats are allotted by. The crates of the setup, of the law and of the seats
+-- speak of them by these names.
 use Rattle.std.specs.Prelude.{ℕ}
 
 -- the lists of a constituency

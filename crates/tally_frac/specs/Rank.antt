@@ -3,7 +3,8 @@ use Rattle.std.specs.Prelude.{ℕ, ◌≡◌, ◌+◌, ◌-◌, ◌*◌, ◌<◌
 use Rattle.tally_frac.specs.Fraction.{Fraction, IsGreater, IsLevel}
 use Rattle.tally_frac.specs.Limits.{most_votes, greatest_divisor, most_lists}
 
--- A pair of a list and the number of one of its seats, as ranks see it: the list's votes, the divisor of that seat, the list's place (from 1).
+-- A pair of a list and the number of one of its seats, as ranks see it: the list's votes, the
+-- divisor of that seat, the list's place (from 1).
 pub record Pair : Type 0 where
   pub votes : ℕ
   pub divisor : ℕ
@@ -17,8 +18,8 @@ quotient p = record { num = p.votes; den = p.divisor }
 abbrev pub full_quotient : ℕ → Pair → Fraction
 full_quotient unit p = record { num = p.votes * unit; den = p.divisor }
 
--- the weak rank (LOREG 163.1 d), first half): the quotient x of a list with v votes is above the quotient y of one with w
--- where it is greater, or where they are level and the list has more votes
+-- the weak rank (LOREG 163.1 d), first half): the quotient x of a list with v votes is above the
+-- quotient y of one with w where it is greater, or where they are level and the list has more votes
 abbrev pub IsHigher : (x : Fraction) (v : ℕ) (y : Fraction) (w : ℕ) → Type 0
 IsHigher x v y w = IsGreater x y ⊎ (IsLevel x y × (w < v))
 
@@ -43,10 +44,11 @@ abbrev pub RanksAboveTurned : Pair → Pair → Type 0
 RanksAboveTurned p q = RanksAboveByVotes p q ⊎ (TiesByVotes p q × (q.place < p.place))
 
 -- the pair with its place counted from the last: 61 less the place
-abbrev pub turned : Pair → Pair
-turned p = record { votes = p.votes; divisor = p.divisor; place = most_lists + 1 - p.place }
+abbrev pub turned_pair : Pair → Pair
+turned_pair p = record { votes = p.votes; divisor = p.divisor; place = most_lists + 1 - p.place }
 
--- the pairs that can be compared as keys: an eligible list has 1 to 5,000,000,000 votes, a divisor is 1 to 5,005, a constituency has at most 60 lists
+-- the pairs that can be compared as keys: an eligible list has 1 to 5,000,000,000 votes, a divisor
+-- is 1 to 5,005, a constituency has at most 60 lists
 pub record IsWithinLimits (p : Pair) : Type 0 where
   pub some_votes : 1 ≤ p.votes
   pub votes_limit : p.votes ≤ most_votes

@@ -1,14 +1,20 @@
 -- The strict rank as an answer of a comparison, and why it is a total order.
-use Rattle.std.specs.Prelude.{◌≡◌, ◌*◌, ◌<◌, ◌≤◌, ◌⊎◌, ◌↔◌, Bool, true, ◌==◌, ◌&&◌, max, refl, nat_eq}
+use Rattle.std.specs.Prelude.{◌≡◌, ◌*◌, ◌<◌, ◌≤◌, ◌⊎◌, ◌↔◌, Bool, true, ◌==◌, ◌&&◌, max, refl}
+use Rattle.std.specs.Prelude.{nat_eq}
 use Rattle.std.specs.declared.cmp.Ordering.{Ordering}
 use Rattle.std.specs.declared.cmp.Ordering.TheVariants.{Less, Equal, Greater}
-use Rattle.std.specs.Ordering.{nat_cmp, on, flip_args, then_cmp, ordering_then, ordering_reverse, eq_of_both, eq_by_cmp, is_eq, MatchOrdering}
-use Rattle.std.specs.Cmp.{IsTotalOrder, IsEquivalence, nat_cmp_total, nat_eq_equiv, then_total, on_total, back_total, and_equiv, on_equiv, first_so, second_so, both_ways, tied_itself, Equal-is}
+use Rattle.std.specs.Ordering.{nat_cmp, on, flip_args, then_cmp, ordering_then, ordering_reverse}
+use Rattle.std.specs.Ordering.{eq_of_both, eq_by_cmp, is_eq, MatchOrdering}
+use Rattle.std.specs.Cmp.{IsTotalOrder, IsEquivalence, nat_cmp_total, nat_eq_equiv, then_total}
+use Rattle.std.specs.Cmp.{on_total, back_total, and_equiv, on_equiv, first_so, second_so, both_ways}
+use Rattle.std.specs.Cmp.{tied_itself, Equal-is}
 use Rattle.std.proofs.Common.{arith, sym, ◌∙◌, ap, subst, inl, inr, eqb-true}
 use Rattle.std.proofs.Math.Nat.{le_of_mul-le-mul_left}
 use Rattle.tally_frac.specs.Fraction.{Fraction}
-use Rattle.tally_frac.specs.FractionOrder.{fraction_cmp, fractions_total, equal_means, greater_means, is_equal, is_greater}
-use Rattle.tally_frac.specs.Rank.{Pair, quotient, RanksAboveByVotes, TiesByVotes, RanksAbove, IsWithinLimits}
+use Rattle.tally_frac.specs.FractionOrder.{fraction_cmp, fractions_total, equal_means}
+use Rattle.tally_frac.specs.FractionOrder.{greater_means, is_equal, is_greater}
+use Rattle.tally_frac.specs.Rank.{Pair, quotient, RanksAboveByVotes, TiesByVotes, RanksAbove}
+use Rattle.tally_frac.specs.Rank.{IsWithinLimits}
 
 -- A divisor of 0, which no key has, is read as 1: so the order is total on all pairs.
 abbrev pub read_quotient : Pair → Fraction
@@ -22,7 +28,8 @@ weak_cmp = then_cmp (on read_quotient fraction_cmp) (on (λ p. p.votes) nat_cmp)
 abbrev pub strict_cmp : Pair → Pair → Ordering
 strict_cmp = then_cmp weak_cmp (flip_args (on (λ p. p.place) nat_cmp))
 
--- The order of keys is the strict rank. The divisor settles what that leaves open between pairs without votes, so that only equal pairs compare as equal.
+-- The order of keys is the strict rank. The divisor settles what that leaves open between pairs
+-- without votes, so that only equal pairs compare as equal.
 abbrev pub rank_cmp : Pair → Pair → Ordering
 rank_cmp = then_cmp strict_cmp (on (λ p. p.divisor) nat_cmp)
 
@@ -162,10 +169,10 @@ module _ (p q : Pair) (first : 1 ≤ p.divisor) (second : 1 ≤ q.divisor) where
 
 -- ---- Keys
 
-turned : (a b : Ordering) → a ≡ ordering_reverse b → a ≡ Less → b ≡ Greater
-turned a Less e h = cc
-turned a Equal e h = cc
-turned a Greater e h = refl
+greater_if_less : (a b : Ordering) → a ≡ ordering_reverse b → a ≡ Less → b ≡ Greater
+greater_if_less a Less e h = cc
+greater_if_less a Equal e h = cc
+greater_if_less a Greater e h = refl
 
 module _ (p q : Pair) (at_p : IsWithinLimits p) (at_q : IsWithinLimits q) where
   -- a key is greater where its pair ranks above
@@ -175,7 +182,7 @@ module _ (p q : Pair) (at_p : IsWithinLimits p) (at_q : IsWithinLimits q) where
   pub rank_cmp-less : (rank_cmp p q ≡ Less) ↔ RanksAbove q p
   rank_cmp-less =
       let other_way : (rank_cmp q p ≡ Greater) ↔ RanksAbove q p = rank_cmp-above q p at_q.some_divisor at_p.some_divisor at_q.some_votes in
-      (λ e. other_way.0 (turned _ _ (rank_cmp-total.antisymm p q) e), λ h. rank_cmp-total.antisymm p q ∙ ap ordering_reverse (other_way.1 h))
+      (λ e. other_way.0 (greater_if_less _ _ (rank_cmp-total.antisymm p q) e), λ h. rank_cmp-total.antisymm p q ∙ ap ordering_reverse (other_way.1 h))
 
   -- what an answer on two keys says of their pairs
   pub rank_cmp-means : (answer : Ordering) → rank_cmp p q ≡ answer → MatchOrdering answer (RanksAbove q p) (p ≡ q) (RanksAbove p q)

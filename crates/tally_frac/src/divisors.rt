@@ -3,7 +3,8 @@
 ghost use Rattle.std.specs.Prelude.{◌≡◌, ℕ, ◌<◌, ◌≤◌};
 ghost use Rattle.std.proofs.Common.{arith};
 ghost use Rattle.tally_frac.specs.DivisorLaws.{modified-at_most, modified-positive, modified-rises};
-ghost use Rattle.tally_frac.specs.Divisors.{dhondt_divisor, modified_sainte_lague_divisor, sainte_lague_divisor};
+ghost use Rattle.tally_frac.specs.Divisors.{dhondt_divisor, modified_sainte_lague_divisor};
+ghost use Rattle.tally_frac.specs.Divisors.{sainte_lague_divisor};
 ghost use Rattle.tally_frac.specs.Limits.{greatest_divisor, last_divisor};
 
 /// The divisors of a divisor rule, counted from 1: the `k`th seat of a list has the quotient of its
@@ -29,7 +30,8 @@ pub trait Divisors {
 
     ghost rises: { (rule : Self) (j k : ℕ) → 1 ≤ j → j < k → divisor rule j < divisor rule k };
 
-    ghost at_most: { (rule : Self) (k : ℕ) → 1 ≤ k → k ≤ last_divisor → divisor rule k ≤ greatest_divisor };
+    ghost at_most: { (rule : Self) (k : ℕ) → 1 ≤ k → k ≤ last_divisor →
+        divisor rule k ≤ greatest_divisor };
 
     ghost unit_from_one: { (rule : Self) → 1 ≤ unit_of rule };
 

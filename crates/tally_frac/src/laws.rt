@@ -3,9 +3,11 @@
 ghost use Rattle.std.specs.Prelude.{ℕ, ◌≡◌, ◌*◌, ◌<◌, ◌≤◌, ◌⊎◌, ◌↔◌};
 ghost use Rattle.std.specs.declared.cmp.Ordering.TheVariants.{Equal};
 ghost use Rattle.tally_frac.specs.Fraction.{Fraction, IsGreater, IsLevel, whole_part};
-ghost use Rattle.tally_frac.specs.LawStatements.{AreAlike, Chain, IsGreaterWhereAbove, IsLessWhereBelow, IsSameInAnyUnit};
-ghost use Rattle.tally_frac.specs.Rank.{Pair, RanksAboveByVotes, TiesByVotes, RanksAbove, RanksAboveTurned, IsWithinLimits};
-ghost use Rattle.tally_frac.specs.Rank.{turned};
+ghost use Rattle.tally_frac.specs.LawStatements.{AreAlike, Chain, IsGreaterWhereAbove};
+ghost use Rattle.tally_frac.specs.LawStatements.{IsLessWhereBelow, IsSameInAnyUnit};
+ghost use Rattle.tally_frac.specs.Rank.{Pair, RanksAboveByVotes, TiesByVotes, RanksAbove};
+ghost use Rattle.tally_frac.specs.Rank.{RanksAboveTurned, IsWithinLimits};
+ghost use Rattle.tally_frac.specs.Rank.{turned_pair};
 
 use crate::RankKey;
 
@@ -22,20 +24,23 @@ pub fn greater_fractions_chain()
 {}
 
 /// Level fractions are of equal value: being level is an equivalence, holds between a fraction and
-/// itself in other terms, and holds exactly where no third fraction tells the two apart.
+/// itself in other terms, and holds exactly where no third fraction distinguishes the two.
 pub fn level_fractions_are_equal()
     ensures reflexive { (x : Fraction) → IsLevel x x }
     ensures symmetric { (x y : Fraction) → IsLevel x y → IsLevel y x }
     ensures transitive { (x y z : Fraction) → 1 ≤ y.den → IsLevel x y → IsLevel y z → IsLevel x z }
-    ensures other_terms { (x : Fraction) (k : ℕ) → IsLevel x (record { num = k * x.num; den = k * x.den }) }
+    ensures other_terms { (x : Fraction) (k : ℕ) →
+        IsLevel x (record { num = k * x.num; den = k * x.den }) }
     ensures alike { (x y : Fraction) → 1 ≤ x.den → 1 ≤ y.den → IsLevel x y ↔ AreAlike x y }
 {}
 
 /// The whole part is the greatest whole number that is not above the fraction, and a greater
 /// fraction has none that is less.
 pub fn whole_parts_are_rounded_down()
-    ensures greatest { (x : Fraction) (n : ℕ) → 1 ≤ x.den → (n ≤ whole_part x) ↔ (n * x.den ≤ x.num) }
-    ensures rises { (x y : Fraction) → 1 ≤ x.den → 1 ≤ y.den → IsGreater x y → whole_part y ≤ whole_part x }
+    ensures greatest { (x : Fraction) (n : ℕ) → 1 ≤ x.den → (n ≤ whole_part x) ↔
+        (n * x.den ≤ x.num) }
+    ensures rises { (x y : Fraction) → 1 ≤ x.den → 1 ≤ y.den → IsGreater x y →
+        whole_part y ≤ whole_part x }
 {}
 
 /// Quotients compare alike with the rule's unit and without it.
@@ -46,7 +51,8 @@ pub fn units_cancel()
 
 /// Of two pairs one ranks above the other by votes or they tie, and only one of these holds.
 pub fn weak_rank_is_ordered()
-    ensures total { (p q : Pair) → RanksAboveByVotes p q ⊎ (TiesByVotes p q ⊎ RanksAboveByVotes q p) }
+    ensures total { (p q : Pair) → RanksAboveByVotes p q ⊎
+        (TiesByVotes p q ⊎ RanksAboveByVotes q p) }
     ensures one_way { (p q : Pair) → RanksAboveByVotes p q → ¬ (RanksAboveByVotes q p) }
     ensures not_tied { (p q : Pair) → RanksAboveByVotes p q → ¬ (TiesByVotes p q) }
 {}
@@ -67,13 +73,15 @@ pub fn ties_have_one_divisor()
 
 /// Of two seats of one list the one with the lesser divisor ranks above.
 pub fn earlier_seats_rank_above()
-    ensures { (p q : Pair) → 1 ≤ p.votes → p.votes ≡ q.votes → p.divisor < q.divisor → RanksAboveByVotes p q }
+    ensures { (p q : Pair) → 1 ≤ p.votes → p.votes ≡ q.votes → p.divisor < q.divisor →
+        RanksAboveByVotes p q }
 {}
 
 /// Of two pairs one ranks above the other, or they tie by votes and have the same place, and only
 /// one of these holds.
 pub fn strict_rank_is_ordered()
-    ensures total { (p q : Pair) → RanksAbove p q ⊎ ((TiesByVotes p q × (p.place ≡ q.place)) ⊎ RanksAbove q p) }
+    ensures total { (p q : Pair) → RanksAbove p q ⊎
+        ((TiesByVotes p q × (p.place ≡ q.place)) ⊎ RanksAbove q p) }
     ensures one_way { (p q : Pair) → RanksAbove p q → ¬ (RanksAbove q p) }
     ensures not_tied { (p q : Pair) → RanksAbove p q → ¬ (TiesByVotes p q × (p.place ≡ q.place)) }
 {}
@@ -90,10 +98,13 @@ pub fn keys_follow_the_strict_rank()
     ensures equal { (p q : Pair) → (⟦<RankKey as Ord>⟧.cmp p q ≡ Equal) ↔ (p ≡ q) }
 {}
 
-/// Keys made with 61 less the place follow the strict rank that is turned round, in which pairs that
-/// tie by votes go by later place. Such keys are made where a lot alternates and a seat is even.
+/// Keys made with 61 less the place follow the strict rank that is turned round, in which pairs
+/// that tie by votes go by later place. Such keys are made where a lot alternates and a seat is
+/// even.
 pub fn turned_keys_follow_the_turned_rank()
-    ensures has_key { (p : Pair) → IsWithinLimits p → IsWithinLimits (turned p) }
-    ensures greater { IsGreaterWhereAbove (λ p q. ⟦<RankKey as Ord>⟧.cmp (turned p) (turned q)) RanksAboveTurned }
-    ensures less { IsLessWhereBelow (λ p q. ⟦<RankKey as Ord>⟧.cmp (turned p) (turned q)) RanksAboveTurned }
+    ensures has_key { (p : Pair) → IsWithinLimits p → IsWithinLimits (turned_pair p) }
+    ensures greater { IsGreaterWhereAbove
+        (λ p q. ⟦<RankKey as Ord>⟧.cmp (turned_pair p) (turned_pair q)) RanksAboveTurned }
+    ensures less { IsLessWhereBelow (λ p q. ⟦<RankKey as Ord>⟧.cmp (turned_pair p) (turned_pair q))
+        RanksAboveTurned }
 {}

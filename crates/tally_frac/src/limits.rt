@@ -1,4 +1,5 @@
-//! The limits of what seats are allotted by. The other crates use them by these names.
+//! The limits of what seats are allotted by. The crates of the setup and of the seats use them by
+//! these names.
 
 /// The most lists of a constituency.
 pub const MOST_LISTS: usize = 60;

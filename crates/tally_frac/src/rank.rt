@@ -3,7 +3,8 @@
 ghost use Rattle.std.specs.Prelude.{◌≡◌, ◌↔◌, Some, IsSome, IfSome, refl};
 ghost use Rattle.std.specs.Cmp.{partial_equiv_from_equiv, po};
 ghost use Rattle.tally_frac.specs.Rank.{IsWithinLimits};
-ghost use Rattle.tally_frac.specs.RankOrder.{rank_cmp, same_pair, rank_cmp-total, same_pair-equiv, same_pair-ties};
+ghost use Rattle.tally_frac.specs.RankOrder.{rank_cmp, same_pair, rank_cmp-total, same_pair-equiv};
+ghost use Rattle.tally_frac.specs.RankOrder.{same_pair-ties};
 
 use crate::limits::{GREATEST_DIVISOR, MOST_LISTS, MOST_VOTES};
 use std::cmp::Ordering;
@@ -26,17 +27,21 @@ impl Model for RankKey {
 
     ghost view = { λ key. record { votes = key.votes; divisor = key.divisor; place = key.place } };
 
-    ghost invariant = { λ key. IsWithinLimits record { votes = key.votes; divisor = key.divisor; place = key.place } };
+    ghost invariant = { λ key.
+        IsWithinLimits record { votes = key.votes; divisor = key.divisor; place = key.place } };
 
-    ghost inverse = { λ pair. record { votes = pair.votes; divisor = pair.divisor; place = pair.place } };
+    ghost inverse = { λ pair.
+        record { votes = pair.votes; divisor = pair.divisor; place = pair.place } };
 }
 
 impl RankKey {
     /// The key of a pair, or `None` outside votes 1 to 5,000,000,000, divisor 1 to 5,005 and place
     /// 1 to 60.
     pub fn new(votes: u64, divisor: u64, place: u32) -> Option<RankKey>
-        ensures limits { IsSome result ↔ IsWithinLimits record { votes = votes; divisor = divisor; place = place } }
-        ensures value { IfSome result (λ key. key ≡ record { votes = votes; divisor = divisor; place = place }) }
+        ensures limits { IsSome result ↔
+            IsWithinLimits record { votes = votes; divisor = divisor; place = place } }
+        ensures value { IfSome result (λ key.
+            key ≡ record { votes = votes; divisor = divisor; place = place }) }
     {
         let is_key = (1..=MOST_VOTES).contains(&votes)
             && (1..=GREATEST_DIVISOR).contains(&divisor)

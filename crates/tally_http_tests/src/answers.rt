@@ -7,8 +7,8 @@ use crate::words::{WORDS, word_answer};
 use std::alloc::{AllocError, Global};
 use std::test::*;
 
-/// The whole of an answer in JSON, of a line such as `200 OK|23|{"ok":"lodged","rev":1}`: its status with the phrase,
-/// the length of its body, and the body.
+/// The whole of an answer in JSON, of a line such as `200 OK|23|{"ok":"lodged","rev":1}`: its
+/// status with the phrase, the length of its body, and the body.
 fn json_answer(alloc: Global, line: &str) -> Result<String, AllocError> {
     let (status, rest) = cut(line, "|");
     let (length, body) = cut(rest, "|");

@@ -21,7 +21,7 @@ fn conn(
     MemoryConn::new(alloc, Vec::from_slice(alloc, text)?, read_fails, room)
 }
 
-// The first takes four bytes, of the second a read and each write fail, the third ends at once.
+// The first takes four bytes; a read and each write of the second fail; the third ends at once.
 fn three_connections(alloc: Global) -> Result<MemoryDoor, AllocError> {
     let mut conns = Vec::new(alloc);
     conns.push(conn(alloc, b"abc", None, 4)?)?;
@@ -99,7 +99,7 @@ fn answer<D: Door + Drop>(mut door: D) -> Result<(), DoorFault> {
     write_all(&mut door, b"hello")
 }
 
-// What a client reads that sent three bytes.
+// What a client that sent three bytes reads.
 fn answer_to(rt: &HostRuntime, is_timed: bool, is_ended: bool) -> Result<String, Fail> {
     let listener = TcpListener::bind(rt, "127.0.0.1:0")?;
     let mut client = TcpStream::connect(rt, listener.local_addr()?)?;
@@ -143,8 +143,8 @@ impl Clock for Leaping {
     }
 }
 
-// The connection is taken at 0 seconds and read at 20, and what is written begins at 40, so that thirty seconds in all
-// would be over.
+// The connection is taken at 0 seconds and read at 20, and what is written begins at 40, so that
+// thirty seconds in all would be over.
 #[test]
 fn writes_have_a_time_of_their_own(rt: HostRuntime) -> Result<(), Fail> {
     let listener = TcpListener::bind(&rt, "127.0.0.1:0")?;

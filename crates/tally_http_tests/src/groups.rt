@@ -42,7 +42,8 @@ fn is_within_limits(seats: u32, votes: &[u64]) -> bool
     are_few(votes)
 }
 
-/// The lot that is needed, by D'Hondt, of a line such as `3: 100 100`: the seats, and the votes of the lists.
+/// The lot that is needed, by D'Hondt, of a line such as `3: 100 100`: the seats, and the votes of
+/// the lists.
 pub(crate) fn need_of(alloc: Global, line: &str) -> Result<Need, Fail> {
     let (seats, votes) = cut(line, ": ");
     let seats = number(seats);

@@ -3,10 +3,11 @@
 use crate::lines::{cut, number};
 use std::alloc::Global;
 use std::test::Fail;
-use tally_answer::{ANSWER_ROOM, BODY_ROOM, FirstOther, Imported, write_import};
+use tally_answer::{ANSWER_ROOM, BODY_ROOM, write_import};
+use tally_keeper::{FirstRow, ImportCount};
 
-// Rows that are bad, differ, were lodged, were refused and were there already; then the first row that was neither
-// lodged nor there already, with the number of its refusal.
+// Rows that are bad, differ, were lodged, were refused and were there already; then the first row
+// that was neither lodged nor there already, with the number of its refusal.
 pub(crate) const IMPORTS: &str =
     r#"import 0 1 0 0 2: 2 7 = 200 OK|81|{"bad":0,"differs":1,"first":[2,7],"lodged":0,"ok":"import","refused":0,"same":2}
 import 0 0 3 0 0: = 200 OK|80|{"bad":0,"differs":0,"first":null,"lodged":3,"ok":"import","refused":0,"same":0}
@@ -14,13 +15,13 @@ import 2 0 1 0 0: 2 0 = 200 OK|81|{"bad":2,"differs":0,"first":[2,0],"lodged":1,
 import 11 22 333 444 555: 6 21 = 200 OK|90|{"bad":11,"differs":22,"first":[6,21],"lodged":333,"ok":"import","refused":444,"same":555}
 import 4294967295 4294967295 4294967295 4294967295 4294967295: 4294967295 4294967295 = 200 OK|144|{"bad":4294967295,"differs":4294967295,"first":[4294967295,4294967295],"lodged":4294967295,"ok":"import","refused":4294967295,"same":4294967295}"#;
 
-fn imported(line: &str) -> Imported {
+fn imported(line: &str) -> ImportCount {
     let (counts, first) = cut(line, ":");
     let (bad, counts) = cut(counts, " ");
     let (differs, counts) = cut(counts, " ");
     let (lodged, counts) = cut(counts, " ");
     let (refused, same) = cut(counts, " ");
-    Imported {
+    ImportCount {
         bad: number(bad),
         differs: number(differs),
         first: first_other(first.trim()),
@@ -30,9 +31,9 @@ fn imported(line: &str) -> Imported {
     }
 }
 
-fn first_other(text: &str) -> Option<FirstOther> {
+fn first_other(text: &str) -> Option<FirstRow> {
     let (row, refused) = text.split_once(" ")?;
-    Some(FirstOther {
+    Some(FirstRow {
         row: number(row),
         number: number(refused),
     })

@@ -1,6 +1,6 @@
-//! Tests of the crates that read and write messages of HTTP, `tally_door`, `tally_message`, `tally_asks` and
-//! `tally_answer`, which over their finished proofs are checked once. Nothing here is public, so there are no must-fail
-//! edits.
+//! Tests of the crates that read and write messages of HTTP, `tally_door`, `tally_message`,
+//! `tally_asks` and `tally_answer`. They are checked once, over the finished proofs of these
+//! crates. Nothing here is public, so there are no must-fail edits.
 #![tactic(auto)]
 
 #[cfg(test)]

@@ -1,9 +1,9 @@
-//! What lines of text say. A line that says nothing is taken for zeros and empty texts, so that the test that has it
-//! fails.
+//! What lines of text say. A line that says nothing is taken for zeros and empty texts, so that the
+//! test that has it fails.
 
 use std::alloc::{AllocError, Global};
 
-/// The texts before a mark and behind it; where there is no mark, the whole text and an empty one.
+/// The texts before a mark and after it; where there is no mark, the whole text and an empty one.
 pub(crate) fn cut<'a>(text: &'a str, mark: &str) -> (&'a str, &'a str) {
     text.split_once(mark).unwrap_or((text, ""))
 }

@@ -11,14 +11,15 @@ const BODY: &[u8] = b"{\"slip\":\"p1\",\"votes\":[50,40],\"blank\":2,\"spoiled\"
 const READ: &str =
     "POST /station/s1/lodge {\"slip\":\"p1\",\"votes\":[50,40],\"blank\":2,\"spoiled\":1}";
 
-// Two parts of a text, one behind the other.
+// Two parts of a text, one after the other.
 fn joined(alloc: Global, first: &[u8], second: &[u8]) -> Result<Vec<u8>, AllocError> {
     let mut text = Vec::from_slice(alloc, first)?;
     text.extend_from_slice(second)?;
     Ok(text)
 }
 
-// What each prefix of the worked message is that comes by so many bytes at a time and then ends or fails.
+// What each prefix of the worked message is, where it comes by so many bytes at a time and then
+// ends or fails.
 fn is_cut_right(alloc: Global, size: usize, fails: bool) -> Result<bool, Fail> {
     let text = joined(alloc, HEAD, BODY)?;
     for cut in 0..text.len() {
@@ -112,7 +113,7 @@ fn heads_and_lengths_have_their_messages_and_faults(rt: HostRuntime) -> Result<(
     Ok(())
 }
 
-// Texts behind which a read fails, and what they are.
+// Texts after which a read fails, and what they are.
 const STOPPED: [(&[u8], &str); 6] = [
     (b"", "Read"),
     (b"GET /progress HTTP/2.0\r\n", "Read"),
@@ -152,7 +153,7 @@ fn many_fields(alloc: Global, count: u32) -> Result<Vec<u8>, AllocError> {
     Ok(text)
 }
 
-// What heads at the limits and beyond them are that come by so many bytes at a time.
+// What heads at the limits and beyond them are, where they come by so many bytes at a time.
 fn limits_of_heads(alloc: Global, size: usize) -> Result<bool, Fail> {
     let whole = long_head(alloc, 16_384)?;
     let long = long_head(alloc, 16_385)?;

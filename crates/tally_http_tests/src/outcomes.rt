@@ -9,9 +9,10 @@ use tally_answer::{ANSWER_ROOM, BODY_ROOM, write_outcome};
 use tally_returns::{Refusal, Reply, Status};
 use tally_rules::{ListEntry, Setup};
 
-// A reply with its number, or a refusal with what it says: of a lot the seats for which it is missing, and the seats
-// and the votes of the lists among which it is needed by D'Hondt. In the last lines the constituency has other lists
-// than A, B and C: one, and sixty with codes of sixteen characters.
+// A reply with its number, or a refusal with what it says: of a lot the seats for which it is
+// missing, and the seats and the votes of the lists among which it is needed by D'Hondt. In the
+// last lines the constituency has other lists than A, B and C: one, and sixty with codes of sixteen
+// characters.
 pub(crate) const OUTCOMES: &str = r#"lodged 1 = 200 OK|23|{"ok":"lodged","rev":1}
 same 1 = 200 OK|21|{"ok":"same","rev":1}
 moved 2 = 200 OK|22|{"ok":"moved","rev":2}
@@ -175,7 +176,8 @@ fn answer_among(
     written_in(alloc, &setup, outcome)
 }
 
-/// The answer to the outcome of a line, in a constituency with three lists or with those that it names.
+/// The answer to the outcome of a line, in a constituency with three lists or with those that it
+/// names.
 pub(crate) fn outcome_answer(alloc: Global, line: &str) -> Result<String, Fail> {
     let (lists, line) = match line.strip_prefix("among ") {
         Some(rest) => cut(rest, "; "),

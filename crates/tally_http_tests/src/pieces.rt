@@ -5,7 +5,8 @@ use std::test::Fail;
 use tally_door::{Door, DoorFault};
 use tally_message::{Message, read_message};
 
-/// A door of one connection, which gives its text by so many bytes at a time and then ends or fails.
+/// A door of one connection, which gives its text by so many bytes at a time and then ends or
+/// fails.
 #[derive(Drop)]
 pub(crate) struct Pieces<'a> {
     pub(crate) text: &'a [u8],
@@ -39,7 +40,8 @@ impl Door for Pieces<'_> {
     }
 }
 
-/// What a text is that comes by so many bytes at a time and then ends or fails: a message on a line, or its fault.
+/// What a text is, where it comes by so many bytes at a time and then ends or fails: a message on a
+/// line, or its fault.
 pub(crate) fn reading(
     alloc: Global,
     text: &[u8],

@@ -1,4 +1,5 @@
-//! What GET shows of a return and of a constituency, of numbers that are large. `tests/program.py` has others.
+//! What GET shows of a return and of a constituency, of numbers that are large. `tests/program.py`
+//! has others.
 
 use crate::answers::check_answer;
 use crate::setups::setup;

@@ -26,8 +26,7 @@ fn is_taken(alloc: Global, route: Route, method: &str) -> Result<bool, Fail> {
 fn code(route: Route, target: &[u8]) -> Option<Code> {
     match route {
         Route::Progress => None,
-        Route::Station | Route::Lodge | Route::Query => station_in(target),
-        Route::Correct | Route::Close => station_in(target),
+        Route::Return | Route::OnStation(_) => station_in(target),
         _ => con_in(target),
     }
 }
@@ -45,26 +44,26 @@ pub(crate) fn told_target(alloc: Global, method: &str, target: &str) -> Result<S
 }
 
 const ROUTES: &str = r#"GET /progress = Progress None
-GET /station/s1 = Station Some("s1")
-POST /station/s1/lodge = Lodge Some("s1")
-POST /station/s1/query = Query Some("s1")
-POST /station/s1/correct = Correct Some("s1")
-POST /station/s1/close = Close Some("s1")
+GET /station/s1 = Return Some("s1")
+POST /station/s1/lodge = OnStation(Lodge) Some("s1")
+POST /station/s1/query = OnStation(Query) Some("s1")
+POST /station/s1/correct = OnStation(Correct) Some("s1")
+POST /station/s1/close = OnStation(Close) Some("s1")
 GET /con/c1 = Con Some("c1")
-GET /con/c1/tally = Tally Some("c1")
-GET /con/c1/seats = Seats Some("c1")
-GET /con/c1/quotients = Quotients Some("c1")
-GET /con/c1/awards = Awards Some("c1")
-GET /con/c1/quota = Quota Some("c1")
-GET /con/c1/short = Short Some("c1")
-GET /con/c1/holders = Holders Some("c1")
-GET /con/c1/past = Past Some("c1")
-POST /con/c1/draw = Draw Some("c1")
-POST /con/c1/certify = Certify Some("c1")
-POST /con/c1/reopen = Reopen Some("c1")
-POST /con/c1/vacate = Vacate Some("c1")
-POST /con/c1/import = Import Some("c1")
-POST /con/c1/import/semicolon = ImportSemicolon Some("c1")"#;
+GET /con/c1/tally = Report(Tally) Some("c1")
+GET /con/c1/seats = Report(Seats) Some("c1")
+GET /con/c1/quotients = Report(Quotients) Some("c1")
+GET /con/c1/awards = Report(Awards) Some("c1")
+GET /con/c1/quota = Report(Quota) Some("c1")
+GET /con/c1/short = Report(Short) Some("c1")
+GET /con/c1/holders = Report(Holders) Some("c1")
+GET /con/c1/past = Report(Past) Some("c1")
+POST /con/c1/draw = OnCon(Draw) Some("c1")
+POST /con/c1/certify = OnCon(Certify) Some("c1")
+POST /con/c1/reopen = OnCon(Reopen) Some("c1")
+POST /con/c1/vacate = OnCon(Vacate) Some("c1")
+POST /con/c1/import = Import(Comma) Some("c1")
+POST /con/c1/import/semicolon = Import(Semicolon) Some("c1")"#;
 
 const OTHER_METHODS: &str = "POST /progress = no method
 POST /station/s1 = no method
@@ -94,19 +93,20 @@ PUT /station/s1/lodge = no method
 HEAD /station/s1/lodge = no method
 post /station/s1/lodge = no method";
 
-// A code has 1 to 16 letters, digits, dashes and underscores. Nothing of a target is decoded, and it has no query.
-const CODES: &str = r#"GET /con/zz/tally = Tally Some("zz")
+// A code has 1 to 16 letters, digits, dashes and underscores. Nothing of a target is decoded, and
+// it has no query.
+const CODES: &str = r#"GET /con/zz/tally = Report(Tally) Some("zz")
 GET /con/c-1_Z = Con Some("c-1_Z")
 GET /con/ABCDEFGHIJKLMNOP = Con Some("ABCDEFGHIJKLMNOP")
 GET /con/ABCDEFGHIJKLMNOPQ = Con None
 GET /con/{c} = Con None
 GET /con/c1?edition=1 = Con None
-POST /con/c.1/import/semicolon = ImportSemicolon None
-GET /station/S1 = Station Some("S1")
-GET /station/s%31 = Station None
-GET /station/s 1 = Station None
-GET /station/sé = Station None
-POST /station/s1;/close = Close None"#;
+POST /con/c.1/import/semicolon = Import(Semicolon) None
+GET /station/S1 = Return Some("S1")
+GET /station/s%31 = Return None
+GET /station/s 1 = Return None
+GET /station/sé = Return None
+POST /station/s1;/close = OnStation(Close) None"#;
 
 const NO_ROUTES: &str = "GET / = no route
 GET  = no route

@@ -6,9 +6,8 @@ use Rattle.tally_keeper.specs.Source.{row_limit}
 use Rattle.tally_import.specs.Header.{header_lists}
 use Rattle.tally_records.specs.Input.{Gave, complete_records}
 use Rattle.tally_import.specs.Check.{Checks, Found, check_fault, checked, examined, no_header, under_header, ended}
-use Rattle.tally_import.specs.Rounds.{IsOfReading, ended_import}
-use Rattle.tally_import.specs.declared.import.Import.{Import}
-use Rattle.tally_records.specs.Watch.{IsStop}
+use Rattle.tally_import.specs.Rounds.{IsOfReading}
+use Rattle.tally_records.specs.Watch.{flag_after_stop}
 use Rattle.tally_records.specs.declared.end.Stop.{Stop}
 use Rattle.tally_records.specs.declared.end.Stop.TheVariants as stopped
 use Rattle.tally_import.specs.declared.check.CheckFault.{CheckFault}
@@ -94,9 +93,9 @@ OnOk-then (Err e) p more = tt
 
 -- ---- faults of reading
 
-pub stop-of-reading : (stop : Stop) (failed : Bool) → IsStop (Some stop) failed → IsOfReading (check_fault stop) failed
-stop-of-reading stopped.TooLong failed is = tt
-stop-of-reading stopped.Read failed is = is
+pub stop-of-reading : (stop : Stop) (before failed : Bool) → failed ≡ flag_after_stop (Some stop) before → IsOfReading (check_fault stop) failed
+stop-of-reading stopped.TooLong before failed is = tt
+stop-of-reading stopped.Read before failed is = is
 
 -- want of memory is one
 pub memory-of-reading : (fault : CheckFault) (failed : Bool) → fault ≡ Memory → IsOfReading fault failed

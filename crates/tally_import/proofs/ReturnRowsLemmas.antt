@@ -8,13 +8,14 @@ use Rattle.std.specs.Str.{bytes_eq}
 use Rattle.tally_rules.specs.Code.{code_cmp}
 use Rattle.tally_rules.specs.Constituency.{Constituency, list_codes, station_codes}
 use Rattle.tally_returns.specs.Lodge.{Stations}
+use Rattle.tally_keeper.specs.Given.{with_given}
 use Rattle.tally_keeper.specs.Source.{Coming, GivesNext, at_end, row_limit}
 use Rattle.tally_keeper.specs.declared.import.Row.{Row}
 use Rattle.tally_keeper.specs.declared.source.ImportFault.{ImportFault}
 use Rattle.tally_keeper.specs.declared.source.ImportFault.TheVariants as cause
-use Rattle.tally_records.specs.Input.{AreAll, text_records, text_stop}
+use Rattle.tally_records.specs.Input.{AreAll, complete_records, text_records, text_stop}
 use Rattle.tally_records.specs.Given.{HasGiven, IsReadingOn, sep_of}
-use Rattle.tally_import.specs.ReturnRows.{Advances, GivesRow, IsAt, IsNext, IsReadingRows, behind, coming_of, import_fault, is_header, no_header, came_by, ending, only, rows_coming, stations_in, still_coming, text_coming}
+use Rattle.tally_import.specs.ReturnRows.{Advances, AllRowsCame, GivesRow, IsAt, IsNext, IsReadingRows, behind, bytes_coming, coming_of, import_fault, is_header, no_header, came_by, ending, only, rows_coming, stations_in, still_coming, text_coming}
 use Rattle.tally_import.specs.ReturnRowsValue.{coming_at, own_fault}
 use Rattle.tally_import.specs.Rows.{row_of}
 use Rattle.tally_records.specs.declared.end.Stop.{Stop}
@@ -82,6 +83,34 @@ whole-coming con sep text header given stop came good count within records how =
     ap (behind came) coming
     ∙ ap (λ (rows : List Row). record { rows = rows; fault = (rows_coming con given stop).fault }) (rows-over f row_limit came given (omega (arith, count)))
     ∙ ap only (not-long (length given) stop (omega (arith, count, within)))
+
+-- what comes of bytes whose complete records are the header and these
+pub bytes-coming : (con : Constituency) (sep : Sep) (bytes : List ℕ) (header : List (List ℕ)) (given : List (List (List ℕ))) (stop : Option Stop) (came : ℕ)
+    → is_header (list_codes con.lists) header ≡ true → length given ≡ came → came ≤ row_limit
+    → complete_records sep bytes stop ≡ header ∷ given → behind came (bytes_coming con sep bytes stop) ≡ only (option_map import_fault stop)
+bytes-coming con sep bytes header given stop came good count within records =
+    let f = row_of (stations_in con) (length con.lists) in
+    let coming : bytes_coming con sep bytes stop ≡ rows_coming con given stop =
+    ap (λ l. coming_of con l stop) records ∙ header-coming con header given stop good in
+    ap (behind came) coming
+    ∙ ap (λ (rows : List Row). record { rows = rows; fault = (rows_coming con given stop).fault }) (rows-over f row_limit came given (omega (arith, count)))
+    ∙ ap only (not-long (length given) stop (omega (arith, count, within)))
+
+-- all rows that were complete before a failed read came
+pub rows-read : (con : Constituency) (sep : Sep) (text left : Option (List ℕ)) (header : List (List ℕ)) (given : List (List (List ℕ))) (came : ℕ)
+    → is_header (list_codes con.lists) header ≡ true → length given ≡ came → came ≤ row_limit
+    → AreAll sep text left (header ∷ given) (Some Read) → IfSome text (λ t. AllRowsCame con sep came t left)
+rows-read con sep None left header given came good count within all = tt
+rows-read con sep (Some text) left header given came good count within all =
+    (all.0, all.1, bytes-coming con sep all.0 header given (Some Read) came good count within all.2)
+
+-- a read failed before a record was complete
+pub header-read : (con : Constituency) (sep : Sep) (text left : Option (List ℕ)) (stop : Option Stop)
+    → AreAll sep text left [] stop → no_header stop ≡ cause.Read → IfSome text (λ t. AllRowsCame con sep 0 t left)
+header-read con sep text left None all is = cc
+header-read con sep text left (Some TooLong) all is = cc
+header-read con sep None left (Some Read) all is = tt
+header-read con sep (Some text) left (Some Read) all is = (all.0, all.1, ap (λ l. behind 0 (coming_of con l (Some Read))) all.2)
 
 pub rows-end : (con : Constituency) (sep : Sep) (text left : Option (List ℕ)) (header : List (List ℕ)) (given : List (List (List ℕ))) (came : ℕ)
     → is_header (list_codes con.lists) header ≡ true → length given ≡ came → came ≤ row_limit
@@ -186,6 +215,18 @@ rows-ended text old_left left con sep old new (Some stop) at over =
     let come = at.come.2 in
     rows-stop con sep text left at.come.0 at.come.1 old.came stop come.good come.count at.within
     (subst (λ s. AreAll s text left (at.come.0 ∷ at.come.1) (Some stop)) at.separator (over text (at.come.0 ∷ at.come.1) come.given))
+
+-- a read failed behind the rows
+pub rows-failed : (text old_left left : Option (List ℕ)) (con : Constituency) (sep : Sep) (old : Rows) (stop : Option Stop)
+    → IsReadingRows text old_left con sep old → Over old_left left old.records stop
+    → ◌≡◌ {A = Result (Option Row) ImportFault} (at_end (option_map import_fault stop)) (Err cause.Read)
+    → IfSome text (λ t. AllRowsCame con sep old.came t left)
+rows-failed text old_left left con sep old None at over is = cc
+rows-failed text old_left left con sep old (Some TooLong) at over is = cc
+rows-failed text old_left left con sep old (Some Read) at over is =
+    let come = at.come.2 in
+    rows-read con sep text left at.come.0 at.come.1 old.came come.good come.count at.within
+    (subst (λ s. AreAll s text left (at.come.0 ∷ at.come.1) (Some Read)) at.separator (over text (at.come.0 ∷ at.come.1) come.given))
 
 -- one record more than may come
 pub rows-too_many : (text old_left left : Option (List ℕ)) (con : Constituency) (sep : Sep) (old new : Rows) (records : Records) (fields : List (List ℕ))
@@ -303,6 +344,11 @@ pub advanced-next : (text old_left left : Option (List ℕ)) (con : Constituency
 advanced-next text old_left left con sep old new fault given = advanced-fault text old_left left con sep (Reading old) fault given
 
 -- ---- the rows as contracts see them
+
+-- the end gives no row
+pub given-end : (given : List Row) (fault : Option ImportFault) → with_given given (at_end fault) ≡ given
+given-end given None = refl
+given-end given (Some fault) = refl
 
 own-same : (fault : ImportFault) → fault ≢ cause.Store → own_fault fault ≡ fault
 own-same cause.BadHeader own = refl

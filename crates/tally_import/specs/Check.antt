@@ -57,8 +57,8 @@ totals_text lists returns =
     ++ named_number (codes "spoiled") (sum_by (λ c. c.spoiled) returns)
     ++ lists_text 0 lists returns
 
--- The check text of the import of these rows into the empty map: the counts of the rows, and the totals of the returns
--- that were lodged.
+-- The check text of the import of these rows into the empty map: the counts of the rows, and the
+-- totals of the returns that were lodged.
 abbrev pub check_text : List (List ℕ) → List Row → List ℕ
 check_text lists rows =
     let answered = answers (every_code (length lists)) empty rows in
@@ -87,7 +87,8 @@ abbrev pub no_header : Option Stop → Result (List ℕ) CheckFault
 no_header None = Err BadHeader
 no_header (Some stop) = Err (check_fault stop)
 
--- the check text of a text's complete records, or the fault that comes first: the header is looked at first, then the rows, and then what stopped the text
+-- the check text of a text's complete records, or the fault that comes first: the header is looked
+-- at first, then the rows, and then what stopped the text
 abbrev pub examined : List (List (List ℕ)) → Option Stop → Result (List ℕ) CheckFault
 examined [] stop = no_header stop
 examined (header ∷ records) stop = under_header (header_lists header) records stop
@@ -96,13 +97,14 @@ examined (header ∷ records) stop = under_header (header_lists header) records 
 abbrev pub checked : Sep → List ℕ → Option Stop → Result (List ℕ) CheckFault
 checked sep bytes stop = examined (complete_records sep bytes stop) stop
 
--- What is found in the bytes that came of a text, of which `left` is not read, before its end or before what stopped
--- it: the check text or the first fault.
+-- What is found in the bytes that came of a text, of which `left` is not read, before its end or
+-- before what stopped it: the check text or the first fault.
 abbrev pub Found : Sep → List ℕ → Option (List ℕ) → (Result (List ℕ) CheckFault → Type 0) → Type 0
 Found sep text left P = (bytes : List ℕ) × (stop : Option Stop) × Gave text left bytes stop × P (checked sep bytes stop)
 
--- What the check of a text answers, and what it leaves on its writer: the check text is written, or the first fault is
--- answered and nothing written. A write that failed leaves a prefix of the text. Out of memory may come at any place.
+-- What the check of a text answers, and what it leaves on its writer: the check text is written, or
+-- the first fault is answered and nothing written. A write that failed leaves a prefix of the text.
+-- Out of memory may come at any place.
 abbrev pub Checks : Sep → List ℕ → Option (List ℕ) → Option (List ℕ) → Option (List ℕ) → Result (Unit {0}) CheckFault → Type 0
 Checks sep text left old new (Ok u) = Found sep text left (λ found. (t : List ℕ) × (found ≡ Ok t) × Appends old new t)
 Checks sep text left old new (Err BadHeader) = Found sep text left (λ found. found ≡ Err BadHeader) × Keeps old new
@@ -111,7 +113,7 @@ Checks sep text left old new (Err Read) = Found sep text left (λ found. found �
 Checks sep text left old new (Err Memory) = Keeps old new
 Checks sep text left old new (Err Write) = Found sep text left (λ found. (t : List ℕ) × (n : ℕ) × (found ≡ Ok t) × Appends old new (take n t))
 
--- a failed check has written nothing, but for one whose writing failed
+-- a failed check has written nothing, except one whose writing failed
 abbrev pub IsSilent : Option (List ℕ) → Option (List ℕ) → Result (Unit {0}) CheckFault → Type 0
 IsSilent old new (Ok u) = Unit {0}
 IsSilent old new (Err Write) = Unit {0}

@@ -1,4 +1,5 @@
--- The header of a text of returns: `station`, `slip`, `blank`, `spoiled` and the codes of the lists.
+-- The header of a text of returns: `station`, `slip`, `blank`, `spoiled` and the codes of the
+-- lists.
 use Rattle.std.specs.Prelude.{◌&&◌, not, if◌then◌else◌, ℕ, Bool, true, List, [], ◌∷◌, length, nat_eq, nat_le, Option, Some, None, codes}
 use Rattle.std.specs.List.{list_all, list_any}
 use Rattle.std.specs.Cmp.Lexicographic.{pointwise}

@@ -5,10 +5,6 @@ pub mod Totals
 pub mod Progress
 pub mod Rounds
 pub mod Notes
-pub use Rattle.tally_returns.specs.Counts
-pub use Rattle.tally_returns.specs.Return
-pub use Rattle.tally_returns.specs.Lodge
-pub use Rattle.tally_keeper.specs.Import
 pub mod ReturnRows
 pub mod ReturnRowsValue
 pub mod ReturnRowsWithin

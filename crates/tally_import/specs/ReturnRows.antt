@@ -1,5 +1,5 @@
 -- The rows of a constituency's returns: what comes of a text, and how far they have come.
-use Rattle.std.specs.Prelude.{◌≡◌, ◌≢◌, ◌≤◌, ◌⊎◌, if◌then◌else◌, nat_lt, ℕ, Bool, true, List, [], ◌∷◌, map, length, take, drop, Option, Some, None, option_map, is_some, IfSome, Result, Ok, Err, codes, ⊤}
+use Rattle.std.specs.Prelude.{◌≡◌, ◌≢◌, ◌≤◌, ◌⊎◌, if◌then◌else◌, nat_lt, ℕ, Bool, true, false, List, [], ◌∷◌, map, length, take, drop, Option, Some, None, option_map, is_some, IfSome, Result, Ok, Err, codes, ⊤}
 use Rattle.std.specs.BTreeSet.{BTreeSet, contains}
 use Rattle.std.specs.Cmp.Lexicographic.{pointwise}
 use Rattle.tally_rules.specs.Code.{code_cmp}
@@ -11,7 +11,7 @@ use Rattle.tally_keeper.specs.declared.import.Row.{Row}
 use Rattle.tally_keeper.specs.declared.source.ImportFault.{ImportFault}
 use Rattle.tally_keeper.specs.declared.source.ImportFault.TheVariants as cause
 use Rattle.tally_import.specs.Header.{same_text}
-use Rattle.tally_records.specs.Input.{text_records, text_stop}
+use Rattle.tally_records.specs.Input.{Gave, complete_records, text_records, text_stop}
 use Rattle.tally_records.specs.Given.{HasGiven, IsReadingOn, TellsTrue, sep_of}
 use Rattle.tally_import.specs.Rows.{row_of}
 use Rattle.tally_records.specs.declared.end.Stop.{Stop}
@@ -46,17 +46,23 @@ abbrev pub no_header : Option Stop → ImportFault
 no_header None = cause.BadHeader
 no_header (Some stop) = import_fault stop
 
--- the rows that at most 20,000 records are, and behind them a fault where there are more, or what stopped the text
+-- the rows that at most 20,000 records are, and after them a fault where there are more, or what
+-- stopped the text
 abbrev pub rows_coming : Constituency → List (List (List ℕ)) → Option Stop → Coming
 rows_coming con records stop = record {
   rows = map (row_of (stations_in con) (length con.lists)) (take row_limit records);
   fault = if nat_lt row_limit (length records) then Some cause.TooLong else option_map import_fault stop;
 }
 
--- What comes of a text's complete records, and of what stopped it: the header is looked at first, then the rows, and then what stopped the text.
+-- What comes of a text's complete records, and of what stopped it: the header is looked at first,
+-- then the rows, and then what stopped the text.
 abbrev pub coming_of : Constituency → List (List (List ℕ)) → Option Stop → Coming
 coming_of con [] stop = only (Some (no_header stop))
 coming_of con (header ∷ records) stop = if is_header (list_codes con.lists) header then rows_coming con records stop else only (Some cause.BadHeader)
+
+-- what comes of the bytes that came, and of what stopped them
+abbrev pub bytes_coming : Constituency → Sep → List ℕ → Option Stop → Coming
+bytes_coming con sep bytes stop = coming_of con (complete_records sep bytes stop) stop
 
 -- what comes of a text
 abbrev pub text_coming : Constituency → Sep → List ℕ → Coming
@@ -64,9 +70,15 @@ text_coming con sep text = coming_of con (text_records sep text) (text_stop text
 
 -- ---- how far the rows have come
 
--- what is left behind so many rows
+-- what is left after so many rows
 abbrev pub behind : ℕ → Coming → Coming
 behind came coming = record { rows = drop came coming.rows; fault = coming.fault }
+
+-- A read of this text failed, and all that was complete before it was given first: of the bytes
+-- that came, nothing comes after so many rows but the failed read.
+abbrev pub AllRowsCame : Constituency → Sep → ℕ → List ℕ → Option (List ℕ) → Type 0
+AllRowsCame con sep came text left = (bytes : List ℕ) × Gave text left bytes (Some stopped.Read)
+    × (behind came (bytes_coming con sep bytes (Some stopped.Read)) ≡ only (Some cause.Read))
 
 -- what still comes of a text
 abbrev pub still_coming : Constituency → Sep → Stage → List ℕ → Coming
@@ -78,13 +90,13 @@ still_coming con sep (Ended fault) text = only fault
 abbrev pub HasStations : Constituency → BTreeSet (List ℕ) → Type 0
 HasStations con set = (code : List ℕ) → contains code_cmp set code ≡ is_some (stations_in con code)
 
--- Of this text the header and these records were given.
+-- The header and these records of this text were given.
 pub record HasCome (text left : Option (List ℕ)) (rows : Rows) (lists header : List (List ℕ)) (records : List (List (List ℕ))) : Type 0 where
   pub good : is_header lists header ≡ true
   pub count : length records ≡ rows.came
   pub given : HasGiven text left (header ∷ records) rows.records
 
--- the rows behind the header, at work
+-- the rows after the header, at work
 pub record IsReadingRows (text left : Option (List ℕ)) (con : Constituency) (sep : Sep) (rows : Rows) : Type 0 where
   pub reading : IsReadingOn rows.records
   pub separator : sep_of rows.records ≡ sep
@@ -104,7 +116,7 @@ IsAt text left con sep (Ended fault) = fault ≢ Some cause.Store
 abbrev pub IsNext : Option (List ℕ) → (List ℕ → Coming) → ImportFault → Type 0
 IsNext text coming fault = (fault ≢ cause.Store) × (IsSudden fault ⊎ IfSome text (λ t. ((coming t).rows ≡ []) × ((coming t).fault ≡ Some fault)))
 
--- What the rows behind the header give next, and where they are then.
+-- What the rows after the header give next, and where they are then.
 abbrev pub GivesRow : Option (List ℕ) → Option (List ℕ) → Constituency → Sep → Rows → Result (Option Row) ImportFault → Rows → Type 0
 GivesRow text left con sep old (Ok (Some row)) new = IsReadingRows text left con sep new
     × IfSome text (λ t. (rest : List Row) × (drop old.came (text_coming con sep t).rows ≡ row ∷ rest) × (drop new.came (text_coming con sep t).rows ≡ rest))
@@ -153,9 +165,15 @@ IsTrueFault cause.Read failed = failed ≡ true
 IsTrueFault cause.Memory failed = ⊤
 IsTrueFault cause.Store failed = ⊤
 
+-- the same of all that a call answers; the end comes only where no read failed
+abbrev pub IsTrueResult : Result (Option Row) ImportFault → Bool → Type 0
+IsTrueResult (Ok (Some row)) failed = ⊤
+IsTrueResult (Ok None) failed = failed ≡ false
+IsTrueResult (Err fault) failed = IsTrueFault fault failed
+
 -- the same of all that a stage keeps of how the text was stopped
 abbrev pub IsTrueAt : Stage → Bool → Type 0
-IsTrueAt Unread failed = ⊤
-IsTrueAt (Reading rows) failed = TellsTrue rows.records failed
-IsTrueAt (Ended None) failed = ⊤
+IsTrueAt Unread failed = failed ≡ false
+IsTrueAt (Reading rows) failed = TellsTrue false rows.records failed
+IsTrueAt (Ended None) failed = failed ≡ false
 IsTrueAt (Ended (Some fault)) failed = IsTrueFault fault failed

@@ -18,19 +18,20 @@ abbrev pub ended_import : Option Stop → Import → Result Import CheckFault
 ended_import None import = Ok import
 ended_import (Some stop) import = Err (check_fault stop)
 
--- Behind the records given so far these are the complete ones of what comes of a text.
+-- After the records given so far these are the complete ones of what comes of a text.
 abbrev pub AreBehind : Option (List ℕ) → Option (List ℕ) → Records → List (List (List ℕ)) → Option Stop → Type 0
 AreBehind old_left left r rows stop = (text : Option (List ℕ)) (before : List (List (List ℕ))) → HasGiven text old_left before r → AreAll (sep_of r) text left (before ++ rows) stop
 
--- The import, under a header of so many lists, of rows that are all, or the fault of too many, or what stopped them.
--- Out of memory may come at any place.
+-- The import, under a header of so many lists, of rows that are all, or the fault of too many, or
+-- what stopped them. Out of memory may come at any place.
 abbrev pub Imports : ℕ → (List (List (List ℕ)) → Option Stop → Type 0) → Result Import CheckFault → Type 0
 Imports lists AreRows (Ok import) = (rows : List (List (List ℕ))) × AreRows rows None
     × HasTaken (record { lists = lists; rows = rows_of_records lists rows }) import × (length rows ≤ row_limit)
 Imports lists AreRows (Err fault) = (fault ≡ Memory) ⊎ ((rows : List (List (List ℕ))) × (stop : Option Stop) × AreRows rows stop
     × (((fault ≡ TooLong) × (row_limit < length rows)) ⊎ ((option_map check_fault stop ≡ Some fault) × (length rows ≤ row_limit))))
 
--- The check text that is found in a text, or the fault that comes first; out of memory may come at any place.
+-- The check text that is found in a text, or the fault that comes first; out of memory may come at
+-- any place.
 abbrev pub Finds : Sep → List ℕ → Option (List ℕ) → Result (String Global) CheckFault → Type 0
 Finds sep text left (Ok found) = Found sep text left (λ f. f ≡ Ok (string_bytes found))
 Finds sep text left (Err fault) = (fault ≡ Memory) ⊎ Found sep text left (λ f. f ≡ Err fault)

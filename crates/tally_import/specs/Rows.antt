@@ -20,8 +20,8 @@ number_of text = fold (λ n digit. 10 * n + (digit - 48)) 0 text
 abbrev pub numbers_of : List (List ℕ) → Option (List ℕ)
 numbers_of texts = if list_all is_number_text texts then Some (map number_of texts) else None
 
--- The row that a record is, where these are the stations and there are so many lists: station, slip, blank, spoiled and
--- one number for each list; else it is bad.
+-- The row that a record is, where these are the stations and there are so many lists: station,
+-- slip, blank, spoiled and one number for each list; else it is bad.
 abbrev pub row_of : Stations → ℕ → List (List ℕ) → Row
 row_of stations lists (station ∷ slip ∷ blank ∷ spoiled ∷ votes) =
     if is_code station && is_code slip && is_some (stations station) && is_number_text blank && is_number_text spoiled

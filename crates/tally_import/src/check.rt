@@ -4,7 +4,7 @@ ghost use Rattle.std.specs.Prelude.{◌≡◌, ◌≤◌, Bool, List, ℕ, None,
 ghost use Rattle.std.specs.Io.KnownBytes.{Appends};
 ghost use Rattle.tally_import.specs.Check.{Checks, IsSilent, checked, no_header};
 ghost use Rattle.tally_records.specs.Given.{IsReadingOn, TellsTrue};
-ghost use Rattle.tally_records.specs.Watch.{IsStop, has_failed};
+ghost use Rattle.tally_records.specs.Watch.{flag_after_stop, has_failed};
 ghost use Rattle.tally_import.specs.declared.check.CheckFault.TheVariants as cause;
 ghost use Rattle.tally_import.specs.Rounds.{AreBehind, Finds, Imports, IsOfReading, ended_import};
 
@@ -29,7 +29,7 @@ pub enum CheckFault {
     TooLong,
     /// A read failed.
     Read,
-    /// Want of memory.
+    /// Out of memory.
     Memory,
     /// A write failed or took nothing.
     Write,
@@ -99,7 +99,8 @@ pub fn check_csv<R: Read, W: Write>(
 }
 
 /// The same with a watch on each stream: a failed read is answered only where one of the reader's
-/// own reads failed, and a failed write only where the writer failed or took nothing.
+/// own reads failed, and a failed write only where the writer failed or took nothing. With `Ok`
+/// neither watch noted a failure: a read that fails is not made again.
 pub fn check_watched<R: Read, W: Write>(
     alloc: Global,
     reader: &mut R,
@@ -114,7 +115,9 @@ pub fn check_watched<R: Read, W: Write>(
         Checks sep text (R.remaining reader.new) (W.contents writer.old) (W.contents writer.new) result) }
     ensures silent { IsSilent (W.contents writer.old) (W.contents writer.new) result }
     ensures read { result ≡ Err cause.Read → has_failed reads.new ≡ true }
+    ensures all_read { OnOk result (has_failed reads.new ≡ has_failed reads.old) }
     ensures write { result ≡ Err cause.Write → has_failed writes.new ≡ true }
+    ensures all_written { OnOk result (has_failed writes.new ≡ has_failed writes.old) }
 {
     match checked_text(alloc, reader, reads, sep) {
         Ok(text) => write_watched(writer, writes, text.as_bytes()),
@@ -131,6 +134,7 @@ fn checked_text<R: Read>(
 ) -> Result<String, CheckFault>
     ensures finds { IfSome (R.remaining reader.old) (λ text. Finds sep text (R.remaining reader.new) result) }
     ensures read { IfErr result (λ fault. IsOfReading fault (has_failed watch.new)) }
+    ensures all_read { OnOk result (has_failed watch.new ≡ has_failed watch.old) }
 {
     let mut records = Records::new(alloc, reader, watch, sep)?;
     let mut header = ByteRecord::new(alloc);
@@ -149,7 +153,7 @@ fn checked_text<R: Read>(
 /// The fault of a text that ended before its header did.
 fn no_header(end: End) -> CheckFault
     ensures fault { no_header end.stop ≡ Err result }
-    ensures read { (failed : Bool) → IsStop end.stop failed → IsOfReading result failed }
+    ensures read { (before failed : Bool) → failed ≡ flag_after_stop end.stop before → IsOfReading result failed }
 {
     match end.stop {
         None => CheckFault::BadHeader,
@@ -168,7 +172,10 @@ fn import_rows<R: Read>(
     requires reading { IsReadingOn records.old }
     requires lists { lists ≤ 60 }
     ensures imports { Imports lists (AreBehind (R.remaining reader.old) (R.remaining reader.new) records.old) result }
-    ensures read { TellsTrue records.old (has_failed watch.old) → IfErr result (λ fault. IsOfReading fault (has_failed watch.new)) }
+    ensures read { (before : Bool) → TellsTrue before records.old (has_failed watch.old)
+        → IfErr result (λ fault. IsOfReading fault (has_failed watch.new)) }
+    ensures all_read { (before : Bool) → TellsTrue before records.old (has_failed watch.old)
+        → OnOk result (has_failed watch.new ≡ before) }
 {
     let mut import = Import::new(alloc, lists)?;
     let mut record = ByteRecord::new(alloc);
@@ -188,7 +195,10 @@ fn import_rows<R: Read>(
 /// An import whose text came to its end, or the fault of one that was stopped.
 fn ended(import: Import, end: End) -> Result<Import, CheckFault>
     ensures import { result ≡ ended_import end.stop import }
-    ensures read { (failed : Bool) → IsStop end.stop failed → IfErr result (λ fault. IsOfReading fault failed) }
+    ensures read { (before failed : Bool) → failed ≡ flag_after_stop end.stop before
+        → IfErr result (λ fault. IsOfReading fault failed) }
+    ensures all_read { (before failed : Bool) → failed ≡ flag_after_stop end.stop before
+        → OnOk result (failed ≡ before) }
 {
     match end.stop {
         None => Ok(import),

@@ -9,8 +9,8 @@ use std::alloc::{AllocError, Global};
 use tally_records::field;
 use tally_rules::Code;
 
-/// How many names stand before those of the lists.
-const FIXED_NAMES: usize = 4;
+/// How many names come before those of the lists.
+pub(crate) const FIXED_NAMES: usize = 4;
 
 /// The most lists that a constituency has.
 const MOST_LISTS: usize = 60;

@@ -145,7 +145,7 @@ fn count_row(count: &mut ImportCount, number: u32, answer: Option<Result<LodgeRe
     count.first = first_note(count.first, one.first, number);
 }
 
-// What was noted first: a row in front, or the row with this number.
+// What was noted first: an earlier row, or the row with this number.
 fn first_note(front: Option<FirstRow>, one: Option<FirstRow>, row: u32) -> Option<FirstRow>
     ensures { result ≡ or_else front (with_row row one) }
 {

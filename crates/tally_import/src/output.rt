@@ -18,7 +18,8 @@ pub fn write_text<W: Write>(writer: &mut W, text: &[u8]) -> Result<(), CheckFaul
     write_watched(writer, &mut Watch::new(), text)
 }
 
-/// The same with a watch on the writer, which has noted a failed call where there is a fault.
+/// The same with a watch on the writer, which has noted a failed call where there is a fault, and
+/// with `Ok` none.
 pub fn write_watched<W: Write>(
     writer: &mut W,
     watch: &mut Watch<W>,
@@ -28,6 +29,7 @@ pub fn write_watched<W: Write>(
     ensures err { OnErr result ((n : ℕ) × Appends (W.contents writer.old) (W.contents writer.new) (take n text.now)) }
     ensures fault { OnErr result (result ≡ Err CheckFault.Write) }
     ensures failed { OnErr result (has_failed watch.new ≡ true) }
+    ensures all_written { OnOk result (has_failed watch.new ≡ has_failed watch.old) }
 {
     let mut written = 0;
     while written < text.len() {

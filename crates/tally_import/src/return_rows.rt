@@ -1,6 +1,6 @@
 //! The returns of a constituency from CSV.
 
-ghost use Rattle.std.specs.Prelude.{◌≡◌, ◌≢◌, ◌≤◌, Bool, true, false, Err, Option, Some, None, List, ℕ, is_some, option_map, IfOk, IfErr, IfSome, OnOk};
+ghost use Rattle.std.specs.Prelude.{◌≡◌, ◌≢◌, ◌≤◌, Bool, true, false, Ok, Err, Option, Some, None, List, ℕ, is_some, option_map, IfOk, IfErr, IfSome, OnOk};
 ghost use Rattle.std.specs.BTreeSet.{contains};
 ghost use Rattle.std.specs.List.{list_any};
 ghost use Rattle.std.specs.Str.{bytes_eq};
@@ -8,19 +8,20 @@ ghost use Rattle.csv.specs.Records.{fields_of};
 ghost use Rattle.tally_rules.specs.Code.{code_cmp};
 ghost use Rattle.tally_rules.specs.Constituency.{Constituency, list_codes, station_codes};
 ghost use Rattle.tally_returns.specs.Lodge.{Stations};
+ghost use Rattle.tally_keeper.specs.Given.{with_given};
 ghost use Rattle.tally_keeper.specs.Source.{GivesNext, IsLodgeOrBad, at_end, ends_by, row_limit};
 ghost use Rattle.tally_keeper.specs.declared.source.ImportFault.{ImportFault};
 ghost use Rattle.tally_records.specs.Given.{IsReadingOn, TellsTrue};
-ghost use Rattle.tally_records.specs.Watch.{IsStop, has_failed};
+ghost use Rattle.tally_records.specs.Watch.{flag_after_stop, has_failed};
 ghost use Rattle.tally_keeper.specs.declared.source.ImportFault.TheVariants as cause;
 ghost use Rattle.tally_import.specs.Rows.{row_of};
 ghost use Rattle.tally_import.specs.declared.return_rows.Stage.TheVariants.{Ended};
 ghost use Rattle.tally_records.specs.declared.separator.Sep.{Sep};
-ghost use Rattle.tally_import.specs.ReturnRowsValue.{coming};
+ghost use Rattle.tally_import.specs.ReturnRowsValue.{HasGivenAll, coming, unread_rows};
 ghost use Rattle.tally_import.specs.ReturnRowsWithin.{coming-within};
-ghost use Rattle.tally_import.specs.ReturnRows.{Advances, GivesRow, IsAt, IsBegun, IsNext, IsReadingRows, IsStarted, IsTrueAt, IsTrueFault, ending, import_fault, is_header, no_header, still_coming, text_coming};
+ghost use Rattle.tally_import.specs.ReturnRows.{Advances, AllRowsCame, GivesRow, IsAt, IsBegun, IsNext, IsReadingRows, IsStarted, IsTrueAt, IsTrueFault, IsTrueResult, came_by, ending, import_fault, is_header, no_header, still_coming, text_coming};
 
-use crate::header::has_fixed_names;
+use crate::header::{FIXED_NAMES, has_fixed_names};
 use crate::row::row_of;
 use csv::ByteRecord;
 use std::alloc::{AllocError, Global};
@@ -28,12 +29,9 @@ use std::collections::BTreeSet;
 use std::io::Read;
 use std::marker::Model;
 use std::snapshot::Snapshot;
-use tally_keeper::{ImportFault, ROW_LIMIT, Row, RowSource};
+use tally_keeper::{Given, ImportFault, ROW_LIMIT, Row, RowSource};
 use tally_records::{End, Records, Sep, Stop, Watch, field};
 use tally_rules::{Code, Constituency, ListEntry, Station};
-
-/// How many names stand before those of the lists.
-const FIXED_NAMES: usize = 4;
 
 /// The rows of a constituency's returns, from a text that a reader gives.
 #[derive(Drop)]
@@ -44,20 +42,33 @@ pub struct ReturnRows<R: Read> {
     sep: Sep,
     con: Constituency,
     stage: Stage,
+    /// The rows that were given, for clauses alone.
+    given: Given,
     /// The reader as it was when nothing was read, for clauses alone.
     unread: Snapshot<R>,
 }
 
 impl<R: Read> Model for ReturnRows<R> {
+    ghost use Rattle.tally_keeper.specs.Given.{rows_of};
     ghost use Rattle.tally_records.specs.Watch.{has_failed};
     ghost use Rattle.tally_import.specs.ReturnRows.{IsAt, IsTrueAt, came_by, ending};
     ghost use Rattle.tally_import.specs.ReturnRowsValue as value;
 
     ghost Value = { value.ReturnRows };
 
-    ghost view = { λ s. record { con = s.con; sep = s.sep; text = R.remaining s.unread.value; came = came_by s.stage; ended = ending s.stage; failed = has_failed s.watch } };
+    ghost view = { λ s. record {
+      con = s.con;
+      sep = s.sep;
+      text = R.remaining s.unread.value;
+      left = R.remaining s.reader;
+      given = rows_of s.given;
+      came = came_by s.stage;
+      ended = ending s.stage;
+      failed = has_failed s.watch;
+    } };
 
-    ghost invariant = { λ s. IsAt (R.remaining s.unread.value) (R.remaining s.reader) s.con s.sep s.stage × IsTrueAt s.stage (has_failed s.watch) };
+    ghost invariant = { λ s. IsAt (R.remaining s.unread.value) (R.remaining s.reader) s.con s.sep s.stage
+        × IsTrueAt s.stage (has_failed s.watch) };
 }
 
 /// How far the rows have come.
@@ -71,7 +82,7 @@ pub(crate) enum Stage {
     Ended(Option<ImportFault>),
 }
 
-/// The rows behind the header.
+/// The rows after the header.
 #[derive(Drop)]
 pub(crate) struct Rows {
     records: Records,
@@ -89,7 +100,7 @@ impl<R: Read> ReturnRows<R> {
     /// The rows of a constituency's returns from CSV (after RFC 4180, with this separator). Nothing
     /// is read yet.
     pub fn new(alloc: Global, reader: R, sep: Sep, con: Constituency) -> ReturnRows<R>
-        ensures { result ≡ record { con = con; sep = sep; text = R.remaining reader; came = 0; ended = None; failed = false } }
+        ensures { result ≡ unread_rows con sep (R.remaining reader) }
     {
         let unread = Snapshot::of(&reader);
         ReturnRows {
@@ -99,6 +110,7 @@ impl<R: Read> ReturnRows<R> {
             sep,
             con,
             stage: Stage::Unread,
+            given: Given::new(),
             unread,
         }
     }
@@ -107,22 +119,29 @@ impl<R: Read> ReturnRows<R> {
 impl<R: Read> RowSource for ReturnRows<R> {
     ghost coming = { coming };
 
+    ghost given = { λ rows. rows.given };
+
     ghost ended = { λ rows. rows.ended };
 
     ghost within = { coming-within };
 
     /// The next row. A record is read to its end before it is given; with a fault, the rows before
-    /// it were given.
+    /// it were given. A failed read is answered once all that was complete before it was given, and
+    /// the end only where no read failed.
     fn next_row(&mut self) -> Result<Option<Row>, ImportFault>
         ensures gives { GivesNext (coming self.old) result (coming self.new) }
         ensures row { IfOk result (λ row. IfSome row IsLodgeOrBad) }
+        ensures gave { self.new.given ≡ with_given self.old.given result }
         ensures ends { self.new.ended ≡ ends_by result }
         ensures again { (fault : Option ImportFault) → self.old.ended ≡ Some fault
             → (result ≡ at_end fault) × (self.new ≡ self.old) }
         ensures read { result ≡ Err cause.Read → self.new.failed ≡ true }
-        ensures same { (self.new.con ≡ self.old.con) × (self.new.sep ≡ self.old.sep) × (self.new.text ≡ self.old.text) }
+        ensures all_read { result ≡ Ok None → self.new.failed ≡ false }
+        ensures before { self.old.ended ≡ None → result ≡ Err cause.Read → HasGivenAll self.old self.new.left }
+        ensures same { (self.new.con ≡ self.old.con) × (self.new.sep ≡ self.old.sep)
+            × (self.new.text ≡ self.old.text) }
     {
-        next_row(
+        let next = next_row(
             &self.unread,
             self.alloc,
             &mut self.reader,
@@ -130,7 +149,9 @@ impl<R: Read> RowSource for ReturnRows<R> {
             self.sep,
             &self.con,
             &mut self.stage,
-        )
+        );
+        self.given.note(&next);
+        next
     }
 }
 
@@ -148,9 +169,12 @@ fn next_row<R: Read>(
     ensures advances { Advances (R.remaining unread.now.value) con.now sep (R.remaining reader.old) stage.old result (R.remaining reader.new) stage.new }
     ensures row { IfOk result (λ row. IfSome row IsLodgeOrBad) }
     ensures ends { ending stage.new ≡ ends_by result }
-    ensures again { (fault : Option ImportFault) → ending stage.old ≡ Some fault → (result ≡ at_end fault) × (reader.new ≡ reader.old) × (stage.new ≡ stage.old) × (watch.new ≡ watch.old) }
+    ensures again { (fault : Option ImportFault) → ending stage.old ≡ Some fault
+        → (result ≡ at_end fault) × (reader.new ≡ reader.old) × (stage.new ≡ stage.old) × (watch.new ≡ watch.old) }
     ensures true_at { IsTrueAt stage.old (has_failed watch.old) → IsTrueAt stage.new (has_failed watch.new) }
-    ensures read { IsTrueAt stage.old (has_failed watch.old) → IfErr result (λ fault. IsTrueFault fault (has_failed watch.new)) }
+    ensures read { IsTrueAt stage.old (has_failed watch.old) → IsTrueResult result (has_failed watch.new) }
+    ensures before { ending stage.old ≡ None → result ≡ Err cause.Read → IfSome (R.remaining unread.now.value)
+        (λ text. AllRowsCame con.now sep (came_by stage.old) text (R.remaining reader.new)) }
 {
     let Stage::Unread = stage else {
         return next_started(alloc, reader, watch, stage);
@@ -164,8 +188,8 @@ fn next_row<R: Read>(
     }
 }
 
-/// Reads the header, and goes on to the rows. It stands by itself, since a function pays for the room
-/// of its locals at each call, and only the first row needs these.
+/// Reads the header, and goes on to the rows. It is a function of its own, since a function pays
+/// for the room of its locals at each call, and only the first row needs these.
 fn start<R: Read>(
     alloc: Global,
     reader: &mut R,
@@ -176,21 +200,23 @@ fn start<R: Read>(
 ) -> Result<(), ImportFault>
     ensures begun { OnOk result (IsBegun (R.remaining reader.old) (R.remaining reader.new) con.now sep stage.new) }
     ensures fault { IfErr result (IsNext (R.remaining reader.old) (text_coming con.now sep)) }
-    ensures true_at { OnOk result (IsTrueAt stage.new (has_failed watch.new)) }
+    ensures true_at { has_failed watch.old ≡ false → OnOk result (IsTrueAt stage.new (has_failed watch.new)) }
     ensures read { IfErr result (λ fault. IsTrueFault fault (has_failed watch.new)) }
+    ensures before { result ≡ Err cause.Read → IfSome (R.remaining reader.old)
+        (λ text. AllRowsCame con.now sep 0 text (R.remaining reader.new)) }
 {
     *stage = Stage::Reading(Rows::new(alloc, reader, watch, sep, con)?);
     Ok(())
 }
 
-/// Ends the rows. It stands by itself for the same reason.
+/// Ends the rows. It is a function of its own for the same reason.
 fn end(stage: &mut Stage, fault: Option<ImportFault>)
     ensures { stage.new ≡ Ended fault }
 {
     *stage = Stage::Ended(fault);
 }
 
-/// The next row behind the header.
+/// The next row after the header.
 fn next_started<R: Read>(
     alloc: Global,
     reader: &mut R,
@@ -202,9 +228,13 @@ fn next_started<R: Read>(
         → Advances text con sep (R.remaining reader.old) stage.old result (R.remaining reader.new) stage.new }
     ensures row { IfOk result (λ row. IfSome row IsLodgeOrBad) }
     ensures ends { ending stage.new ≡ ends_by result }
-    ensures again { (fault : Option ImportFault) → ending stage.old ≡ Some fault → (result ≡ at_end fault) × (reader.new ≡ reader.old) × (stage.new ≡ stage.old) × (watch.new ≡ watch.old) }
+    ensures again { (fault : Option ImportFault) → ending stage.old ≡ Some fault
+        → (result ≡ at_end fault) × (reader.new ≡ reader.old) × (stage.new ≡ stage.old) × (watch.new ≡ watch.old) }
     ensures true_at { IsTrueAt stage.old (has_failed watch.old) → IsTrueAt stage.new (has_failed watch.new) }
-    ensures read { IsTrueAt stage.old (has_failed watch.old) → IfErr result (λ fault. IsTrueFault fault (has_failed watch.new)) }
+    ensures read { IsTrueAt stage.old (has_failed watch.old) → IsTrueResult result (has_failed watch.new) }
+    ensures before { (text : Option (List ℕ)) (con : Constituency) (sep : Sep)
+        → IsAt text (R.remaining reader.old) con sep stage.old → ending stage.old ≡ None → result ≡ Err cause.Read
+        → IfSome text (λ t. AllRowsCame con sep (came_by stage.old) t (R.remaining reader.new)) }
 {
     let rows = match stage {
         Stage::Unread => unreachable!(),
@@ -237,8 +267,10 @@ impl Rows {
         ensures reading { IfOk result (IsReadingRows (R.remaining reader.old) (R.remaining reader.new) con.now sep) }
         ensures came { IfOk result (λ rows. rows.came ≡ 0) }
         ensures fault { IfErr result (IsNext (R.remaining reader.old) (text_coming con.now sep)) }
-        ensures true_at { IfOk result (λ rows. TellsTrue rows.records (has_failed watch.new)) }
+        ensures true_at { IfOk result (λ rows. TellsTrue (has_failed watch.old) rows.records (has_failed watch.new)) }
         ensures read { IfErr result (λ fault. IsTrueFault fault (has_failed watch.new)) }
+        ensures before { result ≡ Err cause.Read → IfSome (R.remaining reader.old)
+            (λ text. AllRowsCame con.now sep 0 text (R.remaining reader.new)) }
     {
         let mut records = Records::new(alloc, reader, watch, sep)?;
         let mut header = ByteRecord::new(alloc);
@@ -258,7 +290,7 @@ impl Rows {
         })
     }
 
-    /// The next row, or the end or the fault behind the last one.
+    /// The next row, or the end or the fault after the last one.
     fn next<R: Read>(
         &mut self,
         alloc: Global,
@@ -271,8 +303,13 @@ impl Rows {
         ensures gives { (text : Option (List ℕ)) (con : Constituency) (sep : Sep) → IsReadingRows text (R.remaining reader.old) con sep self.old
             → GivesRow text (R.remaining reader.new) con sep self.old result self.new }
         ensures row { IfOk result (λ row. IfSome row IsLodgeOrBad) }
-        ensures true_at { TellsTrue self.old.records (has_failed watch.old) → OnOk result (TellsTrue self.new.records (has_failed watch.new)) }
-        ensures read { TellsTrue self.old.records (has_failed watch.old) → IfErr result (λ fault. IsTrueFault fault (has_failed watch.new)) }
+        ensures true_at { TellsTrue false self.old.records (has_failed watch.old)
+            → OnOk result (TellsTrue false self.new.records (has_failed watch.new)) }
+        ensures read { TellsTrue false self.old.records (has_failed watch.old)
+            → IsTrueResult result (has_failed watch.new) }
+        ensures before { (text : Option (List ℕ)) (con : Constituency) (sep : Sep)
+            → IsReadingRows text (R.remaining reader.old) con sep self.old → result ≡ Err cause.Read
+            → IfSome text (λ t. AllRowsCame con sep self.old.came t (R.remaining reader.new)) }
     {
         if let Some(end) = self.records.next(alloc, reader, watch, &mut self.fields)? {
             return rows_end(end);
@@ -299,7 +336,7 @@ fn import_fault(stop: Stop) -> ImportFault
 /// The fault of a text that has no complete record.
 fn header_fault(end: End) -> ImportFault
     ensures fault { result ≡ no_header end.stop }
-    ensures read { (failed : Bool) → IsStop end.stop failed → IsTrueFault result failed }
+    ensures read { (before failed : Bool) → failed ≡ flag_after_stop end.stop before → IsTrueFault result failed }
 {
     match end.stop {
         None => ImportFault::BadHeader,
@@ -307,10 +344,10 @@ fn header_fault(end: End) -> ImportFault
     }
 }
 
-/// What comes behind the last row of a text.
+/// What comes after the last row of a text.
 fn rows_end(end: End) -> Result<Option<Row>, ImportFault>
     ensures end { result ≡ at_end (option_map import_fault end.stop) }
-    ensures read { (failed : Bool) → IsStop end.stop failed → IfErr result (λ fault. IsTrueFault fault failed) }
+    ensures read { (failed : Bool) → failed ≡ flag_after_stop end.stop false → IsTrueResult result failed }
 {
     match end.stop {
         None => Ok(None),

@@ -5,6 +5,7 @@ ghost use Rattle.csv.specs.Records.{fields_of};
 ghost use Rattle.tally_import.specs.Check.{every_code};
 ghost use Rattle.tally_import.specs.Rows.{is_number_text, number_of, row_of, numbers_of};
 
+use crate::header::FIXED_NAMES;
 use csv::ByteRecord;
 use std::alloc::{AllocError, Global};
 use tally_keeper::{Ask, Counts, Row};
@@ -19,7 +20,7 @@ pub(crate) fn row_of(alloc: Global, lists: usize, fields: &ByteRecord) -> Result
     requires { lists ≤ 60 }
     ensures { IfOk result (λ row. row ≡ row_of (every_code lists) lists (fields_of fields.now)) }
 {
-    if fields.len() != lists + 4 {
+    if fields.len() != lists + FIXED_NAMES {
         return Ok(Row::Bad);
     }
     let Some(station) = Code::new(field(fields, 0)) else {
@@ -48,9 +49,9 @@ pub(crate) fn row_of(alloc: Global, lists: usize, fields: &ByteRecord) -> Result
     }))
 }
 
-/// The numbers of a record's fields behind the first four, one for each of so many lists, if they
-/// all are numbers. A call of its own leaves the registers to its loops, where most of a check's own
-/// time goes.
+/// The numbers of a record's fields after the fixed ones, one for each of so many lists, if they
+/// are all numbers. A call of its own leaves the registers to its loops, where most of a check's
+/// own time goes.
 #[inline(never)]
 fn votes_of(
     alloc: Global,
@@ -60,7 +61,7 @@ fn votes_of(
     ensures { IfOk result (λ votes. option_map (λ v. v.items) votes ≡ numbers_of (drop 4 (fields_of fields.now))) }
 {
     let mut votes = Vec::with_capacity(alloc, lists)?;
-    for place in 4..fields.len() {
+    for place in FIXED_NAMES..fields.len() {
         match number(field(fields, place)) {
             Some(n) => votes.push(n)?,
             None => return Ok(None),

@@ -16,7 +16,7 @@ use Rattle.sqlite_keyed.proofs.ListLemmas.{all_weaker, all-append}
 use Rattle.tally_rules.specs.Code.{is_code}
 use Rattle.tally_rules.specs.Codes.{is_among}
 use Rattle.tally_rules.specs.Constituency.{Constituency}
-use Rattle.tally_rules.specs.Limits.{IsSetup}
+use Rattle.tally_rules.specs.Limits.{IsConstituency, IsSetup}
 use Rattle.tally_rules.specs.Setup.{all_stations, constituency_with, constituency_codes, station_with}
 use Rattle.tally_rules.specs.declared.constituency.Station.{Station}
 use Rattle.tally_ledger.specs.Kept.{Kept, opening_kept, view_in}
@@ -44,6 +44,13 @@ use Rattle.tally_judge.proofs.OrderLemmas.{sorted_from_rises, rises_from_sorted}
 use Rattle.tally_judge.proofs.StateLemmas.{IsHeld, IsKnown, all_held, views_of, view_entry, rows_of_state, lawful_found, readable_found}
 
 -- ---- codes
+
+has_codes : (con : Constituency) → IsConstituency con → HasCodes con
+has_codes con limits = record { own = limits.code; stations = λ k d lt. (limits.each_station k d lt).code }
+
+-- that codes are codes is one of the limits of a setup
+pub setup_has_codes : (setup : List Constituency) → IsSetup setup → All HasCodes setup
+setup_has_codes setup limits k d lt = has_codes _ (limits.each_constituency k d lt)
 
 con_stations : (con : Constituency) (stations : List Station) → AllByRecursion (λ (s : Station). is_code s.code ≡ true) stations → AllByRecursion (λ (p : Constituency × Station). is_code p.1.code ≡ true) (map (λ (s : Station). (con, s)) stations)
 con_stations con [] h = tt

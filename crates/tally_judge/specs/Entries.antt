@@ -32,10 +32,14 @@ rises = rises_on key_of text_cmp
 
 -- a return of a station of the setup, and lawful there
 abbrev pub IsLawfulEntry : List Constituency → List ℕ × StationReturn → Type 0
-IsLawfulEntry setup e = (limits : StationLimits) × (stations_of setup e.0 ≡ Some limits) × IsLawful limits e.1
+IsLawfulEntry setup e =
+    (limits : StationLimits) × (stations_of setup e.0 ≡ Some limits) × IsLawful limits e.1
 
--- The rows of `returns` and `counts` are those of these returns, in the order of their keys, and each return is lawful at its station.
-pub record AreReturnsOf (setup : List Constituency) (rows counts : List Row) (returns : Returns) : Type 0 where
-  pub lawful : (station : List ℕ) → ForSome (get returns station) (λ standing. IsLawfulEntry setup (station, standing))
+-- The rows of `returns` and `counts` are those of these returns, in the order of their keys, and
+-- each return is lawful at its station.
+pub record AreReturnsOf (setup : List Constituency) (rows counts : List Row)
+    (returns : Returns) : Type 0 where
+  pub lawful : (station : List ℕ) → ForSome (get returns station)
+      (λ standing. IsLawfulEntry setup (station, standing))
   pub rows_are : rows ≡ flat_map (return_rows setup) (entries returns)
   pub counts_are : counts ≡ flat_map count_rows (entries returns)

@@ -6,7 +6,8 @@ use Rattle.sqlite_value.specs.Order.{Row}
 use Rattle.tally_rules.specs.Constituency.{Constituency}
 use Rattle.tally_steps.specs.LawfulState.{IsLawfulState}
 use Rattle.tally_returns.specs.State.{State}
-use Rattle.tally_tables.specs.Cells.{return_rows, count_rows, con_rows, lot_rows, seat_rows, gone_rows, total_rows, past_rows}
+use Rattle.tally_tables.specs.Cells.{return_rows, count_rows, con_rows, lot_rows, seat_rows}
+use Rattle.tally_tables.specs.Cells.{gone_rows, total_rows, past_rows}
 use Rattle.tally_tables.specs.TablesOfState.{AreSeats}
 use Rattle.tally_tables.specs.Views.{Tables, tables_in}
 use Rattle.tally_judge.specs.declared.office.OfficeRows.{OfficeRows}
@@ -18,9 +19,15 @@ pub record Rows : Type 0 where
   pub tables : Tables
 
 abbrev pub rows_in : OfficeRows → Rows
-rows_in rows = record { returns = rows.returns.now; counts = rows.counts.now; cons = rows.cons.now; tables = tables_in rows.tables }
+rows_in rows = record {
+  returns = rows.returns.now;
+  counts = rows.counts.now;
+  cons = rows.cons.now;
+  tables = tables_in rows.tables;
+}
 
--- These are the rows of the tables of a state over a setup, as `AreTables` has them, without their rowids and in the order of the keys.
+-- These are the rows of the tables of a state over a setup, as `AreTables` has them, without their
+-- rowids and in the order of the keys.
 pub record AreOfficeRows (setup : List Constituency) (s : State) (rows : Rows) : Type 0 where
   pub given : List ℕ → List ℕ
   pub allotted : AreSeats setup s given
@@ -42,4 +49,5 @@ pub record AreRowsOfOneState (setup : List Constituency) (rows : Rows) : Type 0 
   pub state : State
   pub lawful : IsLawfulState setup state
   pub rows_are : AreOfficeRows setup state rows
-  pub alone : (other : State) → IsLawfulState setup other → AreOfficeRows setup other rows → other ≡ state
+  pub alone : (other : State) → IsLawfulState setup other → AreOfficeRows setup other rows →
+      other ≡ state

@@ -2,7 +2,8 @@
 use Rattle.std.specs.Prelude.{◌≡◌, ◌⊎◌, ◌&&◌, All, Bool, true, [], nat_le}
 use Rattle.tally_law.specs.LotNeed.{IsLotTaken}
 use Rattle.tally_law.specs.Poll.{HasEligible}
-use Rattle.tally_steps.specs.Outcome.{HasSeats, IsLawfulGone, IsLawfulPast, MayStand, poll_in, rule_in}
+use Rattle.tally_steps.specs.Outcome.{HasSeats, IsLawfulGone, IsLawfulPast, MayStand, poll_in}
+use Rattle.tally_steps.specs.Outcome.{rule_in}
 use Rattle.tally_returns.specs.Lawful.{may_stand}
 use Rattle.tally_returns.specs.State.{last_edition}
 use Rattle.tally_returns.specs.View.{View, FitsView}
@@ -10,7 +11,9 @@ use Rattle.tally_rules.specs.Constituency.{Constituency}
 
 -- the stations, the edition and the note are within their limits
 abbrev pub is_in_range : View → Bool
-is_in_range view = nat_le view.stations 5000 && nat_le 1 view.edition && nat_le view.edition last_edition && may_stand view.note
+is_in_range view =
+    nat_le view.stations 5000 && nat_le 1 view.edition && nat_le view.edition last_edition
+    && may_stand view.note
 
 -- All but the seats and the lot is as in a lawful view.
 pub record HasLawfulFrame (con : Constituency) (view : View) : Type 0 where
@@ -29,4 +32,5 @@ IsOpen con view = (view.seats ≡ []) × ((view.lot ≡ []) ⊎ MayStand con vie
 
 -- the lot is the one to be taken
 abbrev pub IsLotRight : Constituency → View → Type 0
-IsLotRight con view = HasEligible (poll_in con view) × IsLotTaken (rule_in con) (poll_in con view) con.seats view.lot
+IsLotRight con view =
+    HasEligible (poll_in con view) × IsLotTaken (rule_in con) (poll_in con view) con.seats view.lot

@@ -3,8 +3,8 @@
 ghost use Rattle.std.specs.Prelude.{◌≡◌, All, IfOk, IsTrue};
 ghost use Rattle.std.specs.Ordering.{is_lt, nat_cmp};
 ghost use Rattle.tally_judge.specs.Entries.{is_below, rises, rises_on};
-ghost use Rattle.tally_judge.specs.Found.{AreAllLawful, AreLawfulCons, IsLawfulFound};
-ghost use Rattle.tally_judge.specs.Found.{gone_places, is_as_counted, past_edition, same_numbers};
+ghost use Rattle.tally_judge.specs.Found.{AreAllLawful, AreLawfulCons, IsLawfulFound, gone_places};
+ghost use Rattle.tally_judge.specs.Found.{is_as_counted, past_edition, same_numbers};
 ghost use Rattle.tally_rows.specs.Rows.{text_cmp};
 ghost use Rattle.tally_tables.specs.Views.{tables_in};
 
@@ -23,8 +23,10 @@ pub(crate) fn are_lawful_cons(
     cons: &[Row],
     tables: ConTables<'_>,
 ) -> Result<bool, AllocError>
-    ensures lawful { IfOk result (λ yes. IsTrue yes → AreLawfulCons ledger.now cons.now (tables_in tables.entry)) }
-    ensures otherwise { IfOk result (λ yes. AreLawfulCons ledger.now cons.now (tables_in tables.entry) → IsTrue yes) }
+    ensures lawful { IfOk result (λ yes.
+        IsTrue yes → AreLawfulCons ledger.now cons.now (tables_in tables.entry)) }
+    ensures otherwise { IfOk result (λ yes.
+        AreLawfulCons ledger.now cons.now (tables_in tables.entry) → IsTrue yes) }
 {
     let Some(found) = views_from(alloc, ledger, cons, tables)? else {
         return Ok(false);
@@ -115,7 +117,7 @@ fn same_numbers(view: &ConView, counted: &ConView) -> bool
         && view.spoiled == counted.spoiled
 }
 
-/// Whether each candidate who is gone stands before the next, by list and then by place.
+/// Whether each candidate who is gone comes before the next, by list and then by place.
 fn gone_rise(gone: &[Gone]) -> bool
     ensures { result ≡ rises_on gone_places text_cmp gone.now }
 {

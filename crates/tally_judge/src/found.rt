@@ -2,7 +2,8 @@
 
 ghost use Rattle.std.specs.Prelude.{◌≡◌, IfOk, option_map};
 ghost use Rattle.tally_ledger.specs.Kept.{view_in};
-ghost use Rattle.tally_tables.specs.Views.{con_counted, found_at, statuses_of, tables_in, views_from};
+ghost use Rattle.tally_tables.specs.Views.{con_counted, found_at, statuses_of, tables_in};
+ghost use Rattle.tally_tables.specs.Views.{views_from};
 
 use sqlite::Row;
 use std::alloc::{AllocError, Global};
@@ -60,7 +61,8 @@ fn found_at(
     row: &Row,
     tables: ConTables<'_>,
 ) -> Result<Option<ConFound>, AllocError>
-    ensures { IfOk result (λ found. found ≡ found_at counted.now row.now (tables_in tables.entry) con.now) }
+    ensures { IfOk result (λ found.
+        found ≡ found_at counted.now row.now (tables_in tables.entry) con.now) }
 {
     let found = view_in(alloc, con, statuses_of(counted), row, tables)?;
     Ok(found.map(|view| ConFound {

@@ -1,7 +1,6 @@
 //! Whether the rows of an office's tables are those of a lawful state.
 #![tactic(auto)]
 
-mod codes;
 mod cons;
 mod found;
 mod office;

@@ -6,7 +6,6 @@ ghost use Rattle.tally_judge.specs.Entries.{IsLawfulEntry, rises};
 ghost use Rattle.tally_judge.specs.OfficeRows.{AreLawfulRows, AreRowsOfOneState, rows_in};
 ghost use Rattle.tally_ledger.specs.Kept.{opening_kept};
 
-use crate::codes::have_codes;
 use crate::cons::are_lawful_cons;
 use crate::returns::{are_lawful, stations_rise};
 use sqlite::Row;
@@ -16,8 +15,8 @@ use tally_machine::laws;
 use tally_rules::Setup;
 use tally_tables::{ConTables, Entry, entries_in};
 
-/// The rows of all tables but `setup`, without their rowids, those of each table in the order of its
-/// key.
+/// The rows of all tables but `setup`, without their rowids, those of each table in the order of
+/// its key.
 #[derive(Clone, Copy)]
 pub struct OfficeRows<'a> {
     pub returns: &'a [Row],
@@ -33,11 +32,15 @@ pub fn accept_rows(
     setup: Setup,
     rows: OfficeRows<'_>,
 ) -> Result<Option<Setup>, AllocError>
-    ensures passed { IfOk result (λ found. OnSome found (AreRowsOfOneState setup (rows_in rows.entry))) }
-    ensures must_pass { IfOk result (λ found. AreLawfulRows setup (rows_in rows.entry) → IsSome found) }
+    ensures passed { IfOk result (λ found.
+        OnSome found (AreRowsOfOneState setup (rows_in rows.entry))) }
+    ensures must_pass { IfOk result (λ found.
+        AreLawfulRows setup (rows_in rows.entry) → IsSome found) }
     ensures setup { IfOk result (λ found. IfSome found (λ again. again ≡ setup)) }
 {
-    have_codes(&setup);
+    // Called for what its contract says: the setup is within its limits.
+    let _cons = setup.cons();
+    // Called for what its contract says: a constituency has a view in each lawful state.
     laws::a_constituency_has_a_view();
     let Some(entries) = entries_in(alloc, &setup, rows.returns, rows.counts)? else {
         return Ok(None);
@@ -59,7 +62,8 @@ pub fn accept_rows(
 fn ledger_of(alloc: Global, setup: Setup, entries: Vec<Entry>) -> Result<Ledger, AllocError>
     requires rise { rises entries.items ≡ true }
     requires lawful { All (IsLawfulEntry setup) entries.items }
-    ensures { IfOk result (λ ledger. ledger ≡ record (opening_kept setup) { returns = from_entries entries.items }) }
+    ensures { IfOk result (λ ledger.
+        ledger ≡ record (opening_kept setup) { returns = from_entries entries.items }) }
 {
     let mut ledger = Ledger::new(alloc, setup)?;
     for entry in entries {
@@ -70,7 +74,8 @@ fn ledger_of(alloc: Global, setup: Setup, entries: Vec<Entry>) -> Result<Ledger,
 
 fn put_entry(ledger: &mut Ledger, entry: Entry) -> Result<(), AllocError>
     requires { IsLawfulEntry ledger.now.setup entry }
-    ensures { OnOk result (ledger.new ≡ record ledger.old { returns = insert ledger.old.returns entry.0 entry.1 }) }
+    ensures { OnOk result
+        (ledger.new ≡ record ledger.old { returns = insert ledger.old.returns entry.0 entry.1 }) }
 {
     ledger.put(entry.station, entry.standing)
 }

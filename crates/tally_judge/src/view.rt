@@ -4,7 +4,8 @@ ghost use Rattle.std.specs.Prelude.{◌≡◌, ◌≢◌, ◌≤◌, All, IfOk, 
 ghost use Rattle.tally_steps.specs.Outcome.{IsLawfulGone, IsLawfulPast, IsLawfulView, is_candidate};
 ghost use Rattle.tally_returns.specs.Lawful.{is_kept_note, may_stand};
 ghost use Rattle.tally_returns.specs.View.{FitsView, HasEachList};
-ghost use Rattle.tally_judge.specs.Seen.{HasLawfulFrame, IsCertified, IsLotRight, IsOpen, is_in_range};
+ghost use Rattle.tally_judge.specs.Seen.{HasLawfulFrame, IsCertified, IsLotRight, IsOpen};
+ghost use Rattle.tally_judge.specs.Seen.{is_in_range};
 
 use std::alloc::{AllocError, Global};
 use tally_allot::{AllotFault, allot, is_allotment};
@@ -14,8 +15,8 @@ use tally_rules::{Constituency, good_note};
 /// The most stations of a constituency.
 const MOST_STATIONS: u32 = 5_000;
 
-/// Whether a constituency may be seen so in a lawful state: its lot, its seats, those who are gone
-/// and its certificates that were reopened.
+/// Whether a lawful state may show a constituency in this way: its lot, its seats, those who are
+/// gone, and its certificates that were reopened.
 pub fn is_lawful_view(alloc: Global, con: &Constituency, view: &ConView) -> Result<bool, AllocError>
     ensures lawful { IfOk result (λ yes. IsTrue yes → IsLawfulView con.now view.now) }
     ensures otherwise { IfOk result (λ yes. IsLawfulView con.now view.now → IsTrue yes) }
@@ -96,7 +97,7 @@ fn is_open(alloc: Global, con: &Constituency, view: &ConView) -> Result<bool, Al
     is_lot_taken(alloc, con, view)
 }
 
-/// Whether a lot that stands is the one to be taken.
+/// Whether a lot that is recorded is the one to be taken.
 fn is_lot_taken(alloc: Global, con: &Constituency, view: &ConView) -> Result<bool, AllocError>
     requires fits { FitsView con.now view.now }
     requires lot { view.now.lot ≢ [] }
@@ -121,7 +122,7 @@ fn is_lot_taken(alloc: Global, con: &Constituency, view: &ConView) -> Result<boo
     }
 }
 
-/// Whether each of those who are gone is a candidate, with a note that is kept.
+/// Whether each of those who are gone is a candidate, and has a note that can be kept.
 fn are_candidates(con: &Constituency, gone: &[Gone]) -> bool
     ensures candidates { IsTrue result → All (IsLawfulGone con.now) gone.now }
     ensures otherwise { All (IsLawfulGone con.now) gone.now → IsTrue result }

@@ -1,5 +1,5 @@
-//! Tests of `tally_schema` and `tally_judge`, which over their finished proofs are checked once. Nothing here is
-//! public, so there are no must-fail edits.
+//! Tests of `tally_schema` and `tally_judge`. They are checked once, over the finished proofs of
+//! both. Nothing here is public, so there are no must-fail edits.
 #![tactic(auto)]
 
 #[cfg(test)]

@@ -51,9 +51,9 @@ code = "t1"
 electors = 300
 "#;
 
-/// Twin Town is certified: the two lists have 100 votes each, the lot names the second list first,
-/// which so has two of the three seats, and its candidate is gone. Kay was certified at edition 2,
-/// when its one seat went to its one list, and is open again.
+/// Twin Town is certified. The two lists have 100 votes each, and the lot names the second list
+/// first. So the second list has two of the three seats, and its candidate is gone. Kay was
+/// certified at edition 2, when its one seat went to its one list, and is open again.
 const ROWS: &str = "
 INSERT INTO returns VALUES ('s1', 'c1', 2, 'p1', 4, ''), ('t1', 'c2', 1, 'q1', 1, '');
 INSERT INTO counts VALUES ('s1', 0, 0), ('s1', 1, 100), ('s1', 2, 100), ('s1', 61, 0);

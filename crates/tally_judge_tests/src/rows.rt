@@ -4,9 +4,10 @@ use crate::offices::answer;
 use std::alloc::Global;
 use std::test::Fail;
 
-/// Each column of each table changed, to a neighbour, to 0, to the largest number or to a text; rows
-/// left out or too many; rows of one constituency under the code of another. What an edit leaves is
-/// refused by the table itself, is the rows of no state, or those of another lawful state.
+/// Each column of each table is changed: to a neighbour, to 0, to the largest number or to a text.
+/// Rows are left out or are too many. Rows of one constituency have the code of another. What an
+/// edit leaves is refused by the table itself, is the rows of no state, or is those of another
+/// lawful state.
 const EDITS: &str = "\
 UPDATE returns SET station = 's9' WHERE station = 's1' -> unlawful
 UPDATE returns SET station = 'S1' WHERE station = 's1' -> unlawful

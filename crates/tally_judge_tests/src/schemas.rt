@@ -45,8 +45,8 @@ fn add_past(conn: &mut Connection<MemStore>) -> Result<(), Error> {
     tx.commit()
 }
 
-// Whether a schema is that of an office or of a former one, has the former tables and `past`, and whether a name is
-// taken.
+// Whether a schema is that of an office or of a former one, whether it has the former tables and
+// `past`, and whether a name is taken.
 fn shown(alloc: Global, schema: &Schema) -> Result<String, Fail> {
     let office = is_office_schema(alloc, schema)?;
     let former = is_former_schema(alloc, schema)?;
@@ -77,7 +77,8 @@ fn a_former_office_gets_its_past(rt: HostRuntime) -> Result<(), Fail> {
     Ok(())
 }
 
-// A table that is kept aside since a trigger binds it, or where `owner` is another, an index of that table.
+// A table that is kept aside since a trigger binds it. Where `owner` is another name, an index of
+// that table.
 fn aside(alloc: Global, name: &[u8], owner: &[u8]) -> Result<View, AllocError> {
     Ok(View {
         name: Bytes::from_slice(alloc, name)?,

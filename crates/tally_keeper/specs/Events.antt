@@ -1,4 +1,5 @@
--- What happened to a keeper, as requests with their answers: an import is its Lodge commands, one by one.
+-- What happened to a keeper, as requests with their answers: an import is its Lodge commands, one
+-- by one.
 use Rattle.std.specs.Prelude.{List, [], ◌∷◌, ◌++◌, Bool, false, Some, None, Result, Ok, Err}
 use Rattle.std.specs.List.{list_any}
 use Rattle.tally_steps.specs.Runs.{is_act}
@@ -51,7 +52,8 @@ acts (request ask r) = is_act r
 acts (whole_import rows answered count) = list_any is_lodged answered
 acts (failed_import fault) = false
 
--- The slip that a request brings is a code. So it is of each request that a program makes, and of each row of an import.
+-- The slip that a request brings is a code. So it is of each request that a program makes, and of
+-- each row of an import.
 abbrev pub BringsCodes : Event → Type 0
 BringsCodes (request ask r) = BringsCode ask
 BringsCodes other = Unit {0}

@@ -36,7 +36,8 @@ held_code =
     code_by (List Constituency × State) (coded× setup_row.coded state_code)
     (λ h. (h.setup, h.state)) (λ p. record { setup = p.0; state = p.1 }) (λ _. refl)
 
--- What is kept is lawful, and the seats that are kept of a certified constituency are those of the one allotment.
+-- What is kept is lawful, and the seats that are kept of a certified constituency are those of the
+-- one allotment.
 pub record IsHeld (k : Kept) : Type 0 where
   pub limits : IsSetup k.setup
   pub lawful : IsLawfulState k.setup (state_in k)
@@ -81,7 +82,8 @@ abbrev pub is_query : Ask → Bool
 is_query (Query station rev note) = true
 is_query other = false
 
--- a command on the constituency of a code was answered by a step, or it is out of memory and nothing has changed
+-- a command on the constituency of a code was answered by a step, or it is out of memory and
+-- nothing has changed
 abbrev pub IsAnsweredOn : List ℕ → Kept → Ask → Result Reply Refusal → Kept → Type 0
 IsAnsweredOn code k ask r new =
     IsConStep (constituency_with code k.setup) (state_in k) ask r (state_in new) ⊎ ((r ≡ Err Memory) × (state_in new ≡ state_in k))
@@ -97,8 +99,8 @@ is_edition_change other = false
 abbrev pub CanRise : Kept → List ℕ → ℕ → Type 0
 CanRise k code edition = IsSome (constituency_with code k.setup) × ((con_state (state_in k) code).edition ≡ edition) × (edition + 1 < 2 ^ 32)
 
--- A change can be carried out: of a constituency of the setup whose edition can rise; a candidate who goes is not gone; and a
--- certificate that is put on record comes after those that are.
+-- A change can be carried out: of a constituency of the setup whose edition can rise; a candidate
+-- who goes is not gone; and a certificate that is put on record comes after those that are.
 abbrev pub CanCarryOut : Kept → List ℕ → ℕ → Change → Type 0
 CanCarryOut k code edition (SetGone candidate next) =
     IsSome (constituency_with code k.setup) × (get (con_state (state_in k) code).gone (candidate.list ∷ candidate.place ∷ []) ≡ None)
@@ -125,7 +127,7 @@ row_answer_in k row = row_answer (stations_of k.setup) k.returns row
 abbrev pub after_row_in : Kept → Row → Returns
 after_row_in k row = after_row (stations_of k.setup) k.returns row
 
--- the returns but for those of these stations
+-- the returns except those of these stations
 abbrev pub without : List (List ℕ) → Returns → Returns
 without [] returns = returns
 without (station ∷ stations) returns = without stations (remove returns station)

@@ -1,5 +1,6 @@
--- An import: the Lodge commands of its rows one by one, bad rows passed over, and the count of what they were answered.
-use Rattle.std.specs.Prelude.{◌≡◌, if◌then◌else◌, ◌+◌, ◌<◌, ◌==◌, not, ℕ, Bool, true, false, List, [], ◌∷◌, Option, Some, None, Result, Ok, Err, count_by}
+-- An import: the Lodge commands of its rows one by one, bad rows passed over, and the count of what
+-- they were answered.
+use Rattle.std.specs.Prelude.{◌≡◌, if◌then◌else◌, ◌+◌, ◌<◌, not, ℕ, Bool, true, false, List, [], ◌∷◌, Option, Some, None, Result, Ok, Err, count_by}
 use Rattle.tally_rules.specs.Code.{is_code}
 use Rattle.tally_returns.specs.Counts.{VoteCounts}
 use Rattle.tally_returns.specs.Return.{Returns}
@@ -7,6 +8,7 @@ use Rattle.tally_returns.specs.Refusals.{number}
 use Rattle.tally_returns.specs.Lodge.{Stations, lodge, lodge_answer}
 use Rattle.tally_returns.specs.declared.ask.Ask.TheVariants.{Lodge}
 use Rattle.tally_returns.specs.declared.refusal.Refusal.{Refusal}
+use Rattle.tally_returns.specs.declared.refusal.Refusal.TheVariants.{Differs}
 use Rattle.tally_returns.specs.declared.reply.LodgeReply.{LodgeReply}
 use Rattle.tally_returns.specs.declared.reply.LodgeReply.TheVariants.{Lodged, Same}
 use Rattle.tally_keeper.specs.declared.import.ImportCount.{ImportCount}
@@ -16,7 +18,7 @@ use Rattle.tally_keeper.specs.declared.import.Row.TheVariants as row
 use Rattle.tally_keeper.specs.declared.source.ImportFault.{ImportFault}
 use Rattle.tally_keeper.specs.declared.source.ImportFault.TheVariants as fault
 
--- what a row was answered: a bad one nothing, and so one of another command than Lodge
+-- what a row was answered: nothing where it is bad, or a command other than Lodge
 abbrev pub RowAnswer : Type 0
 RowAnswer = Option (Result LodgeReply Refusal)
 
@@ -44,7 +46,8 @@ abbrev pub imported : Stations → Returns → List Row → Returns
 imported stations returns [] = returns
 imported stations returns (r ∷ rows) = imported stations (after_row stations returns r) rows
 
--- one thing of a row that was lodged, another of one that was there already, of a refused one, of a bad one
+-- one thing of a row that was lodged, another of one that was there already, of a refused one, of a
+-- bad one
 abbrev pub by_answer : {X : Type 0} → X → X → (Refusal → X) → X → RowAnswer → X
 by_answer lodged same refused bad (Some (Ok (Lodged rev))) = lodged
 by_answer lodged same refused bad (Some (Ok (Same rev))) = same
@@ -57,18 +60,24 @@ is_lodged = by_answer true false (λ e. false) false
 abbrev pub is_same : RowAnswer → Bool
 is_same = by_answer false true (λ e. false) false
 
+-- the refusal of a return that differs from the one that is recorded
+abbrev pub says_differs : Refusal → Bool
+says_differs (Differs rev) = true
+says_differs other = false
+
 -- another return of the station is recorded
 abbrev pub is_differing : RowAnswer → Bool
-is_differing = by_answer false false (λ e. number e == 7) false
+is_differing = by_answer false false says_differs false
 
 -- refused for another reason
 abbrev pub is_refused : RowAnswer → Bool
-is_refused = by_answer false false (λ e. not (number e == 7)) false
+is_refused = by_answer false false (λ e. not (says_differs e)) false
 
 abbrev pub is_bad : RowAnswer → Bool
 is_bad = by_answer false false (λ e. false) true
 
--- what is noted of a row that was neither lodged nor there already: its refusal's number, or 0 of a bad one
+-- what is noted of a row that was neither lodged nor there already: its refusal's number, or 0 of a
+-- bad one
 abbrev pub noted : RowAnswer → Option ℕ
 noted = by_answer None None (λ e. Some (number e)) (Some 0)
 
@@ -86,15 +95,15 @@ abbrev pub first_note : ℕ → List RowAnswer → Option FirstRow
 first_note at [] = None
 first_note at (a ∷ rest) = or_else (note_at at (noted a)) (first_note (at + 1) rest)
 
--- the count with one refused row more, by the refusal's number
-abbrev pub with_refusal : ImportCount → ℕ → ℕ → ImportCount
-with_refusal c row n = record c {
-  differs = c.differs + (if n == 7 then 1 else 0);
-  refused = c.refused + (if n == 7 then 0 else 1);
-  first = or_else c.first (note_at row (Some n));
+-- the count with one more refused row
+abbrev pub with_refusal : ImportCount → ℕ → Refusal → ImportCount
+with_refusal c row refusal = record c {
+  differs = c.differs + (if says_differs refusal then 1 else 0);
+  refused = c.refused + (if says_differs refusal then 0 else 1);
+  first = or_else c.first (note_at row (Some (number refusal)));
 }
 
--- the count with one row more
+-- the count with one more row
 abbrev pub counted : ImportCount → ℕ → RowAnswer → ImportCount
 counted c row a = record {
   lodged = c.lodged + (if is_lodged a then 1 else 0);

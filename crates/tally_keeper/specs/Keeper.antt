@@ -13,14 +13,15 @@ use Rattle.tally_keeper.specs.declared.import.Row.{Row}
 use Rattle.tally_keeper.specs.declared.source.ImportFault.{ImportFault}
 use Rattle.tally_keeper.specs.declared.source.ImportFault.TheVariants.{TooLong, Memory, Store}
 
--- What happens to a keeper: a request with its answer; an import that was done, with the rows that came, what each of them was
--- answered and the count of that; or an import with a fault.
+-- What happens to a keeper: a request with its answer; an import that was done, with the rows that
+-- came, what each of them was answered and the count of that; or an import with a fault.
 pub data Event : Type 0 where
   request : Ask → Result Reply Refusal → Event
   whole_import : List Row → List RowAnswer → ImportCount → Event
   failed_import : ImportFault → Event
 
--- An import that was done leaves what the Lodge commands of its rows leave one by one, refused and bad rows passed over. Their slips are codes.
+-- An import that was done leaves what the Lodge commands of its rows leave one by one, refused and
+-- bad rows passed over. Their slips are codes.
 abbrev pub IsImport : List Constituency → State → List Row → List RowAnswer → ImportCount → State → Type 0
 IsImport setup s rows answered count t = (length rows ≤ row_limit)
     × (answered ≡ answers (stations_of setup) s.returns rows)
@@ -28,7 +29,8 @@ IsImport setup s rows answered count t = (length rows ≤ row_limit)
     × (t ≡ record s { returns = imported (stations_of setup) s.returns rows })
     × All IsCodedRow rows
 
--- a keeper that is not shut: a request is answered, an import is done, or it has a fault and changes nothing
+-- a keeper that is not shut: a request is answered, an import is done, or it has a fault and
+-- changes nothing
 abbrev pub IsTaken : List Constituency → State → Event → State → Type 0
 IsTaken setup s (request ask r) t = IsAnswered setup s ask r t
 IsTaken setup s (whole_import rows answered count) t = IsImport setup s rows answered count t
@@ -40,8 +42,9 @@ IsNotTaken (request ask r) = IsNotAccepted r
 IsNotTaken (whole_import rows answered count) = ⊥
 IsNotTaken (failed_import fault) = Unit {0}
 
--- What happens to a keeper, and the state that it then has. It has none where a disk that failed has shut it: what met that failure
--- was not taken, also where its commit may have been made, and a keeper that was shut stays so and takes nothing.
+-- What happens to a keeper, and the state that it then has. It has none where a disk that failed
+-- has shut it: what met that failure was not taken, also where its commit may have been made, and a
+-- keeper that was shut stays so and takes nothing.
 abbrev pub Happens : List Constituency → Option State → Event → Option State → Type 0
 Happens setup (Some s) event (Some t) = IsTaken setup s event t
 Happens setup (Some s) event None = IsNotTaken event
@@ -71,7 +74,8 @@ Runs setup old asks rs new = (length rs ≡ length asks) × Happen setup old (re
 abbrev pub IsOwnFault : ImportFault → Type 0
 IsOwnFault fault = (fault ≡ Memory) ⊎ (fault ≡ Store)
 
--- the fault with which the source ended; where it is known what comes, that is the fault behind the rows, or a sudden one
+-- the fault with which the source ended; where it is known what comes, that is the fault after the
+-- rows, or a sudden one
 abbrev pub IsFaultOfSource : Option Coming → Ending → ImportFault → Type 0
 IsFaultOfSource known ended fault = (ended ≡ Some (Some fault)) × (IsSudden fault ⊎ IfSome known (λ coming. coming.fault ≡ Some fault))
 
@@ -83,7 +87,7 @@ IsCountedTooLong known fault = (fault ≡ TooLong) × (known ≡ None)
 abbrev pub IsFault : Option Coming → Ending → ImportFault → Type 0
 IsFault known ended fault = IsOwnFault fault ⊎ (IsFaultOfSource known ended fault ⊎ IsCountedTooLong known fault)
 
--- where it is known what comes, these are all of its rows, and nothing but the end comes behind them
+-- where it is known what comes, these are all of its rows, and nothing but the end comes after them
 abbrev pub AreAllOf : Option Coming → List Row → Type 0
 AreAllOf known rows = IfSome known (λ coming. (coming.rows ≡ rows) × (coming.fault ≡ None))
 

@@ -1,4 +1,5 @@
 pub mod Events
+pub mod Given
 pub mod Held
 pub mod Import
 pub mod Keeper

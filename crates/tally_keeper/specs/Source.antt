@@ -10,7 +10,7 @@ use Rattle.tally_keeper.specs.declared.source.ImportFault.TheVariants.{BadHeader
 abbrev pub row_limit : ℕ
 row_limit = 20000
 
--- What a source still gives: rows, and behind them its end or a fault.
+-- What a source still gives: rows, and after them its end or a fault.
 pub record Coming : Type 0 where
   pub rows : List Row
   pub fault : Option ImportFault
@@ -29,8 +29,8 @@ IsSudden Read = Unit {0}
 IsSudden Memory = Unit {0}
 IsSudden Store = ⊥
 
--- What a source gives next: the first of the rows that come, or its end or its fault behind the last row, which stays. What comes is
--- not always known; a fault of a database is none of a source.
+-- What a source gives next: the first of the rows that come, or its end or its fault after the last
+-- row, which stays. What comes is not always known; a fault of a database is not one of a source.
 abbrev pub GivesNext : Option Coming → Result (Option Row) ImportFault → Option Coming → Type 0
 GivesNext old (Ok (Some row)) new = IfSome old (λ coming. (rest : List Row) × (coming.rows ≡ row ∷ rest) × (new ≡ Some (record coming { rows = rest })))
 GivesNext old (Ok None) new = IfSome old (λ coming. (coming.rows ≡ []) × (coming.fault ≡ None)) × (new ≡ old)

@@ -4,9 +4,6 @@ ghost use Rattle.std.specs.Prelude.{◌≡◌, ◌+◌, ◌<◌, ◌^◌, ◌++�
 
 use tally_returns::{Ask, LodgeReply, Refusal};
 
-/// The number of the refusal of a return that differs from the one that stands.
-const DIFFERS: u32 = 7;
-
 /// A row of an import: a Lodge, or a row that cannot be read as one.
 #[derive(Debug, Drop)]
 pub enum Row {
@@ -28,9 +25,9 @@ pub struct FirstRow {
 pub struct ImportCount {
     /// Rows that were lodged.
     pub lodged: u32,
-    /// Rows whose return stood already.
+    /// Rows whose return was recorded already.
     pub same: u32,
-    /// Rows of a station where another return stands (refusal 7).
+    /// Rows of a station where another return is recorded (refusal 7).
     pub differs: u32,
     /// Rows that were refused for another reason.
     pub refused: u32,
@@ -74,7 +71,7 @@ impl ImportCount {
         match answer {
             Some(Ok(LodgeReply::Lodged { .. })) => self.lodged += 1,
             Some(Ok(LodgeReply::Same { .. })) => self.same += 1,
-            Some(Err(refusal)) => self.add_refused(row, refusal.number()),
+            Some(Err(refusal)) => self.add_refused(row, refusal),
             None => {
                 self.bad += 1;
                 self.note(row, 0);
@@ -83,22 +80,22 @@ impl ImportCount {
     }
 
     // Counts one more row that was refused.
-    fn add_refused(&mut self, row: u32, number: u32)
+    fn add_refused(&mut self, row: u32, refusal: Refusal)
         requires differs { self.old.differs + 1 < 2 ^ 32 }
         requires refused { self.old.refused + 1 < 2 ^ 32 }
-        ensures { self.new ≡ with_refusal self.old row number }
+        ensures { self.new ≡ with_refusal self.old row refusal }
     {
-        if number == DIFFERS {
-            self.differs += 1;
-        } else {
-            self.refused += 1;
+        match refusal {
+            Refusal::Differs { .. } => self.differs += 1,
+            _ => self.refused += 1,
         }
-        self.note(row, number);
+        self.note(row, refusal.number());
     }
 
     // Notes a row that was neither lodged nor there already, if it is the first.
     fn note(&mut self, row: u32, number: u32)
-        ensures { self.new ≡ record self.old { first = or_else self.old.first (note_at row (Some number)) } }
+        ensures { self.new ≡
+            record self.old { first = or_else self.old.first (note_at row (Some number)) } }
     {
         if self.first.is_none() {
             self.first = Some(FirstRow { row, number });

@@ -23,8 +23,8 @@ pub trait Keeper {
     /// The state, or `None` where a disk that failed has shut the keeper.
     ghost content: { Self → Option State };
 
-    /// No wrong answer of a disk has been taken as true: of a store, its disk was clean, and nothing
-    /// else. It may cease to hold at any call.
+    /// No wrong answer of a disk has been taken as true: of a store, its disk was clean, and
+    /// nothing else. It may cease to hold at any call.
     ghost IsTrusted: { Self → Type 0 };
 
     /// It is over a database, which may fail.
@@ -38,9 +38,9 @@ pub trait Keeper {
         ensures setup { result.now ≡ constituencies self.now }
         ensures lawful { IsTrusted self.now → IfSome (content self.now) (IsLawfulState (constituencies self.now)) };
 
-    /// Answers a request. One that is refused has changed nothing. The request at which a failed
-    /// disk shuts the keeper was not accepted, also where its commit may stand: only the next
-    /// opening shows that. A keeper that was shut accepts nothing. The reply is of the request's
+    /// Answers a request. One that is refused has changed nothing, unless a failed disk shut the
+    /// keeper at it. Then it was not accepted, though its commit may have been made, which only the
+    /// next opening shows. A keeper that was shut accepts nothing. The reply is of the request's
     /// kind, and a view that it shows fits its constituency, whether the keeper is trusted or not.
     fn answer(&mut self, ask: &Ask) -> Result<Reply, Refusal>
         ensures setup { constituencies self.new ≡ constituencies self.old }
@@ -53,8 +53,9 @@ pub trait Keeper {
         ensures database { HasDatabase self.new → HasDatabase self.old };
 
     /// Lodges the rows of a source one by one; refused and bad ones are passed over. With a fault
-    /// nothing has changed. The fault is that with which the source ended, or the keeper's own: want
-    /// of memory, a database that refuses, more than 20,000 rows of a source of which nothing is known.
+    /// nothing has changed, unless a failed disk shut the keeper at it. The fault is that with
+    /// which the source ended, or the keeper's own: out of memory, a database that refuses, or more
+    /// than 20,000 rows of a source of unknown content.
     fn lodge_from<R: RowSource>(&mut self, rows: &mut R) -> Result<ImportCount, ImportFault>
         ensures setup { constituencies self.new ≡ constituencies self.old }
         ensures trusted { IsTrusted self.new → IsTrusted self.old }
@@ -66,8 +67,8 @@ pub trait Keeper {
         ensures database { HasDatabase self.new → HasDatabase self.old };
 }
 
-/// Answers requests in order. Where the list of answers finds no room, none was asked. Only a keeper
-/// with a database answers that one refused, and none gains a database.
+/// Answers requests in order. Where there is no room for the list of answers, none was made. Only a
+/// keeper with a database answers that one refused, and none gains a database.
 pub fn run<K: Keeper>(
     alloc: Global,
     keeper: &mut K,

@@ -3,10 +3,12 @@
 //! `tally_store` a keeper in a database.
 #![tactic(auto)]
 
+mod given;
 mod import;
 mod keeper;
 mod source;
 
+pub use given::Given;
 pub use import::{FirstRow, ImportCount, Row};
 pub use keeper::{Keeper, run};
 pub use source::{ImportFault, ROW_LIMIT, RowSource};

@@ -1,6 +1,8 @@
 //! Sources of the rows of an import.
 
-ghost use Rattle.std.specs.Prelude.{◌≡◌, Option, Some, IfOk, IfSome};
+ghost use Rattle.std.specs.Prelude.{◌≡◌, List, Option, Some, IfOk, IfSome};
+ghost use Rattle.tally_keeper.specs.Given.{with_given};
+ghost use Rattle.tally_keeper.specs.declared.import.Row.{Row};
 ghost use Rattle.tally_keeper.specs.Source.{Coming, Ending, GivesNext, IsLodgeOrBad, IsWithin, at_end, ends_by};
 ghost use Rattle.tally_keeper.specs.declared.source.ImportFault.{ImportFault};
 
@@ -10,7 +12,7 @@ use std::alloc::AllocError;
 /// The most rows that an import has.
 pub const ROW_LIMIT: u32 = 20_000;
 
-/// Why an import was not done. It has changed nothing.
+/// Why an import was not done. It has changed nothing, unless a failed disk shut the keeper at it.
 #[derive(Clone, Copy, Debug, PartialEq, Eq)]
 pub enum ImportFault {
     /// There is no header, or it is not the one that the constituency's lists ask for.
@@ -19,9 +21,9 @@ pub enum ImportFault {
     TooLong,
     /// A read failed.
     Read,
-    /// Want of memory.
+    /// Out of memory.
     Memory,
-    /// A database call was refused, for another cause than memory.
+    /// A database call was refused for a cause other than memory.
     Store,
 }
 
@@ -53,10 +55,13 @@ impl From<AllocError> for ImportFault {
 }
 
 /// Gives the rows of an import one at a time, Lodge commands and bad rows: at most 20,000, and then
-/// its end or a fault, which it answers again for good.
+/// its end or a fault, which it answers from then on.
 pub trait RowSource {
-    /// The rows that it still gives and what comes behind them, where that is known.
+    /// The rows that it still gives and what comes after them, where that is known.
     ghost coming: { Self → Option Coming };
+
+    /// The rows that it gave so far, whether or not it is known what it gives.
+    ghost given: { Self → List Row };
 
     /// How it ended, once it did: at its end, or with a fault.
     ghost ended: { Self → Ending };
@@ -65,6 +70,7 @@ pub trait RowSource {
     fn next_row(&mut self) -> Result<Option<Row>, ImportFault>
         ensures gives { GivesNext (coming self.old) result (coming self.new) }
         ensures row { IfOk result (λ row. IfSome row IsLodgeOrBad) }
+        ensures gave { given self.new ≡ with_given (given self.old) result }
         ensures ends { ended self.new ≡ ends_by result }
         ensures again { (fault : Option ImportFault) → ended self.old ≡ Some fault
             → (result ≡ at_end fault) × (self.new ≡ self.old) };

@@ -4,7 +4,8 @@ use Rattle.tally_frac.specs.Limits.{most_lists, most_seats}
 use Rattle.tally_rules.specs.Threshold.{IsWithinVotes}
 use Rattle.tally_rules.specs.declared.profile.Profile.{Profile}
 
--- 1 to 60 lists, at most 5,000,000,000 votes with the blank ones, 1 to 500 seats and a threshold of at most 10,000.
+-- 1 to 60 lists, at most 5,000,000,000 votes with the blank ones, 1 to 500 seats and a threshold of
+-- at most 10,000.
 pub record AreLimitsKept (profile : Profile) (seats : ℕ) (votes : List ℕ) (blank : ℕ) : Type 0 where
   pub some_list : 1 ≤ length votes
   pub few_lists : length votes ≤ most_lists

@@ -1,5 +1,6 @@
--- Hare allotment: whole quotas, and then the largest remainders (Balinski and Young, Fair Representation: the method of
--- Hamilton). That equal remainders go by votes and then by place is this project's own rule.
+-- Hare allotment: whole quotas, and then the largest remainders (Balinski and Young, Fair
+-- Representation: the method of Hamilton). It is this project's own rule that equal remainders go
+-- by votes and then by place.
 use Rattle.std.specs.Prelude.{ℕ, ◌≡◌, ◌+◌, ◌*◌, ◌/◌, ◌%◌, ◌<◌, ◌⊎◌, List, [], slice_index}
 use Rattle.tally_law.specs.Poll.{Poll, IsEligible, SharesOut, votes_of, eligible_votes}
 use Rattle.tally_law.specs.Lot.{place_of}
@@ -24,26 +25,34 @@ claim_of poll lot seats l =
 
 -- by greater remainder, then by more votes
 abbrev pub ClaimsAboveByVotes : Claim → Claim → Type 0
-ClaimsAboveByVotes x y = (y.remainder < x.remainder) ⊎ ((x.remainder ≡ y.remainder) × (y.votes < x.votes))
+ClaimsAboveByVotes x y =
+    (y.remainder < x.remainder) ⊎ ((x.remainder ≡ y.remainder) × (y.votes < x.votes))
 
 -- and then by earlier place
 abbrev pub ClaimsAbove : Claim → Claim → Type 0
-ClaimsAbove x y = ClaimsAboveByVotes x y ⊎ ((x.remainder ≡ y.remainder) × (x.votes ≡ y.votes) × (x.place < y.place))
+ClaimsAbove x y =
+    ClaimsAboveByVotes x y ⊎
+    ((x.remainder ≡ y.remainder) × (x.votes ≡ y.votes) × (x.place < y.place))
 
--- Each eligible list has its whole quotas or one more, and each with one more claims above each without.
+-- Each eligible list has its whole quotas or one more, and each list with one more claims above
+-- each without.
 pub record IsHareAllotment (poll : Poll) (lot : List ℕ) (seats : ℕ) (a : List ℕ) : Type 0 where
   pub shares : SharesOut poll seats a
-  pub whole_or_one_more : (l : ℕ) → IsEligible poll l → (slice_index a l ≡ whole_quotas poll seats l) ⊎
+  pub whole_or_one_more : (l : ℕ) → IsEligible poll l →
+      (slice_index a l ≡ whole_quotas poll seats l) ⊎
       (slice_index a l ≡ whole_quotas poll seats l + 1)
   pub more_above_without : (l m : ℕ) → IsEligible poll l → IsEligible poll m →
-      slice_index a l ≡ whole_quotas poll seats l + 1 → slice_index a m ≡ whole_quotas poll seats m →
+      slice_index a l ≡ whole_quotas poll seats l + 1 →
+      slice_index a m ≡ whole_quotas poll seats m →
       ClaimsAbove (claim_of poll lot seats l) (claim_of poll lot seats m)
 
 -- The same by the votes alone, with no places: none with one more claims below one without.
 pub record IsHareAllotmentByVotes (poll : Poll) (seats : ℕ) (a : List ℕ) : Type 0 where
   pub shares : SharesOut poll seats a
-  pub whole_or_one_more : (l : ℕ) → IsEligible poll l → (slice_index a l ≡ whole_quotas poll seats l) ⊎
+  pub whole_or_one_more : (l : ℕ) → IsEligible poll l →
+      (slice_index a l ≡ whole_quotas poll seats l) ⊎
       (slice_index a l ≡ whole_quotas poll seats l + 1)
   pub more_not_below_without : (l m : ℕ) → IsEligible poll l → IsEligible poll m →
-      slice_index a l ≡ whole_quotas poll seats l + 1 → slice_index a m ≡ whole_quotas poll seats m →
+      slice_index a l ≡ whole_quotas poll seats l + 1 →
+      slice_index a m ≡ whole_quotas poll seats m →
       ¬ ClaimsAboveByVotes (claim_of poll [] seats m) (claim_of poll [] seats l)

@@ -1,5 +1,6 @@
 -- A poll: the votes that seats are allotted by, and the vectors of seats.
-use Rattle.std.specs.Prelude.{ℕ, ◌≡◌, ◌+◌, List, [], ◌∷◌, Bool, true, false, slice_index, slice_index_or, length, sum}
+use Rattle.std.specs.Prelude.{ℕ, ◌≡◌, ◌+◌, List, [], ◌∷◌, Bool, true, false, slice_index}
+use Rattle.std.specs.Prelude.{slice_index_or, length, sum}
 
 -- The votes of each list, and whether it is eligible, both in the order of the setup.
 pub record Poll : Type 0 where
@@ -28,7 +29,8 @@ sum_marked (false ∷ bs) (n ∷ ns) = sum_marked bs ns
 abbrev pub eligible_votes : Poll → ℕ
 eligible_votes poll = sum_marked poll.eligible poll.votes
 
--- Whole numbers of seats: one for each list, 0 for a list that is not eligible, and these seats together.
+-- Whole numbers of seats: one for each list, 0 for a list that is not eligible, and these seats
+-- together.
 pub record SharesOut (poll : Poll) (seats : ℕ) (a : List ℕ) : Type 0 where
   pub one_each : length a ≡ length poll.votes
   pub eligible_only : (l : ℕ) → ¬ IsEligible poll l → slice_index a l ≡ 0

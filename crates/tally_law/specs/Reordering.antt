@@ -7,5 +7,5 @@ abbrev pub IsReordering : ℕ → List ℕ → Type 0
 IsReordering count order = IsPermutation (range_with_len 0 count) order
 
 -- one number for each list, its votes or its seats, in that order
-abbrev pub reordered : List ℕ → List ℕ → List ℕ
-reordered numbers order = map (slice_index numbers) order
+abbrev pub numbers_in_order : List ℕ → List ℕ → List ℕ
+numbers_in_order numbers order = map (slice_index numbers) order

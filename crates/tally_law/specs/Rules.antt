@@ -1,10 +1,12 @@
 -- The rule and the poll that a profile makes.
 use Rattle.std.specs.Prelude.{ℕ, List}
-use Rattle.tally_frac.specs.Divisors.{dhondt_divisor, sainte_lague_divisor, modified_sainte_lague_divisor}
+use Rattle.tally_frac.specs.Divisors.{dhondt_divisor, sainte_lague_divisor}
+use Rattle.tally_frac.specs.Divisors.{modified_sainte_lague_divisor}
 use Rattle.tally_rules.specs.Threshold.{eligible_lists}
 use Rattle.tally_rules.specs.declared.profile.LotRule.{LotRule}
 use Rattle.tally_rules.specs.declared.profile.Method.{Method}
-use Rattle.tally_rules.specs.declared.profile.Method.TheVariants.{DHondt, SainteLague, ModifiedSainteLague, Hare}
+use Rattle.tally_rules.specs.declared.profile.Method.TheVariants.{DHondt, SainteLague}
+use Rattle.tally_rules.specs.declared.profile.Method.TheVariants.{ModifiedSainteLague, Hare}
 use Rattle.tally_rules.specs.declared.profile.Profile.{Profile}
 use Rattle.tally_law.specs.Poll.{Poll}
 use Rattle.tally_law.specs.Allotment.{Rule, divisors, hare}
@@ -21,4 +23,5 @@ rule_of profile = rule_by profile.method profile.lot
 
 -- the votes of the lists, and those that reach the profile's threshold
 abbrev pub poll_of : Profile → List ℕ → ℕ → Poll
-poll_of profile votes blank = record { votes = votes; eligible = eligible_lists profile votes blank }
+poll_of profile votes blank =
+    record { votes = votes; eligible = eligible_lists profile votes blank }

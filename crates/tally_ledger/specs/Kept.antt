@@ -34,7 +34,12 @@ view_in k con = view_of con (state_in k) (seats_in k con.code)
 
 -- no return, each constituency as it opens, and no seats
 abbrev pub opening_kept : List Constituency → Kept
-opening_kept setup = record { setup = setup; returns = empty; cons = opening_cons setup; seats = map_of (λ (con : Constituency). con.code) (λ con. []) setup }
+opening_kept setup = record {
+  setup = setup;
+  returns = empty;
+  cons = opening_cons setup;
+  seats = map_of (λ (con : Constituency). con.code) (λ con. []) setup;
+}
 
 -- each certificate on record is of an earlier edition
 abbrev pub AreEarlier : Records → ℕ → Type 0
@@ -48,8 +53,12 @@ seats_after seats code other = seats
 
 -- a change of the constituency of a code
 abbrev pub with_change : Kept → List ℕ → ConChange → Kept
-with_change k code change = record k { cons = insert k.cons code (changed (con_state (state_in k) code) change); seats = seats_after k.seats code change }
+with_change k code change = record k {
+  cons = insert k.cons code (changed (con_state (state_in k) code) change);
+  seats = seats_after k.seats code change;
+}
 
 -- without the lot of this constituency
 abbrev pub with_no_lot : Kept → List ℕ → Kept
-with_no_lot k code = record k { cons = insert k.cons code (record (con_state (state_in k) code) { lot = [] }) }
+with_no_lot k code =
+    record k { cons = insert k.cons code (record (con_state (state_in k) code) { lot = [] }) }

@@ -1,4 +1,4 @@
--- How what is kept is told apart, value from value. No reader needs it.
+-- How one value of what is kept is distinguished from another. No reader needs it.
 use Rattle.std.specs.Prelude.{ℕ, List, Bool, refl}
 use Rattle.std.specs.Coded.{Coded, code_by, coded×, coded_list, coded_bool, coded_ℕ}
 use Rattle.std.specs.FinMap.{FinMap, code}

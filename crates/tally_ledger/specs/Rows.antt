@@ -1,4 +1,5 @@
--- How what is kept stands in trees: the returns by station, and by constituency what is seen of it. No public contract speaks of it.
+-- How what is kept is held in trees: the returns by station, and by constituency what is seen of
+-- it. No public contract speaks of it.
 use Rattle.std.specs.Prelude.{◌≡◌, ◌+◌, ◌++◌, ◌&&◌, ◌||◌, ◌==◌, nat_lt, ℕ, Bool, true, false, List, [], ◌∷◌, take, drop, Option, Some, None, is_some}
 use Rattle.std.specs.BTreeMap.{BTreeMap}
 use Rattle.std.specs.FinMap.{FinMap, get, empty, entries, from_entries, insert}
@@ -53,15 +54,17 @@ abbrev pub seats_of : Views → Seats
 seats_of views = map_of (λ (e : List ℕ × View). e.0) (λ e. e.1.seats) (entries views)
 
 abbrev pub AreLawfulReturns : List Constituency → Returns → Type 0
-AreLawfulReturns setup returns = (station : List ℕ) → ForSome (get returns station) (IsLawfulAt setup station)
+AreLawfulReturns setup returns =
+    (station : List ℕ) → ForSome (get returns station) (IsLawfulAt setup station)
 
 -- what is held of the constituency of a code is what is seen of it
 abbrev pub IsSeen : List Constituency → Returns → List ℕ → View → Type 0
 IsSeen setup returns code view =
-    (con : Constituency) × (constituency_with code setup ≡ Some con) × (view ≡ view_with con (con_of view) returns view.seats)
+    (con : Constituency) × (constituency_with code setup ≡ Some con)
+    × (view ≡ view_with con (con_of view) returns view.seats)
 
--- Each return is lawful at its station; and what is held of each constituency is what is seen of it, its sums those of its closed
--- returns.
+-- Each return is lawful at its station; and what is held of each constituency is what is seen of
+-- it, its sums those of its closed returns.
 pub record IsTallied (setup : List Constituency) (returns : Returns) (views : Views) : Type 0 where
   pub lawful : AreLawfulReturns setup returns
   pub seen : (code : List ℕ) → ForSome (get views code) (IsSeen setup returns code)
@@ -77,10 +80,11 @@ with_changed views code change (Some view) = insert views code (change view)
 abbrev pub with_view : Views → List ℕ → (View → View) → Views
 with_view views code change = with_changed views code change (get views code)
 
--- a return that stood, if one did, is counted no longer
+-- an earlier return, if there is one, is no longer counted
 abbrev pub without_former : Views → List ℕ → Option StationReturn → Views
 without_former views code None = views
-without_former views code (Some standing) = with_view views code (λ view. with_return_counted view standing false)
+without_former views code (Some standing) =
+    with_view views code (λ view. with_return_counted view standing false)
 
 -- what is seen of a constituency as it opens
 abbrev pub opening_view : Constituency → View
@@ -93,27 +97,36 @@ opening_views setup = map_of (λ (con : Constituency). con.code) opening_view se
 abbrev pub is_before : GoneCandidate → GoneCandidate → Bool
 is_before g h = nat_lt g.list h.list || ((g.list == h.list) && nat_lt g.place h.place)
 
--- how many stand before a candidate
+-- how many come before a candidate
 abbrev pub gone_place : GoneCandidate → List GoneCandidate → ℕ
 gone_place candidate gone = prefix_len (λ g. is_before g candidate) gone
 
 -- one more is gone, at its place
 abbrev pub with_gone : GoneCandidate → List GoneCandidate → List GoneCandidate
-with_gone candidate gone = take (gone_place candidate gone) gone ++ candidate ∷ drop (gone_place candidate gone) gone
+with_gone candidate gone =
+    take (gone_place candidate gone) gone ++ candidate ∷ drop (gone_place candidate gone) gone
 
--- a lot stands, the constituency is certified with these seats, or a candidate is gone
+-- a lot is recorded, the constituency is certified with these seats, or a candidate is gone
 abbrev pub with_lot : List ℕ → View → View
 with_lot lot view = record view { edition = view.edition + 1; lot = lot }
 
 abbrev pub with_certificate : List ℕ → View → View
-with_certificate seats view = record view { edition = view.edition + 1; certified = true; seats = seats }
+with_certificate seats view =
+    record view { edition = view.edition + 1; certified = true; seats = seats }
 
 abbrev pub with_one_gone : GoneCandidate → View → View
 with_one_gone candidate view = record view { gone = with_gone candidate view.gone }
 
--- open again, with this note, and with the certificate that was reopened on record behind the others
+-- open again, with this note, and with the certificate that was reopened on record after the
+-- others
 abbrev pub with_reopening : List ℕ → PastSeats → View → View
-with_reopening note past view = record view { edition = view.edition + 1; certified = false; note = note; seats = []; past = view.past ++ past ∷ [] }
+with_reopening note past view = record view {
+  edition = view.edition + 1;
+  certified = false;
+  note = note;
+  seats = [];
+  past = view.past ++ past ∷ [];
+}
 
 -- how far a constituency has come, of what is seen of it
 abbrev pub row_of : List ℕ → View → ProgressRow

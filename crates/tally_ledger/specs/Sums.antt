@@ -14,16 +14,19 @@ moved_sum n by false = n - by
 
 -- the sums of the same lists, each with its own number
 abbrev pub moved_sums : List ℕ → List ℕ → Bool → List ℕ
-moved_sums sums by add = map (λ place. moved_sum (slice_index sums place) (slice_index by place) add) (range_with_len 0 (length sums))
+moved_sums sums by add =
+    map (λ place. moved_sum (slice_index sums place) (slice_index by place) add)
+    (range_with_len 0 (length sums))
 
--- the sum stays from 0 to 5,000,000,000
+-- a number that is added does not take the sum above 5,000,000,000; one that is taken away is in it
 abbrev pub CanMove : ℕ → ℕ → Bool → Type 0
 CanMove n by true = n + by ≤ 5000000000
 CanMove n by false = by ≤ n
 
--- each of the sums does
+-- the same of each of the sums
 abbrev pub CanMoveEach : List ℕ → List ℕ → Bool → Type 0
-CanMoveEach sums by add = (place : ℕ) → place < length sums → CanMove (slice_index sums place) (slice_index by place) add
+CanMoveEach sums by add =
+    (place : ℕ) → place < length sums → CanMove (slice_index sums place) (slice_index by place) add
 
 -- what a return counts for in the number of returns with such a status
 abbrev pub moved_where : Bool → ℕ → Bool → ℕ
@@ -46,10 +49,12 @@ with_counts view counts add = record view {
   spoiled = moved_sum view.spoiled counts.spoiled add;
 }
 
--- the view with a return counted, or counted no longer
+-- the view with a return counted, or no longer counted
 abbrev pub with_return_counted : View → StationReturn → Bool → View
 with_return_counted view standing add =
-    if is_closed standing.status then with_counts (with_status view standing.status add) standing.counts add else with_status view standing.status add
+    if is_closed standing.status
+    then with_counts (with_status view standing.status add) standing.counts add
+    else with_status view standing.status add
 
 -- the number of returns with a status can be moved by one
 pub record CanMoveOne (has_status : Bool) (n : ℕ) (add : Bool) : Type 0 where
@@ -70,7 +75,7 @@ pub record CanMoveCounts (view : View) (counts : VoteCounts) (add : Bool) : Type
   pub blank : CanMove view.blank counts.blank add
   pub spoiled : CanMove view.spoiled counts.spoiled add
 
--- the return can be counted in the view, or be counted no longer
+-- the return can be counted in the view, or be no longer counted
 pub record CanCount (view : View) (standing : StationReturn) (add : Bool) : Type 0 where
   pub status : CanCountOne view standing.status add
   pub counts : is_closed standing.status ≡ true → CanMoveCounts view standing.counts add

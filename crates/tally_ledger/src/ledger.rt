@@ -41,13 +41,18 @@ impl Model for Ledger {
 
     ghost coded = { kept_code };
 
-    ghost view = { λ l. record { setup = l.setup; returns = returns_of l.returns; cons = cons_of (views_of l.views); seats = seats_of (views_of l.views) } };
+    ghost view = { λ l. record {
+      setup = l.setup;
+      returns = returns_of l.returns;
+      cons = cons_of (views_of l.views);
+      seats = seats_of (views_of l.views);
+    } };
 
     ghost invariant = { λ l. IsTallied l.setup (returns_of l.returns) (views_of l.views) };
 }
 
 impl Ledger {
-    /// No return stands, and each constituency is as it opens.
+    /// No return is recorded, and each constituency is as it opens.
     pub fn new(alloc: Global, setup: Setup) -> Result<Ledger, AllocError>
         ensures opening { IfOk result (λ ledger. ledger ≡ opening_kept setup) }
         ensures limits { OnOk result (IsSetup setup) }
@@ -67,7 +72,7 @@ impl Ledger {
         &self.setup
     }
 
-    /// The setup, of a ledger that is needed no longer.
+    /// The setup, of a ledger that is no longer needed.
     pub fn into_setup(self) -> Setup
         ensures { result ≡ self.setup }
     {
@@ -84,7 +89,8 @@ impl Ledger {
 
     /// What is seen of the constituency of a code.
     pub fn view(&self, con: Code) -> Option<&ConView>
-        ensures { option_copied result ≡ option_map (view_in self.now) (constituency_with con self.now.setup) }
+        ensures { option_copied result
+            ≡ option_map (view_in self.now) (constituency_with con self.now.setup) }
     {
         view_at(&self.views, con)
     }
@@ -104,11 +110,12 @@ impl Ledger {
         Ok(rows)
     }
 
-    /// Puts the return of a station, in place of the one that stands if there is one. Only a first
-    /// one takes memory.
+    /// Puts the return of a station, in place of the present one if there is one. Only a first one
+    /// takes memory.
     pub fn put(&mut self, station: Code, standing: Return) -> Result<(), AllocError>
         requires lawful { IsLawfulAt self.now.setup station standing }
-        ensures put { OnOk result (self.new ≡ record self.old { returns = insert self.old.returns station standing }) }
+        ensures put { OnOk result (self.new
+            ≡ record self.old { returns = insert self.old.returns station standing }) }
         ensures kept { OnErr result (self.new ≡ self.old) }
     {
         put_return(
@@ -127,7 +134,7 @@ impl Ledger {
         take_return(&self.setup, &mut self.returns, &mut self.views, station);
     }
 
-    /// A lot stands now, as the places of the lists in its order, and the edition rises.
+    /// Records a lot, as the places of the lists in its order, and the edition rises.
     pub fn set_lot(&mut self, con: Code, lot: Vec<u32>)
         requires known { IsSome (constituency_with con self.now.setup) }
         requires edition { (con_state (state_in self.now) con).edition + 1 < 2 ^ 32 }
@@ -136,7 +143,7 @@ impl Ledger {
         set_lot(&mut self.views, con, lot);
     }
 
-    /// No lot stands now.
+    /// Removes the lot, so that none is recorded.
     pub fn drop_lot(&mut self, con: Code)
         requires known { IsSome (constituency_with con self.now.setup) }
         ensures { self.new ≡ with_no_lot self.old con }
@@ -153,13 +160,14 @@ impl Ledger {
         set_certified(&mut self.views, con, seats);
     }
 
-    /// The constituency is open again, with this note, the certificate that was reopened is on record
-    /// behind all earlier ones, and the edition rises.
+    /// The constituency is open again, with this note, the certificate that was reopened is on
+    /// record after all earlier ones, and the edition rises.
     pub fn set_reopened(&mut self, con: Code, note: String, past: Past) -> Result<(), AllocError>
         requires known { IsSome (constituency_with con self.now.setup) }
         requires edition { (con_state (state_in self.now) con).edition + 1 < 2 ^ 32 }
         requires later { AreEarlier (con_state (state_in self.now) con).past past.edition }
-        ensures reopened { OnOk result (self.new ≡ with_change self.old con (open_again (string_bytes note) past)) }
+        ensures reopened { OnOk result (self.new
+            ≡ with_change self.old con (open_again (string_bytes note) past)) }
         ensures kept { OnErr result (self.new ≡ self.old) }
     {
         set_reopened(&mut self.views, con, note, past)

@@ -13,7 +13,7 @@ use std::collections::BTreeMap;
 use tally_returns::{ConView, Return};
 use tally_rules::{Code, Setup};
 
-/// Puts the return of a station: the one that stood counts no longer, and this one counts.
+/// Puts the return of a station: the former one is no longer counted, and this one is.
 pub(crate) fn put_return(
     setup: &Setup,
     returns: &mut BTreeMap<Code, Return>,
@@ -23,7 +23,8 @@ pub(crate) fn put_return(
 ) -> Result<(), AllocError>
     requires tallied { IsTallied setup.now (returns_of returns.old) (views_of views.old) }
     requires lawful { IsLawfulAt setup.now station standing }
-    ensures put { OnOk result (returns_of returns.new ≡ insert (returns_of returns.old) station standing) }
+    ensures put { OnOk result
+        (returns_of returns.new ≡ insert (returns_of returns.old) station standing) }
     ensures kept { OnErr result (returns_of returns.new ≡ returns_of returns.old) }
     ensures tallied { IsTallied setup.now (returns_of returns.new) (views_of views.new) }
     ensures cons { cons_of (views_of views.new) ≡ cons_of (views_of views.old) }
@@ -41,7 +42,7 @@ pub(crate) fn put_return(
     Ok(())
 }
 
-/// Takes the return of a station out, and it counts no longer.
+/// Takes the return of a station out, and no longer counts it.
 pub(crate) fn take_return(
     setup: &Setup,
     returns: &mut BTreeMap<Code, Return>,
@@ -61,9 +62,10 @@ pub(crate) fn take_return(
     count_former(views, con.code, former);
 }
 
-/// The return that stood, if one did, counts no longer.
+/// The former return, if there was one, is no longer counted.
 fn count_former(views: &mut BTreeMap<Code, ConView>, con: Code, former: Option<Return>)
-    requires { ForSome former (λ standing. ForSome (get (views_of views.old) con) (λ v. CanCount v standing false)) }
+    requires { ForSome former (λ standing.
+        ForSome (get (views_of views.old) con) (λ v. CanCount v standing false)) }
     ensures { views_of views.new ≡ without_former (views_of views.old) con former }
 {
     if let Some(standing) = former {

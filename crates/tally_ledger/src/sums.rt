@@ -17,7 +17,7 @@ pub fn moved(n: u64, by: u32, add: bool) -> u64
     }
 }
 
-/// Counts a return in the view of its constituency, or counts it no longer.
+/// Counts a return in the view of its constituency, or no longer counts it.
 pub(crate) fn count_return(view: &mut ConView, standing: &Return, add: bool)
     requires { CanCount view.old standing.now add }
     ensures { view.new ≡ with_return_counted view.old standing.now add }
@@ -28,7 +28,7 @@ pub(crate) fn count_return(view: &mut ConView, standing: &Return, add: bool)
     }
 }
 
-/// One return more or one fewer has this status.
+/// One more or one fewer return has this status.
 fn count_status(view: &mut ConView, status: Status, add: bool)
     requires { CanCountOne view.old status add }
     ensures { view.new ≡ with_status view.old status add }
@@ -49,7 +49,7 @@ fn one_moved(n: u32, add: bool) -> u32
     if add { n + 1 } else { n - 1 }
 }
 
-/// The counts of a closed return count, or count no longer.
+/// Adds the counts of a closed return to the sums, or takes them away.
 fn count_votes(view: &mut ConView, counts: &Counts, add: bool)
     requires { CanMoveCounts view.old counts.now add }
     ensures { view.new ≡ with_counts view.old counts.now add }

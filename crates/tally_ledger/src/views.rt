@@ -59,10 +59,11 @@ pub(crate) fn view_at(views: &BTreeMap<Code, ConView>, con: Code) -> Option<&Con
     views.get(&con)
 }
 
-/// Counts a return in the view of a constituency, or counts it no longer.
+/// Counts a return in the view of a constituency, or no longer counts it.
 pub(crate) fn count(views: &mut BTreeMap<Code, ConView>, con: Code, standing: &Return, add: bool)
     requires { ForSome (get (views_of views.old) con) (λ view. CanCount view standing.now add) }
-    ensures { views_of views.new ≡ with_view (views_of views.old) con (λ v. with_return_counted v standing.now add) }
+    ensures { views_of views.new
+        ≡ with_view (views_of views.old) con (λ v. with_return_counted v standing.now add) }
 {
     if let Some(view) = views.get_mut(&con) {
         count_return(view, standing, add);
@@ -80,7 +81,8 @@ pub(crate) fn set_lot(views: &mut BTreeMap<Code, ConView>, con: Code, lot: Vec<u
 }
 
 pub(crate) fn drop_lot(views: &mut BTreeMap<Code, ConView>, con: Code)
-    ensures { views_of views.new ≡ with_view (views_of views.old) con (λ view. record view { lot = [] }) }
+    ensures { views_of views.new
+        ≡ with_view (views_of views.old) con (λ view. record view { lot = [] }) }
 {
     if let Some(view) = views.get_mut(&con) {
         view.lot.clear();
@@ -89,7 +91,8 @@ pub(crate) fn drop_lot(views: &mut BTreeMap<Code, ConView>, con: Code)
 
 pub(crate) fn set_certified(views: &mut BTreeMap<Code, ConView>, con: Code, seats: Vec<u32>)
     requires { ForSome (get (views_of views.old) con) (λ view. view.edition + 1 < 2 ^ 32) }
-    ensures { views_of views.new ≡ with_view (views_of views.old) con (with_certificate seats.items) }
+    ensures { views_of views.new
+        ≡ with_view (views_of views.old) con (with_certificate seats.items) }
 {
     if let Some(view) = views.get_mut(&con) {
         view.edition += 1;
@@ -105,7 +108,8 @@ pub(crate) fn set_reopened(
     past: Past,
 ) -> Result<(), AllocError>
     requires { ForSome (get (views_of views.old) con) (λ view. view.edition + 1 < 2 ^ 32) }
-    ensures reopened { OnOk result (views_of views.new ≡ with_view (views_of views.old) con (with_reopening (string_bytes note) past)) }
+    ensures reopened { OnOk result (views_of views.new
+        ≡ with_view (views_of views.old) con (with_reopening (string_bytes note) past)) }
     ensures kept { OnErr result (views_of views.new ≡ views_of views.old) }
 {
     let Some(view) = views.get_mut(&con) else {
@@ -114,7 +118,7 @@ pub(crate) fn set_reopened(
     open_again(view, note, past)
 }
 
-/// Opens a certified constituency again, and puts its certificate behind those on record.
+/// Opens a certified constituency again, and puts its certificate after those on record.
 fn open_again(view: &mut ConView, note: String, past: Past) -> Result<(), AllocError>
     requires { view.old.edition + 1 < 2 ^ 32 }
     ensures reopened { OnOk result (view.new ≡ with_reopening (string_bytes note) past view.old) }
@@ -133,7 +137,8 @@ pub(crate) fn set_gone(
     con: Code,
     gone: Gone,
 ) -> Result<(), AllocError>
-    ensures put { OnOk result (views_of views.new ≡ with_view (views_of views.old) con (with_one_gone gone)) }
+    ensures put { OnOk result
+        (views_of views.new ≡ with_view (views_of views.old) con (with_one_gone gone)) }
     ensures kept { OnErr result (views_of views.new ≡ views_of views.old) }
 {
     let Some(view) = views.get_mut(&con) else {
@@ -153,7 +158,7 @@ fn put_gone(gone: &mut Vec<Gone>, candidate: Gone) -> Result<(), AllocError>
     Ok(())
 }
 
-/// How many stand before the candidate, in order of list and then of candidate.
+/// How many come before the candidate, in order of list and then of candidate.
 fn gone_place(gone: &[Gone], candidate: &Gone) -> usize
     ensures { result ≡ gone_place candidate.now gone.now }
 {

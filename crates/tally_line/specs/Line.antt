@@ -68,7 +68,8 @@ abbrev pub serve_app : App
 serve_app = with_rule (with_rule (with_rule (new_app (codes "serve"))
     (wanted_rule (codes "db"))) (number_rule (codes "port") 1 65535)) (number_rule (codes "count") 1 1000000)
 
--- `office COMMAND`, where a command is wanted, and help is the answer to nothing at all; it has a version
+-- `office COMMAND`, where a command is required, and help is the answer to nothing at all; it has a
+-- version
 abbrev pub office_app : App
 office_app = with_subcommand (with_subcommand (with_subcommand (with_subcommand (with_subcommand (on_top (λ s. record s {
   has_version = true;
@@ -181,7 +182,8 @@ abbrev pub unless_fault : Kinds → Option LineSeen → Option LineSeen
 unless_fault [] line = line
 unless_fault (kind ∷ kinds) line = None
 
--- what the words, the program's name first, ask for: the line of the command that clap finds in them, where it finds no fault
+-- what the words, the program's name first, ask for: the line of the command that clap finds in
+-- them, where it finds no fault
 abbrev pub line_of : List Text → Option LineSeen
 line_of words = unless_fault (fault_of office_app words)
     (option_and_then line_of_command (subcommand_of office_app words))
@@ -194,7 +196,7 @@ IsWithinLimits _ = Unit {0}
 
 -- ---- refusals
 
--- a `show` of a report that there is none of
+-- a `show` of a report that does not exist
 abbrev pub lacks_report : Text × List Row → Bool
 lacks_report p = bytes_eq p.0 (codes "show") && not (is_some (report_of p.1))
 
@@ -203,7 +205,8 @@ abbrev pub lacks_con : Text × List Row → Bool
 lacks_con p = bytes_eq p.0 (codes "show") && (option_map_or needs_con (report_of p.1) false
     && not (is_some (first_of (codes "con") p.1)))
 
--- the kinds of error that the words may be answered with: those of clap, and where it finds no fault, that of a report's name that is none
+-- the kinds of error that the words may be answered with: those of clap, and where it finds no
+-- fault, that of a text that names no report
 abbrev pub usage_kinds : List Text → Kinds
 usage_kinds words = or_else (fault_of office_app words)
     (if option_map_or lacks_report (subcommand_of office_app words) false then InvalidValue ∷ [] else [])
@@ -216,12 +219,14 @@ is_out_of_memory _ = false
 abbrev pub fault_from : Error → LineFault
 fault_from e = if is_out_of_memory (kind_of e) then Memory else Usage e
 
--- The words have no line, though clap finds no fault in them: they are a `show` without the constituency that its report needs.
+-- The words have no line, though clap finds no fault in them: they are a `show` without the
+-- constituency that its report needs.
 abbrev pub LacksCon : List Text → Type 0
 LacksCon words = (line_of words ≡ None) × (fault_of office_app words ≡ [])
     × (option_map_or lacks_con (subcommand_of office_app words) false ≡ true)
 
--- out of memory; or the words are refused, or answered with help, by this kind of error; or they lack the constituency
+-- out of memory; or the words are refused, or answered with help, by this kind of error; or they
+-- lack the constituency
 abbrev pub IsRefusal : List Text → LineFault → Type 0
 IsRefusal words (Usage e) = (line_of words ≡ None) × IsAmong (kind_of e) (usage_kinds words)
 IsRefusal words NoCon = LacksCon words

@@ -49,7 +49,7 @@ const MOST_COUNT: u64 = 1_000_000;
 /// What a command line asks for. A text is as it was given.
 #[derive(Debug, PartialEq, Eq, Drop)]
 pub enum Line {
-    /// Check the returns on the standard input.
+    /// Check the returns on standard input.
     Check {
         sep: Sep,
     },
@@ -100,7 +100,7 @@ pub enum LineFault {
     Usage(clap::Error),
     /// A report of a constituency is to be shown, and the constituency is not named.
     NoCon,
-    /// Memory ran out.
+    /// Out of memory.
     Memory,
 }
 
@@ -301,7 +301,7 @@ fn needs_con(report: ReportName) -> bool
     !matches!(report, ReportName::Progress)
 }
 
-// The error of a report's name that is none, in the form of those of `clap`.
+// The error of a text that names no report, in the form of those of `clap`.
 fn no_report(alloc: Global, name: &str) -> Result<clap::Error, AllocError>
     ensures { IfOk result (λ error. kind_of error ≡ InvalidValue) }
 {

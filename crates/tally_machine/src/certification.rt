@@ -1,8 +1,10 @@
 //! What is decided of a command on a constituency.
 
-ghost use Rattle.std.specs.Prelude.{◌≡◌, ◌≢◌, ◌≤◌, ℕ, false, Ok, Err, IfOk, IfErr, OnOk, Some, None, length, slice_index_or, string_bytes};
+ghost use Rattle.std.specs.Prelude.{◌≡◌, ◌≢◌, ◌≤◌, ℕ, false, Ok, Err, IfOk, IfErr, OnOk, Some, None};
+ghost use Rattle.std.specs.Prelude.{length, slice_index_or, string_bytes};
 ghost use Rattle.tally_allot.specs.AllotFault.{IsFaultOf};
-ghost use Rattle.tally_steps.specs.Certification.{Certifies, Draws, IsCertifyRefusal, IsDrawRefusal, count_checks, drawn_places, list_places, reopened};
+ghost use Rattle.tally_steps.specs.Certification.{Certifies, Draws, IsCertifyRefusal, IsDrawRefusal};
+ghost use Rattle.tally_steps.specs.Certification.{count_checks, drawn_places, list_places, reopened};
 ghost use Rattle.tally_returns.specs.Checks.{first_refusal};
 ghost use Rattle.tally_steps.specs.Outcome.{IsOutcome, allotted, rule_in, poll_in};
 ghost use Rattle.tally_returns.specs.View.{FitsView};
@@ -44,6 +46,7 @@ pub fn certify(
     match fault {
         AllotFault::NoEligible => Err(Refusal::NoEligible),
         AllotFault::LotMissing { group, seats } => {
+            // Called for what its contract says: how many marks a group has.
             let _marks = group.limit();
             Err(Refusal::LotMissing { group, seats })
         }
@@ -53,7 +56,7 @@ pub fn certify(
 }
 
 /// The places of the lists in the order of a lot that was drawn, or why it is refused. Lists are
-/// named by their codes. A lot that stands in the view is not taken for another, right or wrong.
+/// named by their codes. A lot that the view has is not replaced by another, right or wrong.
 pub fn draw(
     alloc: Global,
     con: &Constituency,
@@ -62,7 +65,8 @@ pub fn draw(
     order: &[Code],
 ) -> Result<Vec<u32>, Refusal>
     requires { FitsView con.now view.now }
-    ensures places { IfOk result (λ places. Draws con.now view.now edition order.now (Ok places.items)) }
+    ensures places { IfOk result (λ places.
+        Draws con.now view.now edition order.now (Ok places.items)) }
     ensures refused { IfErr result (IsDrawRefusal con.now view.now edition order.now) }
 {
     check_count(view, edition)?;
@@ -81,8 +85,10 @@ pub fn draw(
 
 /// The note of a reopening of this view and what is put on record, or why it is refused.
 pub fn reopen(alloc: Global, view: &ConView, edition: u32, note: &str) -> Result<Reopening, Refusal>
-    ensures reopened { IfOk result (λ r. reopened view.now edition note.now ≡ Ok (string_bytes r.note, r.past)) }
-    ensures refused { IfErr result (λ refusal. refusal ≢ Memory → reopened view.now edition note.now ≡ Err refusal) }
+    ensures reopened { IfOk result (λ r.
+        reopened view.now edition note.now ≡ Ok (string_bytes r.note, r.past)) }
+    ensures refused { IfErr result (λ refusal.
+        refusal ≢ Memory → reopened view.now edition note.now ≡ Err refusal) }
 {
     if !good_note(note) {
         return Err(Refusal::BadNote);
@@ -109,7 +115,8 @@ pub fn reopen(alloc: Global, view: &ConView, edition: u32, note: &str) -> Result
 fn check_count(view: &ConView, edition: u32) -> Result<(), Refusal>
     requires { view.now.closed ≤ view.now.stations }
     ensures passed { OnOk result (first_refusal (count_checks view.now edition) ≡ None) }
-    ensures refused { IfErr result (λ refusal. first_refusal (count_checks view.now edition) ≡ Some refusal) }
+    ensures refused { IfErr result (λ refusal.
+        first_refusal (count_checks view.now edition) ≡ Some refusal) }
 {
     if view.certified {
         return Err(Refusal::Certified);
@@ -128,11 +135,12 @@ fn check_count(view: &ConView, edition: u32) -> Result<(), Refusal>
     Ok(())
 }
 
-/// The seats of each list by the closed votes and the lot that stands.
+/// The seats of each list by the closed votes and the recorded lot.
 fn seats_by_votes(alloc: Global, con: &Constituency, view: &ConView) -> Result<Vec<u32>, AllotFault>
     requires { FitsView con.now view.now }
     ensures seats { IfOk result (λ seats. IsOutcome con.now view.now (allotted seats.items)) }
-    ensures fault { IfErr result (IsFaultOf (rule_in con.now) (poll_in con.now view.now) con.now.seats view.now.lot) }
+    ensures fault { IfErr result
+        (IsFaultOf (rule_in con.now) (poll_in con.now view.now) con.now.seats view.now.lot) }
 {
     allot(
         alloc,
@@ -154,9 +162,12 @@ fn drawn_places(
 ) -> Result<Vec<u32>, Refusal>
     requires { (l : ℕ) → length con.now.lists ≤ l → slice_index_or group.now l false ≡ false }
     ensures marks { length group.now ≡ 60 }
-    ensures places { IfOk result (λ places. drawn_places group.now (list_places con.now order.now) ≡ Ok places.items) }
-    ensures refused { IfErr result (λ refusal. refusal ≢ Memory → drawn_places group.now (list_places con.now order.now) ≡ Err refusal) }
+    ensures places { IfOk result (λ places.
+        drawn_places group.now (list_places con.now order.now) ≡ Ok places.items) }
+    ensures refused { IfErr result (λ refusal.
+        refusal ≢ Memory → drawn_places group.now (list_places con.now order.now) ≡ Err refusal) }
 {
+    // Called for what its contract says: how many marks a group has.
     let _marks = group.limit();
     if order.len() > con.lists.len() {
         return Err(Refusal::LotWrongGroup { group: *group });

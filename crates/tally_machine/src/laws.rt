@@ -17,31 +17,33 @@ pub fn a_step_keeps_a_lawful_state()
 {}
 
 /// In every state that a run reaches from a lawful one, and so from the opening one, a certified
-/// constituency has all its stations closed, exactly its seats are allotted, by the one allotment of
-/// its closed votes, and a lot stands wherever one is needed. So it is in any lawful state, and of
-/// each view: there is one.
+/// constituency has all its stations closed, exactly its seats are allotted, by the one allotment
+/// of its closed votes, and a lot is recorded wherever one is needed. The same holds in any
+/// lawful state and of each view, and there is at most one view.
 pub fn a_certificate_stands_on_closed_votes()
     ensures of_run { law.CertificatesOfRunsStand }
     ensures each { law.CertificatesStand }
     ensures one { law.ViewsAreOne }
 {
+    // Called for what its contract says: the laws of allotments.
     laws_of_allotments();
 }
 
 /// A constituency has a view in each lawful state, and one on which a command is decided. The lot
-/// that stands in a lawful view is not a wrong one, so a refusal of a command on it is that of the
-/// machine, or want of memory.
+/// of a lawful view is not a wrong one, so a refusal of a command on it is that of the machine, or
+/// out of memory.
 pub fn a_constituency_has_a_view()
     ensures exists { law.ConstituenciesHaveViews }
     ensures lawful { law.ViewsAreLawful }
     ensures lot { law.LotsOfLawfulViewsAreRight }
 {
+    // Called for what its contract says: the laws of allotments.
     laws_of_allotments();
 }
 
 /// Where a lot is recorded that is not the one to be taken, and some list is eligible, the closed
-/// votes come to no outcome. So, once the checks before it have passed, Certify and Draw have no
-/// refusal there but the one for the lot, and that they are out of memory.
+/// votes come to no outcome. So, once the checks before it have passed, the only refusals of
+/// Certify and Draw there are the one for the lot and out of memory.
 pub fn a_wrong_lot_leads_to_no_outcome()
     ensures { law.WrongLotsLeadToNoOutcome }
 {}
@@ -51,16 +53,18 @@ pub fn each_command_has_a_step()
     ensures decided { law.CommandsAreDecided }
     ensures state { law.CommandsHaveSteps }
 {
+    // Called for what its contract says: the laws of allotments.
     laws_of_allotments();
 }
 
 /// Where the checks before it pass and some list is eligible, Certify answers that a lot is missing
-/// exactly where the votes leave a choice and no lot stands, with the group and the seats in
+/// exactly where the votes leave a choice and no lot is recorded, with the group and the seats in
 /// question.
 pub fn a_missing_lot_is_told()
     ensures missing { law.MissingLotsAreTold }
     ensures told { law.MissingLotsAreToldAsNeeded }
 {
+    // Called for what its contract says: the laws of allotments.
     laws_of_allotments();
 }
 
@@ -77,19 +81,31 @@ pub fn requests_that_do_not_act_can_be_left_out()
     ensures some { law.WhatDoesNotActCanBeLeftOut }
 {}
 
-/// From a state and a command there is at most one answer and one state; no step is refused for want
-/// of memory or by a store; and what is answered is of the command's kind, where a view that is shown
-/// fits its constituency.
+/// A request that is refused changes nothing, and neither does one that repeats what is recorded or
+/// shows something.
+pub fn what_does_not_act_changes_nothing()
+    ensures { law.WhatDoesNotActChangesNothing }
+{}
+
+/// A candidate who is gone stays gone through every later request, a reopening among them.
+pub fn the_gone_stay_gone()
+    ensures { law.TheGoneStayGone }
+{}
+
+/// From a state and a command there is at most one answer and one state. No step has the refusal
+/// `Memory` or `Store`. What is answered is of the command's kind, and a view that is shown fits
+/// its constituency.
 pub fn a_step_is_one()
     ensures one { decision.StepsAreOne }
     ensures of_the_machine { decision.StepsAreOfTheMachine }
     ensures kind { decision.AnswersAreOfTheirKind }
 {
+    // Called for what its contract says: the laws of allotments.
     laws_of_allotments();
 }
 
 /// What is decided of a command on a return, by what a state says of its station, is a step: its
-/// refusal is that of the step, or its change leads to the state of the step and tells its answer.
+/// refusal is that of the step, or its change leads to the state of the step and gives its answer.
 pub fn a_decision_on_a_return_is_a_step()
     ensures limits { decision.LimitsAreThoseOfTheSetup }
     ensures refused { decision.RefusalsOnReturnsAreSteps }
@@ -114,7 +130,7 @@ pub fn records_stay()
     ensures run { records.RecordsStayInRuns }
 {}
 
-/// What is on record of a constituency and an edition are the seats of a certificate that a request
+/// What is on record of a constituency and an edition is the seats of a certificate that a request
 /// reopened: the one allotment of the closed votes in a state in which the constituency was
 /// certified at that edition. After a run from any lawful state it was on record before, with the
 /// same seats, or a request of the run reopened it.
@@ -122,6 +138,7 @@ pub fn records_are_of_allotments()
     ensures step { records.RecordsAreOfAllotments }
     ensures run { records.RecordsOfRunsAreOfAllotments }
 {
+    // Called for what its contract says: the laws of allotments.
     laws_of_allotments();
 }
 
@@ -134,6 +151,7 @@ fn laws_of_allotments()
     ensures either { VotesDecideOrALotIsNeeded }
     ensures never_both { NoLotIsNeededWhereVotesDecide }
 {
+    // Called for what its contract says: each call here is a law of allotments.
     allotment::allotments_are_unique();
     allotment::allotments_exist();
     allotment::each_order_gives_a_choice();

@@ -1,6 +1,6 @@
-//! The machine of an electoral office: what it decides of each constituency, its steps and runs, and
-//! their laws. The commands, the state and the returns are those of `tally_returns`, whose public
-//! names stand here too.
+//! The machine of an electoral office: what it decides of each constituency, its steps and runs,
+//! and their laws. The commands, the state and the returns are those of `tally_returns`, whose
+//! public names are exported here too.
 #![tactic(auto)]
 
 mod certification;

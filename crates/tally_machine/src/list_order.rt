@@ -3,7 +3,8 @@
 ghost use Rattle.std.specs.Prelude.{◌≡◌, ◌≤◌, ℕ, false, IfOk, option_map, length, slice_index_or};
 ghost use Rattle.std.specs.List.{list_all};
 ghost use Rattle.tally_rules.specs.ListSet.{has_place};
-ghost use Rattle.tally_steps.specs.Certification.{are_distinct, list_found, list_places, marked_from, names_group};
+ghost use Rattle.tally_steps.specs.Certification.{are_distinct, list_found, list_places, marked_from};
+ghost use Rattle.tally_steps.specs.Certification.{names_group};
 ghost use Rattle.tally_steps.specs.Holders.{is_among};
 
 use std::alloc::{AllocError, Global};
@@ -46,7 +47,8 @@ pub(crate) fn list_places(
     con: &Constituency,
     order: &[Code],
 ) -> Result<Option<Vec<u32>>, AllocError>
-    ensures { IfOk result (λ places. list_places con.now order.now ≡ option_map (λ found. found.items) places) }
+    ensures { IfOk result (λ places.
+        list_places con.now order.now ≡ option_map (λ found. found.items) places) }
 {
     let mut places = Vec::new(alloc);
     for code in order {
@@ -58,7 +60,7 @@ pub(crate) fn list_places(
     Ok(Some(places))
 }
 
-/// Whether places name each list of the group once, and no other, where so many lists stand.
+/// Whether places name each list of the group once, and no other, where there are so many lists.
 pub(crate) fn names_group(lists: u32, group: &ListSet, places: &[u32]) -> bool
     requires { (l : ℕ) → lists ≤ l → slice_index_or group.now l false ≡ false }
     ensures { result ≡ names_group group.now places.now }

@@ -21,8 +21,8 @@ pub struct Vacancy {
     pub next: Option<u32>,
 }
 
-/// What it comes to that the candidate at this place of the list, from 1, is gone for good: who
-/// is gone and who moves in, or why it is refused.
+/// What follows where the candidate at this place of the list, from 1, is gone for good: who is
+/// gone and who moves in, or why this is refused.
 pub fn vacate(
     alloc: Global,
     con: &Constituency,
@@ -32,8 +32,10 @@ pub fn vacate(
     note: &str,
 ) -> Result<Vacancy, Refusal>
     requires { FitsView con.now view.now }
-    ensures vacated { IfOk result (λ v. vacates con.now view.now list place note.now ≡ Ok (v.gone, v.next)) }
-    ensures refused { IfErr result (λ e. e ≢ Memory → vacates con.now view.now list place note.now ≡ Err e) }
+    ensures vacated { IfOk result (λ v.
+        vacates con.now view.now list place note.now ≡ Ok (v.gone, v.next)) }
+    ensures refused { IfErr result (λ e.
+        e ≢ Memory → vacates con.now view.now list place note.now ≡ Err e) }
 {
     let Some(found) = list_found(con, list) else {
         return Err(Refusal::NoCandidate);
@@ -103,7 +105,8 @@ fn next_holder(
 ) -> Result<Option<u32>, AllocError>
     requires place { 1 ≤ list.now.place }
     requires seats { list.now.place ≤ length view.now.seats }
-    ensures { IfOk result (λ next. next ≡ newcomer before.now (holders_of view.now list.now (place ∷ gone.items))) }
+    ensures { IfOk result (λ next.
+        next ≡ newcomer before.now (holders_of view.now list.now (place ∷ gone.items))) }
 {
     let mut gone = gone;
     gone.push(place)?;

@@ -6,7 +6,8 @@ use Rattle.tally_message.specs.declared.lines.Lines.{Lines}
 abbrev pub no_lines : Lines
 no_lines = record { begun = false; empty = true }
 
--- A line feed ends a line, and a carriage return is passed over. Another byte belongs to a line that is not empty.
+-- A line feed ends a line, and a carriage return is passed over. Another byte belongs to a line
+-- that is not empty.
 abbrev pub lines_with : ℕ → Lines → Lines
 lines_with byte lines =
     if byte == 10 then record { begun = lines.begun; empty = true }

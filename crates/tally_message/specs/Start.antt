@@ -6,7 +6,9 @@ use Rattle.tally_message.specs.declared.start.Start.{Start}
 use Rattle.tally_message.specs.declared.message.MessageFault.{MessageFault}
 use Rattle.tally_message.specs.declared.message.MessageFault.TheVariants.{BadHead, HeadTooLong, LengthRequired, BadLength, BodyTooLong, EndedEarly, Read, Memory}
 
-pub record IsStartOf (bytes : List ℕ) (s : Start) (head : RequestHead) (rest : List ℕ) : Type 0 where
+pub record IsStartOf
+    (bytes : List ℕ) (s : Start) (head : RequestHead) (rest : List ℕ)
+    : Type 0 where
   pub announces : Announces bytes s.length head rest
   pub method : s.method ≡ head.method
   pub target : s.target.items ≡ head.target

@@ -9,7 +9,8 @@ use crate::input::{Input, read_more};
 use crate::message::MessageFault;
 use tally_door::Door;
 
-/// Reads the rest of a body of `count` bytes, of which the first may have come. It comes by way of `piece`.
+/// Reads the rest of a body of `count` bytes, of which the first may have come. It comes by way of
+/// `piece`.
 pub(crate) fn read_body<D: Door>(
     door: &mut D,
     piece: &mut [u8],
@@ -20,7 +21,8 @@ pub(crate) fn read_body<D: Door>(
     requires piece { 0 < length piece.old }
     requires within { vec_len body.old ≤ count }
     ensures connected { D.connected door.new ≡ true }
-    ensures known { ChangesCurrent (D.known door.old) (D.known door.new) (ReadsBody body.old.items count result body.new.items) }
+    ensures known { ChangesCurrent (D.known door.old) (D.known door.new)
+        (ReadsBody body.old.items count result body.new.items) }
     ensures taken { ChangesCurrent (D.known door.old) (D.known door.new) (TakesAtMost count) }
 {
     while body.len() < count {

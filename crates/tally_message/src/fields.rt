@@ -1,11 +1,12 @@
 //! What a head's fields say of the length of its body.
 
-ghost use Rattle.std.specs.Prelude.{◌≡◌, ◌≤◌, true, List, ℕ, length, map, None, is_some, option_map, codes, bytes_eq, All, IfOk, IfErr, MatchResult, Ok, Err};
+ghost use Rattle.std.specs.Prelude.{◌≡◌, ◌≤◌, true, List, ℕ, length, map, None, is_some, codes, bytes_eq, All, IfOk, IfErr};
 ghost use Rattle.std.specs.Char.{is_ascii_digit};
 ghost use Rattle.std.specs.List.{list_all, list_any};
 ghost use Rattle.std.specs.Str.{str_eq_ignore_ascii_case};
 ghost use Rattle.httparse.specs.Spans.{IsHeaderWithin, header_bytes};
-ghost use Rattle.tally_message.specs.Message.{is_named, values_of, single_value, is_content_length, content_length, announced_length};
+ghost use Rattle.tally_message.specs.Message.{is_named, single_value, is_content_length, content_length, announced_length};
+ghost use Rattle.tally_message.specs.Fields.{SeenAs, values_in};
 ghost use Rattle.tally_message.specs.declared.message.MessageFault.TheVariants.{BadLength};
 
 use crate::message::MessageFault;
@@ -14,7 +15,7 @@ use httparse::spans::HeaderSpan;
 /// The most bytes of a body.
 const BODY_LIMIT: u64 = 1_048_576;
 
-/// Whether two names are the same but for the case of ASCII letters.
+/// Whether two names are the same except for the case of ASCII letters.
 fn is_same_name(found: &[u8], name: &[u8]) -> bool
     ensures { result ≡ str_eq_ignore_ascii_case found.now name.now }
 {
@@ -52,9 +53,7 @@ fn value_of<'b>(
     name: &[u8],
 ) -> Result<Option<&'b [u8]>, MessageFault>
     requires { All (IsHeaderWithin (length bytes.now)) headers.now }
-    ensures { MatchResult result
-        (λ found. single_value (values_of name.now (map (header_bytes bytes.now) headers.now)) ≡ Ok (option_map (λ v. v.now) found))
-        (λ fault. single_value (values_of name.now (map (header_bytes bytes.now) headers.now)) ≡ Err fault) }
+    ensures { SeenAs result (single_value (values_in bytes.now headers.now name.now)) }
 {
     let mut found = None;
     for header in headers {

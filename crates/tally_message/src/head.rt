@@ -28,7 +28,8 @@ fn head_in(bytes: &[u8], headers: &mut [HeaderSpan]) -> Result<Option<RequestSpa
     ensures within { IfOk result (λ found. IfSome found (IsRequestWithin bytes.now headers.new)) }
     ensures head { IfOk result (λ found. IfSome found (IsRequestOf bytes.now headers.new)) }
     ensures none { IfOk result (λ found. IfNone found (HasNoRequest bytes.now)) }
-    ensures err { IfErr result (λ fault. (fault ≡ BadHead) × RequestOverflows field_limit bytes.now) }
+    ensures err { IfErr result
+        (λ fault. (fault ≡ BadHead) × RequestOverflows field_limit bytes.now) }
 {
     match parse_request(bytes, headers) {
         Ok(Status::Complete(head)) => Ok(Some(head)),
@@ -37,7 +38,8 @@ fn head_in(bytes: &[u8], headers: &mut [HeaderSpan]) -> Result<Option<RequestSpa
     }
 }
 
-/// The same where the first `before` bytes came earlier: `lines` are theirs, and they begin with no head.
+/// The same where the first `before` bytes came earlier: `lines` are theirs, and they begin with no
+/// head.
 fn head_since(
     bytes: &[u8],
     before: usize,
@@ -68,7 +70,8 @@ fn head_since(
     Ok(None)
 }
 
-/// Reads up to the end of the head, and perhaps some of what follows it: the first `count` bytes of the room.
+/// Reads up to the end of the head, and perhaps some of what follows it: the first `count` bytes of
+/// the room.
 pub(crate) fn read_head<D: Door>(
     door: &mut D,
     room: &mut [u8],
@@ -83,7 +86,8 @@ pub(crate) fn read_head<D: Door>(
     ensures short { count.new ≤ head_limit }
     ensures within { IfOk result (IsRequestWithin (take count.new room.new) headers.new) }
     ensures head { IfOk result (IsRequestOf (take count.new room.new) headers.new) }
-    ensures known { ChangesCurrent (D.known door.old) (D.known door.new) (ReadsHead result (take count.new room.new)) }
+    ensures known { ChangesCurrent (D.known door.old) (D.known door.new)
+        (ReadsHead result (take count.new room.new)) }
     ensures taken { ChangesCurrent (D.known door.old) (D.known door.new) (TakesAtMost head_limit) }
 {
     let mut lines = Lines::new();

@@ -16,8 +16,8 @@ pub(crate) enum Input {
     Failure,
 }
 
-/// Reads some of what the current connection still gives, at most as many bytes as there is room for, and puts it behind
-/// the first `count` bytes, which came before.
+/// Reads some of what the current connection still gives, at most as many bytes as there is room
+/// for, and puts it after the first `count` bytes, which came before.
 pub(crate) fn read_more<D: Door>(door: &mut D, room: &mut [u8], count: &mut usize) -> Input
     requires connected { D.connected door.old ≡ true }
     requires room { count.old < length room.old }
@@ -26,8 +26,10 @@ pub(crate) fn read_more<D: Door>(door: &mut D, room: &mut [u8], count: &mut usiz
     ensures within { count.new ≤ length room.new }
     ensures behind { count.old ≤ count.new }
     ensures kept { take count.old room.new ≡ take count.old room.old }
-    ensures taken { ChangesCurrent (D.known door.old) (D.known door.new) (TakesAtMost (length room.old - count.old)) }
-    ensures known { ChangesCurrent (D.known door.old) (D.known door.new) (ReadsOnto (take count.old room.old) result (take count.new room.new)) }
+    ensures taken { ChangesCurrent (D.known door.old) (D.known door.new)
+        (TakesAtMost (length room.old - count.old)) }
+    ensures known { ChangesCurrent (D.known door.old) (D.known door.new)
+        (ReadsOnto (take count.old room.old) result (take count.new room.new)) }
 {
     let Ok(came) = door.read(&mut room[*count..]) else {
         return Input::Failure;

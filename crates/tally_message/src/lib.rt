@@ -5,6 +5,7 @@ mod body;
 mod fields;
 mod head;
 mod input;
+pub mod laws;
 mod lines;
 mod message;
 mod read;

@@ -3,8 +3,9 @@
 ghost use Rattle.std.specs.Prelude.{◌≡◌, ◌==◌, ◌&&◌};
 ghost use Rattle.tally_message.specs.Lines.{no_lines, lines_with};
 
-/// The lines of a head as they come: whether one that is not empty has begun, and whether the last one is empty so far.
-/// They tell when the bytes are worth parsing, so that a head that comes byte by byte is not parsed at each byte.
+/// The lines of a head as they come: whether one that is not empty has begun, and whether the last
+/// one is empty so far. They say when the bytes are worth parsing, so that a head that comes byte
+/// by byte is not parsed at each byte.
 #[derive(Drop)]
 pub(crate) struct Lines {
     begun: bool,
@@ -22,8 +23,8 @@ impl Lines {
         }
     }
 
-    /// Whether an empty line ends with this byte, which comes next. Those before the start line are passed over
-    /// (RFC 9112, section 2.2).
+    /// Whether an empty line ends with this byte, which comes next. Those before the start line are
+    /// passed over (RFC 9112, section 2.2).
     pub(crate) fn end_with(&mut self, byte: u8) -> bool
         ensures lines { self.new ≡ lines_with byte self.old }
         ensures ended { result ≡ ((byte == 10) && self.old.begun && self.old.empty) }

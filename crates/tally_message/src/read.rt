@@ -12,13 +12,15 @@ use httparse::spans::EMPTY_HEADER_SPAN;
 use std::alloc::Global;
 use tally_door::Door;
 
-/// Reads a message from the current connection. What follows its body is not looked at. Nothing is written.
+/// Reads a message from the current connection. What follows its body is not looked at. Nothing is
+/// written.
 pub fn read_message<D: Door>(alloc: Global, door: &mut D) -> Result<Message, MessageFault>
     requires { D.connected door.old ≡ true }
     ensures connected { D.connected door.new ≡ true }
     ensures message { ChangesCurrent (D.known door.old) (D.known door.new) (HasReadMessage result) }
     ensures failed { ChangesCurrent (D.known door.old) (D.known door.new) (FailsAs result) }
-    ensures taken { ChangesCurrent (D.known door.old) (D.known door.new) (TakesWithinLimits result) }
+    ensures taken { ChangesCurrent (D.known door.old) (D.known door.new)
+        (TakesWithinLimits result) }
 {
     let mut room = [0u8; HEAD_LIMIT];
     let mut count = 0;

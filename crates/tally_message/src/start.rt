@@ -42,21 +42,23 @@ fn length_in(
     head: RequestSpans,
 ) -> Result<usize, MessageFault>
     requires { IsRequestWithin bytes.now headers.now head }
-    ensures { result ≡ announced_length (span_bytes bytes.now head.method) (map (header_bytes bytes.now) (take head.headers headers.now)) }
+    ensures { result ≡ announced_length (span_bytes bytes.now head.method)
+        (map (header_bytes bytes.now) (take head.headers headers.now)) }
 {
     body_length(head.method.of(bytes), bytes, &headers[..head.headers])
 }
 
 /// The first bytes of a body, up to its length.
 fn body_in(alloc: Global, rest: &[u8], length: usize) -> Result<Vec<u8>, MessageFault>
-    ensures { MatchResult result (λ body. body.items ≡ take length rest.now) (λ fault. fault ≡ Memory) }
+    ensures { MatchResult result (λ body. body.items ≡ take length rest.now)
+        (λ fault. fault ≡ Memory) }
 {
     let mut body = Vec::with_capacity(alloc, length)?;
     body.extend_from_slice(&rest[..length.min(rest.len())])?;
     Ok(body)
 }
 
-/// What a whole head and the bytes behind it say.
+/// What a whole head and the bytes after it say.
 pub(crate) fn start_in(
     alloc: Global,
     bytes: &[u8],

@@ -1,6 +1,7 @@
 //! Offices in databases, each of them a file.
 
-ghost use Rattle.std.specs.Prelude.{◌≡◌, false, IfOk};
+ghost use Rattle.std.specs.Prelude.{◌≡◌, false, IfErr, IfOk};
+ghost use Rattle.tally_commands.specs.Trouble.{IsTroubleOfDatabase, IsTroubleOfMaking, IsTroubleOfOpening};
 
 use sqlite::{Alter, Connection, Error, ErrorCode, FileFrom, FileStore, Wary};
 use std::fs::{self, File};
@@ -37,7 +38,9 @@ impl Offices for Databases {
 }
 
 /// The trouble of a call about a database's files that failed.
-fn trouble_of(error: &io::Error) -> Trouble {
+fn trouble_of(error: &io::Error) -> Trouble
+    ensures { IsTroubleOfDatabase result }
+{
     if is_memory(error) {
         Trouble::Memory
     } else {
@@ -45,7 +48,7 @@ fn trouble_of(error: &io::Error) -> Trouble {
     }
 }
 
-/// Whether a path names a file. To SQLite these do not.
+/// Whether a path names a file to SQLite, as these two kinds do not.
 fn names_file(path: &str) -> bool {
     path != ":memory:" && !path.starts_with("file:")
 }
@@ -71,8 +74,8 @@ fn remove_files(rt: &HostRuntime, path: &str, log: &str) -> io::Result<()> {
     fs::remove_file(rt, log)
 }
 
-/// Whether there is no database at a path, in a folder that is there: no file, or an empty one without
-/// a log. To open such a file would make a database of it.
+/// Whether there is no database at a path, in a folder that is there: no file, or an empty one
+/// without a log. Opening such a file would make a database of it.
 fn has_nothing(rt: &HostRuntime, path: &str) -> io::Result<bool> {
     if !fs::exists(rt, path)? {
         fs::metadata(rt, folder_of(path))?;
@@ -95,15 +98,17 @@ fn folder_of(path: &str) -> &str {
     }
 }
 
-/// Opens the database at a path. Where it cannot be opened, an empty log is removed, and so is a file
-/// that was made for it and has no tables yet; but a file that another program has locked stays.
+/// Opens the database at a path. Where it cannot be opened, an empty log is removed, and so is a
+/// file that was made for it and has no tables yet; but a file that another program has locked
+/// stays.
 fn connect(
     rt: &HostRuntime,
     path: &str,
     log: &str,
     was_made: bool,
 ) -> Result<FileConnection, Trouble>
-    ensures { IfOk result (λ conn. conn.in_transaction ≡ false) }
+    ensures autocommit { IfOk result (λ conn. conn.in_transaction ≡ false) }
+    ensures named { IfErr result IsTroubleOfDatabase }
 {
     match Connection::open_from(rt, path, false, Wary) {
         Ok(conn) => Ok(conn),
@@ -149,7 +154,9 @@ fn remove_empty(rt: &HostRuntime, path: &str, log: &str) -> io::Result<()> {
 }
 
 /// Opens an office. Where there is no database, none is made.
-fn open_office(rt: &HostRuntime, path: &str) -> Result<Office, Trouble> {
+fn open_office(rt: &HostRuntime, path: &str) -> Result<Office, Trouble>
+    ensures named { IfErr result IsTroubleOfOpening }
+{
     if !names_file(path) {
         return Err(Trouble::Store);
     }
@@ -175,9 +182,11 @@ fn open_office(rt: &HostRuntime, path: &str) -> Result<Office, Trouble> {
     }
 }
 
-/// Makes an office in a new file, or in one that has no tables yet. A file that it made is removed if
-/// that fails.
-fn make_office(rt: &HostRuntime, path: &str, text: &[u8]) -> Result<Office, Trouble> {
+/// Makes an office in a new file, or in one that has no tables yet. A file that it made is removed
+/// if that fails.
+fn make_office(rt: &HostRuntime, path: &str, text: &[u8]) -> Result<Office, Trouble>
+    ensures named { IfErr result IsTroubleOfMaking }
+{
     if !names_file(path) {
         return Err(Trouble::Store);
     }
@@ -211,7 +220,8 @@ fn remove<S: Alter + Drop>(rt: &HostRuntime, path: &str, log: &str, conn: Connec
     }
 }
 
-/// Closes a database, so that all of it is in its one file, and answers whether that was done.
+/// Closes a database, so that all of it is in its one file, and answers whether that was done. It
+/// is not where a disk that failed has shut the database.
 fn close(rt: &HostRuntime, path: &str, conn: FileConnection) -> bool {
     match conn.close_files() {
         Ok(_files) => {

@@ -7,7 +7,7 @@ use Rattle.std.proofs.lemmas.List.FromFn.{map-range_with_len_more}
 use Rattle.std.proofs.lemmas.List.Sorted.{IsPermutation-refl, IsPermutation-trans, IsPermutation-append_comm, IsPermutation-append_left, IsPermutation-append_right}
 use Rattle.sqlite_value.specs.Order.{Row}
 use Rattle.sqlite.specs.declared.error.Error.{Error}
-use Rattle.sqlite.specs.State.{State as Seen, KeepsCommit}
+use Rattle.sqlite.specs.State.{State as Seen}
 use Rattle.tally_rows.specs.Rows.{cells}
 use Rattle.tally_rules.specs.Constituency.{Constituency}
 use Rattle.tally_returns.specs.View.{votes_at, votes_of_lists}
@@ -15,9 +15,6 @@ use Rattle.tally_statements.specs.declared.table.KeyedTable.TheVariants.{Cons, T
 use Rattle.tally_statements.specs.Office.{IsInside, HasRows, rows_in}
 use Rattle.tally_tables.specs.Cells.{item_row, numbered}
 use Rattle.tally_opening.specs.Making.{AddsTotals, AddsCons, no_list_rows, no_vote_rows, opening_row, opening_totals}
-
-pub keeps_then : (a b c : Seen) → KeepsCommit a b → KeepsCommit b c → KeepsCommit a c
-keeps_then a b c p q = record { was_open = λ now. p.was_open (q.was_open now); committed = λ now. q.committed now ∙ p.committed (q.was_open now) }
 
 -- rows beside others, and then more rows beside all of these
 joined : {X : Type 0} (xs ys base mid new : List X) → IsPermutation (xs ++ base) mid → IsPermutation (ys ++ mid) new → IsPermutation ((xs ++ ys) ++ base) new

@@ -1,5 +1,6 @@
 -- The tables of the office without rows.
 use Rattle.std.proofs.Common.{◌≡◌, [], subst, sym}
+use Rattle.sqlite.specs.Effect.{IsDatabase}
 use Rattle.sqlite.specs.State.{State as Seen}
 use Rattle.tally_rows.specs.Rows.{HaveDistinctRowids}
 use Rattle.tally_schema.specs.Made.{HasEmptyTables}
@@ -21,9 +22,10 @@ tree_empty s h Gone = h.empty.1.1.1.1.1.1.0
 tree_empty s h Totals = h.empty.1.1.1.1.1.1.1.0
 tree_empty s h Past = h.empty.1.1.1.1.1.1.1.1.0
 
-pub empty_inside : (s : Seen) → HasEmptyTables 9 s → IsInside s
-empty_inside s h = record {
+pub empty_inside : (s : Seen) → HasEmptyTables 9 s → IsDatabase s.now → IsInside s
+empty_inside s h sound = record {
   schema = h.tables.schema;
+  sound = sound;
   distinct = λ t. subst HaveDistinctRowids (sym (tree_empty s h t)) tt;
   inside = h.tables.inside;
 }

@@ -1,15 +1,20 @@
 -- From what queries answered of the tables to the judgement of them.
-use Rattle.std.proofs.Common.{◌≡◌, ◌∙◌, List, ℕ, map, [], ◌∷◌, inl, inr, refl, sym, ap, subst}
+use Rattle.std.proofs.Common.{◌≡◌, ◌∙◌, List, ℕ, map, [], ◌∷◌, Result, Ok, Err, OnOk, IsTrue, inl, inr, refl, sym, ap, subst, arith}
 use Rattle.std.specs.Prelude.{◌==◌, if◌then◌else◌}
 use Rattle.std.specs.List.Sorted.{IsPermutation}
 use Rattle.std.proofs.lemmas.List.Sorted.{IsPermutation-sym}
 use Rattle.sqlite_value.specs.Order.{Row}
+use Rattle.sqlite_trees.specs.declared.store.Store.{Ghosts}
 use Rattle.sqlite_trees.specs.Tree.{Trees, rowid}
 use Rattle.tally_schema.specs.Cells.{setup_row}
 use Rattle.tally_schema.specs.Tables.{setup_tree}
 use Rattle.tally_tables.specs.TablesOfState.{AreTables, version}
 use Rattle.sqlite.specs.Effect.{Database, IsDatabase}
-use Rattle.sqlite.specs.State.{State as Seen, IsUnchanged}
+use Rattle.sqlite.specs.declared.error.Error.{Error}
+use Rattle.sqlite.specs.declared.transaction.Transaction.{Transaction}
+use Rattle.sqlite.specs.Held.{state}
+use Rattle.sqlite.specs.State.{State as Seen, HasCleanDisk, IsUnchanged}
+use Rattle.sqlite.proofs.Callers.{unchanged_then}
 use Rattle.tally_rows.specs.Rows.{HaveDistinctRowids, cells}
 use Rattle.tally_rows.proofs.RisingRowidLemmas.{distinct_shown}
 use Rattle.tally_rows.proofs.RowidLemmas.{distinct_permuted}
@@ -18,8 +23,10 @@ use Rattle.tally_rules.specs.Limits.{IsSetup}
 use Rattle.tally_judge.specs.OfficeRows.{AreLawfulRows, AreRowsOfOneState, Rows}
 use Rattle.tally_statements.specs.declared.table.KeyedTable.{KeyedTable}
 use Rattle.tally_statements.specs.declared.table.KeyedTable.TheVariants.{Returns, Counts, Cons, Lots, Seats, Gone, Totals, Past}
+use Rattle.tally_statements.specs.Inside.{OnlyReadsFrom}
+use Rattle.tally_statements.proofs.StaysLemmas.{stays-then}
 use Rattle.tally_statements.specs.Office.{HasTables, ShowsRowids, ShowsTable, rows_in, tree_of}
-use Rattle.tally_opening.specs.Opening.{AreOfOne, IsJudgedFault, IsTodayFault, AreTablesOfNone, HasDistinctRows, HaveDistinctFirst, HaveDistinctOthers, IsJudged, ShowsOffice, with_setup}
+use Rattle.tally_opening.specs.Opening.{AreOfOne, AreReadOf, IsJudgedFault, IsTodayFault, AreTablesOfNone, HasDistinctRows, IsJudged, IsReadOf, ShowsOffice, with_setup}
 use Rattle.tally_faults.specs.declared.fault.OpenFault.{OpenFault}
 use Rattle.tally_faults.specs.declared.fault.OpenFault.TheVariants.{BadTables, Memory, NoTables, Setup, Store}
 use Rattle.tally_opening.proofs.JudgedLemmas.{accepted, refused}
@@ -28,7 +35,7 @@ use Rattle.tally_opening.proofs.JudgedLemmas.{accepted, refused}
 pub rowids_differ : (t : KeyedTable) (seen : Seen) (answer : List Row) → ShowsRowids t seen answer → HaveDistinctRowids answer → HasDistinctRows seen t
 rowids_differ t seen answer shown rise = distinct_shown (seen.now.trees (tree_of t)) (distinct_permuted answer (map (λ r. rowid r ∷ []) (seen.now.trees (tree_of t))) (IsPermutation-sym _ _ shown) rise)
 
-pub distinct_before : (t : KeyedTable) (old new : Seen) → IsUnchanged old new → HasDistinctRows new t → HasDistinctRows old t
+distinct_before : (t : KeyedTable) (old new : Seen) → IsUnchanged old new → HasDistinctRows new t → HasDistinctRows old t
 distinct_before t old new same h = subst (λ (d : Database). HaveDistinctRowids (d.trees (tree_of t))) same.0.now_is h
 
 pub tables_still : (old new : Seen) → HasTables old → IsUnchanged old new → HasTables new
@@ -37,16 +44,6 @@ tables_still old new has same = record {
   sound = λ _. subst IsDatabase (sym same.0.now_is) (has.sound same.0.was_open);
   inside = same.0.mode ∙ has.inside;
 }
-
-pub distinct_each : (old new : Seen) → IsUnchanged old new → HaveDistinctFirst old → HaveDistinctOthers new → (t : KeyedTable) → HasDistinctRows old t
-distinct_each old new same first others Returns = first.returns
-distinct_each old new same first others Counts = first.counts
-distinct_each old new same first others Cons = first.cons
-distinct_each old new same first others Lots = first.lots
-distinct_each old new same first others Seats = distinct_before Seats old new same others.seats
-distinct_each old new same first others Gone = distinct_before Gone old new same others.gone
-distinct_each old new same first others Totals = distinct_before Totals old new same others.totals
-distinct_each old new same first others Past = distinct_before Past old new same others.past
 
 -- what was answered of the tables is answered of them with another row of `setup`
 shows_with : (t : KeyedTable) (text : List ℕ) (seen : Seen) (answer : List Row) → rows_in t (with_setup text seen) ≡ rows_in t seen → ShowsTable t seen answer → ShowsTable t (with_setup text seen) answer
@@ -67,22 +64,60 @@ office_with text seen rows shown = record {
   past = shows_with Past text seen rows.tables.past refl shown.past;
 }
 
-shows_before : (t : KeyedTable) (old new : Seen) (answer : List Row) → IsUnchanged old new → ShowsTable t new answer → ShowsTable t old answer
+pub shows_before : (t : KeyedTable) (old new : Seen) (answer : List Row) → IsUnchanged old new → ShowsTable t new answer → ShowsTable t old answer
 shows_before t old new answer same shown = record {
   same = subst (λ (d : Database). IsPermutation (cells (d.trees (tree_of t))) answer) same.0.now_is shown.same;
   in_order = λ rows order perm. shown.in_order rows order (subst (λ (d : Database). IsPermutation rows (cells (d.trees (tree_of t)))) (sym same.0.now_is) perm);
 }
 
-pub office_before : (old new : Seen) (rows : Rows) → IsUnchanged old new → ShowsOffice new rows → ShowsOffice old rows
-office_before old new rows same shown = record {
-  returns = shows_before Returns old new rows.returns same shown.returns;
-  counts = shows_before Counts old new rows.counts same shown.counts;
-  cons = shows_before Cons old new rows.cons same shown.cons;
-  lots = shows_before Lots old new rows.tables.lots same shown.lots;
-  seats = shows_before Seats old new rows.tables.seats same shown.seats;
-  gone = shows_before Gone old new rows.tables.gone same shown.gone;
-  totals = shows_before Totals old new rows.tables.totals same shown.totals;
-  past = shows_before Past old new rows.tables.past same shown.past;
+-- what was read later, of tables that are as they were
+pub read_before : (t : KeyedTable) (old new : Seen) (answer : List Row) → IsUnchanged old new → IsReadOf t new answer → IsReadOf t old answer
+read_before t old new answer same read = record { shown = shows_before t old new answer same read.shown; distinct = distinct_before t old new same read.distinct }
+
+-- all tables, each of which was read
+pub all_read : (seen : Seen) (returns counts cons totals lots seats gone past : List Row)
+    → IsReadOf Returns seen returns → IsReadOf Counts seen counts → IsReadOf Cons seen cons → IsReadOf Totals seen totals
+    → IsReadOf Lots seen lots → IsReadOf Seats seen seats → IsReadOf Gone seen gone → IsReadOf Past seen past
+    → AreReadOf seen (record { returns = returns; counts = counts; cons = cons; tables = record { lots = lots; seats = seats; gone = gone; totals = totals; past = past } })
+all_read seen returns counts cons totals lots seats gone past r n c t l s g p = record {
+  shown = record { returns = r.shown; counts = n.shown; cons = c.shown; lots = l.shown; seats = s.shown; gone = g.shown; totals = t.shown; past = p.shown };
+  distinct = each;
+}
+  where
+    each : (table : KeyedTable) → HasDistinctRows seen table
+    each Returns = r.distinct
+    each Counts = n.distinct
+    each Cons = c.distinct
+    each Lots = l.distinct
+    each Seats = s.distinct
+    each Gone = g.distinct
+    each Totals = t.distinct
+    each Past = p.distinct
+
+-- one read after the other, each of which changed nothing
+both_unchanged : {X E : Type 0} (a b c : Seen) (r : Result X E) → IsUnchanged a b → OnOk r (IsUnchanged b c) → OnOk r (IsUnchanged a c)
+both_unchanged a b c (Ok x) first second = unchanged_then a b c first second
+both_unchanged a b c (Err e) first second = tt
+
+so_answered : {X E P : Type 0} (r : Result X E) → P → OnOk r P
+so_answered (Ok x) p = p
+so_answered (Err e) p = tt
+
+pub look_then : {S X Y : Type 0} (g : Ghosts S) (a b c : Transaction S) (first : X) (r : Result Y Error) → OnlyReadsFrom HasTables g a b (Ok first) → OnlyReadsFrom HasTables g b c r → OnlyReadsFrom HasTables g a c r
+look_then g a b c first r one two = record {
+  stays = stays-then HasTables HasTables g a b c (λ early has. tables_still _ _ has (one.same early has)) one.stays two.stays;
+  same = λ clean has.
+      let early : HasCleanDisk (state g b.conn.now) = omega (arith, clean, two.stays.survives.clean) in
+      both_unchanged _ _ _ r (one.same early has) (two.same clean (tables_still _ _ has (one.same early has)));
+  answered_open = λ clean. so_answered r (one.answered_open (omega (arith, clean, two.stays.survives.clean)));
+}
+
+-- the same of another answer
+pub look_as : {S X Y : Type 0} (g : Ghosts S) (a b : Transaction S) (x : X) (r : Result Y Error) → OnlyReadsFrom HasTables g a b (Ok x) → OnlyReadsFrom HasTables g a b r
+look_as g a b x r one = record {
+  stays = one.stays;
+  same = λ clean has. so_answered r (one.same clean has);
+  answered_open = λ clean. so_answered r (one.answered_open clean);
 }
 
 pub judged : (setup : List Constituency) (seen : Seen) (rows : Rows) → IsSetup setup → ShowsOffice seen rows → ((t : KeyedTable) → HasDistinctRows seen t) → AreRowsOfOneState setup rows → IsJudged setup seen

@@ -1,5 +1,6 @@
 pub mod AddLemmas
 pub mod EmptyLemmas
+pub mod WholeLemmas
 pub mod OpeningLemmas
 pub mod ReturnLemmas
 pub mod TextLemmas

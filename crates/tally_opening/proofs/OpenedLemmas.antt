@@ -1,7 +1,7 @@
 -- From what was judged of the tables to the opening of a database.
 use Rattle.std.proofs.Common.{◌≡◌, ◌∙◌, ◌⊎◌, List, [], ◌∷◌, ℕ, pos, true, false, IsTrue, Result, Ok, Err, inl, inr, refl, sym, ap, subst, arith, length, true≢false}
 use Rattle.std.specs.Prelude.{codes, IfOk, IsOk}
-use Rattle.sqlite.specs.Effect.{Database}
+use Rattle.sqlite.specs.Effect.{Database, IsDatabase}
 use Rattle.sqlite.specs.State.{State as Seen}
 use Rattle.sqlite_schema.specs.declared.schema.Schema.{Schema}
 use Rattle.sqlite_trees.specs.Tree.{Trees}
@@ -83,9 +83,9 @@ is_text text words setup same reads = rw (same, reads) refl
 stored_same : (old : Seen) (text : List ℕ) → HasSetup version text old.now.trees → AreSame (with_setup text old).now.trees old.now.trees
 stored_same old text row = record { setup = row; tables = λ t. sym (beside_setup text old t) }
 
-pub opened_today : (setup : List Constituency) (old new : Seen) → old.now.schema ≡ office_schema → HasSetupRow version setup old → IsJudged setup old → IsSettled old → (IsTrue new.is_open → IsTrue old.is_open)
+pub opened_today : (setup : List Constituency) (old new : Seen) → old.now.schema ≡ office_schema → HasSetupRow version setup old → IsJudged setup old → (IsTrue old.is_open → IsDatabase old.now) → IsSettled old → (IsTrue new.is_open → IsTrue old.is_open)
     → (IsTrue new.is_open → IsAsBefore old new) → IsOpened setup old new
-opened_today setup old new schema stored judged settled was_open before = record {
+opened_today setup old new schema stored judged sound settled was_open before = record {
   state = (judged.one stored.text).state;
   text = stored.text;
   found = record { lawful = (judged.one stored.text).lawful; found = (stored.reads, inl (schema, tables)); alone = λ other lawful found. alone other lawful found.1 };
@@ -93,6 +93,7 @@ opened_today setup old new schema stored judged settled was_open before = record
   has = λ now. record {
     tables = subst (λ (d : Database). AreTables setup stored.text (judged.one stored.text).state d.trees) (sym (before now).now) tables;
     schema = ap (λ (d : Database). d.schema) (before now).now ∙ schema;
+    sound = subst IsDatabase (sym (before now).now) (sound (was_open now));
     distinct = λ t. subst (λ (d : Database). HaveDistinctRowids (d.trees (tree_of t))) (sym (before now).now) (judged.distinct t);
     settled = (before now).committed ∙ sym (settled (was_open now)) ∙ sym (before now).now;
   };
@@ -193,7 +194,7 @@ setup_opened setup old new opened = (opened.text, known opened.found.found.1, op
 
 -- ---- what calls answered
 
-pub today_each : (r : Result (List Constituency) OpenFault) (old new : Seen) → old.now.schema ≡ office_schema → IsSettled old → (IsTrue new.is_open → IsTrue old.is_open) → (IsTrue new.is_open → IsAsBefore old new)
-    → IfOk r (λ setup. HasSetupRow version setup old) → IfOk r (λ setup. IsJudged setup old) → IfOk r (λ setup. IsOpened setup old new)
-today_each (Ok setup) old new schema settled was_open before stored judged = opened_today setup old new schema stored judged settled was_open before
-today_each (Err fault) old new schema settled was_open before stored judged = tt
+pub today_each : (r : Result (List Constituency) OpenFault) (old new : Seen) → old.now.schema ≡ office_schema → (IsTrue old.is_open → IsDatabase old.now) → IsSettled old → (IsTrue new.is_open → IsTrue old.is_open)
+    → (IsTrue new.is_open → IsAsBefore old new) → IfOk r (λ setup. HasSetupRow version setup old) → IfOk r (λ setup. IsJudged setup old) → IfOk r (λ setup. IsOpened setup old new)
+today_each (Ok setup) old new schema sound settled was_open before stored judged = opened_today setup old new schema stored judged sound settled was_open before
+today_each (Err fault) old new schema sound settled was_open before stored judged = tt

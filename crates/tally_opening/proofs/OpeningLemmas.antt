@@ -32,6 +32,7 @@ use Rattle.tally_statements.specs.Office.{HasSetup, rows_in, tree_of}
 use Rattle.tally_tables.specs.Cells.{con_rows, gone_rows, item_row, items_of, lot_rows, past_rows, record_rows, seat_rows, total_rows}
 use Rattle.tally_opening.specs.Making.{AddsCons, IsMade, opening_row, opening_totals}
 use Rattle.tally_opening.proofs.EmptyLemmas.{tree_empty}
+use Rattle.tally_opening.proofs.WholeLemmas.{whole_inside}
 
 abbrev pair : Constituency → List ℕ × ConState
 pair con = (con.code, opening_con)
@@ -132,7 +133,7 @@ seats_none code = []
 office_made : (setup : List Constituency) (text : List ℕ) (empty_tables set made : Seen) → IsSetup setup → HasEmptyTables 9 empty_tables → HasSetup 2 text empty_tables set → AddsCons setup set made → IsMade setup text made
 office_made setup text old set made limits none row added = record {
   inside = added.inside;
-  tables = record {
+  whole = whole_inside setup text (opening setup) made added.inside (record {
     given = seats_none;
     allotted = λ code con found. subst (HasSeats con (view_of con (opening setup) [])) (sym (ap (λ (c : ConState). c.certified) (opens_so setup con.code))) refl;
     setup_is = added.setup ∙ row.setup;
@@ -146,7 +147,7 @@ office_made setup text old set made limits none row added = record {
     totals = by_cons (total_rows setup empty) setup _ differ (subst (λ l. IsPermutation l (rows_in Totals made)) (sym (all_totals_are setup setup limits (λ con has. has)))
         (subst (λ l. IsPermutation l (rows_in Totals made)) (first_rows Totals (flat_map opening_totals setup)) added.totals));
     past = none_by_cons past_rows setup _ differ (λ con. no_past con) (left Past (λ e. omega arith) (λ e. omega arith));
-  };
+  });
 }
   where
     differ : Differ code_of_con setup

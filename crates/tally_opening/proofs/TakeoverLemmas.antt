@@ -2,7 +2,7 @@
 use Rattle.std.proofs.Common.{◌≡◌, ◌∙◌, ◌⊎◌, List, ℕ, inl, inr, refl, sym, ap, subst, Result, Ok, Err, OnOk}
 use Rattle.std.specs.Prelude.{IfErr, IfOk}
 use Rattle.sqlite.specs.declared.error.Error.{Error}
-use Rattle.sqlite.specs.Effect.{Database}
+use Rattle.sqlite.specs.Effect.{Database, IsDatabase}
 use Rattle.sqlite.specs.State.{State as Seen, IsUnchanged}
 use Rattle.sqlite_trees.specs.Tree.{Trees}
 use Rattle.sqlite_value.specs.Order.{Row}
@@ -24,6 +24,7 @@ use Rattle.tally_faults.specs.declared.fault.OpenFault.TheVariants.{BadTables, M
 use Rattle.tally_opening.proofs.JudgingLemmas.{judged_now, tables_still}
 use Rattle.tally_opening.proofs.OpenedLemmas.{AreSame, beside_setup, forms_differ, same_back, same_tables}
 use Rattle.tally_opening.proofs.StoredLemmas.{row_shown, row_stored}
+use Rattle.tally_opening.proofs.WholeLemmas.{whole_left}
 
 -- ---- the row of `setup`
 
@@ -43,6 +44,7 @@ fault_shown seen answer Store shown told = (told.0, row_stored former_version to
 pub past_added : (old new : Seen) → AddsTable 8 past_tree old new → AddsPast old new
 past_added old new added = record {
   has = record { schema = added.tables.schema; sound = λ _. added.sound; inside = added.tables.inside };
+  sound = added.sound;
   setup = added.others.0;
   each = each;
 }
@@ -60,6 +62,7 @@ past_added old new added = record {
 past_still : (old mid new : Seen) → AddsPast old mid → IsUnchanged mid new → AddsPast old new
 past_still old mid new past same = record {
   has = tables_still mid new past.has same;
+  sound = subst IsDatabase (sym same.0.now_is) past.sound;
   setup = ap (λ (d : Database). d.trees setup_tree) same.0.now_is ∙ past.setup;
   each = λ text t. ap (λ (d : Database). d.trees (tree_of t)) same.0.now_is ∙ past.each text t;
 }
@@ -93,7 +96,7 @@ fault_judged old mid Store past told = tt
 -- ---- the version
 
 pub ready_inside : (setup : List Constituency) (old new : Seen) → IsReady setup old new → IsInside new
-ready_inside setup old new ready = record { schema = ready.past.has.schema; distinct = ready.judged.distinct; inside = ready.past.has.inside }
+ready_inside setup old new ready = record { schema = ready.past.has.schema; sound = ready.past.sound; distinct = ready.judged.distinct; inside = ready.past.has.inside }
 
 pub ready_row : (setup : List Constituency) (old new : Seen) (h : IsReady setup old new) → HasSetup former_version h.stored.text new.now.trees
 ready_row setup old new h = h.past.setup ∙ h.stored.row
@@ -128,6 +131,7 @@ opened_former setup old last new schema h now committed = record {
   has = λ _. record {
     tables = subst (λ (d : Database). AreTables setup h.text h.state d.trees) (sym now) h.tables;
     schema = ap (λ (d : Database). d.schema) now ∙ h.inside.schema;
+    sound = subst IsDatabase (sym now) h.inside.sound;
     distinct = λ t. subst (λ (d : Database). HaveDistinctRowids (d.trees (tree_of t))) (sym now) (h.inside.distinct t);
     settled = committed ∙ sym now;
   };
@@ -139,7 +143,15 @@ opened_former setup old last new schema h now committed = record {
     alone other lawful (inr found) = h.alone other lawful found.1
 
 pub leaves_taken : (setup : List Constituency) (old last : Seen) (db : Trees) → old.now.schema ≡ former_schema → IsTaken setup old last → db ≡ last.now.trees → LeavesTakenOver old.now db
-leaves_taken setup old last db schema h is = (schema, setup, h.text, h.state, h.lawful, (h.reads, inr (schema, h.former)), subst (AreTables setup h.text h.state) (sym is) h.tables)
+leaves_taken setup old last db schema h is = record {
+  former = schema;
+  setup = setup;
+  text = h.text;
+  state = h.state;
+  lawful = h.lawful;
+  tables = (h.reads, inr (schema, h.former));
+  whole = whole_left setup h.text h.state last db h.inside h.tables is;
+}
 
 -- ---- what calls answered
 

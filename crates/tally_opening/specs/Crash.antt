@@ -9,26 +9,37 @@ use Rattle.tally_steps.specs.LawfulState.{IsLawfulState}
 use Rattle.tally_returns.specs.State.{State, opening}
 use Rattle.tally_schema.specs.Made.{has_table}
 use Rattle.tally_schema.specs.Tables.{former_schema}
-use Rattle.tally_tables.specs.TablesOfState.{AreTables}
 use Rattle.tally_opening.specs.Create.{IsAsBefore}
+use Rattle.tally_opening.specs.Office.{IsWholeOffice}
 use Rattle.tally_opening.specs.Open.{AreFound}
 
--- beside what it could leave before: the tables of the opening state, of the setup that the text is
+-- beside what it could leave before: the tables of the opening state, of the setup that the text
+-- is, and no others
 abbrev pub LeavesOpening : List ℕ → Trees → Type 0
-LeavesOpening text db = (setup : List Constituency) × (setup_of_text text ≡ Ok setup) × AreTables setup text (opening setup) db
+LeavesOpening text db =
+    (setup : List Constituency) × (setup_of_text text ≡ Ok setup)
+    × IsWholeOffice setup text (opening setup) db
 
--- beside what it could leave before: where the tables that were found are those of version 1 of a lawful state, the tables of this state
-abbrev pub LeavesTakenOver : Database → Trees → Type 0
-LeavesTakenOver found db =
-    (found.schema ≡ former_schema) × (setup : List Constituency) × (text : List ℕ) × (s : State) × IsLawfulState setup s × AreFound setup text s found × AreTables setup text s db
+-- Beside what it could leave before: where the tables that were found are those of version 1 of a
+-- lawful state, the tables of this state in today's version, and no others.
+pub record LeavesTakenOver (found : Database) (db : Trees) : Type 0 where
+  pub former : found.schema ≡ former_schema
+  pub setup : List Constituency
+  pub text : List ℕ
+  pub state : State
+  pub lawful : IsLawfulState setup state
+  pub tables : AreFound setup text state found
+  pub whole : IsWholeOffice setup text state db
 
--- a table `past` stands, so that there is nothing to take over
+-- there is a table `past`, so there is nothing to take over
 abbrev pub HasPast : Database → Type 0
 HasPast db = IsTrue (has_table db.schema (codes "past"))
 
--- Nothing was written. A crash leaves what it could leave before: where the connection was open, what was found and nothing else. Where it
--- still is open, what is there, and what was committed, are what was found, row by row.
+-- Nothing was written. A crash leaves what it could leave before: where the connection was open,
+-- what was found and nothing else. Where the connection is still open, what is there and what was
+-- committed are what was found, row by row.
 pub record IsUnwritten (old new : Seen) : Type 0 where
   pub survives : Survives old new (λ _. ⊥)
-  pub crash : HasCleanDisk new → IsTrue old.is_open → (db : Trees) → new.may_leave db → db ≡ old.now.trees
+  pub crash : HasCleanDisk new → IsTrue old.is_open → (db : Trees) → new.may_leave db
+      → db ≡ old.now.trees
   pub same : HasCleanDisk new → IsTrue new.is_open → IsAsBefore old new

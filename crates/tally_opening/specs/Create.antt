@@ -1,4 +1,5 @@
--- The making of an office's tables in a database: where it may be done, why it is refused, and what it leaves then.
+-- The making of an office's tables in a database: where it may be done, why it is refused, and what
+-- it leaves then.
 use Rattle.std.specs.Prelude.{◌≡◌, ◌≢◌, List, ℕ, IsOk, IsTrue, false}
 use Rattle.sqlite.specs.State.{State as Seen}
 use Rattle.sqlite_schema.specs.declared.schema.Schema.{Schema}
@@ -14,10 +15,12 @@ use Rattle.tally_faults.specs.declared.fault.CreateFault.TheVariants.{Setup, Not
 abbrev pub no_schema : Schema
 no_schema = schema_with 0
 
--- Why no office was made of a text in a database of this schema: the first fault of the text; a name of the office's tables that is
--- taken; or, of a text that is a setup and with no name taken, the database. Want of memory may be answered at any place.
+-- Why no office was made of a text in a database of this schema: the first fault of the text; a
+-- name of the office's tables that is taken; or, of a text that is a setup and with no name taken,
+-- the database. Out of memory may be the answer at any place.
 abbrev pub IsCreateFault : List ℕ → Schema → CreateFault → Type 0
-IsCreateFault text schema (Setup fault) = IsFaultIn (setup_of_text text) fault × (fault ≢ setup_fault.Memory)
+IsCreateFault text schema (Setup fault) =
+    IsFaultIn (setup_of_text text) fault × (fault ≢ setup_fault.Memory)
 IsCreateFault text schema NotEmpty = IsOk (setup_of_text text) × IsTrue (takes_office_name schema)
 IsCreateFault text schema Memory = Unit {0}
 IsCreateFault text schema Store = IsOk (setup_of_text text) × (takes_office_name schema ≡ false)

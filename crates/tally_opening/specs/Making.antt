@@ -15,7 +15,7 @@ use Rattle.tally_statements.specs.declared.table.KeyedTable.{KeyedTable}
 use Rattle.tally_statements.specs.declared.table.KeyedTable.TheVariants.{Cons, Totals}
 use Rattle.tally_statements.specs.Office.{IsInside, HasRows, rows_in, tree_of}
 use Rattle.tally_tables.specs.Cells.{item_row, items_of, numbered}
-use Rattle.tally_tables.specs.TablesOfState.{AreTables}
+use Rattle.tally_opening.specs.Office.{IsWholeOffice}
 
 -- the sums of no return, for so many lists
 abbrev pub no_votes : ℕ → VoteCounts
@@ -40,26 +40,32 @@ opening_totals con = no_vote_rows con.code (length con.lists)
 abbrev pub AddsTotals : List Row → Seen → Seen → Type 0
 AddsTotals rows old new = HasRows Totals (rows ++ rows_in Totals old) old new
 
--- The rows of these constituencies as they open are there now beside those that were there, and every other table is as it was.
+-- The rows of these constituencies as they open are there now beside those that were there, and
+-- every other table is as it was.
 pub record AddsCons (cons : List Constituency) (old new : Seen) : Type 0 where
   pub inside : IsInside new
   pub rows : IsPermutation (map opening_row cons ++ rows_in Cons old) (rows_in Cons new)
-  pub totals : IsPermutation (flat_map opening_totals cons ++ rows_in Totals old) (rows_in Totals new)
-  pub others : (t : KeyedTable) → tree_of t ≢ tree_of Cons → tree_of t ≢ tree_of Totals → new.now.trees (tree_of t) ≡ old.now.trees (tree_of t)
+  pub totals :
+      IsPermutation (flat_map opening_totals cons ++ rows_in Totals old) (rows_in Totals new)
+  pub others : (t : KeyedTable) → tree_of t ≢ tree_of Cons → tree_of t ≢ tree_of Totals
+      → new.now.trees (tree_of t) ≡ old.now.trees (tree_of t)
   pub setup : new.now.trees setup_tree ≡ old.now.trees setup_tree
 
--- The tables of the office are open in a transaction, and are those of the opening state.
+-- The tables of the office are open in a transaction, and are those of the opening state and no
+-- others.
 pub record IsMade (setup : List Constituency) (text : List ℕ) (seen : Seen) : Type 0 where
   pub inside : IsInside seen
-  pub tables : AreTables setup text (opening setup) seen.now.trees
+  pub whole : IsWholeOffice setup text (opening setup) seen.now.trees
 
--- ---- what a call says, of a disk that returned what was written
+-- ---- what a call says, where the disk returned what was written
 
 abbrev pub Totalled : List Row → Seen → Seen → Result Unit Error → Type 0
-Totalled rows old new result = HasCleanDisk new → IsInside old → OnOk result (AddsTotals rows old new)
+Totalled rows old new result =
+    HasCleanDisk new → IsInside old → OnOk result (AddsTotals rows old new)
 
 abbrev pub Opened : List Constituency → Seen → Seen → Result Unit Error → Type 0
 Opened cons old new result = HasCleanDisk new → IsInside old → OnOk result (AddsCons cons old new)
 
 abbrev pub Made : List Constituency → List ℕ → Seen → Seen → Result Unit Error → Type 0
-Made setup text old new result = HasCleanDisk new → HasEmptyTables 0 old → OnOk result (IsMade setup text new)
+Made setup text old new result =
+    HasCleanDisk new → HasEmptyTables 0 old → OnOk result (IsMade setup text new)

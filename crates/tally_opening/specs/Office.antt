@@ -1,6 +1,8 @@
 -- Whether the database of an office is that of a state, between transactions.
 use Rattle.std.specs.Prelude.{◌≡◌, List, ℕ, IsTrue, Ok}
+use Rattle.sqlite.specs.Effect.{IsDatabase}
 use Rattle.sqlite.specs.State.{State as Seen}
+use Rattle.sqlite_trees.specs.Tree.{Trees}
 use Rattle.tally_rows.specs.Rows.{HaveDistinctRowids}
 use Rattle.tally_rules.specs.Constituency.{Constituency}
 use Rattle.tally_rules.specs.Reading.{setup_of_text}
@@ -10,11 +12,22 @@ use Rattle.tally_statements.specs.declared.table.KeyedTable.{KeyedTable}
 use Rattle.tally_statements.specs.Office.{tree_of}
 use Rattle.tally_tables.specs.TablesOfState.{AreTables}
 
--- Between transactions the database is that of a state, over a setup that has this text: its tables are those of the state,
--- it has no others, and all of it was committed. The rowids of a table differ, which no state tells.
+-- the catalogue that is stored lists the tables of the office and no others, and the rows obey them
+abbrev pub HasOfficeSchema : Trees → Type 0
+HasOfficeSchema db = IsDatabase (record { schema = office_schema; trees = db })
+
+-- Stored are the tables of a state, over a setup that has this text, and no others.
+pub record IsWholeOffice (setup : List Constituency) (text : List ℕ) (s : State) (db : Trees) : Type 0 where
+  pub tables : AreTables setup text s db
+  pub schema : HasOfficeSchema db
+
+-- Between transactions the database is that of a state, over a setup that has this text. Its tables
+-- are those of the state. It has no others, in its catalogue either, and all of it was committed.
+-- The rowids of a table differ, of which a state says nothing.
 pub record HasState (setup : List Constituency) (text : List ℕ) (s : State) (seen : Seen) : Type 0 where
   pub tables : AreTables setup text s seen.now.trees
   pub schema : seen.now.schema ≡ office_schema
+  pub sound : IsDatabase seen.now
   pub distinct : (t : KeyedTable) → HaveDistinctRowids (seen.now.trees (tree_of t))
   pub settled : seen.committed ≡ seen.now
 

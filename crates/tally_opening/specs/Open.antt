@@ -27,9 +27,12 @@ former_version = 1
 abbrev pub HasSetup : ℕ → List ℕ → Trees → Type 0
 HasSetup number text db = db setup_tree ≡ setup_row number text ∷ []
 
--- the tables of version 1 once they are taken over: `setup` has the version of today, and `past` is there without rows
+-- the tables of version 1 once they are taken over: `setup` has the version of today, and `past` is
+-- there without rows
 abbrev pub taken_over : List ℕ → Trees → Trees
-taken_over text db tree = if tree == setup_tree then setup_row version text ∷ [] else (if tree == past_tree then [] else db tree)
+taken_over text db tree =
+    if tree == setup_tree then setup_row version text ∷ []
+    else (if tree == past_tree then [] else db tree)
 
 -- each table is that of version 1 once it is taken over
 pub record IsTakenOver (text : List ℕ) (found db : Trees) : Type 0 where
@@ -38,15 +41,19 @@ pub record IsTakenOver (text : List ℕ) (found db : Trees) : Type 0 where
 
 -- the tables of version 1 of a state, which has no records
 abbrev pub AreFormerTables : List Constituency → List ℕ → State → Trees → Type 0
-AreFormerTables setup text s db = HasSetup former_version text db × AreTables setup text s (taken_over text db)
+AreFormerTables setup text s db =
+    HasSetup former_version text db × AreTables setup text s (taken_over text db)
 
--- The tables that were found are those of a state over the setup that their text is: in the version of today, or in version 1.
+-- The tables that were found are those of a state over the setup that their text is: in the version
+-- of today, or in version 1.
 abbrev pub AreFound : List Constituency → List ℕ → State → Database → Type 0
 AreFound setup text s db =
     (setup_of_text text ≡ Ok setup)
-    × (((db.schema ≡ office_schema) × AreTables setup text s db.trees) ⊎ ((db.schema ≡ former_schema) × AreFormerTables setup text s db.trees))
+    × (((db.schema ≡ office_schema) × AreTables setup text s db.trees)
+    ⊎ ((db.schema ≡ former_schema) × AreFormerTables setup text s db.trees))
 
--- The tables that were found are those of a lawful state over this setup with this text, and of no other one.
+-- The tables that were found are those of a lawful state over this setup with this text, and of no
+-- other one.
 pub record AreOfOneState (setup : List Constituency) (text : List ℕ) (s : State) (db : Database) : Type 0 where
   pub lawful : IsLawfulState setup s
   pub found : AreFound setup text s db
@@ -54,18 +61,22 @@ pub record AreOfOneState (setup : List Constituency) (text : List ℕ) (s : Stat
 
 -- no lawful state over any setup has these tables
 abbrev pub AreOfNoState : Database → Type 0
-AreOfNoState db = (setup : List Constituency) (text : List ℕ) (s : State) → IsLawfulState setup s → AreFound setup text s db → ⊥
+AreOfNoState db =
+    (setup : List Constituency) (text : List ℕ) (s : State) → IsLawfulState setup s
+    → AreFound setup text s db → ⊥
 
 -- a table of version 1 is missing; or the version is that of today, and `past` is missing
 abbrev pub LacksTable : Database → Type 0
 LacksTable db =
     (has_former_tables db.schema ≡ false)
-    ⊎ ((has_table db.schema (codes "past") ≡ false) × (text : List ℕ) × HasSetup version text db.trees)
+    ⊎ ((has_table db.schema (codes "past") ≡ false) × (text : List ℕ)
+    × HasSetup version text db.trees)
 
 -- `setup` has its one row, of the version that goes with the tables
 abbrev pub IsOfKnownVersion : List ℕ → Database → Type 0
 IsOfKnownVersion text db =
-    ((db.schema ≡ office_schema) × HasSetup version text db.trees) ⊎ ((db.schema ≡ former_schema) × HasSetup former_version text db.trees)
+    ((db.schema ≡ office_schema) × HasSetup version text db.trees)
+    ⊎ ((db.schema ≡ former_schema) × HasSetup former_version text db.trees)
 
 -- the setup that is stored there, in a version that goes with the tables
 abbrev pub IsSetupOf : Database → List Constituency → Type 0
@@ -79,21 +90,27 @@ HasNoTextFault db = (text : List ℕ) → IsOfKnownVersion text db → IsOk (set
 abbrev pub HasOfficeTables : Database → Type 0
 HasOfficeTables db = (db.schema ≡ office_schema) ⊎ (db.schema ≡ former_schema)
 
--- Why a database is not opened: a table is missing; none is, and the rows are those of no state, and the text is not at fault; the text of
--- a known version is no setup. The database, and being out of memory, may be the reason at any place.
+-- Why a database is not opened: a table is missing; none is, and the rows are those of no state,
+-- and the text is not at fault; the text of a known version is not a setup. The database or out of
+-- memory may be the reason at any place.
 abbrev pub IsOpenFault : Database → OpenFault → Type 0
 IsOpenFault db NoTables = LacksTable db
-IsOpenFault db BadTables = AreOfNoState db × HasNoTextFault db × HasOfficeTables db × (LacksTable db → ⊥)
-IsOpenFault db (Setup fault) = (text : List ℕ) × IsOfKnownVersion text db × IsFaultIn (setup_of_text text) fault × (fault ≢ setup_fault.Memory)
+IsOpenFault db BadTables =
+    AreOfNoState db × HasNoTextFault db × HasOfficeTables db × (LacksTable db → ⊥)
+IsOpenFault db (Setup fault) =
+    (text : List ℕ) × IsOfKnownVersion text db × IsFaultIn (setup_of_text text) fault
+    × (fault ≢ setup_fault.Memory)
 IsOpenFault db Memory = Unit {0}
 IsOpenFault db Store = Unit {0}
 
 -- the tables hold what was found, in the version of today
 abbrev pub AreLeft : List ℕ → Database → Trees → Type 0
-AreLeft text found db = ((found.schema ≡ office_schema) × (db ≡ found.trees)) ⊎ ((found.schema ≡ former_schema) × IsTakenOver text found.trees db)
+AreLeft text found db =
+    ((found.schema ≡ office_schema) × (db ≡ found.trees))
+    ⊎ ((found.schema ≡ former_schema) × IsTakenOver text found.trees db)
 
--- What an opening leaves: the tables that were found are those of one lawful state; they were left as they are, or taken over; and the
--- database is that of this state, with the same text.
+-- What an opening leaves: the tables that were found are those of one lawful state; they were left
+-- as they are, or taken over; and the database is that of this state, with the same text.
 pub record IsOpened (setup : List Constituency) (old new : Seen) : Type 0 where
   pub state : State
   pub text : List ℕ

@@ -74,11 +74,13 @@ pub fn create_in<S: Alter>(
     ensures unset { OnOk result ((state S.Store conn.old).now.schema ≡ no_schema) }
     ensures made { HasCleanDisk (state S.Store conn.new) →
         IfOk result (λ setup. HasState setup text.now (opening setup) (state S.Store conn.new)) }
-    ensures open { HasCleanDisk (state S.Store conn.new) → OnOk result (IsTrue (state S.Store conn.new).is_open) }
+    ensures open { HasCleanDisk (state S.Store conn.new) →
+        OnOk result (IsTrue (state S.Store conn.new).is_open) }
     ensures fault { IfErr result (IsCreateFault text.now (state S.Store conn.old).now.schema) }
     ensures same { HasCleanDisk (state S.Store conn.new) → IsTrue (state S.Store conn.new).is_open →
         OnErr result (IsAsBefore (state S.Store conn.old) (state S.Store conn.new)) }
-    ensures crash { Survives (state S.Store conn.old) (state S.Store conn.new) (LeavesOpening text.now) }
+    ensures crash { Survives (state S.Store conn.old) (state S.Store conn.new)
+        (LeavesOpening text.now) }
 {
     let (setup, text) = match setup_in(alloc, text) {
         Ok(found) => found,
@@ -88,6 +90,7 @@ pub fn create_in<S: Alter>(
     if takes_office_name(conn.schema()) {
         return Err(CreateFault::NotEmpty);
     }
+    // Called for what its contract says: all that is there was committed. Autocommit is required.
     if !conn.is_autocommit() || !is_unset(conn.schema()) {
         return Err(CreateFault::Store);
     }

@@ -1,16 +1,17 @@
 //! Opening a database of version 1: its tables are taken over.
 
-ghost use Rattle.std.specs.Prelude.{◌≡◌, false, IfErr, IfOk, IsTrue, OnErr, OnOk};
-ghost use Rattle.sqlite.specs.State.{HasCleanDisk, IsUnchanged, KeepsCommit, Survives};
+ghost use Rattle.std.specs.Prelude.{◌≡◌, false, IfErr, IfOk, IsTrue, OnErr};
+ghost use Rattle.sqlite.specs.State.{HasCleanDisk, Survives};
 ghost use Rattle.sqlite.specs.Held.{state};
 ghost use Rattle.tally_schema.specs.Made.{HasFirstTables};
 ghost use Rattle.tally_schema.specs.Tables.{former_schema};
+ghost use Rattle.tally_statements.specs.Inside.{OnlyReadsFrom, StaysFrom};
 ghost use Rattle.tally_statements.specs.Office.{HasTables};
 ghost use Rattle.tally_opening.specs.Crash.{LeavesTakenOver};
 ghost use Rattle.tally_opening.specs.Create.{IsAsBefore};
 ghost use Rattle.tally_opening.specs.Office.{IsSettled};
 ghost use Rattle.tally_opening.specs.Open.{IsOpened, former_version};
-ghost use Rattle.tally_opening.specs.Opening.{IsFormerFault, IsFormerJudgedFault, IsFormerSetupFault, IsJudged, IsReady, IsShownFault, IsShownSetup, HasSetupRow, IsTaken};
+ghost use Rattle.tally_opening.specs.Opening.{Does, HasSetupRow, IsFormerFault, IsFormerJudgedFault, IsFormerSetupFault, IsJudged, IsReady, IsShownFault, IsShownSetup, IsTaken, Sees};
 
 use crate::judging::judge_office;
 use crate::making::VERSION;
@@ -25,8 +26,8 @@ use tally_statements::{all_setup, update_version};
 /// The version of the tables before there was a table `past`.
 const FORMER_VERSION: u32 = 1;
 
-/// The setup of version 1 that is shown of the table `setup`. Where today's version is shown, the table
-/// `past` is missing.
+/// The setup of version 1 that is shown of the table `setup`. Where today's version is shown, the
+/// table `past` is missing.
 fn former_setup(alloc: Global, rows: &[Row]) -> Result<Setup, OpenFault>
     ensures setup { IfOk result (IsShownSetup rows.now) }
     ensures fault { IfErr result (IsShownFault rows.now) }
@@ -48,38 +49,29 @@ fn read_former<S: Alter>(
     alloc: Global,
     tx: &mut Transaction<'_, S>,
 ) -> Result<Result<Setup, OpenFault>, Error>
-    ensures same_reference { tx.new.conn.ghost_name ≡ tx.old.conn.ghost_name }
-    ensures kept { HasCleanDisk (state S.Store tx.new.conn.now) → HasTables (state S.Store tx.old.conn.now) →
-        KeepsCommit (state S.Store tx.old.conn.now) (state S.Store tx.new.conn.now) }
-    ensures stored { HasCleanDisk (state S.Store tx.new.conn.now) → HasTables (state S.Store tx.old.conn.now) →
-        IfOk result (λ r. IfOk r (λ setup. HasSetupRow former_version setup (state S.Store tx.old.conn.now))) }
-    ensures fault { HasCleanDisk (state S.Store tx.new.conn.now) → HasTables (state S.Store tx.old.conn.now) →
-        IfOk result (λ r. IfErr r (IsFormerSetupFault (state S.Store tx.old.conn.now).now.trees)) }
-    ensures same { HasCleanDisk (state S.Store tx.new.conn.now) → HasTables (state S.Store tx.old.conn.now) →
-        OnOk result (IsUnchanged (state S.Store tx.old.conn.now) (state S.Store tx.new.conn.now)) }
-    ensures survives { Survives (state S.Store tx.old.conn.now) (state S.Store tx.new.conn.now) (λ _. ⊥) }
+    ensures reads { OnlyReadsFrom HasTables S.Store tx.old tx.new result }
+    ensures stored { Sees S.Store (λ seen r.
+        IfOk r (λ setup. HasSetupRow former_version setup seen)) tx.old tx.new result }
+    ensures fault { Sees S.Store (λ seen r. IfErr r (IsFormerSetupFault seen.now.trees))
+        tx.old tx.new result }
 {
     let rows = all_setup(tx)?;
     Ok(former_setup(alloc, &rows))
 }
 
-/// The setup of version 1, where the tables beside an empty `past` are those of a lawful state over it.
+/// The setup of version 1, where the tables beside an empty `past` are those of a lawful state over
+/// it.
 fn judge_former<S: Alter>(
     alloc: Global,
     tx: &mut Transaction<'_, S>,
 ) -> Result<Result<Setup, OpenFault>, Error>
-    ensures same_reference { tx.new.conn.ghost_name ≡ tx.old.conn.ghost_name }
-    ensures kept { HasCleanDisk (state S.Store tx.new.conn.now) → HasTables (state S.Store tx.old.conn.now) →
-        KeepsCommit (state S.Store tx.old.conn.now) (state S.Store tx.new.conn.now) }
-    ensures stored { HasCleanDisk (state S.Store tx.new.conn.now) → HasTables (state S.Store tx.old.conn.now) →
-        IfOk result (λ r. IfOk r (λ setup. HasSetupRow former_version setup (state S.Store tx.old.conn.now))) }
-    ensures judged { HasCleanDisk (state S.Store tx.new.conn.now) → HasTables (state S.Store tx.old.conn.now) →
-        IfOk result (λ r. IfOk r (λ setup. IsJudged setup (state S.Store tx.old.conn.now))) }
-    ensures fault { HasCleanDisk (state S.Store tx.new.conn.now) → HasTables (state S.Store tx.old.conn.now) →
-        IfOk result (λ r. IfErr r (IsFormerJudgedFault (state S.Store tx.old.conn.now))) }
-    ensures same { HasCleanDisk (state S.Store tx.new.conn.now) → HasTables (state S.Store tx.old.conn.now) →
-        OnOk result (IsUnchanged (state S.Store tx.old.conn.now) (state S.Store tx.new.conn.now)) }
-    ensures survives { Survives (state S.Store tx.old.conn.now) (state S.Store tx.new.conn.now) (λ _. ⊥) }
+    ensures reads { OnlyReadsFrom HasTables S.Store tx.old tx.new result }
+    ensures stored { Sees S.Store (λ seen r.
+        IfOk r (λ setup. HasSetupRow former_version setup seen)) tx.old tx.new result }
+    ensures judged { Sees S.Store (λ seen r. IfOk r (λ setup. IsJudged setup seen))
+        tx.old tx.new result }
+    ensures fault { Sees S.Store (λ seen r. IfErr r (IsFormerJudgedFault seen))
+        tx.old tx.new result }
 {
     let setup = match read_former(alloc, tx)? {
         Ok(setup) => setup,
@@ -96,14 +88,11 @@ fn judge_with_past<S: Alter>(
     alloc: Global,
     tx: &mut Transaction<'_, S>,
 ) -> Result<Result<Setup, OpenFault>, Error>
-    ensures same_reference { tx.new.conn.ghost_name ≡ tx.old.conn.ghost_name }
-    ensures kept { HasCleanDisk (state S.Store tx.new.conn.now) → HasFirstTables 8 (state S.Store tx.old.conn.now) →
-        KeepsCommit (state S.Store tx.old.conn.now) (state S.Store tx.new.conn.now) }
-    ensures ready { HasCleanDisk (state S.Store tx.new.conn.now) → HasFirstTables 8 (state S.Store tx.old.conn.now) →
-        IfOk result (λ r. IfOk r (λ setup. IsReady setup (state S.Store tx.old.conn.now) (state S.Store tx.new.conn.now))) }
-    ensures fault { HasCleanDisk (state S.Store tx.new.conn.now) → HasFirstTables 8 (state S.Store tx.old.conn.now) →
-        IfOk result (λ r. IfErr r (IsFormerFault (state S.Store tx.old.conn.now).now.trees)) }
-    ensures survives { Survives (state S.Store tx.old.conn.now) (state S.Store tx.new.conn.now) (λ _. ⊥) }
+    ensures stays { StaysFrom (HasFirstTables 8) S.Store tx.old tx.new }
+    ensures ready { Does S.Store (λ old new r. IfOk r (λ setup. IsReady setup old new))
+        tx.old tx.new result }
+    ensures fault { Does S.Store (λ old _ r. IfErr r (IsFormerFault old.now.trees))
+        tx.old tx.new result }
 {
     create_past(tx)?;
     judge_former(alloc, tx)
@@ -114,14 +103,11 @@ fn take_over<S: Alter>(
     alloc: Global,
     tx: &mut Transaction<'_, S>,
 ) -> Result<Result<Setup, OpenFault>, Error>
-    ensures same_reference { tx.new.conn.ghost_name ≡ tx.old.conn.ghost_name }
-    ensures kept { HasCleanDisk (state S.Store tx.new.conn.now) → HasFirstTables 8 (state S.Store tx.old.conn.now) →
-        KeepsCommit (state S.Store tx.old.conn.now) (state S.Store tx.new.conn.now) }
-    ensures taken { HasCleanDisk (state S.Store tx.new.conn.now) → HasFirstTables 8 (state S.Store tx.old.conn.now) →
-        IfOk result (λ r. IfOk r (λ setup. IsTaken setup (state S.Store tx.old.conn.now) (state S.Store tx.new.conn.now))) }
-    ensures fault { HasCleanDisk (state S.Store tx.new.conn.now) → HasFirstTables 8 (state S.Store tx.old.conn.now) →
-        IfOk result (λ r. IfErr r (IsFormerFault (state S.Store tx.old.conn.now).now.trees)) }
-    ensures survives { Survives (state S.Store tx.old.conn.now) (state S.Store tx.new.conn.now) (λ _. ⊥) }
+    ensures stays { StaysFrom (HasFirstTables 8) S.Store tx.old tx.new }
+    ensures taken { Does S.Store (λ old new r. IfOk r (λ setup. IsTaken setup old new))
+        tx.old tx.new result }
+    ensures fault { Does S.Store (λ old _ r. IfErr r (IsFormerFault old.now.trees))
+        tx.old tx.new result }
 {
     let setup = match judge_with_past(alloc, tx)? {
         Ok(setup) => setup,
@@ -131,8 +117,8 @@ fn take_over<S: Alter>(
     Ok(Ok(setup))
 }
 
-/// The setup of an office whose tables were of version 1. They are taken over in one transaction; on a
-/// fault they are as they were.
+/// The setup of an office whose tables were of version 1. They are taken over in one transaction;
+/// on a fault they are as they were.
 pub(crate) fn open_former<S: Alter>(
     alloc: Global,
     conn: &mut Connection<S>,

@@ -1,6 +1,6 @@
-//! An office in a database, made and opened: the tables of an office that opens, and the judgement whether
-//! the tables that are there are those of a lawful state. What is done over an office that stands is
-//! `tally_store`'s.
+//! An office in a database, made and opened: the tables of an office that opens, and the judgement
+//! whether the tables that are there are those of a lawful state. What is done over an office that
+//! exists is in `tally_store`.
 #![tactic(auto)]
 
 mod create;

@@ -6,11 +6,10 @@ ghost use Rattle.sqlite.specs.Held.{state};
 ghost use Rattle.tally_rules.specs.Limits.{IsSetup};
 ghost use Rattle.tally_returns.specs.State.{opening};
 ghost use Rattle.tally_schema.specs.Tables.{schema_with};
-ghost use Rattle.tally_statements.specs.Office.{KeepsCommitIfClean};
-ghost use Rattle.tally_tables.specs.TablesOfState.{AreTables};
+ghost use Rattle.tally_statements.specs.Inside.{Stays};
 ghost use Rattle.tally_opening.specs.Create.{IsAsBefore};
 ghost use Rattle.tally_opening.specs.Making.{no_list_rows, no_vote_rows, Totalled, Opened, Made};
-ghost use Rattle.tally_opening.specs.Office.{HasState, IsSettled};
+ghost use Rattle.tally_opening.specs.Office.{HasState, IsSettled, IsWholeOffice};
 
 use sqlite::{Alter, Connection, Error, Transaction};
 use tally_rules::{Constituency, Setup};
@@ -20,7 +19,7 @@ use tally_statements::{insert_con, insert_setup, insert_total};
 /// The version of the tables.
 pub(crate) const VERSION: u32 = 2;
 
-/// The item of the spoiled votes, behind those of 60 lists.
+/// The item of the spoiled votes, after those of 60 lists.
 const SPOILED: u32 = 61;
 
 /// Adds a sum of 0 for each list.
@@ -29,11 +28,9 @@ fn insert_list_totals<S: Alter>(
     con: &str,
     lists: u32,
 ) -> Result<(), Error>
-    ensures same_reference { tx.new.conn.ghost_name ≡ tx.old.conn.ghost_name }
-    ensures kept { KeepsCommitIfClean (state S.Store tx.old.conn.now) (state S.Store tx.new.conn.now) }
+    ensures stays { Stays S.Store tx.old tx.new }
     ensures added { Totalled (no_list_rows con.now lists)
         (state S.Store tx.old.conn.now) (state S.Store tx.new.conn.now) result }
-    ensures survives { Survives (state S.Store tx.old.conn.now) (state S.Store tx.new.conn.now) (λ _. ⊥) }
 {
     for list in 0..lists {
         insert_total(tx, con, list + 1, 0)?;
@@ -43,11 +40,9 @@ fn insert_list_totals<S: Alter>(
 
 /// Adds the sums of a constituency without returns.
 fn insert_totals<S: Alter>(tx: &mut Transaction<'_, S>, con: &str, lists: u32) -> Result<(), Error>
-    ensures same_reference { tx.new.conn.ghost_name ≡ tx.old.conn.ghost_name }
-    ensures kept { KeepsCommitIfClean (state S.Store tx.old.conn.now) (state S.Store tx.new.conn.now) }
+    ensures stays { Stays S.Store tx.old tx.new }
     ensures added { Totalled (no_vote_rows con.now lists)
         (state S.Store tx.old.conn.now) (state S.Store tx.new.conn.now) result }
-    ensures survives { Survives (state S.Store tx.old.conn.now) (state S.Store tx.new.conn.now) (λ _. ⊥) }
 {
     insert_total(tx, con, 0, 0)?;
     insert_list_totals(tx, con, lists)?;
@@ -56,10 +51,9 @@ fn insert_totals<S: Alter>(tx: &mut Transaction<'_, S>, con: &str, lists: u32) -
 
 /// Adds the rows of a constituency that opens.
 fn insert_opening<S: Alter>(tx: &mut Transaction<'_, S>, con: &Constituency) -> Result<(), Error>
-    ensures same_reference { tx.new.conn.ghost_name ≡ tx.old.conn.ghost_name }
-    ensures kept { KeepsCommitIfClean (state S.Store tx.old.conn.now) (state S.Store tx.new.conn.now) }
-    ensures opened { Opened (con.now ∷ []) (state S.Store tx.old.conn.now) (state S.Store tx.new.conn.now) result }
-    ensures survives { Survives (state S.Store tx.old.conn.now) (state S.Store tx.new.conn.now) (λ _. ⊥) }
+    ensures stays { Stays S.Store tx.old tx.new }
+    ensures opened { Opened (con.now ∷ [])
+        (state S.Store tx.old.conn.now) (state S.Store tx.new.conn.now) result }
 {
     insert_con(tx, con.code.as_str(), 1, false, "")?;
     insert_totals(tx, con.code.as_str(), con.lists.len() as u32)
@@ -70,10 +64,9 @@ fn insert_openings<S: Alter>(
     tx: &mut Transaction<'_, S>,
     cons: &[Constituency],
 ) -> Result<(), Error>
-    ensures same_reference { tx.new.conn.ghost_name ≡ tx.old.conn.ghost_name }
-    ensures kept { KeepsCommitIfClean (state S.Store tx.old.conn.now) (state S.Store tx.new.conn.now) }
-    ensures opened { Opened cons.now (state S.Store tx.old.conn.now) (state S.Store tx.new.conn.now) result }
-    ensures survives { Survives (state S.Store tx.old.conn.now) (state S.Store tx.new.conn.now) (λ _. ⊥) }
+    ensures stays { Stays S.Store tx.old tx.new }
+    ensures opened { Opened cons.now
+        (state S.Store tx.old.conn.now) (state S.Store tx.new.conn.now) result }
 {
     for con in cons {
         insert_opening(tx, con)?;
@@ -87,19 +80,18 @@ fn make_office<S: Alter>(
     setup: &Setup,
     text: &str,
 ) -> Result<(), Error>
-    ensures same_reference { tx.new.conn.ghost_name ≡ tx.old.conn.ghost_name }
-    ensures kept { KeepsCommitIfClean (state S.Store tx.old.conn.now) (state S.Store tx.new.conn.now) }
-    ensures made { Made setup.now text.now (state S.Store tx.old.conn.now) (state S.Store tx.new.conn.now) result }
+    ensures stays { Stays S.Store tx.old tx.new }
+    ensures made { Made setup.now text.now
+        (state S.Store tx.old.conn.now) (state S.Store tx.new.conn.now) result }
     ensures limits { OnOk result (IsSetup setup.now) }
-    ensures survives { Survives (state S.Store tx.old.conn.now) (state S.Store tx.new.conn.now) (λ _. ⊥) }
 {
     create_tables(tx)?;
     insert_setup(tx, VERSION, text)?;
     insert_openings(tx, setup.cons())
 }
 
-/// Makes the tables of an office that opens, in a database without tables, in one transaction. With an
-/// error the database is as it was.
+/// Makes the tables of an office that opens, in a database without tables, in one transaction. With
+/// an error the database is as it was.
 pub(crate) fn make_in<S: Alter>(
     conn: &mut Connection<S>,
     setup: &Setup,
@@ -112,11 +104,12 @@ pub(crate) fn make_in<S: Alter>(
     ensures made { HasCleanDisk (state S.Store conn.new) →
         OnOk result (HasState setup.now text.now (opening setup.now) (state S.Store conn.new)) }
     ensures limits { OnOk result (IsSetup setup.now) }
-    ensures open { HasCleanDisk (state S.Store conn.new) → OnOk result (IsTrue (state S.Store conn.new).is_open) }
+    ensures open { HasCleanDisk (state S.Store conn.new) →
+        OnOk result (IsTrue (state S.Store conn.new).is_open) }
     ensures same { HasCleanDisk (state S.Store conn.new) → IsTrue (state S.Store conn.new).is_open →
         OnErr result (IsAsBefore (state S.Store conn.old) (state S.Store conn.new)) }
     ensures crash { Survives (state S.Store conn.old) (state S.Store conn.new)
-        (AreTables setup.now text.now (opening setup.now)) }
+        (IsWholeOffice setup.now text.now (opening setup.now)) }
 {
     let mut tx = conn.transaction();
     match make_office(&mut tx, setup, text) {

@@ -40,7 +40,8 @@ fn is_of_today(alloc: Global, schema: &Schema) -> Result<bool, OpenFault>
     }
 }
 
-/// The setup of an office whose tables are those of a lawful state. Tables of version 1 are taken over.
+/// The setup of an office whose tables are those of a lawful state. Tables of version 1 are taken
+/// over.
 pub fn open_in<S: Alter>(alloc: Global, conn: &mut Connection<S>) -> Result<Setup, OpenFault>
     requires autocommit { conn.old.in_transaction ≡ false }
     ensures ended { conn.new.in_transaction ≡ false }
@@ -52,10 +53,12 @@ pub fn open_in<S: Alter>(alloc: Global, conn: &mut Connection<S>) -> Result<Setu
         OnErr result (IsAsBefore (state S.Store conn.old) (state S.Store conn.new)) }
     ensures crash { Survives (state S.Store conn.old) (state S.Store conn.new)
         (LeavesTakenOver (state S.Store conn.old).now) }
-    ensures unwritten { HasPast (state S.Store conn.old).now → IsUnwritten (state S.Store conn.old) (state S.Store conn.new) }
+    ensures unwritten { HasPast (state S.Store conn.old).now →
+        IsUnwritten (state S.Store conn.old) (state S.Store conn.new) }
     ensures counts { HasPast (state S.Store conn.old).now → HasCleanDisk (state S.Store conn.new) →
         OnOk result (KeepsCounts (state S.Store conn.old) (state S.Store conn.new)) }
 {
+    // Called for what its contract says: all that is there was committed. Autocommit is required.
     if !conn.is_autocommit() {
         return Err(OpenFault::Store);
     }

@@ -1,16 +1,17 @@
 //! Opening a database.
 
 ghost use Rattle.std.specs.Prelude.{◌≡◌, ◌⊎◌, false, IfErr, IfOk, IsTrue, Ok, OnOk, option_map};
-ghost use Rattle.sqlite.specs.State.{HasCleanDisk, IsUnchanged, KeepsCommit, KeepsCounts, Survives};
+ghost use Rattle.sqlite.specs.State.{HasCleanDisk, KeepsCounts, Survives};
 ghost use Rattle.sqlite.specs.Held.{state};
 ghost use Rattle.tally_rules.specs.Reading.{setup_of_text};
+ghost use Rattle.tally_statements.specs.Inside.{OnlyReadsFrom};
 ghost use Rattle.tally_statements.specs.Office.{HasTables};
 ghost use Rattle.sqlite.specs.Effect.{IsDatabase};
 ghost use Rattle.tally_schema.specs.Tables.{office_schema};
 ghost use Rattle.tally_tables.specs.TablesOfState.{version};
 ghost use Rattle.tally_opening.specs.Create.{IsAsBefore};
 ghost use Rattle.tally_opening.specs.Office.{IsSettled};
-ghost use Rattle.tally_opening.specs.Opening.{IsJudged, IsJudgedFault, IsTodayFault, IsSetupFault, HasSetupRow, IsTextFault, setup_shown, shown_of_row};
+ghost use Rattle.tally_opening.specs.Opening.{IsJudged, IsJudgedFault, IsTodayFault, IsSetupFault, HasSetupRow, IsTextFault, Sees, setup_shown, shown_of_row};
 
 use crate::judging::judge_office;
 use crate::making::VERSION;
@@ -60,20 +61,11 @@ fn read_stored<S: Alter>(
     tx: &mut Transaction<'_, S>,
     number: u32,
 ) -> Result<Result<Setup, OpenFault>, Error>
-    ensures same_reference { tx.new.conn.ghost_name ≡ tx.old.conn.ghost_name }
-    ensures kept { HasCleanDisk (state S.Store tx.new.conn.now) → HasTables (state S.Store tx.old.conn.now) →
-        KeepsCommit (state S.Store tx.old.conn.now) (state S.Store tx.new.conn.now) }
-    ensures stored { HasCleanDisk (state S.Store tx.new.conn.now) → HasTables (state S.Store tx.old.conn.now) →
-        IfOk result (λ r. IfOk r (λ setup. HasSetupRow number setup (state S.Store tx.old.conn.now))) }
-    ensures fault { HasCleanDisk (state S.Store tx.new.conn.now) → HasTables (state S.Store tx.old.conn.now) →
-        IfOk result (λ r. IfErr r (IsSetupFault number (state S.Store tx.old.conn.now))) }
-    ensures same { HasCleanDisk (state S.Store tx.new.conn.now) → HasTables (state S.Store tx.old.conn.now) →
-        OnOk result (IsUnchanged (state S.Store tx.old.conn.now) (state S.Store tx.new.conn.now)) }
-    ensures was_open { HasCleanDisk (state S.Store tx.new.conn.now) → IsTrue (state S.Store tx.new.conn.now).is_open →
-        IsTrue (state S.Store tx.old.conn.now).is_open }
-    ensures answered_open { HasCleanDisk (state S.Store tx.new.conn.now) →
-        OnOk result (IsTrue (state S.Store tx.old.conn.now).is_open) }
-    ensures survives { Survives (state S.Store tx.old.conn.now) (state S.Store tx.new.conn.now) (λ _. ⊥) }
+    ensures reads { OnlyReadsFrom HasTables S.Store tx.old tx.new result }
+    ensures stored { Sees S.Store (λ seen r. IfOk r (λ setup. HasSetupRow number setup seen))
+        tx.old tx.new result }
+    ensures fault { Sees S.Store (λ seen r. IfErr r (IsSetupFault number seen))
+        tx.old tx.new result }
 {
     let rows = all_setup(tx)?;
     let Some((found, text)) = setup_shown(&rows) else {
@@ -91,22 +83,13 @@ pub(crate) fn judge_stored<S: Alter>(
     tx: &mut Transaction<'_, S>,
     number: u32,
 ) -> Result<Result<Setup, OpenFault>, Error>
-    ensures same_reference { tx.new.conn.ghost_name ≡ tx.old.conn.ghost_name }
-    ensures kept { HasCleanDisk (state S.Store tx.new.conn.now) → HasTables (state S.Store tx.old.conn.now) →
-        KeepsCommit (state S.Store tx.old.conn.now) (state S.Store tx.new.conn.now) }
-    ensures stored { HasCleanDisk (state S.Store tx.new.conn.now) → HasTables (state S.Store tx.old.conn.now) →
-        IfOk result (λ r. IfOk r (λ setup. HasSetupRow number setup (state S.Store tx.old.conn.now))) }
-    ensures judged { HasCleanDisk (state S.Store tx.new.conn.now) → HasTables (state S.Store tx.old.conn.now) →
-        IfOk result (λ r. IfOk r (λ setup. IsJudged setup (state S.Store tx.old.conn.now))) }
-    ensures fault { HasCleanDisk (state S.Store tx.new.conn.now) → HasTables (state S.Store tx.old.conn.now) →
-        IfOk result (λ r. IfErr r (IsJudgedFault number (state S.Store tx.old.conn.now))) }
-    ensures same { HasCleanDisk (state S.Store tx.new.conn.now) → HasTables (state S.Store tx.old.conn.now) →
-        OnOk result (IsUnchanged (state S.Store tx.old.conn.now) (state S.Store tx.new.conn.now)) }
-    ensures was_open { HasCleanDisk (state S.Store tx.new.conn.now) → IsTrue (state S.Store tx.new.conn.now).is_open →
-        IsTrue (state S.Store tx.old.conn.now).is_open }
-    ensures answered_open { HasCleanDisk (state S.Store tx.new.conn.now) →
-        OnOk result (IsTrue (state S.Store tx.old.conn.now).is_open) }
-    ensures survives { Survives (state S.Store tx.old.conn.now) (state S.Store tx.new.conn.now) (λ _. ⊥) }
+    ensures reads { OnlyReadsFrom HasTables S.Store tx.old tx.new result }
+    ensures stored { Sees S.Store (λ seen r. IfOk r (λ setup. HasSetupRow number setup seen))
+        tx.old tx.new result }
+    ensures judged { Sees S.Store (λ seen r. IfOk r (λ setup. IsJudged setup seen))
+        tx.old tx.new result }
+    ensures fault { Sees S.Store (λ seen r. IfErr r (IsJudgedFault number seen))
+        tx.old tx.new result }
 {
     let setup = match read_stored(alloc, tx, number)? {
         Ok(setup) => setup,
@@ -134,17 +117,20 @@ pub(crate) fn open_today<S: Alter>(
 ) -> Result<Setup, OpenFault>
     requires autocommit { conn.old.in_transaction ≡ false }
     requires schema { (state S.Store conn.old).now.schema ≡ office_schema }
-    requires sound { IsTrue (state S.Store conn.old).is_open → IsDatabase (state S.Store conn.old).now }
+    requires sound { IsTrue (state S.Store conn.old).is_open →
+        IsDatabase (state S.Store conn.old).now }
     requires settled { IsSettled (state S.Store conn.old) }
     ensures ended { conn.new.in_transaction ≡ false }
     ensures stored { HasCleanDisk (state S.Store conn.new) →
         IfOk result (λ setup. HasSetupRow version setup (state S.Store conn.old)) }
     ensures judged { HasCleanDisk (state S.Store conn.new) →
         IfOk result (λ setup. IsJudged setup (state S.Store conn.old)) }
-    ensures fault { HasCleanDisk (state S.Store conn.new) → IfErr result (IsTodayFault (state S.Store conn.old)) }
+    ensures fault { HasCleanDisk (state S.Store conn.new) →
+        IfErr result (IsTodayFault (state S.Store conn.old)) }
     ensures same { HasCleanDisk (state S.Store conn.new) → IsTrue (state S.Store conn.new).is_open →
         IsAsBefore (state S.Store conn.old) (state S.Store conn.new) }
-    ensures was_open { HasCleanDisk (state S.Store conn.new) → IsTrue (state S.Store conn.new).is_open →
+    ensures was_open { HasCleanDisk (state S.Store conn.new) →
+        IsTrue (state S.Store conn.new).is_open →
         IsTrue (state S.Store conn.old).is_open }
     ensures counts { HasCleanDisk (state S.Store conn.new) →
         OnOk result (KeepsCounts (state S.Store conn.old) (state S.Store conn.new)) }

@@ -1,2 +1,2 @@
-pub mod ToldLemmas
 pub mod WrittenLemmas
+pub mod LineLemmas

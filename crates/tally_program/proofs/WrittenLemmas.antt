@@ -1,15 +1,15 @@
 -- What a command writes: nothing where it had a trouble before, and a text of a kind where it wrote one that is of the kind.
-use Rattle.std.proofs.Common.{◌≡◌, ℕ, List, [], Option, Some, None, Result, Ok, Err, IfOk, IfErr, refl, sym, subst, ap, append-nil, arith}
-use Rattle.std.proofs.KnownBytes.{Keeps-refl}
+use Rattle.std.proofs.Common.{◌≡◌, ℕ, List, [], Option, Some, None, Result, Ok, Err, IfOk, IfErr, OnOk, refl, sym, subst, append-nil, arith}
 use Rattle.std.specs.Io.KnownBytes.{Appends}
 use Rattle.tally_keeper.specs.declared.import.ImportCount.{ImportCount}
-use Rattle.tally_rules.specs.Constituency.{Constituency}
 use Rattle.tally_import.specs.Check.{count_text}
 use Rattle.tally_commands.specs.Imported.{IsCountText}
 use Rattle.tally_commands.specs.Made.{IsMadeText, constituencies_text}
+use Rattle.tally_commands.specs.Served.{IsServedText, served_line}
 use Rattle.tally_commands.specs.declared.trouble.Trouble.{Trouble}
 use Rattle.tally_commands.specs.declared.trouble.Trouble.TheVariants as trouble
-use Rattle.tally_program.specs.Commands.{IsAnyText, IsServedText, IsWritten, served_line}
+use Rattle.tally_program.specs.Commands.{Bytes, IsAnyText, IsWritten}
+use Rattle.tally_program.specs.Troubles.{IsTroubleOfEnding}
 
 appends-nothing : (held : Option (List ℕ)) → Appends held held []
 appends-nothing None = tt
@@ -38,58 +38,65 @@ pub any_text : {S : Type 0} (bytes : S → List ℕ) (outcome : Result S Trouble
 any_text bytes (Ok text) = tt
 any_text bytes (Err t) = tt
 
--- a line of how many constituencies some have
-pub made_of : {S : Type 0} (cons : List Constituency) (bytes : S → List ℕ) (outcome : Result S Trouble) → IfOk outcome (λ text. bytes text ≡ constituencies_text cons)
-    → IfOk outcome (λ text. IsMadeText (bytes text))
-made_of cons bytes (Ok text) is = (cons, is)
-made_of cons bytes (Err t) is = tt
-
 -- where nothing was written there may have been any trouble
-pub unwritten : (IsText : List ℕ → Type 0) → Example IsText → (held : Option (List ℕ)) (t : Trouble) → IsWritten IsText held held (Err t)
-unwritten IsText example held trouble.Write = (example.0, 0, example.1, appends-nothing held)
-unwritten IsText example held (trouble.Setup fault) = Keeps-refl held
-unwritten IsText example held trouble.NotEmpty = Keeps-refl held
-unwritten IsText example held trouble.NoTables = Keeps-refl held
-unwritten IsText example held trouble.BadTables = Keeps-refl held
-unwritten IsText example held trouble.BadSetup = Keeps-refl held
-unwritten IsText example held trouble.NoConstituency = Keeps-refl held
-unwritten IsText example held trouble.BadHeader = Keeps-refl held
-unwritten IsText example held trouble.TooLong = Keeps-refl held
-unwritten IsText example held trouble.NotCertified = Keeps-refl held
-unwritten IsText example held trouble.OtherMethod = Keeps-refl held
-unwritten IsText example held trouble.Memory = Keeps-refl held
-unwritten IsText example held trouble.Store = Keeps-refl held
-unwritten IsText example held trouble.File = Keeps-refl held
-unwritten IsText example held trouble.Read = Keeps-refl held
-unwritten IsText example held trouble.Port = Keeps-refl held
+pub unwritten : {W : Type 0} (held : Bytes W) (IsText : List ℕ → Type 0) → Example IsText → (w : W) (t : Trouble) → IsWritten held IsText w w (Err t)
+unwritten held IsText example w trouble.Write = (example.0, 0, example.1, appends-nothing (held w))
+unwritten held IsText example w (trouble.Setup fault) = refl
+unwritten held IsText example w trouble.NotEmpty = refl
+unwritten held IsText example w trouble.NoTables = refl
+unwritten held IsText example w trouble.BadTables = refl
+unwritten held IsText example w trouble.BadSetup = refl
+unwritten held IsText example w trouble.NoConstituency = refl
+unwritten held IsText example w trouble.BadHeader = refl
+unwritten held IsText example w trouble.TooLong = refl
+unwritten held IsText example w trouble.NotCertified = refl
+unwritten held IsText example w trouble.OtherMethod = refl
+unwritten held IsText example w trouble.Memory = refl
+unwritten held IsText example w trouble.Store = refl
+unwritten held IsText example w trouble.File = refl
+unwritten held IsText example w trouble.Read = refl
+unwritten held IsText example w trouble.Port = refl
 
 -- what is written of a text that is of a kind is of the kind
-of_kind : (IsText : List ℕ → Type 0) (text : List ℕ) → IsText text → (held holds : Option (List ℕ)) (r : Result (Unit {0}) Trouble)
-    → IsWritten (λ written. written ≡ text) held holds r → IsWritten IsText held holds r
-of_kind IsText text is held holds (Ok done) (written, same, appends) = (written, subst IsText (sym same) is, appends)
-of_kind IsText text is held holds (Err trouble.Write) (written, n, same, appends) = (written, n, subst IsText (sym same) is, appends)
-of_kind IsText text is held holds (Err (trouble.Setup fault)) keeps = keeps
-of_kind IsText text is held holds (Err trouble.NotEmpty) keeps = keeps
-of_kind IsText text is held holds (Err trouble.NoTables) keeps = keeps
-of_kind IsText text is held holds (Err trouble.BadTables) keeps = keeps
-of_kind IsText text is held holds (Err trouble.BadSetup) keeps = keeps
-of_kind IsText text is held holds (Err trouble.NoConstituency) keeps = keeps
-of_kind IsText text is held holds (Err trouble.BadHeader) keeps = keeps
-of_kind IsText text is held holds (Err trouble.TooLong) keeps = keeps
-of_kind IsText text is held holds (Err trouble.NotCertified) keeps = keeps
-of_kind IsText text is held holds (Err trouble.OtherMethod) keeps = keeps
-of_kind IsText text is held holds (Err trouble.Memory) keeps = keeps
-of_kind IsText text is held holds (Err trouble.Store) keeps = keeps
-of_kind IsText text is held holds (Err trouble.File) keeps = keeps
-of_kind IsText text is held holds (Err trouble.Read) keeps = keeps
-of_kind IsText text is held holds (Err trouble.Port) keeps = keeps
+pub of_kind : {W : Type 0} (held : Bytes W) (IsText : List ℕ → Type 0) (text : List ℕ) → IsText text → (old new : W) (r : Result (Unit {0}) Trouble)
+    → IsWritten held (λ written. written ≡ text) old new r → IsWritten held IsText old new r
+of_kind held IsText text is old new (Ok done) (written, same, appends) = (written, subst IsText (sym same) is, appends)
+of_kind held IsText text is old new (Err trouble.Write) (written, n, same, appends) = (written, n, subst IsText (sym same) is, appends)
+of_kind held IsText text is old new (Err (trouble.Setup fault)) keeps = keeps
+of_kind held IsText text is old new (Err trouble.NotEmpty) keeps = keeps
+of_kind held IsText text is old new (Err trouble.NoTables) keeps = keeps
+of_kind held IsText text is old new (Err trouble.BadTables) keeps = keeps
+of_kind held IsText text is old new (Err trouble.BadSetup) keeps = keeps
+of_kind held IsText text is old new (Err trouble.NoConstituency) keeps = keeps
+of_kind held IsText text is old new (Err trouble.BadHeader) keeps = keeps
+of_kind held IsText text is old new (Err trouble.TooLong) keeps = keeps
+of_kind held IsText text is old new (Err trouble.NotCertified) keeps = keeps
+of_kind held IsText text is old new (Err trouble.OtherMethod) keeps = keeps
+of_kind held IsText text is old new (Err trouble.Memory) keeps = keeps
+of_kind held IsText text is old new (Err trouble.Store) keeps = keeps
+of_kind held IsText text is old new (Err trouble.File) keeps = keeps
+of_kind held IsText text is old new (Err trouble.Read) keeps = keeps
+of_kind held IsText text is old new (Err trouble.Port) keeps = keeps
 
 -- what a command that ended has written, by what it came to
-pub ended : (IsText : List ℕ → Type 0) → Example IsText → {W S : Type 0} (contents : W → Option (List ℕ)) (bytes : S → List ℕ)
+pub ended : {W S : Type 0} (held : Bytes W) (IsText : List ℕ → Type 0) → Example IsText → (bytes : S → List ℕ)
     (old new : W) (outcome : Result S Trouble) (r : Result (Unit {0}) Trouble) → IfOk outcome (λ text. IsText (bytes text))
-    → IfOk outcome (λ text. IsWritten (λ written. written ≡ bytes text) (contents old) (contents new) r)
-    → IfErr outcome (λ t. (r ≡ Err t) × (new ≡ old)) → IsWritten IsText (contents old) (contents new) r
-ended IsText example contents bytes old new (Ok text) r is writes fails = of_kind IsText (bytes text) is (contents old) (contents new) r writes
-ended IsText example contents bytes old new (Err t) r is writes fails =
-    subst (λ (r : Result (Unit {0}) Trouble). IsWritten IsText (contents old) (contents new) r) (sym fails.0)
-    (subst (λ (holds : Option (List ℕ)). IsWritten IsText (contents old) holds (Err t)) (ap contents (sym fails.1)) (unwritten IsText example (contents old) t))
+    → IfOk outcome (λ text. IsWritten held (λ written. written ≡ bytes text) old new r)
+    → IfErr outcome (λ t. (r ≡ Err t) × (new ≡ old)) → IsWritten held IsText old new r
+ended held IsText example bytes old new (Ok text) r is writes fails = of_kind held IsText (bytes text) is old new r writes
+ended held IsText example bytes old new (Err t) r is writes fails =
+    subst (λ (r : Result (Unit {0}) Trouble). IsWritten held IsText old new r) (sym fails.0)
+    (subst (λ w. IsWritten held IsText old w (Err t)) (sym fails.1) (unwritten held IsText example old t))
+
+-- a trouble of a part is one of the whole
+pub named-weaker : (Own Whole : Trouble → Type 0) → ((t : Trouble) → Own t → Whole t) → (r : Result (Unit {0}) Trouble) → IfErr r Own → IfErr r Whole
+named-weaker Own Whole part (Ok done) named = tt
+named-weaker Own Whole part (Err t) named = part t named
+
+-- which trouble a command has that ended, by those of its work and of its ending
+pub ended-named : {S : Type 0} (Same : Type 0) (Own Whole : Trouble → Type 0) → ((t : Trouble) → Own t → Whole t)
+    → ((t : Trouble) → IsTroubleOfEnding t → Whole t) → (outcome : Result S Trouble) (r : Result (Unit {0}) Trouble)
+    → IfErr outcome Own → OnOk outcome (IfErr r IsTroubleOfEnding) → IfErr outcome (λ t. (r ≡ Err t) × Same) → IfErr r Whole
+ended-named Same Own Whole own ending (Ok text) r named ends fails = named-weaker IsTroubleOfEnding Whole ending r ends
+ended-named Same Own Whole own ending (Err t) r named ends fails =
+    subst (λ (r : Result (Unit {0}) Trouble). IfErr r Whole) (sym fails.0) (own t named)

@@ -1,13 +1,15 @@
--- What a command over a database leaves on the output and on the standard error, and its exit status. What is in its files no
--- contract says.
-use Rattle.std.specs.Prelude.{◌≡◌, ◌+◌, ◌++◌, ℕ, List, Option, Some, None, Result, Ok, Err, codes, take}
-use Rattle.std.specs.Fmt.{decimal}
-use Rattle.std.specs.Io.KnownBytes.{Appends, Keeps}
-use Rattle.tally_desk.specs.declared.report.Report.{Report}
-use Rattle.tally_desk.specs.declared.report.Report.TheVariants as report
+-- What a command over an office leaves on the three streams of the program, and its exit status. No
+-- contract says what is in its files.
+use Rattle.std.specs.Prelude.{◌≡◌, ℕ, List, Option, Some, None, Result, Ok, Err, IfErr, take}
+use Rattle.std.specs.Io.KnownBytes.{Appends}
+use Rattle.tally_report.specs.declared.report.Report.{Report}
+use Rattle.tally_report.specs.declared.report.Report.TheVariants as report
+use Rattle.tally_commands.specs.Served.{IsServedText}
+use Rattle.tally_commands.specs.Told.{Told}
+use Rattle.tally_commands.specs.Trouble.{trouble_line, trouble_status}
 use Rattle.tally_commands.specs.declared.trouble.Trouble.{Trouble}
 use Rattle.tally_commands.specs.declared.trouble.Trouble.TheVariants.{Write}
-use Rattle.tally_program.specs.Perform.{IsCommandTold, command_status}
+use Rattle.tally_program.specs.Troubles.{IsTroubleOfServe}
 use Rattle.tally_line.specs.declared.line.ReportName.{ReportName}
 use Rattle.tally_line.specs.declared.line.ReportName.TheVariants as name
 
@@ -23,38 +25,64 @@ report_of_name name.Past = Some report.Past
 report_of_name name.Short = Some report.Short
 report_of_name name.Progress = None
 
--- ---- kinds of texts. Those of `new` and `import` are of tally_commands
-
 -- any text, where it takes the office to say more
 abbrev pub IsAnyText : List ℕ → Type 0
 IsAnyText text = Unit {0}
 
--- the line of a server that has ended
-abbrev pub served_line : ℕ → ℕ → List ℕ
-served_line answered failed = codes "answered " ++ decimal answered ++ codes " failed " ++ decimal failed ++ codes "\n"
+-- ---- the streams
 
--- Of so many connections each was answered or failed.
-abbrev pub IsServedText : ℕ → List ℕ → Type 0
-IsServedText count text = (answered : ℕ) × (failed : ℕ) × (answered + failed ≡ count) × (text ≡ served_line answered failed)
+-- what is known of the bytes that a stream has to give, or has taken
+abbrev pub Bytes : Type 0 → Type 0
+Bytes S = S → Option (List ℕ)
+
+-- The input, the output and the standard error of the program.
+pub record Streams (R W E : Type 0) : Type 0 where
+  pub input : R
+  pub output : W
+  pub errors : E
+
+abbrev pub streams : {R W E : Type 0} → R → W → E → Streams R W E
+streams input output errors = record { input = input; output = output; errors = errors }
 
 -- ---- how a command ends
 
--- Where it is done, one text of a kind was written whole; where a write failed, a prefix of one; with any other trouble nothing.
-abbrev pub IsWritten : (List ℕ → Type 0) → Option (List ℕ) → Option (List ℕ) → Result (Unit {0}) Trouble → Type 0
-IsWritten IsText held holds (Ok done) = (text : List ℕ) × IsText text × Appends held holds text
-IsWritten IsText held holds (Err Write) = (text : List ℕ) × (n : ℕ) × IsText text × Appends held holds (take n text)
-IsWritten IsText held holds (Err other) = Keeps held holds
+-- Where it is done, one text of a kind was written whole; where a write failed, a prefix of one;
+-- with any other trouble the output is as it was.
+abbrev pub IsWritten : {W : Type 0} → Bytes W → (List ℕ → Type 0) → W → W
+    → Result (Unit {0}) Trouble → Type 0
+IsWritten held IsText old new (Ok done) =
+    (text : List ℕ) × IsText text × Appends (held old) (held new) text
+IsWritten held IsText old new (Err Write) =
+    (text : List ℕ) × (n : ℕ) × IsText text × Appends (held old) (held new) (take n text)
+IsWritten held IsText old new (Err other) = new ≡ old
 
--- A command took the output from what it held to what it holds, and the errors from what they held to what they hold: these are
--- those of its outcome, and so is the status.
-pub record EndsCommand (IsText : List ℕ → Type 0) (held holds told tells : Option (List ℕ)) (status : ℕ) : Type 0 where
-  pub outcome : Result (Unit {0}) Trouble
-  pub written : IsWritten IsText held holds outcome
-  pub errors : IsCommandTold told tells outcome
-  pub gives : status ≡ command_status outcome
+-- Nothing is reported where it is done, and the line of its trouble where it has one.
+abbrev pub IsCommandTold : {E : Type 0} → Bytes E → E → E → Result (Unit {0}) Trouble → Type 0
+IsCommandTold told old new (Ok done) = new ≡ old
+IsCommandTold told old new (Err trouble) = Told (told old) (told new) (trouble_line trouble)
 
--- The same of a server of so many connections, which tells more on the standard error than how it ended.
-pub record EndsServer (count : ℕ) (held holds : Option (List ℕ)) (status : ℕ) : Type 0 where
+abbrev pub command_status : Result (Unit {0}) Trouble → ℕ
+command_status (Ok done) = 0
+command_status (Err trouble) = trouble_status trouble
+
+-- A command came to an outcome: a text of its kind, or one of its troubles. What is written,
+-- reported and answered is that of the outcome, and the input is not read.
+pub record EndsCommand {R W E : Type 0} (held : Bytes W) (told : Bytes E)
+    (IsText : List ℕ → Type 0) (IsTrouble : Trouble → Type 0)
+    (old new : Streams R W E) (status : ℕ) : Type 0 where
   pub outcome : Result (Unit {0}) Trouble
-  pub written : IsWritten (IsServedText count) held holds outcome
+  pub named : IfErr outcome IsTrouble
+  pub written : IsWritten held IsText old.output new.output outcome
+  pub errors : IsCommandTold told old.errors new.errors outcome
   pub gives : status ≡ command_status outcome
+  pub unread : new.input ≡ old.input
+
+-- The same of a server of so many connections, which reports more on standard error than how it
+-- ended.
+pub record EndsServer {R W E : Type 0} (held : Bytes W) (count : ℕ)
+    (old new : Streams R W E) (status : ℕ) : Type 0 where
+  pub outcome : Result (Unit {0}) Trouble
+  pub named : IfErr outcome IsTroubleOfServe
+  pub written : IsWritten held (IsServedText count) old.output new.output outcome
+  pub gives : status ≡ command_status outcome
+  pub unread : new.input ≡ old.input

@@ -1,3 +1,5 @@
 pub mod Commands
 pub mod Perform
+pub mod Served
+pub mod Troubles
 pub mod Worked

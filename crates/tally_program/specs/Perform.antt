@@ -1,63 +1,97 @@
 -- What the program does for a command line.
-use Rattle.std.specs.Prelude.{◌≡◌, ℕ, List, Option, IfSome, Result, Ok, Err, codes}
-use Rattle.std.specs.Io.KnownBytes.{Keeps}
+use Rattle.std.specs.Prelude.{◌≡◌, ◌⊎◌, ℕ, List, Option, Some, None, IfSome, Result, Ok, Err, codes}
 use Rattle.tally_import.specs.Check.{Checks, IsSilent}
 use Rattle.tally_records.specs.declared.separator.Sep.{Sep}
 use Rattle.tally_import.specs.declared.CheckFault.{CheckFault}
-use Rattle.tally_import.specs.declared.CheckFault.TheVariants as check
+use Rattle.tally_commands.specs.Imported.{IsCountText}
+use Rattle.tally_commands.specs.Made.{IsMadeText}
 use Rattle.tally_commands.specs.Told.{Told}
-use Rattle.tally_commands.specs.Trouble.{trouble_line, trouble_status}
+use Rattle.tally_commands.specs.Trouble.{check_trouble}
 use Rattle.tally_commands.specs.declared.trouble.Trouble.{Trouble}
+use Rattle.tally_line.specs.Line.{CheckSeen, ImportSeen, LacksCon, LineSeen, NewSeen, ServeSeen, ShowSeen, line_of}
 use Rattle.tally_line.specs.declared.line.LineFault.{LineFault}
 use Rattle.tally_line.specs.declared.line.LineFault.TheVariants.{Usage, NoCon, Memory}
+use Rattle.tally_program.specs.Commands.{Bytes, EndsCommand, EndsServer, IsAnyText, IsCommandTold, Streams, command_status}
+use Rattle.tally_program.specs.Troubles.{IsTroubleOfImport, IsTroubleOfNew, IsTroubleOfShow}
 
--- the exit status of a check: 0 where it is done, 1 where the text is refused, 3 where something failed
-abbrev pub check_status : Result (Unit {0}) CheckFault → ℕ
-check_status (Ok done) = 0
-check_status (Err check.BadHeader) = 1
-check_status (Err check.TooLong) = 1
-check_status (Err check.Read) = 3
-check_status (Err check.Memory) = 3
-check_status (Err check.Write) = 3
+-- ---- checks
 
--- the exit status where there is no line: 2 for a wrong command line and one that asks for help, 3 where it is out of memory
+-- a check that has a fault has the trouble of that word
+abbrev pub check_outcome : Result (Unit {0}) CheckFault → Result (Unit {0}) Trouble
+check_outcome (Ok done) = Ok done
+check_outcome (Err fault) = Err (check_trouble fault)
+
+-- One check takes the input from its bytes to the rest, and the output from what it held to what it
+-- holds. What is reported and answered is that of its outcome. Nothing is said of an input that is
+-- not known.
+pub record EndsCheck {R W E : Type 0} (left : Bytes R) (held : Bytes W) (told : Bytes E) (sep : Sep)
+    (old new : Streams R W E) (status : ℕ) : Type 0 where
+  pub outcome : Result (Unit {0}) CheckFault
+  pub checks : IfSome (left old.input) (λ text.
+      Checks sep text (left new.input) (held old.output) (held new.output) outcome)
+  pub silent : IsSilent (held old.output) (held new.output) outcome
+  pub errors : IsCommandTold told old.errors new.errors (check_outcome outcome)
+  pub gives : status ≡ command_status (check_outcome outcome)
+
+-- ---- command lines that are not carried out
+
+-- neither input nor output was touched
+pub record IsUntouched {R W E : Type 0} (old new : Streams R W E) : Type 0 where
+  pub input : new.input ≡ old.input
+  pub output : new.output ≡ old.output
+
+-- it was out of memory, and wrote the line that says so, or a prefix of it
+pub record IsOutOfMemory {R W E : Type 0} (told : Bytes E)
+    (old new : Streams R W E) (status : ℕ) : Type 0 where
+  pub told_so : Told (told old.errors) (told new.errors) (codes "failed: memory\n")
+  pub gives : status ≡ 3
+
+-- The constituency that a report needs is not named, and it wrote the line that says so, or a
+-- prefix of it.
+pub record IsWithoutCon {R W E : Type 0} (told : Bytes E)
+    (old new : Streams R W E) (status : ℕ) : Type 0 where
+  pub told_so : Told (told old.errors) (told new.errors) (codes "missing --con\n")
+  pub gives : status ≡ 2
+
+-- The words ask for nothing that can be done: status 2, or 3 where the program is out of memory.
+-- Where a constituency is missing, its line is written. Nothing is said of other words on standard
+-- error.
+pub record RefusesLine {R W E : Type 0} (told : Bytes E) (words : List (List ℕ))
+    (old new : Streams R W E) (status : ℕ) : Type 0 where
+  pub untouched : IsUntouched old new
+  pub refused : (status ≡ 2) ⊎ IsOutOfMemory told old new status
+  pub no_con : LacksCon words → IsWithoutCon told old new status ⊎ IsOutOfMemory told old new status
+
+-- the exit status where there is no line: 2 for a wrong command line and one that asks for help, 3
+-- where it is out of memory
 abbrev pub fault_status : LineFault → ℕ
 fault_status (Usage error) = 2
 fault_status NoCon = 2
 fault_status Memory = 3
 
--- the line on the standard error for a fault of a check
-abbrev pub fault_words : CheckFault → List ℕ
-fault_words check.BadHeader = codes "refused: bad_header\n"
-fault_words check.TooLong = codes "refused: too_long\n"
-fault_words check.Read = codes "failed: read\n"
-fault_words check.Memory = codes "failed: memory\n"
-fault_words check.Write = codes "failed: write\n"
+-- the line where the arguments of the program are not all text
+abbrev pub not_text_line : List ℕ
+not_text_line = codes "error: the arguments are not all UTF-8 text\n"
 
--- what is written about a check: nothing where it is done, and the line of its fault where it has one
-abbrev pub IsTold : Option (List ℕ) → Option (List ℕ) → Result (Unit {0}) CheckFault → Type 0
-IsTold held holds (Ok done) = Keeps held holds
-IsTold held holds (Err fault) = Told held holds (fault_words fault)
+-- ---- command lines
 
--- the exit status of a command over a database, and what is written about it: nothing more where it is done
-abbrev pub command_status : Result (Unit {0}) Trouble → ℕ
-command_status (Ok done) = 0
-command_status (Err trouble) = trouble_status trouble
+-- What becomes of what the words ask for. A check may be out of memory before it begins.
+abbrev pub PerformsLine : {R W E : Type 0} → Bytes R → Bytes W → Bytes E → List (List ℕ) → Option LineSeen
+    → Streams R W E → Streams R W E → ℕ → Type 0
+PerformsLine left held told words (Some (CheckSeen sep)) old new status =
+    EndsCheck left held told sep old new status
+    ⊎ (IsUntouched old new × IsOutOfMemory told old new status)
+PerformsLine left held told words (Some (NewSeen db setup)) old new status =
+    EndsCommand held told IsMadeText IsTroubleOfNew old new status
+PerformsLine left held told words (Some (ImportSeen db con csv sep)) old new status =
+    EndsCommand held told IsCountText IsTroubleOfImport old new status
+PerformsLine left held told words (Some (ShowSeen db name con)) old new status =
+    EndsCommand held told IsAnyText IsTroubleOfShow old new status
+PerformsLine left held told words (Some (ServeSeen db port count)) old new status =
+    EndsServer held count old new status
+PerformsLine left held told words None old new status = RefusesLine told words old new status
 
-abbrev pub IsCommandTold : Option (List ℕ) → Option (List ℕ) → Result (Unit {0}) Trouble → Type 0
-IsCommandTold held holds (Ok done) = Keeps held holds
-IsCommandTold held holds (Err trouble) = Told held holds (trouble_line trouble)
-
--- a command line was out of memory before anything was begun: status 3, `failed: memory`, and nothing written as its text
-abbrev pub IsNotBegun : {W : Type 0} → W → W → Option (List ℕ) → Option (List ℕ) → ℕ → Type 0
-IsNotBegun old new told tells status = (status ≡ 3) × (new ≡ old) × Told told tells (codes "failed: memory\n")
-
--- One check takes the input from its bytes to the rest, the output from what it held to what it holds, and the errors
--- from what they held to what they hold: these are those of its outcome, and so is the status. A text that is not known is
--- one of which nothing is said.
-pub record ChecksInput (sep : Sep) (bytes rest held holds told tells : Option (List ℕ)) (status : ℕ) : Type 0 where
-  pub outcome : Result (Unit {0}) CheckFault
-  pub checks : IfSome bytes (λ text. Checks sep text rest held holds outcome)
-  pub silent : IsSilent held holds outcome
-  pub errors : IsTold told tells outcome
-  pub gives : status ≡ check_status outcome
+-- What the program does for these words, its name first.
+abbrev pub Performs : {R W E : Type 0} → Bytes R → Bytes W → Bytes E → List (List ℕ)
+    → Streams R W E → Streams R W E → ℕ → Type 0
+Performs left held told words = PerformsLine left held told words (line_of words)

@@ -1,30 +1,35 @@
-//! What each command over an office does.
+//! What each command over an office does. Errors are matched and returned, and not passed on by
+//! `?`, since the `?` of an enum that holds a text (`Trouble`) has no proof yet.
 
-ghost use Rattle.std.specs.Prelude.{◌≡◌, ◌⊎◌, ◌++◌, [], IfErr, IfOk, OnOk, Err, false, true, is_some, option_map, string_bytes};
+ghost use Rattle.std.specs.Prelude.{◌≡◌, ◌≤◌, [], IfErr, IfOk, OnOk, Err, false, true, is_some, option_map};
+ghost use Rattle.std.specs.Prelude.{string_bytes, string_capacity, string_len};
+ghost use Rattle.tally_desk.specs.Respond.{office};
 ghost use Rattle.tally_commands.specs.Imported.{IsCountText};
 ghost use Rattle.tally_commands.specs.Made.{IsMadeText, constituencies_text};
-ghost use Rattle.tally_program.specs.Commands.{IsAnyText, IsServedText, IsWritten, report_of_name, served_line};
+ghost use Rattle.tally_commands.specs.Served.{IsServedText};
+ghost use Rattle.tally_program.specs.Commands.{IsAnyText, IsWritten, report_of_name};
+ghost use Rattle.tally_program.specs.Served.{IsToldOfServing};
+ghost use Rattle.tally_program.specs.Troubles.{IsTroubleOfEnding, IsTroubleOfImport, IsTroubleOfImporting, IsTroubleOfNew};
+ghost use Rattle.tally_program.specs.Troubles.{IsTroubleOfServe, IsTroubleOfServing, IsTroubleOfShow};
+ghost use Rattle.tally_commands.specs.Trouble.{IsTroubleOfReport};
 ghost use Rattle.tally_program.specs.Worked.{IsFileImported, IsFileTrouble, IsShown, IsShowTrouble};
 ghost use Rattle.tally_line.specs.Line.{needs_con};
 
 use crate::files::{open_file, read_setup};
 use crate::offices::Offices;
-use std::alloc::AllocError;
+use std::alloc::Global;
 use std::io::Write;
 use std::net::{Ipv4Addr, TcpListener};
 use tally_commands::{
-    CONSTITUENCIES_ROOM, Report, Sep, Trouble, constituencies_text, find_con, import_rows,
-    show_progress, show_report,
+    CONSTITUENCIES_ROOM, Report, SERVED_ROOM, Sep, Trouble, constituencies_text, has_con,
+    import_text, served_text, show_progress, show_report,
 };
-use tally_desk::{TcpDoor, serve};
+use tally_desk::{Door, TcpDoor, serve};
 use tally_import::write_text;
 use tally_keeper::Keeper;
 use tally_line::ReportName;
 
-/// The most bytes of the line of a server that ends.
-const SERVED_ROOM: usize = 64;
-
-/// Closes the office of a command, and then writes what it came to, where that is no trouble.
+/// Closes the office of a command, and then writes what it came to, unless that is a trouble.
 fn end<O: Offices, W: Write>(
     rt: &HostRuntime,
     offices: &O,
@@ -33,8 +38,10 @@ fn end<O: Offices, W: Write>(
     outcome: Result<String, Trouble>,
     output: &mut W,
 ) -> Result<(), Trouble>
-    ensures text { IfOk outcome (λ text. IsWritten (λ written. written ≡ string_bytes text) (W.contents output.old) (W.contents output.new) result) }
-    ensures trouble { IfErr outcome (λ trouble. (result ≡ Err trouble) × (output.new ≡ output.old)) }
+    ensures text { IfOk outcome (λ text.
+        IsWritten W.contents (λ t. t ≡ string_bytes text) output.old output.new result) }
+    ensures named { OnOk outcome (IfErr result IsTroubleOfEnding) }
+    ensures trouble { IfErr outcome (λ t. (result ≡ Err t) × (output.new ≡ output.old)) }
 {
     let is_closed = offices.close_office(rt, db, office);
     match outcome {
@@ -43,11 +50,12 @@ fn end<O: Offices, W: Write>(
     }
 }
 
-/// Writes what a command came to, once its office is closed: that stands also where the output takes
-/// nothing.
+/// Writes what a command came to, once its office is closed: what it did remains done also where
+/// the output takes nothing.
 fn finish<W: Write>(is_closed: bool, text: &str, output: &mut W) -> Result<(), Trouble>
     ensures closed { is_closed ≡ false → (result ≡ Err Trouble.Store) × (output.new ≡ output.old) }
-    ensures written { IsWritten (λ written. written ≡ text.now) (W.contents output.old) (W.contents output.new) result }
+    ensures written { IsWritten W.contents (λ t. t ≡ text.now) output.old output.new result }
+    ensures named { IfErr result IsTroubleOfEnding }
 {
     if !is_closed {
         return Err(Trouble::Store);
@@ -58,9 +66,11 @@ fn finish<W: Write>(is_closed: bool, text: &str, output: &mut W) -> Result<(), T
     }
 }
 
-/// Room for a line, which is had before anything is changed.
+/// Room for a line, which is reserved before anything is changed.
 fn line_room(rt: &HostRuntime, bytes: usize) -> Result<String, Trouble>
-    ensures line { IfOk result (λ line. string_bytes line ≡ []) }
+    ensures empty { IfOk result (λ line. string_bytes line ≡ []) }
+    ensures len { IfOk result (λ line. string_len line ≡ 0) }
+    ensures room { IfOk result (λ line. bytes ≤ string_capacity line) }
     ensures trouble { IfErr result (λ trouble. trouble ≡ Trouble.Memory) }
 {
     match String::with_capacity(rt.alloc(), bytes) {
@@ -77,13 +87,14 @@ pub fn make<O: Offices, W: Write>(
     setup: &str,
     output: &mut W,
 ) -> Result<(), Trouble>
-    ensures { IsWritten IsMadeText (W.contents output.old) (W.contents output.new) result }
+    ensures written { IsWritten W.contents IsMadeText output.old output.new result }
+    ensures named { IfErr result IsTroubleOfNew }
 {
     let text = match read_setup(rt, setup) {
         Ok(text) => text,
         Err(trouble) => return Err(trouble),
     };
-    let mut line = match line_room(rt, CONSTITUENCIES_ROOM) {
+    let line = match line_room(rt, CONSTITUENCIES_ROOM) {
         Ok(line) => line,
         Err(trouble) => return Err(trouble),
     };
@@ -91,19 +102,20 @@ pub fn make<O: Offices, W: Write>(
         Ok(office) => office,
         Err(trouble) => return Err(trouble),
     };
-    let outcome = made_text(line, &office);
-    end(rt, offices, db, office, outcome, output)
+    let text = made_text(line, &office);
+    end(rt, offices, db, office, Ok(text), output)
 }
 
-/// The number of the constituencies, in a line that is empty.
-fn made_text<K: Keeper>(mut line: String, keeper: &K) -> Result<String, Trouble>
-    requires { string_bytes line ≡ [] }
-    ensures text { IfOk result (λ text. string_bytes text ≡ constituencies_text (K.constituencies keeper.now)) }
-    ensures trouble { IfErr result (λ trouble. trouble ≡ Trouble.Memory) }
+/// The number of the constituencies, in a line that is empty and has the room: it takes no memory.
+fn made_text<K: Keeper>(mut line: String, keeper: &K) -> String
+    requires empty { string_bytes line ≡ [] }
+    requires len { string_len line ≡ 0 }
+    requires room { CONSTITUENCIES_ROOM ≤ string_capacity line }
+    ensures { string_bytes result ≡ constituencies_text (K.constituencies keeper.now) }
 {
     match constituencies_text(&mut line, keeper.setup()) {
-        Ok(()) => Ok(line),
-        Err(_) => Err(Trouble::Memory),
+        Ok(()) => line,
+        Err(_) => unreachable!(),
     }
 }
 
@@ -117,7 +129,8 @@ pub fn import<O: Offices, W: Write>(
     sep: Sep,
     output: &mut W,
 ) -> Result<(), Trouble>
-    ensures { IsWritten IsCountText (W.contents output.old) (W.contents output.new) result }
+    ensures written { IsWritten W.contents IsCountText output.old output.new result }
+    ensures named { IfErr result IsTroubleOfImport }
 {
     let mut office = match offices.open_office(rt, db) {
         Ok(office) => office,
@@ -127,7 +140,8 @@ pub fn import<O: Offices, W: Write>(
     end(rt, offices, db, office, outcome, output)
 }
 
-/// The counts of the rows that were imported from a file.
+/// The counts of the rows of a file that were imported. The constituency is looked up before the
+/// file is opened.
 fn import_file<K: Keeper>(
     rt: &HostRuntime,
     keeper: &mut K,
@@ -138,21 +152,21 @@ fn import_file<K: Keeper>(
     ensures setup { K.constituencies keeper.new ≡ K.constituencies keeper.old }
     ensures trusted { K.IsTrusted keeper.new → K.IsTrusted keeper.old }
     ensures text { IfOk result (λ text. IsCountText (string_bytes text)) }
+    ensures named { IfErr result IsTroubleOfImporting }
     ensures imported { K.IsTrusted keeper.new → IfOk result (λ text.
-        IsFileImported (K.constituencies keeper.old) (K.content keeper.old) con.now (string_bytes text)
-        (K.content keeper.new)) }
+        IsFileImported con.now sep (K.constituencies keeper.old) (K.content keeper.old)
+        (string_bytes text) (K.content keeper.new)) }
     ensures trouble { K.IsTrusted keeper.new → IfErr result (λ trouble.
-        IsFileTrouble (K.constituencies keeper.old) (K.content keeper.old) con.now trouble (K.content keeper.new)) }
+        IsFileTrouble con.now sep (K.constituencies keeper.old) (K.content keeper.old)
+        trouble (K.content keeper.new)) }
 {
-    let con = match find_con(rt.alloc(), keeper.setup(), con) {
-        Ok(con) => con,
-        Err(trouble) => return Err(trouble),
-    };
-    let file = match open_file(rt, csv) {
-        Ok(file) => file,
-        Err(trouble) => return Err(trouble),
-    };
-    import_rows(rt.alloc(), keeper, con, sep, file)
+    if !has_con(keeper.setup(), con) {
+        return Err(Trouble::NoConstituency);
+    }
+    match open_file(rt, csv) {
+        Ok(file) => import_text(rt.alloc(), keeper, con, sep, file),
+        Err(trouble) => Err(trouble),
+    }
 }
 
 /// Prints a report. Progress is that of all constituencies; any other is of the one that is named.
@@ -165,7 +179,8 @@ pub fn show<O: Offices, W: Write>(
     output: &mut W,
 ) -> Result<(), Trouble>
     requires { needs_con report ≡ true → is_some con ≡ true }
-    ensures { IsWritten IsAnyText (W.contents output.old) (W.contents output.new) result }
+    ensures written { IsWritten W.contents IsAnyText output.old output.new result }
+    ensures named { IfErr result IsTroubleOfShow }
 {
     let mut office = match offices.open_office(rt, db) {
         Ok(office) => office,
@@ -185,12 +200,13 @@ fn show_in<K: Keeper>(
     requires { is_some report ≡ true → is_some con ≡ true }
     ensures setup { K.constituencies keeper.new ≡ K.constituencies keeper.old }
     ensures trusted { K.IsTrusted keeper.new → K.IsTrusted keeper.old }
+    ensures named { IfErr result IsTroubleOfReport }
     ensures shown { K.IsTrusted keeper.new → IfOk result (λ text.
-        IsShown (K.constituencies keeper.old) (K.content keeper.old) report (option_map (λ c. c.now) con.entry)
-        (string_bytes text) (K.content keeper.new)) }
+        IsShown (K.constituencies keeper.old) (K.content keeper.old) report
+        (option_map (λ c. c.now) con.entry) (string_bytes text) (K.content keeper.new)) }
     ensures trouble { K.IsTrusted keeper.new → IfErr result (λ trouble.
-        IsShowTrouble (K.constituencies keeper.old) (K.content keeper.old) report (option_map (λ c. c.now) con.entry) trouble
-        (K.content keeper.new)) }
+        IsShowTrouble (K.constituencies keeper.old) (K.content keeper.old) report
+        (option_map (λ c. c.now) con.entry) trouble (K.content keeper.new)) }
 {
     let Some(which) = report else {
         return show_progress(rt.alloc(), keeper);
@@ -228,7 +244,8 @@ pub fn serve_office<O: Offices, W: Write, E: Write>(
     output: &mut W,
     errors: &mut E,
 ) -> Result<(), Trouble>
-    ensures { IsWritten (IsServedText count) (W.contents output.old) (W.contents output.new) result }
+    ensures written { IsWritten W.contents (IsServedText count) output.old output.new result }
+    ensures named { IfErr result IsTroubleOfServe }
 {
     let mut office = match offices.open_office(rt, db) {
         Ok(office) => office,
@@ -239,6 +256,8 @@ pub fn serve_office<O: Offices, W: Write, E: Write>(
 }
 
 /// Listens, says so, serves, and answers how many connections were answered and how many failed.
+/// The room of that line is reserved before: nothing takes memory for it once connections were
+/// served.
 fn serve_on<K: Keeper, E: Write>(
     rt: &HostRuntime,
     keeper: &mut K,
@@ -248,10 +267,10 @@ fn serve_on<K: Keeper, E: Write>(
 ) -> Result<String, Trouble>
     ensures trusted { K.IsTrusted keeper.new → K.IsTrusted keeper.old }
     ensures text { IfOk result (λ text. IsServedText count (string_bytes text)) }
-    ensures trouble { IfErr result (λ trouble.
-        (trouble ≡ Trouble.Memory) ⊎ ((trouble ≡ Trouble.Port) × (keeper.new ≡ keeper.old))) }
+    ensures named { IfErr result IsTroubleOfServing }
+    ensures unserved { IfErr result (λ trouble. keeper.new ≡ keeper.old) }
 {
-    let mut line = match line_room(rt, SERVED_ROOM) {
+    let line = match line_room(rt, SERVED_ROOM) {
         Ok(line) => line,
         Err(trouble) => return Err(trouble),
     };
@@ -263,15 +282,29 @@ fn serve_on<K: Keeper, E: Write>(
         "listening on 127.0.0.1:{port} for {count} connections"
     );
     let mut door = TcpDoor::timed(listener, rt);
-    let served = serve(rt.alloc(), keeper, &mut door, count);
-    match push_served(&mut line, served.answered, served.failed) {
-        Ok(()) => Ok(line),
-        Err(_) => Err(Trouble::Memory),
-    }
+    Ok(serve_through(rt.alloc(), keeper, &mut door, count, line))
 }
 
-fn push_served(text: &mut String, answered: u32, failed: u32) -> Result<(), AllocError>
-    ensures { OnOk result (string_bytes text.new ≡ string_bytes text.old ++ served_line answered failed) }
+/// Serves so many connections of a door. How many were answered and how many failed is written into
+/// a line that is empty and has the room.
+fn serve_through<K: Keeper, D: Door>(
+    alloc: Global,
+    keeper: &mut K,
+    door: &mut D,
+    count: u32,
+    mut line: String,
+) -> String
+    requires empty { string_bytes line ≡ [] }
+    requires len { string_len line ≡ 0 }
+    requires room { SERVED_ROOM ≤ string_capacity line }
+    ensures trusted { K.IsTrusted keeper.new → K.IsTrusted keeper.old }
+    ensures text { IsServedText count (string_bytes result) }
+    ensures served { IsToldOfServing (K.IsTrusted keeper.new) count
+        (D.known door.old) (D.known door.new)
+        (office (K.constituencies keeper.old) (K.content keeper.old))
+        (office (K.constituencies keeper.new) (K.content keeper.new)) (string_bytes result) }
 {
-    writeln!(text, "answered {answered} failed {failed}")
+    let served = serve(alloc, keeper, door, count);
+    served_text(&mut line, served.answered, served.failed);
+    line
 }

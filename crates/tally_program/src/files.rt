@@ -1,7 +1,8 @@
 //! The files that a command reads: a setup, and returns.
 
-ghost use Rattle.std.specs.Prelude.{◌≡◌, ◌⊎◌, ◌↔◌, IfErr, IsTrue};
+ghost use Rattle.std.specs.Prelude.{◌≡◌, ◌↔◌, IfErr, IsTrue};
 ghost use Rattle.std.specs.IoError.{error_kind};
+ghost use Rattle.tally_program.specs.Troubles.{IsTroubleOfFile, IsTroubleOfReading};
 
 use std::fs::File;
 use std::io::{self, ErrorKind, Read};
@@ -10,7 +11,7 @@ use tally_commands::Trouble;
 /// How much of a setup is read: a text that is longer than this less one byte is over its limit.
 const SETUP_BYTES: u64 = 8_388_609;
 
-/// Whether a call of the system failed because memory ran out.
+/// Whether a call of the system failed because it was out of memory.
 pub fn is_memory(error: &io::Error) -> bool
     ensures { IsTrue result ↔ error_kind error.now ≡ ErrorKind.OutOfMemory }
 {
@@ -19,7 +20,7 @@ pub fn is_memory(error: &io::Error) -> bool
 
 /// Opens a file that is read.
 pub fn open_file(rt: &HostRuntime, path: &str) -> Result<File, Trouble>
-    ensures { IfErr result (λ trouble. (trouble ≡ Trouble.Memory) ⊎ (trouble ≡ Trouble.File)) }
+    ensures named { IfErr result IsTroubleOfFile }
 {
     match File::open(rt, path) {
         Ok(file) => Ok(file),
@@ -28,8 +29,10 @@ pub fn open_file(rt: &HostRuntime, path: &str) -> Result<File, Trouble>
     }
 }
 
-/// The text of a setup, and one byte behind its limit where it is longer.
-pub fn read_setup(rt: &HostRuntime, path: &str) -> Result<Vec<u8>, Trouble> {
+/// The text of a setup, up to one byte past its limit where it is longer.
+pub fn read_setup(rt: &HostRuntime, path: &str) -> Result<Vec<u8>, Trouble>
+    ensures named { IfErr result IsTroubleOfReading }
+{
     let file = match open_file(rt, path) {
         Ok(file) => file,
         Err(trouble) => return Err(trouble),

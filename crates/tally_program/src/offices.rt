@@ -1,5 +1,8 @@
 //! Where the offices are that commands work on.
 
+ghost use Rattle.std.specs.Prelude.{IfErr};
+ghost use Rattle.tally_commands.specs.Trouble.{IsTroubleOfMaking, IsTroubleOfOpening};
+
 use tally_commands::Trouble;
 use tally_keeper::Keeper;
 
@@ -9,7 +12,8 @@ pub trait Offices {
     type Office: Keeper + Drop;
 
     /// Opens the office at a path. Where there is none, none is made.
-    fn open_office(&self, rt: &HostRuntime, path: &str) -> Result<Self::Office, Trouble>;
+    fn open_office(&self, rt: &HostRuntime, path: &str) -> Result<Self::Office, Trouble>
+        ensures named { IfErr result IsTroubleOfOpening };
 
     /// Makes an office of the text of a setup at a path where there is none yet, and opens it.
     fn make_office(
@@ -17,8 +21,10 @@ pub trait Offices {
         rt: &HostRuntime,
         path: &str,
         text: &[u8],
-    ) -> Result<Self::Office, Trouble>;
+    ) -> Result<Self::Office, Trouble>
+        ensures named { IfErr result IsTroubleOfMaking };
 
-    /// Closes the office at a path, and answers whether all of it stands there.
+    /// Closes the office at a path, and answers whether all of it is there: where it is not, and
+    /// where a disk that failed has shut it, the command has failed.
     fn close_office(&self, rt: &HostRuntime, path: &str, office: Self::Office) -> bool;
 }

@@ -1,37 +1,27 @@
 //! What the program does for a command line, and the statuses and words that it answers with.
 
-ghost use Rattle.std.specs.Prelude.{◌≡◌, ◌≢◌, ◌⊎◌, ℕ, List, Option, Some, None, OnErr, codes, map, string_bytes};
+ghost use Rattle.std.specs.Prelude.{◌≡◌, ◌≢◌, codes, map, string_bytes};
 ghost use Rattle.std.specs.IoError.{error_kind};
-ghost use Rattle.tally_records.specs.declared.separator.Sep.{Sep};
-ghost use Rattle.tally_line.specs.declared.line.ReportName.{ReportName};
 ghost use Rattle.tally_commands.specs.Told.{Told};
-ghost use Rattle.tally_commands.specs.Imported.{IsCountText};
-ghost use Rattle.tally_commands.specs.Made.{IsMadeText};
-ghost use Rattle.tally_program.specs.Commands.{EndsCommand, EndsServer, IsAnyText};
-ghost use Rattle.tally_line.specs.Line.{CheckSeen, ImportSeen, LacksCon, NewSeen, ServeSeen, ShowSeen, line_of};
-ghost use Rattle.tally_program.specs.Perform.{ChecksInput, IsCommandTold, IsNotBegun, IsTold, check_status, command_status, fault_status, fault_words};
+ghost use Rattle.tally_program.specs.Commands.{IsCommandTold, command_status, streams};
+ghost use Rattle.tally_program.specs.Perform.{Performs, check_outcome, fault_status, not_text_line};
 
 use crate::commands::{import, make, serve_office, show};
 use crate::offices::Offices;
 use std::io::{self, ErrorKind, Read, Write};
-use tally_commands::Trouble;
-use tally_import::{CheckFault, check_csv, write_text};
+use tally_commands::{FAILED, Trouble, tell};
+use tally_import::{CheckFault, check_csv};
 use tally_line::{Line, LineFault, read_line};
 
 /// The exit status where all was done.
 pub const DONE: u8 = 0;
 
-/// The exit status where what was asked is refused.
-pub const REFUSED: u8 = 1;
-
 /// The exit status of a wrong command line, and of one that asks for help or the version.
 pub const USAGE: u8 = 2;
 
-/// The exit status where memory, a read or a write failed.
-pub const FAILED: u8 = 3;
-
-/// Does what a command line asks for, the program's name first, over these offices, and answers the exit
-/// status. Help, refusals and failures go to `errors`, where a write that fails is passed over.
+/// Does what a command line asks for, the program's name first, over these offices, and answers the
+/// exit status. Help, refusals and failures go to `errors`, where a write that fails is passed
+/// over.
 pub fn perform<O: Offices, R: Read, W: Write, E: Write>(
     rt: &HostRuntime,
     offices: &O,
@@ -40,30 +30,8 @@ pub fn perform<O: Offices, R: Read, W: Write, E: Write>(
     output: &mut W,
     errors: &mut E,
 ) -> u8
-    ensures check { (sep : Sep) → line_of (map string_bytes words.now) ≡ Some (CheckSeen sep)
-        → ((input.new ≡ input.old) × IsNotBegun output.old output.new (E.contents errors.old) (E.contents errors.new) result)
-        ⊎ ChecksInput sep (R.remaining input.old) (R.remaining input.new) (W.contents output.old) (W.contents output.new) (E.contents errors.old) (E.contents errors.new) result }
-    ensures new { (db setup : List ℕ) → line_of (map string_bytes words.now) ≡ Some (NewSeen db setup)
-        → IsNotBegun output.old output.new (E.contents errors.old) (E.contents errors.new) result
-        ⊎ EndsCommand IsMadeText (W.contents output.old) (W.contents output.new) (E.contents errors.old) (E.contents errors.new) result }
-    ensures import { (db con csv : List ℕ) (sep : Sep) → line_of (map string_bytes words.now) ≡ Some (ImportSeen db con csv sep)
-        → IsNotBegun output.old output.new (E.contents errors.old) (E.contents errors.new) result
-        ⊎ EndsCommand IsCountText (W.contents output.old) (W.contents output.new) (E.contents errors.old) (E.contents errors.new) result }
-    ensures show { (db : List ℕ) (name : ReportName) (con : Option (List ℕ)) → line_of (map string_bytes words.now) ≡ Some (ShowSeen db name con)
-        → IsNotBegun output.old output.new (E.contents errors.old) (E.contents errors.new) result
-        ⊎ EndsCommand IsAnyText (W.contents output.old) (W.contents output.new) (E.contents errors.old) (E.contents errors.new) result }
-    ensures serve { (db : List ℕ) (port count : ℕ) → line_of (map string_bytes words.now) ≡ Some (ServeSeen db port count)
-        → IsNotBegun output.old output.new (E.contents errors.old) (E.contents errors.new) result
-        ⊎ EndsServer count (W.contents output.old) (W.contents output.new) result }
-    ensures no_line { line_of (map string_bytes words.now) ≡ None
-        → ((result ≡ USAGE) ⊎ ((result ≡ FAILED) × Told (E.contents errors.old) (E.contents errors.new) (codes "failed: memory\n")))
-        × (input.new ≡ input.old) × (output.new ≡ output.old) }
-    ensures no_con { LacksCon (map string_bytes words.now)
-        → ((result ≡ USAGE) × Told (E.contents errors.old) (E.contents errors.new) (codes "missing --con\n"))
-        ⊎ ((result ≡ FAILED) × Told (E.contents errors.old) (E.contents errors.new) (codes "failed: memory\n")) }
-    ensures input { ((sep : Sep) → line_of (map string_bytes words.now) ≢ Some (CheckSeen sep)) → input.new ≡ input.old }
-    ensures quiet { ((db : List ℕ) (port count : ℕ) → line_of (map string_bytes words.now) ≢ Some (ServeSeen db port count))
-        → result ≡ DONE → errors.new ≡ errors.old }
+    ensures { Performs R.remaining W.contents E.contents (map string_bytes words.now)
+        (streams input.old output.old errors.old) (streams input.new output.new errors.new) result }
 {
     match read_line(rt.alloc(), words) {
         Ok(Line::Check { sep }) => {
@@ -92,8 +60,7 @@ pub fn perform<O: Offices, R: Read, W: Write, E: Write>(
 
 fn report_command<E: Write>(outcome: &Result<(), Trouble>, errors: &mut E) -> u8
     ensures status { result ≡ command_status outcome.now }
-    ensures told { IsCommandTold (E.contents errors.old) (E.contents errors.new) outcome.now }
-    ensures quiet { result ≡ DONE → errors.new ≡ errors.old }
+    ensures told { IsCommandTold E.contents errors.old errors.new outcome.now }
 {
     match outcome {
         Ok(()) => DONE,
@@ -102,44 +69,21 @@ fn report_command<E: Write>(outcome: &Result<(), Trouble>, errors: &mut E) -> u8
 }
 
 fn report_check<E: Write>(outcome: Result<(), CheckFault>, errors: &mut E) -> u8
-    ensures status { result ≡ check_status outcome }
-    ensures told { IsTold (E.contents errors.old) (E.contents errors.new) outcome }
-    ensures quiet { result ≡ DONE → errors.new ≡ errors.old }
+    ensures status { result ≡ command_status (check_outcome outcome) }
+    ensures told { IsCommandTold E.contents errors.old errors.new (check_outcome outcome) }
 {
     match outcome {
         Ok(()) => DONE,
-        Err(fault) => {
-            tell(words_of(fault), errors);
-            status_of(fault)
-        }
-    }
-}
-
-fn words_of(fault: CheckFault) -> &'static str
-    ensures { result.now ≡ fault_words fault }
-{
-    match fault {
-        CheckFault::BadHeader => "refused: bad_header\n",
-        CheckFault::TooLong => "refused: too_long\n",
-        CheckFault::Read => "failed: read\n",
-        CheckFault::Memory => "failed: memory\n",
-        CheckFault::Write => "failed: write\n",
-    }
-}
-
-fn status_of(fault: CheckFault) -> u8
-    ensures { result ≡ check_status (Err fault) }
-{
-    match fault {
-        CheckFault::BadHeader | CheckFault::TooLong => REFUSED,
-        CheckFault::Read | CheckFault::Memory | CheckFault::Write => FAILED,
+        Err(fault) => Trouble::from_check(fault).report(errors),
     }
 }
 
 fn report_fault<E: Write>(fault: LineFault, errors: &mut E) -> u8
     ensures status { result ≡ fault_status fault }
-    ensures told { result ≡ FAILED → Told (E.contents errors.old) (E.contents errors.new) (codes "failed: memory\n") }
-    ensures no_con { fault ≡ LineFault.NoCon → Told (E.contents errors.old) (E.contents errors.new) (codes "missing --con\n") }
+    ensures told { result ≡ FAILED
+        → Told (E.contents errors.old) (E.contents errors.new) (codes "failed: memory\n") }
+    ensures no_con { fault ≡ LineFault.NoCon
+        → Told (E.contents errors.old) (E.contents errors.new) (codes "missing --con\n") }
 {
     match fault {
         LineFault::Usage(error) => {
@@ -157,19 +101,13 @@ fn report_fault<E: Write>(fault: LineFault, errors: &mut E) -> u8
     }
 }
 
-/// Writes words on standard error. A write that fails is passed over.
-fn tell<E: Write>(words: &str, errors: &mut E)
-    ensures { Told (E.contents errors.old) (E.contents errors.new) words.now }
-{
-    let _ = write_text(errors, words.as_bytes());
-}
-
-/// Reports why no command line could be begun: its arguments are not all text, or memory ran out.
+/// Reports why no command line could be begun: its arguments are not all text, or it is out of
+/// memory.
 pub fn report_start<E: Write>(error: &io::Error, errors: &mut E) -> u8
-    ensures memory { error_kind error.now ≡ ErrorKind.OutOfMemory
-        → (result ≡ FAILED) × Told (E.contents errors.old) (E.contents errors.new) (codes "failed: memory\n") }
-    ensures other { error_kind error.now ≢ ErrorKind.OutOfMemory
-        → (result ≡ USAGE) × Told (E.contents errors.old) (E.contents errors.new) (codes "error: the arguments are not all UTF-8 text\n") }
+    ensures memory { error_kind error.now ≡ ErrorKind.OutOfMemory → (result ≡ FAILED)
+        × Told (E.contents errors.old) (E.contents errors.new) (codes "failed: memory\n") }
+    ensures other { error_kind error.now ≢ ErrorKind.OutOfMemory → (result ≡ USAGE)
+        × Told (E.contents errors.old) (E.contents errors.new) not_text_line }
 {
     match error.kind() {
         ErrorKind::OutOfMemory => {

@@ -1,4 +1,5 @@
-//! What command lines over a text come to. Streams that fail are tried from outside, in `tests/program.py`.
+//! What command lines over a text come to. Streams that fail are tried from outside, in
+//! `tests/program.py`.
 
 use crate::offices::InMemory;
 use std::alloc::{AllocError, Global};

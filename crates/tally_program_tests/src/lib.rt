@@ -1,5 +1,5 @@
-//! Tests of `tally_line` and `tally_program`, which over their finished proofs are checked once. Nothing here is public,
-//! so there are no must-fail edits.
+//! Tests of `tally_line` and `tally_program`. They are checked once, over the finished proofs of
+//! these crates. Nothing here is public, so there are no must-fail edits.
 #![tactic(auto)]
 
 #[cfg(test)]

@@ -1,4 +1,8 @@
-//! What command lines over an office come to. Offices in files are tried from outside, in `tests/program.py`.
+//! What command lines over an office come to. Offices in files are tried from outside, in
+//! `tests/program.py`.
+
+ghost use Rattle.std.specs.Prelude.{IfErr};
+ghost use Rattle.tally_commands.specs.Trouble.{IsTroubleOfMaking};
 
 use crate::checks::check;
 use std::fs;
@@ -17,7 +21,10 @@ impl Offices for InMemory {
     fn open_office(&self, rt: &HostRuntime, path: &str) -> Result<Book, Trouble> {
         match path {
             "nowhere" => Err(Trouble::NoTables),
-            _ => office_of(rt, TWIN_TOWN.as_bytes()),
+            _ => match office_of(rt, TWIN_TOWN.as_bytes()) {
+                Ok(book) => Ok(book),
+                Err(_) => Err(Trouble::BadSetup),
+            },
         }
     }
 
@@ -34,7 +41,9 @@ impl Offices for InMemory {
 }
 
 /// An office of the setup of a text.
-fn office_of(rt: &HostRuntime, text: &[u8]) -> Result<Book, Trouble> {
+fn office_of(rt: &HostRuntime, text: &[u8]) -> Result<Book, Trouble>
+    ensures { IfErr result IsTroubleOfMaking }
+{
     let setup = match read_setup(rt.alloc(), text) {
         Ok(setup) => setup,
         Err(fault) => return Err(Trouble::Setup(fault)),
@@ -83,7 +92,7 @@ const DONE_LINES: [(&str, &str); 4] = [
     ),
 ];
 
-// Lines of which nothing is written on the output, and what is told on standard error.
+// Lines of which nothing is written on the output, and what is reported on standard error.
 const TOLD_LINES: &str = "office show --db in --report tally = missing --con
 office show --db in --report tally --con zz = refused: no_constituency
 office show --db in --report seats --con c1 = refused: not_certified
@@ -99,7 +108,7 @@ office new --db in --setup offices.csv = refused: not_toml
 office new --db full --setup offices.toml = refused: not_empty
 office new --db unclosed --setup offices.toml = failed: store";
 
-/// The exit status of what is told.
+/// The exit status of what is reported.
 fn status_of(told: &str) -> u8 {
     if told.starts_with("refused: ") {
         REFUSED
@@ -110,7 +119,7 @@ fn status_of(told: &str) -> u8 {
     }
 }
 
-/// Fails where a line `WORDS = WHAT IS TOLD` comes to something else.
+/// Fails where a line `WORDS = WHAT IS REPORTED` comes to something else.
 fn check_told(rt: &HostRuntime, line: &'static str) -> Result<(), Fail> {
     let (words, told) = line.split_once(" = ").ok_or("nothing is told")?;
     let errors = format!(in rt.alloc(); "{told}\n")?;

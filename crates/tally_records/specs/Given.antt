@@ -3,7 +3,7 @@ use Rattle.std.specs.Prelude.{◌≡◌, ◌≤◌, ◌++◌, ℕ, Bool, true, L
 use Rattle.std.specs.Io.KnownBytes.{Consumes}
 use Rattle.tally_records.specs.Input.{Gave, complete_records, size_limit}
 use Rattle.tally_records.specs.RecordsValue.{Records}
-use Rattle.tally_records.specs.Watch.{IsEnd}
+use Rattle.tally_records.specs.Watch.{flag_after_end}
 use Rattle.tally_records.specs.declared.end.Stop.{Stop}
 use Rattle.tally_records.specs.declared.end.End.{End}
 use Rattle.tally_records.specs.declared.separator.Sep.{Sep}
@@ -22,7 +22,7 @@ MayCome (Some end) more stop = (more ≡ []) × (stop ≡ end.stop)
 abbrev pub to_come : Records → List ℕ → Option Stop → List (List (List ℕ))
 to_come r more stop = drop r.given (complete_records r.sep (r.bytes ++ more) stop)
 
--- Of this text the records given so far were given.
+-- These are the records of this text that were given so far.
 abbrev pub HasGiven : Option (List ℕ) → Option (List ℕ) → List (List (List ℕ)) → Records → Type 0
 HasGiven text left given r = (bytes : List ℕ) × Came text left bytes r.taken r.end
     × ((more : List ℕ) (stop : Option Stop) → MayCome r.end more stop → complete_records r.sep (bytes ++ more) stop ≡ given ++ to_come r more stop)
@@ -31,9 +31,10 @@ HasGiven text left given r = (bytes : List ℕ) × Came text left bytes r.taken 
 abbrev pub sep_of : Records → Sep
 sep_of r = r.sep
 
--- where a failed read is said to have stopped the input, one of its reads failed
-abbrev pub TellsTrue : Records → Bool → Type 0
-TellsTrue r failed = IsEnd r.end failed
+-- The watch notes a failed read where one stopped the input, and else what it noted before it was
+-- begun.
+abbrev pub TellsTrue : Bool → Records → Bool → Type 0
+TellsTrue before r failed = failed ≡ flag_after_end r.end before
 
 -- more records can be asked for
 abbrev pub IsReadingOn : Records → Type 0

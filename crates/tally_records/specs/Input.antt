@@ -11,8 +11,8 @@ use Rattle.tally_records.specs.declared.separator.Sep.{Sep}
 abbrev pub size_limit : ℕ
 size_limit = 16777216
 
--- These bytes came of a text, until it ended or was stopped: TooLong, where the text goes on past the
--- limit, or Read, where a read failed and `left` is what it left.
+-- These bytes came of a text, until it ended or was stopped: TooLong, where the text goes on past
+-- the limit, or Read, where a read failed and `left` is what it left.
 abbrev pub Gave : List ℕ → Option (List ℕ) → List ℕ → Option Stop → Type 0
 Gave text left bytes None = (bytes ≡ text) × (length text ≤ size_limit)
 Gave text left bytes (Some TooLong) = (bytes ≡ take size_limit text) × (size_limit < length text)
@@ -24,8 +24,8 @@ without_last [] = []
 without_last (x ∷ []) = []
 without_last (x ∷ y ∷ rest) = x ∷ without_last (y ∷ rest)
 
--- The records that were read to their end. Of a text that was stopped the last is not known to have ended: with
--- one more field begun behind the bytes, it is the one that this field belongs to.
+-- The records that were read to their end. The last one of a text that was stopped is not known to
+-- have ended: with one more field begun after the bytes, it is the one that this field belongs to.
 abbrev pub complete_records : Sep → List ℕ → Option Stop → List (List (List ℕ))
 complete_records sep bytes None = records (config sep) (strip_bom bytes)
 complete_records sep bytes (Some stop) = without_last (records (config sep) (strip_bom (bytes ++ separator sep ∷ [])))

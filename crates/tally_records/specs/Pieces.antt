@@ -28,7 +28,8 @@ ends_line (c ∷ d ∷ rest) = ends_line (d ∷ rest)
 
 -- ---- the input
 
--- What a read did: these bytes came, and are held behind those that were. Of each, the bytes that are held and how many the input gave.
+-- What a read did: these bytes came, and are held after those that were. Of each, the bytes that
+-- are held and how many the input gave.
 abbrev pub Fills : Option (List ℕ) → Option (List ℕ) → List ℕ → ℕ → List ℕ → ℕ → Option End → Type 0
 Fills old_left left old old_taken new new_taken end = (came : List ℕ) × (new ≡ old ++ came)
     × ((text : Option (List ℕ)) (bytes : List ℕ) → Consumes text old_left bytes → old_taken ≡ length bytes → Came text left (bytes ++ came) new_taken end)
@@ -44,16 +45,17 @@ is_whole (Some end) = is_none end.stop
 abbrev pub text_rows : Sep → List ℕ → List (List (List ℕ))
 text_rows sep text = records (config sep) (strip_bom text)
 
--- The records of a piece: behind it a further field is begun, unless the input ended of itself there.
+-- The records of a piece: after it a further field is begun, unless the input ended of itself
+-- there.
 abbrev pub piece_rows : Sep → Option End → List ℕ → List (List (List ℕ))
 piece_rows sep end piece = records (config sep) (strip_bom (if is_whole end then piece else piece ++ separator sep ∷ []))
 
--- what is left of records: the one ahead, which is not known to be complete, and those behind it
+-- what is left of records: the one ahead, which is not known to be complete, and those after it
 abbrev pub IsRest : Bool → List (List (List ℕ)) → Rest → Type 0
 IsRest true rows rest = rows ≡ rows_left rest.reader.reader.value
 IsRest false rows rest = rows ≡ fields_of rest.ahead ∷ rows_left rest.reader.reader.value
 
--- more may come behind the piece, which ends with a line; or the input ended behind it
+-- more may come after the piece, which ends with a line; or the input ended after it
 abbrev pub IsPiece : Option End → List ℕ → ℕ → Type 0
 IsPiece None bytes piece = ends_line (take piece bytes) ≡ true
 IsPiece (Some end) bytes piece = take piece bytes ≡ bytes
@@ -75,12 +77,13 @@ pub record IsWorking (r : Work) : Type 0 where
   pub limit : r.end ≡ None → r.held.taken ≤ size_limit
   pub few : length (bytes_of r) ≤ r.held.taken + 1
 
--- What is left where the reader gives no more: the record ahead, or nothing where the input ended of itself.
+-- What is left where the reader gives no more: the record ahead, or nothing where the input ended
+-- of itself.
 abbrev pub IsLast : Bool → List (List (List ℕ)) → Rest → Type 0
 IsLast true rows rest = rows ≡ []
 IsLast false rows rest = rows ≡ fields_of rest.ahead ∷ []
 
--- the records of an input, behind all that their piece has
+-- the records of an input, after all that their piece has
 pub record IsSpent (r : Work) : Type 0 where
   pub last : IsLast (is_whole r.end) (drop r.given (piece_rows r.sep r.end (take r.piece (bytes_of r)))) r.rest
   pub piece : IsPiece r.end (bytes_of r) r.piece
@@ -88,12 +91,13 @@ pub record IsSpent (r : Work) : Type 0 where
   pub limit : r.end ≡ None → r.held.taken ≤ size_limit
   pub few : length (bytes_of r) ≤ r.held.taken + 1
 
--- These bytes are held since the last line behind which nothing was given, and so many of their records were given: another one is begun behind those.
+-- These bytes are held since the last line after which nothing was given, and so many of their
+-- records were given: another one is begun after those.
 abbrev pub Begun : Sep → List ℕ → ℕ → Type 0
 Begun sep bytes given = (piece : ℕ) × (last : List (List ℕ)) × (piece ≤ length bytes) × (ends_line (take piece bytes) ≡ true)
     × (drop given (piece_rows sep None (take piece bytes)) ≡ last ∷ [])
 
--- The same of the first of these bytes: the others came behind them.
+-- The same of the first of these bytes: the others came after them.
 abbrev pub IsBegunIn : Sep → List ℕ → ℕ → Type 0
 IsBegunIn sep bytes given = (front : List ℕ) × (came : List ℕ) × (bytes ≡ front ++ came) × Begun sep front given
 

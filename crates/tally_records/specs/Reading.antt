@@ -19,7 +19,8 @@ rows_in reader (Some text) = records_from (reader_config reader) (length text + 
 abbrev pub rows_left : Reader Text → List (List (List ℕ))
 rows_left reader = rows_in reader (unread reader)
 
--- it stands between two records, and reads the next one of any length, as it stands, with no header row of its own
+-- it is between two records, and reads the next one, of any length, just as it is, with no header
+-- row of its own
 pub record IsReading (reader : Reader Text) : Type 0 where
   pub as_it_stands : reader_trim reader ≡ trim.None
   pub ready : Ready reader

@@ -3,9 +3,9 @@ use Rattle.std.specs.Prelude.{ℕ, Bool, List, Option}
 use Rattle.tally_records.specs.declared.end.End.{End}
 use Rattle.tally_records.specs.declared.separator.Sep.{Sep}
 
--- The separator of two fields, the bytes behind the last place at which nothing but given records came before, how
--- many of their records were given, how many bytes the input gave, how it ended, once it did, and whether more records
--- can be asked for.
+-- The separator of two fields, the bytes after the last place at which nothing but given records
+-- came before, how many of their records were given, how many bytes the input gave, how it ended,
+-- once it did, and whether more records can be asked for.
 pub record Records : Type 0 where
   pub sep : Sep
   pub bytes : List ℕ

@@ -1,4 +1,5 @@
--- How a text of returns is read: as the kit's `csv` reads it (after RFC 4180), with a comma or a semicolon between fields.
+-- How a text of returns is read: as the kit's `csv` reads it (after RFC 4180), with a comma or a
+-- semicolon between fields.
 use Rattle.std.specs.Prelude.{ℕ}
 use Rattle.csv.specs.Reading.{default_config}
 use Rattle.csv.specs.declared.parser.Config.{Config}

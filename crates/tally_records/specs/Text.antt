@@ -5,7 +5,7 @@ use Rattle.std.specs.Io.Cursor.{cursor_inner, cursor_position}
 use Rattle.std.specs.declared.alloc.Global.{Global}
 use Rattle.tally_records.specs.declared.text.Text.{Text}
 
--- the bytes of parts, one part behind the other
+-- the bytes of parts, one part after the other
 abbrev pub joined : List (Vec ℕ Global) → List ℕ
 joined parts = flat_map (λ (part : Vec ℕ Global). part.items) parts
 

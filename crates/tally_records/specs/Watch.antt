@@ -9,13 +9,19 @@ use Rattle.tally_records.specs.declared.watch.Watch.{Watch}
 abbrev pub has_failed : {S : Type 0} → Watch S → Bool
 has_failed watch = watch.failed
 
--- Where this says that a failed read stopped an input, a read failed.
-abbrev pub IsStop : Option Stop → Bool → Type 0
-IsStop None failed = ⊤
-IsStop (Some TooLong) failed = ⊤
-IsStop (Some Read) failed = failed ≡ true
+-- What a watch notes of an input that was stopped so: that a read failed, where one stopped it, and
+-- else what it noted before.
+abbrev pub flag_after_stop : Option Stop → Bool → Bool
+flag_after_stop None before = before
+flag_after_stop (Some TooLong) before = before
+flag_after_stop (Some Read) before = true
 
 -- the same of how an input ended, where it has
-abbrev pub IsEnd : Option End → Bool → Type 0
-IsEnd None failed = ⊤
-IsEnd (Some end) failed = IsStop end.stop failed
+abbrev pub flag_after_end : Option End → Bool → Bool
+flag_after_end None before = before
+flag_after_end (Some end) before = flag_after_stop end.stop before
+
+-- Where an input is said to have ended, this is what its watch notes.
+abbrev pub TellsEnd : Bool → Option End → Bool → Type 0
+TellsEnd before None failed = ⊤
+TellsEnd before (Some end) failed = failed ≡ flag_after_stop end.stop before

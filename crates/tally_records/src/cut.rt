@@ -25,7 +25,7 @@ pub(crate) fn ended_itself(end: Option<End>) -> bool
     }
 }
 
-/// How many of these bytes stand in a piece behind which more may come: those up to their last line
+/// How many of these bytes are in a piece after which more may come: those up to their last line
 /// end.
 pub(crate) fn piece_size(bytes: &[u8]) -> usize
     ensures within { result ≤ length bytes.now }
@@ -45,7 +45,7 @@ pub(crate) fn is_line_end(byte: u8) -> bool
     byte == b'\r' || byte == b'\n'
 }
 
-/// Whether a record is the one that a separator begins behind the end of a line.
+/// Whether a record is the one that a separator begins after the end of a line.
 pub(crate) fn is_nothing(row: &ByteRecord) -> bool
     ensures nothing { result ≡ true → fields_of row.now ≡ [] ∷ [] ∷ [] }
     ensures found { fields_of row.now ≡ [] ∷ [] ∷ [] → result ≡ true }
@@ -53,7 +53,7 @@ pub(crate) fn is_nothing(row: &ByteRecord) -> bool
     row.len() == 2 && field(row, 0).is_empty() && field(row, 1).is_empty()
 }
 
-/// How many bytes of a piece come before its last record, as the reader tells.
+/// How many bytes of a piece come before its last record, as the reader reports.
 fn start_of(row: &ByteRecord) -> usize {
     match row.position() {
         Some(position) => position.byte() as usize,
@@ -90,7 +90,7 @@ pub(crate) fn given_size(
     }
 }
 
-/// The text of a piece: behind it a field is begun, so that the last record is the one that may go
+/// The text of a piece: after it a field is begun, so that the last record is the one that may go
 /// on.
 pub(crate) fn piece_text(alloc: Global, piece: &[u8], sep: Sep) -> Result<Vec<u8>, AllocError>
     ensures { IfOk result (λ text. text.items ≡ piece.now ++ separator sep ∷ []) }
@@ -101,7 +101,7 @@ pub(crate) fn piece_text(alloc: Global, piece: &[u8], sep: Sep) -> Result<Vec<u8
     Ok(text)
 }
 
-/// The text of the last piece, of which no copy is made: a field is begun behind it unless the
+/// The text of the last piece, of which no copy is made: a field is begun after it unless the
 /// input ended of itself.
 pub(crate) fn last_text(
     alloc: Global,
@@ -117,7 +117,7 @@ pub(crate) fn last_text(
     Ok(text)
 }
 
-/// Whether the first `given` records of a text are all that it has, and a line ended behind them.
+/// Whether the first `given` records of a text are all that it has, and a line ended after them.
 fn is_given(alloc: Global, front: &[u8], sep: Sep, given: usize) -> Result<bool, AllocError>
     ensures given { IfOk result (λ all. all ≡ true → drop given (piece_rows sep None front.now) ≡ ([] ∷ [] ∷ []) ∷ []) }
     ensures found { IfOk result (λ all. drop given (piece_rows sep None front.now) ≡ ([] ∷ [] ∷ []) ∷ [] → all ≡ true) }

@@ -14,8 +14,8 @@ const SIZE_LIMIT: usize = 16_777_216;
 /// How many bytes are asked for at a time. They come by way of the stack.
 const READ_SIZE: usize = 16_384;
 
-/// The most bytes of a part of what is read to the end of the input. A part is longer than a piece and
-/// the text made of it, since an allocator may keep room of a size that was given back before.
+/// The most bytes of a part of what is read to the end of the input. A part is longer than a piece
+/// and the text made of it, since an allocator may keep room of a size that was given back before.
 const PART: usize = 524_288;
 
 /// The room that is made for the bytes which are held on.
@@ -34,7 +34,7 @@ pub(crate) struct Held {
 impl Held {
     ghost use Rattle.tally_records.specs.Pieces.{Fills};
     ghost use Rattle.tally_records.specs.Text.{joined};
-    ghost use Rattle.tally_records.specs.Watch.{IsEnd, has_failed};
+    ghost use Rattle.tally_records.specs.Watch.{flag_after_end, has_failed};
 
     /// No byte.
     pub(crate) fn new(alloc: Global) -> Held
@@ -62,7 +62,7 @@ impl Held {
         ensures count { IfOk result (λ end. end ≡ None → self.new.taken + length self.old.bytes.items ≡ self.old.taken + length self.new.bytes.items) }
         ensures limit { IfOk result (λ end. end ≡ None → self.new.taken ≤ 16777216) }
         ensures few { OnOk result (self.old.taken + length self.new.bytes.items ≤ self.new.taken + length self.old.bytes.items) }
-        ensures failed { IfOk result (λ end. IsEnd end (has_failed watch.new)) }
+        ensures failed { IfOk result (λ end. has_failed watch.new ≡ flag_after_end end (has_failed watch.old)) }
     {
         let missing = size.saturating_sub(self.bytes.len());
         self.bytes
@@ -94,8 +94,8 @@ impl Held {
         }))
     }
 
-    /// Reads all that still comes, in parts, so that each can be given back by itself. An input that
-    /// goes on past 16 MiB is stopped there.
+    /// Reads all that still comes, in parts, so that each can be given back by itself. An input
+    /// that goes on past 16 MiB is stopped there.
     pub(crate) fn read_rest<R: Read>(
         &mut self,
         alloc: Global,
@@ -106,7 +106,8 @@ impl Held {
         ensures fills { IfOk result (λ rest. Fills (R.remaining input.old) (R.remaining input.new) [] self.old.taken (joined rest.0.items) self.new.taken (Some rest.1)) }
         ensures bytes { OnOk result (self.new.bytes ≡ self.old.bytes) }
         ensures few { IfOk result (λ rest. self.old.taken + length (joined rest.0.items) ≤ self.new.taken) }
-        ensures failed { IfOk result (λ rest. IsEnd (Some rest.1) (has_failed watch.new)) }
+        ensures failed { IfOk result (λ rest.
+            has_failed watch.new ≡ flag_after_end (Some rest.1) (has_failed watch.old)) }
     {
         let mut parts = VecDeque::new(alloc);
         loop {
@@ -123,7 +124,7 @@ impl Held {
         }
     }
 
-    /// Puts a line feed in place of so many bytes at the front.
+    /// Puts a line feed in place of so many bytes at the beginning.
     pub(crate) fn drop_front(&mut self, alloc: Global, count: usize) -> Result<(), AllocError>
         requires some { 0 < count }
         requires within { count ≤ length self.old.bytes.items }

@@ -20,7 +20,7 @@ impl Rest {
     ghost use Rattle.tally_records.specs.Pieces.{IsRest, text_rows};
     ghost use Rattle.tally_records.specs.Text.{bytes_left};
 
-    /// The records of a piece's text behind the first `given`, which it has.
+    /// The records of a piece's text after the first `given`, which it has.
     pub(crate) fn new(
         alloc: Global,
         text: Text,

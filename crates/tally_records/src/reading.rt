@@ -12,8 +12,8 @@ use crate::text::Text;
 use csv::{ByteRecord, Reader, ReaderBuilder};
 use std::alloc::{AllocError, Global};
 
-/// A reader of a text's records. It is on the heap, since it has some 16 KiB. To be dropped it is moved
-/// onto the stack, in a function of its own, so that no other has room for it.
+/// A reader of a text's records. It is on the heap, since it has some 16 KiB. To be dropped it is
+/// moved onto the stack, in a function of its own, so that no other has room for it.
 pub(crate) struct TextReader {
     pub(crate) reader: Box<Reader<Text>>,
 }
@@ -25,8 +25,8 @@ impl Drop for TextReader {
     }
 }
 
-/// A reader of a text's records, of any length, as they stand in it. Its header row is set to be empty,
-/// since a reader that has none yet keeps copies of the first record.
+/// A reader of a text's records, of any length, as they are in it. Its header row is set to be
+/// empty, since a reader that has none yet keeps copies of the first record.
 pub(crate) fn records_in(alloc: Global, text: Text, sep: Sep) -> Result<TextReader, AllocError>
     ensures reading { IfOk result (λ it. IsReading it.reader.value) }
     ensures rows { IfOk result (λ it. rows_left it.reader.value ≡ records (config sep) (strip_bom (bytes_left text))) }

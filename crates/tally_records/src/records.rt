@@ -1,6 +1,6 @@
 //! The records of an input, one after the other.
 
-ghost use Rattle.std.specs.Prelude.{◌≡◌, ◌++◌, ◌∷◌, [], List, ℕ, Option, Some, None, true, IfOk, OnOk};
+ghost use Rattle.std.specs.Prelude.{◌≡◌, ◌++◌, ◌∷◌, [], List, ℕ, Option, Some, None, Bool, true, IfOk, OnOk};
 ghost use Rattle.csv.specs.Records.{fields_of};
 
 use crate::end::End;
@@ -12,12 +12,12 @@ use std::alloc::{AllocError, Global};
 use std::io::Read;
 use std::marker::Model;
 
-/// The records of an input that is read by pieces. A record is given once another one begins behind
+/// The records of an input that is read by pieces. A record is given once another one begins after
 /// it, or the input ended of itself.
 #[derive(Drop)]
 pub struct Records {
     work: Work,
-    /// Whether more of them can be asked for: they did not end, nor was it out of memory.
+    /// Whether more of them can be asked for: they did not end, and it was not out of memory.
     at_work: bool,
 }
 
@@ -36,7 +36,7 @@ impl Model for Records {
 impl Records {
     ghost use Rattle.tally_records.specs.Input.{AreAll};
     ghost use Rattle.tally_records.specs.Given.{HasGiven, IsReadingOn, TellsTrue, sep_of};
-    ghost use Rattle.tally_records.specs.Watch.{IsEnd, has_failed};
+    ghost use Rattle.tally_records.specs.Watch.{TellsEnd, has_failed};
 
     /// The records of an input, whose first piece is read.
     pub fn new<R: Read>(
@@ -48,7 +48,8 @@ impl Records {
         ensures sep { IfOk result (λ records. sep_of records ≡ sep) }
         ensures reading { IfOk result IsReadingOn }
         ensures given { IfOk result (HasGiven (R.remaining input.old) (R.remaining input.new) []) }
-        ensures failed { IfOk result (λ records. TellsTrue records (has_failed watch.new)) }
+        ensures failed { IfOk result (λ records.
+            TellsTrue (has_failed watch.old) records (has_failed watch.new)) }
     {
         let work = Work::new(alloc, input, watch, sep)?;
         Ok(Records {
@@ -57,8 +58,8 @@ impl Records {
         })
     }
 
-    /// Gives the next record, or how the input ended. After the end, or once it is out of memory, the
-    /// records are of no further use.
+    /// Gives the next record, or how the input ended. After the end, or once it is out of memory,
+    /// the records are of no further use.
     pub fn next<R: Read>(
         &mut self,
         alloc: Global,
@@ -73,8 +74,10 @@ impl Records {
             → HasGiven text (R.remaining input.old) given self.old → HasGiven text (R.remaining input.new) (given ++ fields_of into.new ∷ []) self.new) }
         ensures all { IfOk result (λ end. (e : End) → end ≡ Some e → (text : Option (List ℕ)) (given : List (List (List ℕ)))
             → HasGiven text (R.remaining input.old) given self.old → AreAll (sep_of self.old) text (R.remaining input.new) given e.stop) }
-        ensures failed { TellsTrue self.old (has_failed watch.old) → IfOk result (λ end. IsEnd end (has_failed watch.new)) }
-        ensures tells { TellsTrue self.old (has_failed watch.old) → OnOk result (TellsTrue self.new (has_failed watch.new)) }
+        ensures failed { (before : Bool) → TellsTrue before self.old (has_failed watch.old)
+            → IfOk result (λ end. TellsEnd before end (has_failed watch.new)) }
+        ensures tells { (before : Bool) → TellsTrue before self.old (has_failed watch.old)
+            → OnOk result (TellsTrue before self.new (has_failed watch.new)) }
     {
         self.at_work = false;
         let end = self.work.next(alloc, input, watch, into)?;

@@ -1,4 +1,4 @@
-//! What stands between two fields.
+//! What separates two fields.
 
 ghost use Rattle.std.specs.Prelude.{◌≡◌};
 

@@ -10,9 +10,9 @@ use std::collections::VecDeque;
 use std::io;
 use std::io::{Cursor, Read};
 
-/// A text in parts, from the place up to which it is read. A part that is read is given back once the
-/// next one is begun. The parts behind it are on the heap: with them inside, a reader of `csv`, which has
-/// some 16 KiB, was moved onto the stack to be dropped.
+/// A text in parts, from the place up to which it is read. A part that is read is given back once
+/// the next one is begun. The parts after it are on the heap: with them inside, a reader of `csv`,
+/// which has some 16 KiB, was moved onto the stack to be dropped.
 #[derive(Drop)]
 pub(crate) struct Text {
     front: Cursor<Vec<u8>>,
@@ -20,7 +20,7 @@ pub(crate) struct Text {
 }
 
 impl Text {
-    /// A text of this part and of those behind it.
+    /// A text of this part and of those after it.
     pub(crate) fn new(
         alloc: Global,
         front: Vec<u8>,
@@ -41,7 +41,7 @@ impl Text {
         Text::new(alloc, bytes, VecDeque::new(alloc))
     }
 
-    /// Puts a byte behind the text.
+    /// Appends a byte to the text.
     pub(crate) fn push(&mut self, alloc: Global, byte: u8) -> Result<(), AllocError>
         ensures { OnOk result (bytes_left self.new ≡ bytes_left self.old ++ byte ∷ []) }
     {

@@ -59,6 +59,7 @@ impl<W: Write> Watch<W> {
         ensures failed { OnErr result (has_failed self.new ≡ true) }
         ensures nothing { result ≡ Ok 0 → 0 < length buf.now → has_failed self.new ≡ true }
         ensures kept { IfOk result (λ taken. 0 < taken → has_failed self.new ≡ has_failed self.old) }
+        ensures empty { length buf.now ≡ 0 → OnOk result (has_failed self.new ≡ has_failed self.old) }
     {
         match writer.write(buf) {
             Ok(taken) => {

@@ -1,6 +1,6 @@
 //! The records of an input at work, with one piece of it in memory.
 
-ghost use Rattle.std.specs.Prelude.{◌≡◌, ◌≤◌, ◌<◌, ◌+◌, ◌++◌, ◌∷◌, [], length, List, ℕ, Option, Some, None, true, false, IfOk, OnOk};
+ghost use Rattle.std.specs.Prelude.{◌≡◌, ◌≤◌, ◌<◌, ◌+◌, ◌++◌, ◌∷◌, [], length, List, ℕ, Option, Some, None, Bool, true, false, IfOk, OnOk};
 ghost use Rattle.csv.specs.Records.{fields_of};
 
 use crate::cut::{ended_itself, given_size, last_text, piece_size, piece_text};
@@ -27,11 +27,12 @@ pub(crate) struct Work {
     sep: Sep,
     /// The bytes that are held, unless the input ended: then the reader of the last piece has them.
     held: Held,
-    /// For clauses alone: once the input ended, the text of the last piece, which is all that was held.
+    /// For clauses alone: once the input ended, the text of the last piece, which is all that was
+    /// held.
     last: Snapshot<Text>,
     /// How the input ended, once it did.
     end: Option<End>,
-    /// How many of the bytes that are held stand in the piece; more than there are, where it is the
+    /// How many of the bytes that are held are in the piece; more than there are, where it is the
     /// last.
     piece: usize,
     /// How many records of the piece were given.
@@ -44,7 +45,7 @@ impl Work {
     ghost use Rattle.tally_records.specs.Input.{AreAll};
     ghost use Rattle.tally_records.specs.Pieces.{Begun, Fills, HasGivenAt, IsBegunIn, IsWorking, IsSpent, bytes_of, left_size};
     ghost use Rattle.tally_records.specs.Text.{joined};
-    ghost use Rattle.tally_records.specs.Watch.{IsEnd, has_failed};
+    ghost use Rattle.tally_records.specs.Watch.{TellsEnd, flag_after_end, has_failed};
 
     /// The records of an input, whose first piece is read.
     pub(crate) fn new<R: Read>(
@@ -56,13 +57,14 @@ impl Work {
         ensures sep { IfOk result (λ records. records.sep ≡ sep) }
         ensures reading { IfOk result IsWorking }
         ensures given { IfOk result (HasGivenAt (R.remaining input.old) (R.remaining input.new) []) }
-        ensures failed { IfOk result (λ records. IsEnd records.end (has_failed watch.new)) }
+        ensures failed { IfOk result (λ records.
+            has_failed watch.new ≡ flag_after_end records.end (has_failed watch.old)) }
     {
         Work::read(alloc, Held::new(alloc), input, watch, sep)
     }
 
-    // Reads until 256 KiB are held or the input ends, and takes up a piece of them, of which no record
-    // was given.
+    // Reads until 256 KiB are held or the input ends, and takes up a piece of them, of which no
+    // record was given.
     fn read<R: Read>(
         alloc: Global,
         mut held: Held,
@@ -77,7 +79,8 @@ impl Work {
         ensures count { IfOk result (λ r. r.end ≡ None → r.held.taken + length held.bytes.items ≡ held.taken + length r.held.bytes.items) }
         ensures sep { IfOk result (λ r. r.sep ≡ sep) }
         ensures given { IfOk result (λ r. r.given ≡ 0) }
-        ensures failed { IfOk result (λ r. IsEnd r.end (has_failed watch.new)) }
+        ensures failed { IfOk result (λ r.
+            has_failed watch.new ≡ flag_after_end r.end (has_failed watch.old)) }
     {
         if let Some(end) = held.fill(input, watch, PIECE)? {
             return Work::last(alloc, held, VecDeque::new(alloc), end, sep, 0);
@@ -115,13 +118,14 @@ impl Work {
         ensures ended { IfOk result (λ r. left_size r ≡ 0) }
         ensures sep { IfOk result (λ r. r.sep ≡ sep) }
         ensures given { IfOk result (λ r. r.given ≡ given) }
-        ensures failed { IfOk result (λ r. IsEnd r.end (has_failed watch.new)) }
+        ensures failed { IfOk result (λ r.
+            has_failed watch.new ≡ flag_after_end r.end (has_failed watch.old)) }
     {
         let (more, end) = held.read_rest(alloc, input, watch)?;
         Work::last(alloc, held, more, end, sep, given)
     }
 
-    // Takes up all that is held, and what stands behind it, as the last piece. No copy is made of it.
+    // Takes up all that is held, and what comes after it, as the last piece. No copy is made of it.
     fn last(
         alloc: Global,
         mut held: Held,
@@ -156,8 +160,8 @@ impl Work {
         })
     }
 
-    /// Gives the next record, or how the input ended. After the end, or once it is out of memory, the
-    /// records are of no further use.
+    /// Gives the next record, or how the input ended. After the end, or once it is out of memory,
+    /// the records are of no further use.
     pub(crate) fn next<R: Read>(
         &mut self,
         alloc: Global,
@@ -172,8 +176,10 @@ impl Work {
             → HasGivenAt text (R.remaining input.old) given self.old → HasGivenAt text (R.remaining input.new) (given ++ fields_of into.new ∷ []) self.new) }
         ensures all { IfOk result (λ end. (e : End) → end ≡ Some e → (text : Option (List ℕ)) (given : List (List (List ℕ)))
             → HasGivenAt text (R.remaining input.old) given self.old → AreAll (self.old.sep) text (R.remaining input.new) given e.stop) }
-        ensures failed { IsEnd self.old.end (has_failed watch.old) → IfOk result (λ end. IsEnd end (has_failed watch.new)) }
-        ensures tells { IsEnd self.old.end (has_failed watch.old) → OnOk result (IsEnd self.new.end (has_failed watch.new)) }
+        ensures failed { (before : Bool) → has_failed watch.old ≡ flag_after_end self.old.end before
+            → IfOk result (λ end. TellsEnd before end (has_failed watch.new)) }
+        ensures tells { (before : Bool) → has_failed watch.old ≡ flag_after_end self.old.end before
+            → OnOk result (has_failed watch.new ≡ flag_after_end self.new.end before) }
     {
         'pieces: while !self.next_in_piece(into)? {
             if let Some(end) = self.end {
@@ -218,7 +224,7 @@ impl Work {
         ensures given { OnOk result ((text : Option (List ℕ)) (given : List (List (List ℕ)))
             → HasGivenAt text (R.remaining input.old) given self.old → HasGivenAt text (R.remaining input.new) given self.new) }
         ensures goes_on { OnOk result (left_size self.new < left_size self.old) }
-        ensures failed { OnOk result (IsEnd self.new.end (has_failed watch.new)) }
+        ensures failed { OnOk result (has_failed watch.new ≡ flag_after_end self.new.end (has_failed watch.old)) }
         ensures sep { self.new.sep ≡ self.old.sep }
     {
         let held = &mut self.held;

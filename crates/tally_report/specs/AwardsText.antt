@@ -1,5 +1,5 @@
--- The seats in the order of their award: the number, the list, which seat of the list it is, its quotient as a fraction, and that
--- rounded down.
+-- The seats in the order of their award: the number, the list, which seat of the list it is, its
+-- quotient as a fraction, and that rounded down.
 --
 --     AWARDS c1 Twin Town
 --        1 B                  1           100     1         100
@@ -36,4 +36,5 @@ awards_text con awards = heading (codes "AWARDS") con ++ lines_from (award_line 
 -- The text is that of the awards by the closed votes and the lot.
 abbrev pub IsAwardsText : Constituency → View → List ℕ → Type 0
 IsAwardsText con view text =
-    (awards : List Award) × AreAwardsBy (rule_in con) (poll_in con view) view.lot con.seats awards × (text ≡ awards_text con awards)
+    (awards : List Award) × AreAwardsBy (rule_in con) (poll_in con view) view.lot con.seats awards
+    × (text ≡ awards_text con awards)

@@ -1,5 +1,6 @@
--- What the texts of the reports are made of. A text is lines, a line is columns with a line end behind them, and a column is
--- a value at the left or at the right of so many places. Names come last on a line, in no column, and are never cut.
+-- What the texts of the reports are made of. A text is lines, a line is columns with a line end
+-- after them, and a column is a value at the left or at the right of so many places. Names come
+-- last on a line, in no column, and are never cut.
 use Rattle.std.specs.Prelude.{ℕ, ◌+◌, ◌-◌, ◌++◌, Bool, false, List, [], ◌∷◌, length, replicate, slice_index_or, codes}
 use Rattle.std.specs.Fmt.{decimal}
 use Rattle.tally_rules.specs.Constituency.{Constituency, ListEntry}
@@ -10,7 +11,8 @@ use Rattle.tally_returns.specs.View.{View}
 abbrev pub spaces : ℕ → List ℕ
 spaces n = replicate n 32
 
--- A value at the left of a column, and one at the right. A value wider than its column is printed whole, and the line grows.
+-- A value at the left of a column, and one at the right. A value wider than its column is printed
+-- whole, and the line grows.
 abbrev pub left : ℕ → List ℕ → List ℕ
 left width value = value ++ spaces (width - length value)
 
@@ -33,10 +35,12 @@ abbrev pub lines_from : {T : Type 0} → (ℕ → T → List ℕ) → ℕ → Li
 lines_from line n [] = []
 lines_from line n (entry ∷ entries) = line n entry ++ lines_from line (n + 1) entries
 
--- a line for each list of a constituency, in the order of the setup, made of its place, from 0, and the list
+-- a line for each list of a constituency, in the order of the setup, made of its place, from 0, and
+-- the list
 abbrev pub list_lines : (ℕ → ListEntry → List ℕ) → Constituency → List ℕ
 list_lines line con = lines_from line 0 con.lists
 
 -- whether the list at a place is eligible
 abbrev pub is_eligible_at : Constituency → View → ℕ → Bool
-is_eligible_at con view place = slice_index_or (eligible_lists con.profile view.votes view.blank) place false
+is_eligible_at con view place =
+    slice_index_or (eligible_lists con.profile view.votes view.blank) place false

@@ -25,7 +25,8 @@ unless_by_quotas SainteLague = Some OtherMethod
 unless_by_quotas ModifiedSainteLague = Some OtherMethod
 unless_by_quotas Hare = None
 
--- The fault of a report of seats, of divisors and of quotas. That it is not certified is looked at first.
+-- The fault of a report of seats, of divisors and of quotas. Whether it is certified is checked
+-- first.
 abbrev pub seats_fault : View → Option ReportFault
 seats_fault view = unless_certified view.certified None
 
@@ -35,7 +36,8 @@ divisors_fault con view = unless_certified view.certified (unless_by_divisors co
 abbrev pub quotas_fault : Constituency → View → Option ReportFault
 quotas_fault con view = unless_certified view.certified (unless_by_quotas con.profile.method)
 
--- A report answers the fault that there is. Where there is none, it answers no fault but Memory.
+-- A report answers the fault that there is. Where there is none, the only fault that it answers is
+-- Memory.
 abbrev pub IsRefused : {T : Type 0} → Option ReportFault → Result T ReportFault → Type 0
 IsRefused (Some fault) result = result ≡ Err fault
 IsRefused None result = IfErr result (λ fault. fault ≡ Memory)

@@ -5,14 +5,16 @@ use Rattle.tally_returns.specs.GoneCandidate.{GoneCandidate}
 
 -- the places of those of a list
 abbrev pub places_in : List GoneCandidate → ℕ → List ℕ
-places_in gone list = map (λ (g : GoneCandidate). g.place) (filter (λ (g : GoneCandidate). g.list == list) gone)
+places_in gone list =
+    map (λ (g : GoneCandidate). g.place) (filter (λ (g : GoneCandidate). g.list == list) gone)
 
 -- for each of so many lists the places of those of it, in order
 pub record AreByList (gone : List GoneCandidate) (lists : ℕ) (places : List (List ℕ)) : Type 0 where
   pub count : length places ≡ lists
   pub each : (l : ℕ) → l < lists → slice_index_or places l [] ≡ places_in gone (l + 1)
 
--- one place more, behind those of its list
+-- one more place, after those of its list
 pub record IsOneMore (list place : ℕ) (old new : List (List ℕ)) : Type 0 where
   pub count : length new ≡ length old
-  pub each : (l : ℕ) → l < length old → slice_index_or new l [] ≡ slice_index_or old l [] ++ (if list == l + 1 then place ∷ [] else [])
+  pub each : (l : ℕ) → l < length old
+      → slice_index_or new l [] ≡ slice_index_or old l [] ++ (if list == l + 1 then place ∷ [] else [])

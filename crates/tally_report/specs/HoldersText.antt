@@ -1,4 +1,5 @@
--- Who holds each seat: of each list the candidates who hold its seats, with their places in the list, and then its empty seats.
+-- Who holds each seat: of each list the candidates who hold its seats, with their places in the
+-- list, and then its empty seats.
 --
 --     HOLDERS c1 Twin Town
 --     A                   1 Ana
@@ -14,14 +15,17 @@ use Rattle.tally_report.specs.Columns.{heading, left, line_end, list_lines, numb
 
 -- the line of a candidate, at this place of the list from 1
 abbrev pub holder_line : ListEntry → ℕ → List ℕ
-holder_line list place = left 16 list.code ++ number 5 place ++ codes " " ++ slice_index_or list.candidates (place - 1) [] ++ line_end
+holder_line list place =
+    left 16 list.code ++ number 5 place ++ codes " "
+    ++ slice_index_or list.candidates (place - 1) [] ++ line_end
 
 abbrev pub empty_line : ListEntry → List ℕ
 empty_line list = left 16 list.code ++ right 5 (codes "-") ++ codes " " ++ codes "empty" ++ line_end
 
 -- the lines of a list of so many seats that these hold
 abbrev pub seat_lines : ListEntry → ℕ → List ℕ → List ℕ
-seat_lines list seats held = flat_map (holder_line list) held ++ repeat (seats - length held) (empty_line list)
+seat_lines list seats held =
+    flat_map (holder_line list) held ++ repeat (seats - length held) (empty_line list)
 
 -- the same by the seats of a view and those who are gone
 abbrev pub holder_lines : View → ℕ → ListEntry → List ℕ

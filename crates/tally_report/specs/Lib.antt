@@ -8,6 +8,8 @@ pub mod PastText
 pub mod ProgressText
 pub mod QuotaText
 pub mod QuotientsText
+pub mod Reports
 pub mod SeatsText
 pub mod ShortText
 pub mod TallyText
+pub mod internal

@@ -1,5 +1,5 @@
--- How far each constituency has come: its stations, those without a return, the returns received, queried, corrected and closed,
--- its edition, and whether it is certified.
+-- How far each constituency has come: its stations, those without a return, the returns received,
+-- queried, corrected and closed, its edition, and whether it is certified.
 --
 --     c1                    1      1      0      0      0      0      1 open
 use Rattle.std.specs.Prelude.{ℕ, ◌+◌, ◌-◌, ◌++◌, List, if◌then◌else◌, codes}

@@ -1,5 +1,5 @@
--- The votes of the eligible lists together and the seats; and of each eligible list its votes, its whole quotas, the remainder that
--- they leave of its votes times the seats, and its seats.
+-- The votes of the eligible lists together and the seats; and of each eligible list its votes, its
+-- whole quotas, the remainder that they leave of its votes times the seats, and its seats.
 --
 --     QUOTA c1 Twin Town
 --     votes 480000 seats 8
@@ -27,10 +27,13 @@ quota_columns poll seats place list held =
 -- the line of an eligible list; another list has none
 abbrev pub quota_line : Poll → ℕ → View → ℕ → ListEntry → List ℕ
 quota_line poll seats view place list =
-    if slice_index_or poll.eligible place false then quota_columns poll seats place list (slice_index view.seats place) else []
+    if slice_index_or poll.eligible place false
+    then quota_columns poll seats place list (slice_index view.seats place)
+    else []
 
 abbrev pub quota_text : Constituency → View → List ℕ
 quota_text con view =
     heading (codes "QUOTA") con
-    ++ codes "votes " ++ decimal (eligible_votes (poll_in con view)) ++ codes " seats " ++ decimal con.seats ++ line_end
+    ++ codes "votes " ++ decimal (eligible_votes (poll_in con view)) ++ codes " seats "
+    ++ decimal con.seats ++ line_end
     ++ list_lines (quota_line (poll_in con view) con.seats view) con

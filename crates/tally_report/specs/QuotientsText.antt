@@ -1,5 +1,5 @@
--- The quotients of each eligible list, rounded down, up to one more than the most seats that a list has. A star stands where the
--- list won that seat.
+-- The quotients of each eligible list, rounded down, up to one more than the most seats that a list
+-- has. A star marks each at which the list won a seat.
 --
 --     QUOTIENTS c1 Twin Town
 --     A               *        100          50          33
@@ -17,20 +17,28 @@ abbrev pub most : List ℕ → ℕ
 most [] = 0
 most (n ∷ ns) = max n (most ns)
 
--- the quotient of a list of so many votes and seats for its k-th seat: its votes, in the unit of the divisors, over the k-th of them
+-- the quotient of a list of so many votes and seats for its k-th seat: its votes, in the unit of
+-- the divisors, over the k-th of them
 abbrev pub quotient_column : (ℕ → ℕ) → ℕ → ℕ → ℕ → ℕ → List ℕ
-quotient_column nth unit votes seats k = (if nat_le k seats then codes "*" else codes " ") ++ number 11 ((votes * unit) / nth k)
+quotient_column nth unit votes seats k =
+    (if nat_le k seats then codes "*" else codes " ") ++ number 11 ((votes * unit) / nth k)
 
 -- the line of an eligible list, up to the quotient of this seat; another list has none
 abbrev pub quotients_line : (ℕ → ℕ) → ℕ → ℕ → Constituency → View → ℕ → ListEntry → List ℕ
 quotients_line nth unit last con view place list =
     if is_eligible_at con view place
-    then left 16 list.code ++ flat_map (quotient_column nth unit (slice_index view.votes place) (slice_index view.seats place)) (range_with_len 1 last) ++ line_end
+    then
+    left 16 list.code
+    ++ flat_map (quotient_column nth unit (slice_index view.votes place) (slice_index view.seats place))
+    (range_with_len 1 last)
+    ++ line_end
     else []
 
 -- the text by these divisors, in this unit
 abbrev pub quotients_by : (ℕ → ℕ) → ℕ → Constituency → View → List ℕ
-quotients_by nth unit con view = heading (codes "QUOTIENTS") con ++ list_lines (quotients_line nth unit (most view.seats + 1) con view) con
+quotients_by nth unit con view =
+    heading (codes "QUOTIENTS") con
+    ++ list_lines (quotients_line nth unit (most view.seats + 1) con view) con
 
 -- the text by the divisors of a rule; Hare's rule has no quotients, and no such report
 abbrev pub quotients_of : Rule → Constituency → View → List ℕ

@@ -13,11 +13,13 @@ use Rattle.tally_report.specs.Columns.{heading, left, line_end, list_lines, numb
 
 -- the line of a list, by the seats of all
 abbrev pub seats_line : List ℕ → ℕ → ListEntry → List ℕ
-seats_line seats place list = left 16 list.code ++ number 5 (slice_index seats place) ++ codes " " ++ list.name ++ line_end
+seats_line seats place list =
+    left 16 list.code ++ number 5 (slice_index seats place) ++ codes " " ++ list.name ++ line_end
 
 -- the lines of a certificate: its edition, and the seats that it gives each list
 abbrev pub certificate_lines : Constituency → ℕ → List ℕ → List ℕ
-certificate_lines con edition seats = codes "edition " ++ decimal edition ++ line_end ++ list_lines (seats_line seats) con
+certificate_lines con edition seats =
+    codes "edition " ++ decimal edition ++ line_end ++ list_lines (seats_line seats) con
 
 abbrev pub seats_text : Constituency → View → List ℕ
 seats_text con view =

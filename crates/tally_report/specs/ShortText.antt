@@ -1,4 +1,5 @@
--- The seats of each eligible list, and the votes that it is short of one more; a dash where it has all seats.
+-- The seats of each eligible list, and the votes that it is short of one more; a dash where it has
+-- all seats.
 --
 --     SHORT c1 Twin Town
 --     A                   1           1
@@ -17,15 +18,19 @@ votes_column (Some votes) = number 12 votes
 
 -- the line of a list, from its seats and its number
 abbrev pub short_columns : ListEntry → ℕ → Option ℕ → List ℕ
-short_columns list seats short = left 16 list.code ++ number 5 seats ++ votes_column short ++ line_end
+short_columns list seats short =
+    left 16 list.code ++ number 5 seats ++ votes_column short ++ line_end
 
 -- the line of an eligible list; another list has none
 abbrev pub short_line : Constituency → View → List (Option ℕ) → ℕ → ListEntry → List ℕ
 short_line con view numbers place list =
-    if is_eligible_at con view place then short_columns list (slice_index view.seats place) (slice_index_or numbers place None) else []
+    if is_eligible_at con view place
+    then short_columns list (slice_index view.seats place) (slice_index_or numbers place None)
+    else []
 
 abbrev pub short_text : Constituency → View → List (Option ℕ) → List ℕ
-short_text con view numbers = heading (codes "SHORT") con ++ list_lines (short_line con view numbers) con
+short_text con view numbers =
+    heading (codes "SHORT") con ++ list_lines (short_line con view numbers) con
 
 -- These are the numbers of votes that the lists are short of one more seat, by the closed votes and
 -- the lot.
@@ -35,4 +40,6 @@ AreVotesShortIn con view numbers =
 
 -- The text is that of the votes that the lists are short.
 abbrev pub IsShortText : Constituency → View → List ℕ → Type 0
-IsShortText con view text = (numbers : List (Option ℕ)) × AreVotesShortIn con view numbers × (text ≡ short_text con view numbers)
+IsShortText con view text =
+    (numbers : List (Option ℕ)) × AreVotesShortIn con view numbers
+    × (text ≡ short_text con view numbers)

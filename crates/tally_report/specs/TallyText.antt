@@ -1,4 +1,5 @@
--- The tally: how many stations there are and how many are closed, the votes of the closed returns, and those of each list.
+-- The tally: how many stations there are and how many are closed, the votes of the closed returns,
+-- and those of each list.
 --
 --     TALLY c1 Twin Town
 --     stations 1 closed 1
@@ -14,13 +15,16 @@ use Rattle.tally_report.specs.Columns.{heading, is_eligible_at, left, line_end, 
 
 -- the line of the valid votes, which are those of the lists and the blank ones (LOREG article 96.5)
 abbrev pub valid_line : View → List ℕ
-valid_line view = codes "valid " ++ decimal (sum view.votes + view.blank) ++ codes " blank " ++ decimal view.blank ++ codes " spoiled " ++ decimal view.spoiled ++ line_end
+valid_line view =
+    codes "valid " ++ decimal (sum view.votes + view.blank) ++ codes " blank " ++ decimal view.blank
+    ++ codes " spoiled " ++ decimal view.spoiled ++ line_end
 
--- the votes' share in the base of the threshold, in hundredths of a per cent, rounded down; 0 where there is no base
+-- the votes' share in the base of the threshold, in hundredths of a per cent, rounded down; 0 where
+-- there is no base
 abbrev pub share : ℕ → ℕ → ℕ
 share base votes = if base == 0 then 0 else (votes * 10000) / base
 
--- hundredths as a number with two places behind a point
+-- hundredths as a number with two places after a point
 abbrev pub hundredths : ℕ → List ℕ
 hundredths n = decimal (n / 100) ++ codes "." ++ decimal (n / 10 % 10) ++ decimal (n % 10)
 
@@ -41,11 +45,14 @@ tally_columns list votes base eligible =
     ++ line_end
 
 abbrev pub tally_line : Constituency → View → ℕ → ListEntry → List ℕ
-tally_line con view place list = tally_columns list (slice_index view.votes place) (base_of con.profile.base view.votes view.blank) (is_eligible_at con view place)
+tally_line con view place list =
+    tally_columns list (slice_index view.votes place)
+    (base_of con.profile.base view.votes view.blank) (is_eligible_at con view place)
 
 abbrev pub tally_text : Constituency → View → List ℕ
 tally_text con view =
     heading (codes "TALLY") con
-    ++ codes "stations " ++ decimal view.stations ++ codes " closed " ++ decimal view.closed ++ line_end
+    ++ codes "stations " ++ decimal view.stations ++ codes " closed " ++ decimal view.closed
+    ++ line_end
     ++ valid_line view
     ++ list_lines (tally_line con view) con

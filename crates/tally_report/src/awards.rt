@@ -20,11 +20,12 @@ use tally_allot::{AllotFault, Award, awards};
 use tally_returns::ConView;
 use tally_rules::{Constituency, Method};
 
-/// The seats of a certified constituency in the order of their award, each with its quotient, under a
-/// divisor rule (LOREG article 163.1 c)).
+/// The seats of a certified constituency in the order of their award, each with its quotient, under
+/// a divisor rule (LOREG article 163.1 c)).
 pub fn awards_text(alloc: Global, con: &Constituency, view: &ConView) -> Result<String, ReportFault>
     requires { FitsView con.now view.now }
-    ensures text { IfOk result (λ text. IsLawfulView con.now view.now → IsAwardsText con.now view.now (string_bytes text)) }
+    ensures text { IfOk result (λ text. IsLawfulView con.now view.now
+        → IsAwardsText con.now view.now (string_bytes text)) }
     ensures fault { IsRefused (divisors_fault con.now view.now) result }
 {
     if !view.certified {
@@ -40,13 +41,17 @@ pub fn awards_text(alloc: Global, con: &Constituency, view: &ConView) -> Result<
     Ok(text)
 }
 
-/// The awards by the closed votes and the lot. There are none where these allot no seats, which is so
-/// of no lawful view.
+/// The awards by the closed votes and the lot. There are none where these allot no seats, which is
+/// so of no lawful view.
 fn awards_in(alloc: Global, con: &Constituency, view: &ConView) -> Result<Vec<Award>, ReportFault>
     requires view { FitsView con.now view.now }
     requires by_divisors { con.now.profile.method ≢ by_hare }
-    ensures awards { IfOk result (λ awards. IsLawfulView con.now view.now → view.now.certified ≡ true → AreAwardsBy (rule_in con.now) (poll_in con.now view.now) view.now.lot con.now.seats awards.items) }
-    ensures each { IfOk result (λ awards. (i : ℕ) (d : award_type) → i < length awards.items → IsAwardIn con.now (slice_index_or awards.items i d)) }
+    ensures awards { IfOk result (λ awards.
+        IsLawfulView con.now view.now → view.now.certified ≡ true
+        → AreAwardsBy (rule_in con.now) (poll_in con.now view.now) view.now.lot con.now.seats
+        awards.items) }
+    ensures each { IfOk result (λ awards. (i : ℕ) (d : award_type) → i < length awards.items
+        → IsAwardIn con.now (slice_index_or awards.items i d)) }
     ensures fault { IfErr result (λ fault. fault ≡ Memory) }
 {
     let votes = view.votes.as_slice();
@@ -57,6 +62,7 @@ fn awards_in(alloc: Global, con: &Constituency, view: &ConView) -> Result<Vec<Aw
     match fault {
         AllotFault::Memory => Err(ReportFault::Memory),
         _ => {
+            // Called for what its contract says: the laws of lots.
             laws_of_lots();
             Ok(Vec::new(alloc))
         }
@@ -64,8 +70,10 @@ fn awards_in(alloc: Global, con: &Constituency, view: &ConView) -> Result<Vec<Aw
 }
 
 fn push_awards(text: &mut String, con: &Constituency, awards: &[Award]) -> Result<(), AllocError>
-    requires { (i : ℕ) (d : award_type) → i < length awards.now → IsAwardIn con.now (slice_index_or awards.now i d) }
-    ensures { OnOk result (string_bytes text.new ≡ string_bytes text.old ++ lines_from (award_line con.now) 1 awards.now) }
+    requires { (i : ℕ) (d : award_type) → i < length awards.now
+        → IsAwardIn con.now (slice_index_or awards.now i d) }
+    ensures { OnOk result (string_bytes text.new
+        ≡ string_bytes text.old ++ lines_from (award_line con.now) 1 awards.now) }
 {
     for (index, award) in awards.iter().enumerate() {
         push_award(text, con, index as u64 + 1, award)?;
@@ -80,7 +88,8 @@ fn push_award(
     award: &Award,
 ) -> Result<(), AllocError>
     requires { IsAwardIn con.now award.now }
-    ensures { OnOk result (string_bytes text.new ≡ string_bytes text.old ++ award_line con.now n award.now) }
+    ensures { OnOk result (string_bytes text.new
+        ≡ string_bytes text.old ++ award_line con.now n award.now) }
 {
     push_number(text, n, 4)?;
     text.push_str(" ")?;

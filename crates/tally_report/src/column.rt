@@ -12,7 +12,8 @@ pub(crate) fn push_heading(
     report: &str,
     con: &Constituency,
 ) -> Result<(), AllocError>
-    ensures { OnOk result (string_bytes text.new ≡ string_bytes text.old ++ heading report.now con.now) }
+    ensures { OnOk result (string_bytes text.new
+        ≡ string_bytes text.old ++ heading report.now con.now) }
 {
     let name = con.name.as_str();
     writeln!(text, "{report} {} {name}", con.code)

@@ -6,7 +6,7 @@ ghost use Rattle.tally_report.specs.declared.fault.ReportFault.TheVariants.{Memo
 
 use std::alloc::AllocError;
 
-/// Why a report is not given, in the order in which it is looked at. Memory may come at any time.
+/// Why a report is not given, in the order in which this is checked. Memory may come at any time.
 #[derive(Clone, Copy, Debug, PartialEq, Eq)]
 pub enum ReportFault {
     /// The constituency is not certified, and the report is of seats.

@@ -16,8 +16,8 @@ use tally_machine::holders;
 use tally_returns::ConView;
 use tally_rules::{Constituency, ListEntry};
 
-/// The candidate who holds each seat of a certified constituency, and the seats that are empty because
-/// their list has no more candidates (LOREG article 163.1 e)).
+/// The candidate who holds each seat of a certified constituency, and the seats that are empty
+/// because their list has no more candidates (LOREG article 163.1 e)).
 pub fn holders_text(
     alloc: Global,
     con: &Constituency,
@@ -43,7 +43,8 @@ fn push_lists(
     view: &ConView,
 ) -> Result<(), AllocError>
     requires { length view.now.seats ≡ length con.now.lists }
-    ensures { OnOk result (string_bytes text.new ≡ string_bytes text.old ++ list_lines (holder_lines view.now) con.now) }
+    ensures { OnOk result (string_bytes text.new
+        ≡ string_bytes text.old ++ list_lines (holder_lines view.now) con.now) }
 {
     let gone = gone_by_list(alloc, view, view.seats.len())?;
     for (place, list) in con.lists.iter().enumerate() {
@@ -63,7 +64,8 @@ fn push_list(
 ) -> Result<(), AllocError>
     requires seats { place < length view.now.seats }
     requires gone { AreByList view.now.gone (length view.now.seats) (map (λ places. places.items) gone.now) }
-    ensures { OnOk result (string_bytes text.new ≡ string_bytes text.old ++ holder_lines view.now place list.now) }
+    ensures { OnOk result (string_bytes text.new
+        ≡ string_bytes text.old ++ holder_lines view.now place list.now) }
 {
     let gone = places_at(gone, place);
     push_seats(alloc, text, list, view.seats[place], gone)
@@ -77,7 +79,9 @@ fn push_seats(
     seats: u32,
     gone: &[u32],
 ) -> Result<(), AllocError>
-    ensures { OnOk result (string_bytes text.new ≡ string_bytes text.old ++ seat_lines list.now seats (holders (length list.now.candidates) seats gone.now)) }
+    ensures { OnOk result (string_bytes text.new
+        ≡ string_bytes text.old
+        ++ seat_lines list.now seats (holders (length list.now.candidates) seats gone.now)) }
 {
     let held = holders(alloc, list.candidates.len() as u32, seats, gone)?;
     push_held(text, list, &held)?;
@@ -87,7 +91,8 @@ fn push_seats(
 /// The places of the candidates who are gone, those of each list, in one pass over them.
 #[tactic(auto, using(crate::proofs::GoneLemmas::none_gone, crate::proofs::GoneLemmas::one_more_gone))]
 fn gone_by_list(alloc: Global, view: &ConView, lists: usize) -> Result<Vec<Vec<u32>>, AllocError>
-    ensures { IfOk result (λ gone. AreByList view.now.gone lists (map (λ places. places.items) gone.items)) }
+    ensures { IfOk result (λ gone.
+        AreByList view.now.gone lists (map (λ places. places.items) gone.items)) }
 {
     let mut gone = nobody(alloc, lists)?;
     for candidate in &view.gone {
@@ -108,10 +113,12 @@ fn nobody(alloc: Global, lists: usize) -> Result<Vec<Vec<u32>>, AllocError>
     Ok(gone)
 }
 
-/// One place more, of the list that is counted from 1; of another list there are no places here.
+/// One more place, of the list that is counted from 1. There are no places here of another list.
 #[tactic(auto, using(crate::proofs::GoneLemmas::not_listed))]
 fn add_gone(gone: &mut Vec<Vec<u32>>, list: u32, place: u32) -> Result<(), AllocError>
-    ensures { OnOk result (IsOneMore list place (map (λ places. places.items) gone.old.items) (map (λ places. places.items) gone.new.items)) }
+    ensures { OnOk result (IsOneMore list place
+        (map (λ places. places.items) gone.old.items)
+        (map (λ places. places.items) gone.new.items)) }
 {
     if list == 0 || list as usize > gone.len() {
         return Ok(());
@@ -131,8 +138,10 @@ fn places_at(gone: &[Vec<u32>], place: usize) -> &[u32]
 /// The lines of those who hold seats.
 fn push_held(text: &mut String, list: &ListEntry, held: &[u32]) -> Result<(), AllocError>
     requires from_one { (i : ℕ) → i < length held.now → 1 ≤ slice_index held.now i }
-    requires candidates { (i : ℕ) → i < length held.now → slice_index held.now i ≤ length list.now.candidates }
-    ensures { OnOk result (string_bytes text.new ≡ string_bytes text.old ++ flat_map (holder_line list.now) held.now) }
+    requires candidates { (i : ℕ) → i < length held.now
+        → slice_index held.now i ≤ length list.now.candidates }
+    ensures { OnOk result (string_bytes text.new
+        ≡ string_bytes text.old ++ flat_map (holder_line list.now) held.now) }
 {
     for place in held {
         push_holder(text, list, *place)?;
@@ -143,7 +152,8 @@ fn push_held(text: &mut String, list: &ListEntry, held: &[u32]) -> Result<(), Al
 fn push_holder(text: &mut String, list: &ListEntry, place: u32) -> Result<(), AllocError>
     requires from_one { 1 ≤ place }
     requires candidate { place ≤ length list.now.candidates }
-    ensures { OnOk result (string_bytes text.new ≡ string_bytes text.old ++ holder_line list.now place) }
+    ensures { OnOk result (string_bytes text.new
+        ≡ string_bytes text.old ++ holder_line list.now place) }
 {
     push_left(text, list.code.as_str(), 16)?;
     push_number(text, u64::from(place), 5)?;
@@ -153,7 +163,8 @@ fn push_holder(text: &mut String, list: &ListEntry, place: u32) -> Result<(), Al
 
 /// The lines of the seats that are empty.
 fn push_empty(text: &mut String, list: &ListEntry, seats: usize) -> Result<(), AllocError>
-    ensures { OnOk result (string_bytes text.new ≡ string_bytes text.old ++ repeat seats (empty_line list.now)) }
+    ensures { OnOk result (string_bytes text.new
+        ≡ string_bytes text.old ++ repeat seats (empty_line list.now)) }
 {
     for _ in 0..seats {
         push_empty_seat(text, list)?;

@@ -9,6 +9,7 @@ pub(crate) fn laws_of_lots()
     ensures groups { GroupsAreOfOneNumberOfVotes }
     ensures never_both { NoLotIsNeededWhereVotesDecide }
 {
+    // Called for what its contract says: each call here is a law of lots.
     laws::groups_are_of_one_number_of_votes();
     laws::votes_decide_or_a_lot_is_needed();
 }

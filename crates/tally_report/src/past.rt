@@ -13,8 +13,8 @@ use std::alloc::{AllocError, Global};
 use tally_returns::{ConView, Past};
 use tally_rules::Constituency;
 
-/// The seats of each certificate of a constituency that was reopened, in order of edition. There is a
-/// text of a constituency that was never certified, too: its first line.
+/// The seats of each certificate of a constituency that was reopened, in order of edition. There is
+/// a text of a constituency that was never certified, too: its first line.
 pub fn past_text(alloc: Global, con: &Constituency, view: &ConView) -> Result<String, ReportFault>
     requires { FitsView con.now view.now }
     ensures text { IfOk result (λ text. string_bytes text ≡ past_text con.now view.now) }
@@ -28,7 +28,8 @@ pub fn past_text(alloc: Global, con: &Constituency, view: &ConView) -> Result<St
 
 fn push_certificates(text: &mut String, con: &Constituency, past: &[Past]) -> Result<(), AllocError>
     requires { All (HasEachList con.now) past.now }
-    ensures { OnOk result (string_bytes text.new ≡ string_bytes text.old ++ flat_map (past_lines con.now) past.now) }
+    ensures { OnOk result (string_bytes text.new
+        ≡ string_bytes text.old ++ flat_map (past_lines con.now) past.now) }
 {
     for certificate in past {
         push_certificate(text, con, certificate.edition, &certificate.seats)?;

@@ -9,8 +9,8 @@ use crate::fault::ReportFault;
 use std::alloc::{AllocError, Global};
 use tally_returns::ProgressRow;
 
-/// A line for each constituency: its stations, how many of them have no return, how many returns are
-/// received, queried, corrected and closed, its edition, and whether it is certified.
+/// A line for each constituency: its stations, how many of them have no return, how many returns
+/// are received, queried, corrected and closed, its edition, and whether it is certified.
 pub fn progress_text(alloc: Global, rows: &[ProgressRow]) -> Result<String, ReportFault>
     ensures text { IfOk result (λ text. string_bytes text ≡ progress_text rows.now) }
     ensures fault { IfErr result (λ fault. fault ≡ Memory) }

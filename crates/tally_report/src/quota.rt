@@ -15,8 +15,8 @@ use tally_contest::{HareContest, Poll};
 use tally_returns::ConView;
 use tally_rules::{Constituency, ListEntry, Method};
 
-/// The eligible votes and the seats of a certified constituency, and the whole quotas, remainder and
-/// seats of each eligible list, under Hare's rule.
+/// The eligible votes and the seats of a certified constituency, and the whole quotas, remainder
+/// and seats of each eligible list, under Hare's rule.
 pub fn quota_text(alloc: Global, con: &Constituency, view: &ConView) -> Result<String, ReportFault>
     requires { FitsView con.now view.now }
     ensures text { IfOk result (λ text. string_bytes text ≡ quota_text con.now view.now) }
@@ -45,7 +45,10 @@ fn push_lists(
 ) -> Result<(), AllocError>
     requires lists { length contest.now.poll.votes.now ≡ length con.now.lists }
     requires seats { length view.now.seats ≡ length con.now.lists }
-    ensures { OnOk result (string_bytes text.new ≡ string_bytes text.old ++ list_lines (quota_line (kept_poll contest.now.poll) contest.now.seats view.now) con.now) }
+    ensures { OnOk result (string_bytes text.new
+        ≡ string_bytes text.old
+        ++ list_lines (quota_line (kept_poll contest.now.poll) contest.now.seats view.now)
+        con.now) }
 {
     for (place, list) in con.lists.iter().enumerate() {
         push_list(text, contest, view, place, list)?;
@@ -62,7 +65,9 @@ fn push_list(
 ) -> Result<(), AllocError>
     requires list { place < length contest.now.poll.votes.now }
     requires seats { place < length view.now.seats }
-    ensures { OnOk result (string_bytes text.new ≡ string_bytes text.old ++ quota_line (kept_poll contest.now.poll) contest.now.seats view.now place list.now) }
+    ensures { OnOk result (string_bytes text.new
+        ≡ string_bytes text.old
+        ++ quota_line (kept_poll contest.now.poll) contest.now.seats view.now place list.now) }
 {
     if !contest.poll.is_eligible(place) {
         return Ok(());
@@ -79,7 +84,9 @@ fn push_columns(
 ) -> Result<(), AllocError>
     requires list { place < length contest.now.poll.votes.now }
     requires eligible { IsEligible (kept_poll contest.now.poll) place }
-    ensures { OnOk result (string_bytes text.new ≡ string_bytes text.old ++ quota_columns (kept_poll contest.now.poll) contest.now.seats place list.now seats) }
+    ensures { OnOk result (string_bytes text.new
+        ≡ string_bytes text.old
+        ++ quota_columns (kept_poll contest.now.poll) contest.now.seats place list.now seats) }
 {
     push_left(text, list.code.as_str(), 16)?;
     push_number(text, contest.poll.votes_of(place), 12)?;

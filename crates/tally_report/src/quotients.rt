@@ -20,16 +20,17 @@ use tally_rules::{Constituency, ListEntry, Method, eligible};
 /// The most seats of a constituency.
 const MOST_SEATS: u32 = 500;
 
-/// The quotients of the eligible lists of a certified constituency under a divisor rule, rounded down,
-/// up to one more than the most seats that a list has. A star stands before each that won a seat
-/// (LOREG article 163.1 b) and c)).
+/// The quotients of the eligible lists of a certified constituency under a divisor rule, rounded
+/// down, up to one more than the most seats that a list has. A star is put before each that won a
+/// seat (LOREG article 163.1 b) and c)).
 pub fn quotients_text(
     alloc: Global,
     con: &Constituency,
     view: &ConView,
 ) -> Result<String, ReportFault>
     requires { FitsView con.now view.now }
-    ensures text { IfOk result (λ text. IsLawfulView con.now view.now → string_bytes text ≡ quotients_text con.now view.now) }
+    ensures text { IfOk result (λ text. IsLawfulView con.now view.now
+        → string_bytes text ≡ quotients_text con.now view.now) }
     ensures fault { IsRefused (divisors_fault con.now view.now) result }
 {
     if !view.certified {
@@ -52,7 +53,8 @@ fn text_by<D: Divisors>(
 ) -> Result<String, ReportFault>
     requires view { FitsView con.now view.now }
     requires seats { length view.now.seats ≡ length con.now.lists }
-    ensures text { IfOk result (λ text. most view.now.seats ≤ 500 → string_bytes text ≡ quotients_by (D.divisor divisors.now) (D.unit_of divisors.now) con.now view.now) }
+    ensures text { IfOk result (λ text. most view.now.seats ≤ 500 → string_bytes text
+        ≡ quotients_by (D.divisor divisors.now) (D.unit_of divisors.now) con.now view.now) }
     ensures fault { IfErr result (λ fault. fault ≡ Memory) }
 {
     let marks = eligible(alloc, &con.profile, &view.votes, view.blank)?;
@@ -92,7 +94,10 @@ fn push_lists<D: Divisors>(
     requires seats { length view.now.seats ≡ length con.now.lists }
     requires marks { marks.now ≡ eligible_lists con.now.profile view.now.votes view.now.blank }
     requires last { last ≤ 501 }
-    ensures { OnOk result (string_bytes text.new ≡ string_bytes text.old ++ list_lines (quotients_line (D.divisor divisors.now) (D.unit_of divisors.now) last con.now view.now) con.now) }
+    ensures { OnOk result (string_bytes text.new
+        ≡ string_bytes text.old
+        ++ list_lines (quotients_line (D.divisor divisors.now) (D.unit_of divisors.now) last
+        con.now view.now) con.now) }
 {
     for (place, list) in con.lists.iter().enumerate() {
         if marks[place] {
@@ -114,7 +119,10 @@ fn push_quotients<D: Divisors>(
 ) -> Result<(), AllocError>
     requires votes { votes ≤ 5000000000 }
     requires last { last ≤ 501 }
-    ensures { OnOk result (string_bytes text.new ≡ string_bytes text.old ++ flat_map (quotient_column (D.divisor divisors.now) (D.unit_of divisors.now) votes seats) (range_with_len 1 last)) }
+    ensures { OnOk result (string_bytes text.new
+        ≡ string_bytes text.old
+        ++ flat_map (quotient_column (D.divisor divisors.now) (D.unit_of divisors.now) votes seats)
+        (range_with_len 1 last)) }
 {
     for won in 0..last {
         push_quotient(text, divisors, votes, seats, won + 1)?;
@@ -132,7 +140,9 @@ fn push_quotient<D: Divisors>(
     requires votes { votes ≤ 5000000000 }
     requires first { 1 ≤ k }
     requires last { k ≤ 501 }
-    ensures { OnOk result (string_bytes text.new ≡ string_bytes text.old ++ quotient_column (D.divisor divisors.now) (D.unit_of divisors.now) votes seats k) }
+    ensures { OnOk result (string_bytes text.new
+        ≡ string_bytes text.old
+        ++ quotient_column (D.divisor divisors.now) (D.unit_of divisors.now) votes seats k) }
 {
     text.push_str(if k <= seats { "*" } else { " " })?;
     push_number(text, votes * divisors.unit() / divisors.nth(k), 11)

@@ -38,7 +38,8 @@ pub(crate) fn push_certificate(
     seats: &[u32],
 ) -> Result<(), AllocError>
     requires { length seats.now ≡ length con.now.lists }
-    ensures { OnOk result (string_bytes text.new ≡ string_bytes text.old ++ certificate_lines con.now edition seats.now) }
+    ensures { OnOk result (string_bytes text.new
+        ≡ string_bytes text.old ++ certificate_lines con.now edition seats.now) }
 {
     writeln!(text, "edition {edition}")?;
     push_lists(text, con, seats)
@@ -46,7 +47,8 @@ pub(crate) fn push_certificate(
 
 fn push_lists(text: &mut String, con: &Constituency, seats: &[u32]) -> Result<(), AllocError>
     requires { length seats.now ≡ length con.now.lists }
-    ensures { OnOk result (string_bytes text.new ≡ string_bytes text.old ++ list_lines (seats_line seats.now) con.now) }
+    ensures { OnOk result (string_bytes text.new
+        ≡ string_bytes text.old ++ list_lines (seats_line seats.now) con.now) }
 {
     for (place, list) in con.lists.iter().enumerate() {
         push_list(text, seats, place, list)?;
@@ -61,7 +63,8 @@ fn push_list(
     list: &ListEntry,
 ) -> Result<(), AllocError>
     requires { place < length seats.now }
-    ensures { OnOk result (string_bytes text.new ≡ string_bytes text.old ++ seats_line seats.now place list.now) }
+    ensures { OnOk result (string_bytes text.new
+        ≡ string_bytes text.old ++ seats_line seats.now place list.now) }
 {
     push_left(text, list.code.as_str(), 16)?;
     push_number(text, u64::from(seats[place]), 5)?;

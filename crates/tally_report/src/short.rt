@@ -18,11 +18,12 @@ use tally_allot::{AllotFault, votes_short};
 use tally_returns::ConView;
 use tally_rules::{Constituency, ListEntry, Method, eligible};
 
-/// The seats of each eligible list of a certified constituency under a divisor rule, and how many more
-/// votes it needs for one more; a dash where it has all seats.
+/// The seats of each eligible list of a certified constituency under a divisor rule, and how many
+/// more votes it needs for one more; a dash where it has all seats.
 pub fn short_text(alloc: Global, con: &Constituency, view: &ConView) -> Result<String, ReportFault>
     requires { FitsView con.now view.now }
-    ensures text { IfOk result (λ text. IsLawfulView con.now view.now → IsShortText con.now view.now (string_bytes text)) }
+    ensures text { IfOk result (λ text. IsLawfulView con.now view.now
+        → IsShortText con.now view.now (string_bytes text)) }
     ensures fault { IsRefused (divisors_fault con.now view.now) result }
 {
     if !view.certified {
@@ -39,8 +40,8 @@ pub fn short_text(alloc: Global, con: &Constituency, view: &ConView) -> Result<S
     Ok(text)
 }
 
-/// How many votes each list is short, by the closed votes and the lot. There are no numbers where these
-/// allot no seats, which is so of no lawful view.
+/// How many votes each list is short, by the closed votes and the lot. There are no numbers where
+/// these allot no seats, which is so of no lawful view.
 fn numbers_in(
     alloc: Global,
     con: &Constituency,
@@ -48,7 +49,9 @@ fn numbers_in(
 ) -> Result<Vec<Option<u64>>, ReportFault>
     requires view { FitsView con.now view.now }
     requires by_divisors { con.now.profile.method ≢ by_hare }
-    ensures numbers { IfOk result (λ numbers. IsLawfulView con.now view.now → view.now.certified ≡ true → AreVotesShortIn con.now view.now numbers.items) }
+    ensures numbers { IfOk result (λ numbers.
+        IsLawfulView con.now view.now → view.now.certified ≡ true
+        → AreVotesShortIn con.now view.now numbers.items) }
     ensures fault { IfErr result (λ fault. fault ≡ Memory) }
 {
     let votes = view.votes.as_slice();
@@ -59,6 +62,7 @@ fn numbers_in(
     match fault {
         AllotFault::Memory => Err(ReportFault::Memory),
         _ => {
+            // Called for what its contract says: the laws of lots.
             laws_of_lots();
             Ok(Vec::new(alloc))
         }
@@ -75,7 +79,8 @@ fn push_lists(
     requires seats { length view.now.seats ≡ length con.now.lists }
     requires lists { length view.now.votes ≡ length con.now.lists }
     requires marks { marks.now ≡ eligible_lists con.now.profile view.now.votes view.now.blank }
-    ensures { OnOk result (string_bytes text.new ≡ string_bytes text.old ++ list_lines (short_line con.now view.now numbers.now) con.now) }
+    ensures { OnOk result (string_bytes text.new
+        ≡ string_bytes text.old ++ list_lines (short_line con.now view.now numbers.now) con.now) }
 {
     for (place, list) in con.lists.iter().enumerate() {
         if marks[place] {
@@ -101,7 +106,8 @@ fn push_list(
     seats: u32,
     number: Option<u64>,
 ) -> Result<(), AllocError>
-    ensures { OnOk result (string_bytes text.new ≡ string_bytes text.old ++ short_columns list.now seats number) }
+    ensures { OnOk result (string_bytes text.new
+        ≡ string_bytes text.old ++ short_columns list.now seats number) }
 {
     push_left(text, list.code.as_str(), 16)?;
     push_number(text, u64::from(seats), 5)?;

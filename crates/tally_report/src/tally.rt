@@ -13,9 +13,9 @@ use std::alloc::{AllocError, Global};
 use tally_returns::ConView;
 use tally_rules::{Base, Constituency, ListEntry, eligible};
 
-/// The votes of the closed returns of a constituency: how many of its stations are closed, the valid,
-/// blank and spoiled votes, and of each list its votes, their share in the base of the threshold, and
-/// whether it is eligible (LOREG articles 163.1 a) and 96.5).
+/// The votes of the closed returns of a constituency: how many of its stations are closed, the
+/// valid, blank and spoiled votes, and of each list its votes, their share in the base of the
+/// threshold, and whether it is eligible (LOREG articles 163.1 a) and 96.5).
 pub fn tally_text(alloc: Global, con: &Constituency, view: &ConView) -> Result<String, ReportFault>
     requires { FitsView con.now view.now }
     ensures text { IfOk result (λ text. string_bytes text ≡ tally_text con.now view.now) }
@@ -48,7 +48,8 @@ fn push_lists(
 ) -> Result<(), AllocError>
     requires view { FitsView con.now view.now }
     requires marks { marks.now ≡ eligible_lists con.now.profile view.now.votes view.now.blank }
-    ensures { OnOk result (string_bytes text.new ≡ string_bytes text.old ++ list_lines (tally_line con.now view.now) con.now) }
+    ensures { OnOk result (string_bytes text.new
+        ≡ string_bytes text.old ++ list_lines (tally_line con.now view.now) con.now) }
 {
     let base = base_of(con.profile.base, view);
     for (place, list) in con.lists.iter().enumerate() {
@@ -65,7 +66,8 @@ fn push_list(
     eligible: bool,
 ) -> Result<(), AllocError>
     requires { votes ≤ 5000000000 }
-    ensures { OnOk result (string_bytes text.new ≡ string_bytes text.old ++ tally_columns list.now votes base eligible) }
+    ensures { OnOk result (string_bytes text.new
+        ≡ string_bytes text.old ++ tally_columns list.now votes base eligible) }
 {
     push_left(text, list.code.as_str(), 16)?;
     push_number(text, votes, 12)?;
@@ -86,7 +88,8 @@ fn share(base: u64, votes: u64) -> u64
 
 /// A number of hundredths, at the right of a column of eight places.
 fn push_hundredths(text: &mut String, n: u64) -> Result<(), AllocError>
-    ensures { OnOk result (string_bytes text.new ≡ string_bytes text.old ++ right 8 (hundredths n)) }
+    ensures { OnOk result (string_bytes text.new
+        ≡ string_bytes text.old ++ right 8 (hundredths n)) }
 {
     let (tenths, rest) = (n / 10 % 10, n % 10);
     push_number(text, n / 100, 5)?;

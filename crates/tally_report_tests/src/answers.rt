@@ -109,8 +109,8 @@ fn is_right(poll: &Poll, seats: &[u32]) -> bool {
     is_within_limits(poll) && is_allotment(profile, poll.seats, votes, poll.blank, lot, seats)
 }
 
-/// Whether a line such as `CALL POLL = ANSWER` holds. The calls are `allot`, `need`, `awards`, `quotas` and `short`;
-/// and `right SEATS: POLL` and `wrong SEATS: POLL` have no answer.
+/// Whether a line such as `CALL POLL = ANSWER` holds. The calls are `allot`, `need`, `awards`,
+/// `quotas` and `short`; and `right SEATS: POLL` and `wrong SEATS: POLL` have no answer.
 pub(crate) fn holds(alloc: Global, line: &str) -> Result<bool, AllocError> {
     let (call, rest) = line.split_once(" ").unwrap_or((line, ""));
     if let Some((poll, wanted)) = rest.split_once(" = ") {

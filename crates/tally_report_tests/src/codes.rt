@@ -3,7 +3,7 @@
 use std::test::Fail;
 use tally_rules::Code;
 
-/// Whether one text is a code, another is one, and the first stands before the second.
+/// Whether one text is a code, another is one, and the first comes before the second.
 fn is_before(first: &str, second: &str) -> bool {
     match (Code::new(first.as_bytes()), Code::new(second.as_bytes())) {
         (Some(first), Some(second)) => first < second,

@@ -33,7 +33,8 @@ fn seventeen_and_a_half_is_more_than_seventeen_and_a_third(rt: HostRuntime) {
     assert!(rt; compared((52, 3), (35, 2)) == Some(Ordering::Less));
     assert!(rt; compared((1, 3), long) == Some(Ordering::Equal));
     assert!(rt; compared((1, 0), (1, 1)).is_none());
-    // by quotient; equal quotients, and more votes; votes alike, and the earlier place; the greatest products
+    // by quotient; equal quotients, and more votes; votes alike, and the earlier place; the
+    // greatest products
     assert!(rt; ranks_above((35, 2, 2), (52, 3, 1)));
     assert!(rt; ranks_above((200, 2, 2), (100, 1, 1)));
     assert!(rt; ranks_above((100, 1, 1), (100, 1, 2)));

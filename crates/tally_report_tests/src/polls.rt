@@ -17,8 +17,8 @@ pub(crate) struct Poll {
 }
 
 /// The poll of a line such as `dhondt 300 8 0: 104000 72000: 2 1`: the rule, the threshold, of the
-/// valid votes, the seats, the blank votes; the votes of the lists; the lot. Lots alternate where the
-/// rule says so, as `dhondt/alternating`. What is no such line is no poll within the limits.
+/// valid votes, the seats, the blank votes; the votes of the lists; the lot. Lots alternate where
+/// the rule says so, as `dhondt/alternating`. Any other text is not a poll within the limits.
 pub(crate) fn poll_of(alloc: Global, line: &str) -> Result<Poll, AllocError> {
     let (terms, rest) = line.split_once(": ").unwrap_or((line, ""));
     let (votes, lot) = rest.split_once(": ").unwrap_or((rest, ""));

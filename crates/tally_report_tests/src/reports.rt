@@ -73,7 +73,8 @@ A                   0 Alpha
 B                   3 Beta
 ";
 
-// 480,000 votes for 8 seats are 60,000 a seat: A's 168,000 are 2 of them, and 48,000 times 8 is left.
+// 480,000 votes for 8 seats are 60,000 a seat: A's 168,000 are 2 of them, and 48,000 times 8 is
+// left.
 const QUOTA: &str = "QUOTA n Province
 votes 480000 seats 8
 A                     168000    2          384000    3
@@ -84,7 +85,8 @@ E                      40000    0          320000    1
 F                      32000    0          256000    0
 ";
 
-// By the divisors 1.4, 3 and 5: A's second quotient is 53 / 3, and B's first is 24 / 1.4, which is less.
+// By the divisors 1.4, 3 and 5: A's second quotient is 53 / 3, and B's first is 24 / 1.4, which is
+// less.
 const FIFTHS: &str = "2 1 1: 53 24 23: 0 0: 2 0 0: : ";
 
 const FIFTHS_QUOTIENTS: &str = "QUOTIENTS m Fifths
@@ -98,15 +100,16 @@ const FIFTHS_AWARDS: &str = "AWARDS m Fifths
    2 A                  2           265    15          17
 ";
 
-// B's first seat takes the place of A's second with 25 votes, since 25 / 1.4 is more than 53 / 3; A has all.
+// B's first seat takes the place of A's second with 25 votes, since 25 / 1.4 is more than 53 / 3; A
+// has all.
 const FIFTHS_SHORT: &str = "SHORT m Fifths
 A                   2           -
 B                   0           1
 C                   0           2
 ";
 
-// The same lists by D'Hondt: the last seat is A's fourth, with 168,000 / 4 = 42,000. With 42,000 votes E
-// would only tie with it, and A has more.
+// The same lists by D'Hondt: the last seat is A's fourth, with 168,000 / 4 = 42,000. With 42,000
+// votes E would only tie with it, and A has more.
 const PROVINCE_SHORT: &str = "SHORT n Province
 A                   4       92000
 B                   2       22001

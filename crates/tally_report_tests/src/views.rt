@@ -195,10 +195,11 @@ fn opening(alloc: Global) -> ConView {
     }
 }
 
-/// The view of a line such as `3 1 2: 200 199: 0 1: 1 2: 2 1: 2 1`: the edition, how many stations are
-/// closed and how many there are; the votes of the lists; the blank and the spoiled votes; the seats
-/// where it is certified; the lot; a list and a candidate of it who is gone. What follows after `past`,
-/// such as `past 3 1 2; 7 2 1`, are the editions and seats of the certificates that were reopened.
+/// The view of a line such as `3 1 2: 200 199: 0 1: 1 2: 2 1: 2 1`: the edition, how many stations
+/// are closed and how many there are; the votes of the lists; the blank and the spoiled votes; the
+/// seats where it is certified; the lot; a list and a candidate of it who is gone. What follows
+/// after `past`, such as `past 3 1 2; 7 2 1`, are the editions and seats of the certificates that
+/// were reopened.
 fn view_of(alloc: Global, line: &str) -> Result<ConView, AllocError> {
     let mut view = opening(alloc);
     for (place, part) in line.split(":").enumerate() {
@@ -266,12 +267,12 @@ fn past_of(alloc: Global, text: &str) -> Result<Past, AllocError> {
     })
 }
 
-/// The texts before a mark and behind it; where there is no mark, the whole text and an empty one.
+/// The texts before a mark and after it; where there is no mark, the whole text and an empty one.
 fn cut<'a>(text: &'a str, mark: &str) -> (&'a str, &'a str) {
     text.split_once(mark).unwrap_or((text, ""))
 }
 
-/// The number of a text; of one that is none 0, so that the test that has it fails.
+/// The number of a text, or 0 for a text that is not a number, so that the test that has it fails.
 fn number(text: &str) -> u32 {
     text.parse::<u32>().unwrap_or(0)
 }

@@ -3,9 +3,10 @@
 use crate::answers::holds;
 use std::test::Fail;
 
-// The example of LOREG, article 163: 480,000 votes and 8 seats, and its threshold of 3 per cent. By D'Hondt its
-// seats are the law's own; by the other two rules the last seat is A's fourth no more but E's first. By Hare's rule
-// the whole quotas are 2, 1, 1 and 1, and the greatest remainders are A's, B's and E's.
+// The example of LOREG, article 163: 480,000 votes and 8 seats, and its threshold of 3 per cent. By
+// D'Hondt its seats are the law's own; by the other two rules the last seat is no longer A's fourth
+// but E's first. By Hare's rule the whole quotas are 2, 1, 1 and 1, and the greatest remainders are
+// A's, B's and E's.
 const LOREG: &str = "\
 allot dhondt 300 8 0: 168000 104000 72000 64000 40000 32000 = [4, 2, 1, 1, 0, 0]
 need dhondt 300 8 0: 168000 104000 72000 64000 40000 32000 = no lot
@@ -28,9 +29,10 @@ quotas hare 0 8 0: 168000 104000 72000 64000 40000 32000 = \
 QuotaRow { list: 3, whole: 1, rem: 96000, extra: false }, QuotaRow { list: 4, whole: 1, rem: 32000, extra: false }, \
 QuotaRow { list: 5, whole: 0, rem: 320000, extra: true }, QuotaRow { list: 6, whole: 0, rem: 256000, extra: false }]";
 
-// 35/2 is above 52/3, though both have the whole part 17. Then equal quotients, and more votes decide; equal votes,
-// and no choice. Hare's quota is that of the 80 votes for lists, so that 3 * 70 leaves 50 and 3 * 10 leaves 30.
-// Then the greatest numbers, and two lists without votes among blank ones.
+// 35/2 is above 52/3, though both have the whole part 17. Then equal quotients, and more votes
+// decide; equal votes, and no choice. Hare's quota is that of the 80 votes for lists, so that 3 *
+// 70 leaves 50 and 3 * 10 leaves 30. Then the greatest numbers, and two lists without votes among
+// blank ones.
 const DECIDED: &str = "\
 allot dhondt 0 4 0: 52 35 = [2, 2]
 allot dhondt 0 2 0: 200 100 = [2, 0]
@@ -47,22 +49,23 @@ allot dhondt 0 3 50: 0 0 = no list is eligible
 need dhondt 0 3 50: 0 0 = no list is eligible
 wrong 3 0: dhondt 0 3 50: 0 0";
 
-// A's second quotient, 53 by 3, is below B's 24; by the modified rule it is above B's 24 by 1.4, though both have
-// the whole part 17.
+// A's second quotient, 53 by 3, is below B's 24; by the modified rule it is above B's 24 by 1.4,
+// though both have the whole part 17.
 const FIRST_DIVISOR: &str = "\
 allot sainte-lague 0 2 0: 53 24 23 = [1, 1, 0]
 allot modified-sainte-lague 0 2 0: 53 24 23 = [2, 0, 0]
 awards modified-sainte-lague 0 2 0: 53 24 23 = \
 [Award { list: 1, k: 1, num: 265, den: 7 }, Award { list: 1, k: 2, num: 265, den: 15 }]";
 
-// Votes in the proportion of whole numbers of seats, a thousand votes a seat: each rule gives these seats.
+// Votes in the proportion of whole numbers of seats, a thousand votes a seat: each rule gives these
+// seats.
 const PROPORTIONS: &str = "\
 allot dhondt 0 120 0: 60000 32000 14000 11000 2000 1000 = [60, 32, 14, 11, 2, 1]
 allot sainte-lague 0 120 0: 60000 32000 14000 11000 2000 1000 = [60, 32, 14, 11, 2, 1]
 allot hare 0 120 0: 60000 32000 14000 11000 2000 1000 = [60, 32, 14, 11, 2, 1]";
 
-// The last of three seats is in question between two lists of 100 votes, and the last of four between three, which
-// a lot has to name all; the one seat between two of 50 votes.
+// The last of three seats is in question between two lists of 100 votes, and the last of four
+// between three, all of which a lot has to name; the one seat between two of 50 votes.
 const LOTS: &str = "\
 need dhondt 0 3 0: 100 100 = lot of 1 2 for 1
 allot dhondt 0 3 0: 100 100 = lot of 1 2 for 1
@@ -87,8 +90,8 @@ quotas hare 0 1 0: 50 50: 1 = the lot is not the one to be taken
 quotas hare 0 1 0: 50 50: 2 1 = \
 [QuotaRow { list: 1, whole: 0, rem: 50, extra: false }, QuotaRow { list: 2, whole: 0, rem: 50, extra: true }]";
 
-// The order of the lot is turned round for the second seat of each list, and not for the first. Hare's rule reads
-// it as fixed.
+// The order of the lot is turned round for the second seat of each list, and not for the first.
+// Hare's rule reads it as fixed.
 const ALTERNATING: &str = "\
 allot dhondt/alternating 0 3 0: 100 100 = lot of 1 2 for 1
 allot dhondt/alternating 0 3 0: 100 100: 2 1 = [2, 1]
@@ -104,15 +107,15 @@ allot dhondt/alternating 0 4 0: 100 100 100: 3 1 = the lot is not the one to be 
 wrong 1 2 1: dhondt/alternating 0 4 0: 100 100 100: 3 1
 allot hare/alternating 0 3 0: 50 50: 2 1 = [1, 2]";
 
-// The example of LOREG, article 163. The lowest seat is A's fourth, with 168,000 / 4 = 42,000: E and F need 42,001
-// votes, since with 42,000 they only tie and A has more; C and D need 84,001 for a second seat, and B 126,001 for a
-// third. For A the lowest seat of another list is B's second, with 52,000: a fifth takes 5 * 52,000 votes, and more
-// than B has they are.
-// Then 200 against 100 and two seats: with 101 B is ahead of A's second. Equal votes, and a lot for one of three
-// seats. By Sainte-Laguë A's second seat takes 3 * 24 votes, B's 3 * 53, and C's first 25; by the modified rule B
-// and C need 25 votes for a first, since 7 * 53 / 15 is 24.7. Where lots alternate A has the second seat and the
-// third of three, and needs 300 for all of them.
-// Last a list below the threshold, and great numbers: 4,999,999,999 / 5 is below 1,000,000,000.
+// The example of LOREG, article 163. The lowest seat is A's fourth, with 168,000 / 4 = 42,000: E
+// and F need 42,001 votes, since with 42,000 they only tie and A has more; C and D need 84,001 for
+// a second seat, and B 126,001 for a third. For A the lowest seat of another list is B's second,
+// with 52,000: a fifth takes 5 * 52,000 votes, which are more than B has. Then 200 against 100
+// and two seats: with 101 B is ahead of A's second. Equal votes, and a lot for one of three seats.
+// By Sainte-Laguë A's second seat takes 3 * 24 votes, B's 3 * 53, and C's first 25; by the modified
+// rule B and C need 25 votes for a first, since 7 * 53 / 15 is 24.7. Where lots alternate A has the
+// second seat and the third of three, and needs 300 for all of them. Last a list below the
+// threshold, and great numbers: 4,999,999,999 / 5 is below 1,000,000,000.
 const SHORT: &str = "\
 short dhondt 300 8 0: 168000 104000 72000 64000 40000 32000 = \
 [Some(92000), Some(22001), Some(12001), Some(20001), Some(2001), Some(10001)]

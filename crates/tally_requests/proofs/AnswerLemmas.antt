@@ -1,6 +1,7 @@
 -- What is answered to a request on a constituency, and to the one that shows how far constituencies have come, in a transaction.
-use Rattle.std.proofs.Common.{◌≡◌, ◌≢◌, ◌∙◌, ◌⊎◌, ◌+◌, ◌++◌, ◌∷◌, ◌<◌, ℕ, List, [], Some, None, Result, Ok, Err, IfOk, inl, inr, length, refl, sym, ap, subst, map, take}
-use Rattle.std.specs.Prelude.{slice_index_or}
+use Rattle.std.proofs.Common.{◌≡◌, ◌≢◌, ◌∙◌, ◌⊎◌, ◌+◌, ◌++◌, ◌∷◌, ◌<◌, ℕ, List, [], Option, Some, None, Result, Ok, Err, IfOk, inl, inr, length, refl, sym, ap, subst, map, take}
+use Rattle.std.specs.Prelude.{is_some, slice_index_or}
+use Rattle.std.specs.FinMap.{get, insert}
 use Rattle.sqlite.specs.declared.error.Error.{Error}
 use Rattle.sqlite.specs.State.{State as Seen, HasCleanDisk, IsUnchanged}
 use Rattle.std.proofs.lemmas.List.{map-append, take_more}
@@ -11,10 +12,11 @@ use Rattle.tally_rules.specs.Limits.{IsSetup}
 use Rattle.tally_rules.specs.Setup.{constituency_with}
 use Rattle.tally_returns.specs.Named.{con_named}
 use Rattle.tally_returns.specs.Progress.{progress, progress_row}
+use Rattle.tally_returns.specs.Return.{Returns}
 use Rattle.tally_returns.specs.State.{State}
 use Rattle.tally_returns.specs.View.{View}
 use Rattle.tally_returns.specs.declared.ask.Ask.{Ask}
-use Rattle.tally_returns.specs.declared.ask.Ask.TheVariants.{ShowProgress}
+use Rattle.tally_returns.specs.declared.ask.Ask.TheVariants.{ShowProgress, ShowReturn}
 use Rattle.tally_returns.specs.declared.change.Change.TheVariants.{Same}
 use Rattle.tally_returns.specs.declared.progress.ProgressRow.{ProgressRow}
 use Rattle.tally_returns.specs.declared.refusal.Refusal.{Refusal}
@@ -22,15 +24,18 @@ use Rattle.tally_returns.specs.declared.refusal.Refusal.TheVariants.{Memory, NoC
 use Rattle.tally_returns.specs.declared.reply.Reply.{Reply}
 use Rattle.tally_returns.specs.declared.reply.Reply.TheVariants.{Con}
 use Rattle.tally_steps.specs.LawfulState.{IsLawfulState}
-use Rattle.tally_steps.specs.Step.{ConChange, Decides, IsConDecision, IsConRefusal, IsStepSeen, IsView, after_change, no_change, progress_shown, seen}
+use Rattle.tally_steps.specs.Step.{ConChange, Decides, IsAnswered, IsConDecision, IsConRefusal, IsStepSeen, IsView, after_change, no_change, progress_shown, seen}
 use Rattle.tally_steps.proofs.CertificationLemmas.{refused-lawful}
 use Rattle.tally_steps.proofs.DecisionLemmas.{decisions-steps, unknown-constituency}
 use Rattle.tally_steps.proofs.ViewLemmas.{view-lawful}
-use Rattle.tally_ledger.specs.Rows.{row_of}
 use Rattle.tally_keeper.proofs.StepLemmas.{memory-or}
 use Rattle.tally_tables.specs.TablesOfState.{AreTables}
-use Rattle.tally_requests.specs.Requests.{IsCarriedOut, IsChangeCarriedOut, IsInState}
-use Rattle.tally_entries.specs.Constituencies.{FindsView}
+use Rattle.tally_requests.specs.Requests.{CarriesOut, CarriesOutKnown, IsCarriedOut, IsChangeCarriedOut, IsInState, KeepsKnown}
+use Rattle.tally_tables.specs.Views.{statuses_of}
+use Rattle.tally_tables.specs.declared.views.Statuses.{Statuses}
+use Rattle.tally_entries.specs.Constituencies.{FindsProgressRow, FindsView, IsKnown}
+use Rattle.tally_requests.specs.Known.{AreKnown, Known}
+use Rattle.tally_requests.proofs.KnownLemmas.{con-returns, known-remembered, seen-statuses, shown-returns}
 use Rattle.tally_requests.specs.Seen.{CarriesOutSeen, IsStill}
 
 -- ---- requests on a constituency
@@ -77,18 +82,30 @@ changed-carried setup text s con view ask decided reply now found named seen dec
 }
 
 -- what is answered by what was seen is answered by the tables
-pub seen-carries : (setup : List Constituency) (con : Constituency) (view : View) (ask : Ask) (old mid new : Seen) (r : Result (Result Reply Refusal) Error) → HasCleanDisk new → IsStill old mid
-    → constituency_with con.code setup ≡ Some con → FindsView setup con old view → CarriesOutSeen setup con view ask mid new r
-    → IfOk r (λ a. (text : List ℕ) (s : State) → IsLawfulState setup s → AreTables setup text s old.now.trees → IsCarriedOut setup text s ask a new)
-seen-carries setup con view ask old mid new (Ok a) clean still found finds carries = λ text s lawful tables.
-    carries clean still.inside text s lawful (finds text s found lawful tables) (subst (λ d. AreTables setup text s d.trees) (sym still.same) tables)
-seen-carries setup con view ask old mid new (Err e) clean still found finds carries = tt
+pub seen-carries : (setup : List Constituency) (con : Constituency) (known : Known) (here : Option Statuses) (view : View) (ask : Ask) (old mid new : Seen) (r : Result (Result Reply Refusal) Error) → HasCleanDisk new → IsStill old mid
+    → constituency_with con.code setup ≡ Some con → here ≡ get known con.code → FindsView setup con here old view → CarriesOutSeen setup con view ask mid new r
+    → IfOk r (λ a. (text : List ℕ) (s : State) → IsLawfulState setup s → AreKnown setup s.returns known → AreTables setup text s old.now.trees → IsCarriedOut setup text s ask a new)
+seen-carries setup con known here view ask old mid new (Ok a) clean still found is finds carries = λ text s lawful held tables.
+    carries clean still.inside text s lawful (finds text s found lawful (subst (IsKnown con s.returns) (sym is) (held con found)) tables) (subst (λ d. AreTables setup text s d.trees) (sym still.same) tables)
+seen-carries setup con known here view ask old mid new (Err e) clean still found is finds carries = tt
+
+-- and what was seen is known
+pub seen-known : (setup : List Constituency) (con : Constituency) (known after : Known) (here : Option Statuses) (code : List ℕ) (statuses : Statuses) (view : View) (ask : Ask) (old : Seen) (r : Result (Result Reply Refusal) Error)
+    → constituency_with con.code setup ≡ Some con → con_named ask ≡ Some con.code → here ≡ get known con.code → FindsView setup con here old view → code ≡ con.code → statuses ≡ statuses_of view → after ≡ insert known code statuses
+    → IfOk r (λ a. (text : List ℕ) (s t : State) → IsLawfulState setup s → AreKnown setup s.returns known → AreTables setup text s old.now.trees → IsAnswered setup s ask a t → AreKnown setup t.returns after)
+seen-known setup con known after here code statuses view ask old (Ok a) found named is finds own statuses_are put = λ text s t lawful held tables answered.
+    let seen = finds text s found lawful (subst (IsKnown con s.returns) (sym is) (held con found)) tables in
+    subst (λ (m : Returns). AreKnown setup m after) (sym (con-returns setup s t ask con.code a named answered))
+    (known-remembered setup s.returns known after con code statuses found own (seen-statuses con s statuses view statuses_are seen.0) held put)
+seen-known setup con known after here code statuses view ask old (Err e) found named is finds own statuses_are put = tt
 
 -- ---- how far constituencies have come
 
--- the row of what is seen of a constituency
-pub seen-row : (s : State) (con : Constituency) (view : View) → IsView con s view → row_of con.code view ≡ progress_row s con
-seen-row s con view seen = ap (row_of con.code) seen.0
+-- how far one has come is found by what is known of it
+pub row-found : (setup : List Constituency) (text : List ℕ) (s : State) (con : Constituency) (known : Known) (here : Option Statuses) (code : List ℕ) (seen : Seen) (row : ProgressRow) → constituency_with con.code setup ≡ Some con
+    → IsLawfulState setup s → AreKnown setup s.returns known → here ≡ get known code → code ≡ con.code → FindsProgressRow con here seen row → AreTables setup text s seen.now.trees → row ≡ progress_row s con
+row-found setup text s con known here code seen row found lawful held is own finds tables =
+    finds setup s (lawful.known con.code ∙ ap is_some found) (subst (IsKnown con s.returns) (sym (is ∙ ap (get known) own)) (held con found)) tables.returns tables.cons
 
 -- the rows of one constituency more
 pub rows-more : (f : Constituency → ProgressRow) (cons : List Constituency) (i : ℕ) (con : Constituency) (rows more : List ProgressRow) (row : ProgressRow) → i < length cons → con ≡ slice_index_or cons i con
@@ -111,3 +128,16 @@ still-state setup text s old new still tables = record { inside = still.inside; 
 pub progress-carried : (setup : List Constituency) (text : List ℕ) (s : State) (rows : List ProgressRow) (r : Result Reply Refusal) (now : Seen) → seen r ≡ Ok (progress_shown rows) → rows ≡ progress setup s
     → IsInState setup text s now → IsCarriedOut setup text s ShowProgress r now
 progress-carried setup text s rows r now shown is here = record { state = s; answered = inl (shown ∙ ap (λ x. Ok (progress_shown x)) is, refl); in_state = here }
+
+-- ---- the return of a station, shown
+
+-- what is carried out whatever is known
+pub carries-known : (setup : List Constituency) (known : Known) (ask command : Ask) (old new : Seen) (r : Result (Result Reply Refusal) Error) → command ≡ ask → CarriesOut setup ask old new r → CarriesOutKnown setup known command old new r
+carries-known setup known ask command old new (Ok a) is carries clean inside = λ text s lawful held tables. subst (λ q. IsCarriedOut setup text s q a new) (sym is) (carries clean inside text s lawful tables)
+carries-known setup known ask command old new (Err e) is carries clean inside = tt
+
+-- what is known is known still
+pub shown-keeps : (setup : List Constituency) (known : Known) (station : List ℕ) (command : Ask) (old new : Seen) (r : Result (Result Reply Refusal) Error) → command ≡ ShowReturn station → KeepsKnown setup known known command old new r
+shown-keeps setup known station command old new (Ok a) is clean inside = λ text s t lawful held tables answered.
+    subst (λ (m : Returns). AreKnown setup m known) (sym (shown-returns setup s t station a (subst (λ q. IsAnswered setup s q a t) is answered))) held
+shown-keeps setup known station command old new (Err e) is clean inside = tt

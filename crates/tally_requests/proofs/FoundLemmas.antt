@@ -212,7 +212,7 @@ pub record IsFound (setup : List Constituency) (s : State) (station : List ℕ) 
   pub certified_is : certified ≡ (con_state s con.code).certified
   pub found_is : found ≡ get s.returns station
 
-found-decided : (setup : List Constituency) (s : State) (ask : Ask) (station : List ℕ) (con : Constituency) (place : Station) (certified : Bool) (found : Option StationReturn)
+pub found-decided : (setup : List Constituency) (s : State) (ask : Ask) (station : List ℕ) (con : Constituency) (place : Station) (certified : Bool) (found : Option StationReturn)
     → station_named ask ≡ Some station → IsFound setup s station con place certified found → decided_in setup s ask ≡ decided_there con place certified found ask
 found-decided setup s ask station con place certified found named is =
     decided-found setup s ask station con place named is.known

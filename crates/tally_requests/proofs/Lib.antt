@@ -2,6 +2,7 @@ pub mod AnswerLemmas
 pub mod ChangeLemmas
 pub mod DecidedLemmas
 pub mod FoundLemmas
+pub mod KnownLemmas
 pub mod LodgeLemmas
 pub mod LodgedLemmas
 pub mod MovedLemmas

@@ -238,7 +238,7 @@ mapped-some f None seen none is some none_is = let e : false ≡ true = some ∙
 mapped-some f (Some x) seen none is some none_is = (f x, sym is)
 
 -- nothing is changed
-shown-stays : (setup : List Constituency) (s : State) (station : List ℕ) → s ≡ after_return setup s (ShowReturn station)
+pub shown-stays : (setup : List Constituency) (s : State) (station : List ℕ) → s ≡ after_return setup s (ShowReturn station)
 shown-stays setup s station = go (first_refusal (show_checks (stations_of setup station) (get s.returns station)))
   where
     go : (refused : Option Refusal) → s ≡ after setup s (ShowReturn station) (refused_or refused (Ok Unchanged))

@@ -19,7 +19,9 @@ use Rattle.tally_keeper.specs.declared.source.ImportFault.{ImportFault}
 use Rattle.tally_keeper.specs.declared.source.ImportFault.TheVariants.{TooLong}
 use Rattle.tally_keeper.proofs.ImportLemmas.{count_of-below, push_is}
 use Rattle.tally_keeper.proofs.TakenLemmas.{SoFar, SoFar-end, SoFar-fault, SoFar-many, SoFar-next, SoFar-start}
-use Rattle.tally_requests.specs.Requests.{IsImported, IsInState, IsRowTaken}
+use Rattle.tally_requests.specs.Known.{AreKnown, Known, after_row as after_row_known}
+use Rattle.tally_requests.specs.Requests.{IsImportedKnown, IsInState, IsRowTaken}
+use Rattle.tally_requests.proofs.KnownLemmas.{known-row}
 use Rattle.tally_requests.proofs.LodgeLemmas.{row-lawful}
 
 -- ---- what is known of any tables: the rows that came, and how many answers were counted
@@ -63,39 +65,45 @@ counted-below count many was = subst (λ c. IsBelow c (many + 1)) (sym was.1) (c
 
 -- ---- what is known of the tables of a lawful state
 
--- so many rows came, and were taken; the state that they left
-pub record RowsSoFar (setup : List Constituency) (text : List ℕ) (s : State) (all left : Option Coming) (count : ImportCount) (many : ℕ) (new : Seen) : Type 0 where
+-- so many rows came, and were taken; the state that they left, and what is known of it
+pub record RowsSoFar (setup : List Constituency) (text : List ℕ) (s : State) (all left : Option Coming) (count : ImportCount) (many : ℕ) (before after : Known) (new : Seen) : Type 0 where
   pub returns : Returns
   pub so_far : SoFar (stations_of setup) s.returns returns all left count many
   pub lawful : IsLawfulState setup (record s { returns = returns })
   pub in_state : IsInState setup text (record s { returns = returns }) new
+  pub known : AreKnown setup s.returns before → AreKnown setup returns after
 
-pub rows-start : (setup : List Constituency) (text : List ℕ) (s : State) (all : Option Coming) (count : ImportCount) (old : Seen) → count ≡ count_of [] → IsLawfulState setup s → IsInState setup text s old
-    → RowsSoFar setup text s all all count 0 old
-rows-start setup text s all count old is lawful here = record {
+pub rows-start : (setup : List Constituency) (text : List ℕ) (s : State) (all : Option Coming) (count : ImportCount) (known : Known) (old : Seen) → count ≡ count_of [] → IsLawfulState setup s → IsInState setup text s old
+    → RowsSoFar setup text s all all count 0 known known old
+rows-start setup text s all count known old is lawful here = record {
   returns = s.returns;
   so_far = SoFar-start (stations_of setup) s.returns all count is;
   lawful = lawful;
   in_state = here;
+  known = λ held. held;
 }
 
-pub rows-next : (setup : List Constituency) (text : List ℕ) (s : State) (all left next : Option Coming) (count more : ImportCount) (many : ℕ) (r : Row) (answer : RowAnswer) (mid new : Seen)
-    → IsSetup setup → (was : RowsSoFar setup text s all left count many mid) → IsCodedRow r → GivesNext left (Ok (Some r)) next
-    → IsRowTaken setup text (record s { returns = was.returns }) r answer new → more ≡ counted count (many + 1) answer → RowsSoFar setup text s all next more (many + 1) new
-rows-next setup text s all left next count more many r answer mid new limits was coded given taken counted_is = record {
+pub rows-next : (setup : List Constituency) (text : List ℕ) (s : State) (all left next : Option Coming) (count more : ImportCount) (many : ℕ) (r : Row) (answer : RowAnswer) (before known after : Known) (mid new : Seen)
+    → IsSetup setup → (was : RowsSoFar setup text s all left count many before known mid) → IsCodedRow r → GivesNext left (Ok (Some r)) next
+    → IsRowTaken setup text (record s { returns = was.returns }) r answer new → after ≡ after_row_known setup r answer known → more ≡ counted count (many + 1) answer
+    → RowsSoFar setup text s all next more (many + 1) before after new
+rows-next setup text s all left next count more many r answer before known after mid new limits was coded given taken put counted_is = record {
   returns = after_row (stations_of setup) was.returns r;
   so_far = SoFar-next (stations_of setup) s.returns was.returns (after_row (stations_of setup) was.returns r) all left next count more many r answer was.so_far coded given taken.answered refl counted_is;
   lawful = row-lawful setup (record s { returns = was.returns }) r coded limits was.lawful;
   in_state = taken.in_state;
+  known = λ held. subst (AreKnown setup (after_row (stations_of setup) was.returns r)) (sym put) (known-row setup was.returns r answer known limits taken.answered (was.known held));
 }
 
 -- the import is done where its source ends
-pub rows-end : (setup : List Constituency) (text : List ℕ) (s : State) (all left next : Option Coming) (count : ImportCount) (many : ℕ) (new : Seen)
-    → RowsSoFar setup text s all left count many new → many ≤ row_limit → GivesNext left (Ok None) next → IsImported setup text s all count new
-rows-end setup text s all left next count many new was few given =
-    let old : Kept = record { setup = setup; returns = s.returns; cons = s.cons; seats = empty } in
-    record {
-      state = record s { returns = was.returns };
-      imported = SoFar-end old (record old { returns = was.returns }) all left next count many was.so_far refl few given;
-      in_state = was.in_state;
-    }
+pub rows-end : (setup : List Constituency) (text : List ℕ) (s : State) (all left next : Option Coming) (count : ImportCount) (many : ℕ) (before after : Known) (new : Seen)
+    → RowsSoFar setup text s all left count many before after new → many ≤ row_limit → GivesNext left (Ok None) next → IsImportedKnown setup text s all before after count new
+rows-end setup text s all left next count many before after new was few given =
+    let old : Kept = record { setup = setup; returns = s.returns; cons = s.cons; seats = empty } in (
+      record {
+        state = record s { returns = was.returns };
+        imported = SoFar-end old (record old { returns = was.returns }) all left next count many was.so_far refl few given;
+        in_state = was.in_state;
+      },
+      was.known,
+    )

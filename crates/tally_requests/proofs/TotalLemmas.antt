@@ -44,14 +44,14 @@ total-elsewhere g returns code standing (x ∷ stations) apart =
     let rest = total-elsewhere g returns code standing stations apart.1 in
     omega (arith, here, rest)
 
-total-replaced : (g : Option StationReturn → ℕ) (returns : Returns) (code : List ℕ) (before standing : StationReturn) (stations : List Station) (station : Station)
-    → get returns code ≡ Some before → Differ code_of_station stations → Has station stations → code ≡ station.code
-    → total g (insert returns code standing) stations + g (Some before) ≡ total g returns stations + g (Some standing)
+pub total-replaced : (g : Option StationReturn → ℕ) (returns : Returns) (code : List ℕ) (before : Option StationReturn) (standing : StationReturn) (stations : List Station) (station : Station)
+    → get returns code ≡ before → Differ code_of_station stations → Has station stations → code ≡ station.code
+    → total g (insert returns code standing) stations + g before ≡ total g returns stations + g (Some standing)
 total-replaced g returns code before standing [] station was differ has is = absurd has
 total-replaced g returns code before standing (x ∷ stations) station was differ (inl same) is =
     let at : code ≡ x.code = is ∙ ap (λ (s : Station). s.code) (sym same) in
     let here : g (get (insert returns code standing) x.code) ≡ g (Some standing) = ap (λ q. g (get (insert returns code standing) q)) (sym at) ∙ ap g (get-put returns code standing) in
-    let there : g (get returns x.code) ≡ g (Some before) = ap (λ q. g (get returns q)) (sym at) ∙ ap g was in
+    let there : g (get returns x.code) ≡ g before = ap (λ q. g (get returns q)) (sym at) ∙ ap g was in
     let apart : Apart code_of_station code stations = subst (λ q. Apart code_of_station q stations) (sym at) differ.0 in
     let rest = total-elsewhere g returns code standing stations apart in
     omega (arith, here, there, rest)
@@ -90,7 +90,7 @@ closed-replaced : (f : VoteCounts → ℕ) (returns : Returns) (code : List ℕ)
     → sum_by f (closed_counts (insert returns code standing) stations) ≡ moved_sum (sum_by f (closed_counts returns stations)) (f counts) add
 closed-replaced f returns code before standing counts stations station add was differ has is so =
     closed-total f (insert returns code standing) stations
-    ∙ total-moved f returns code before standing counts stations add (total-replaced (if_closed f) returns code before standing stations station was differ has is) so
+    ∙ total-moved f returns code before standing counts stations add (total-replaced (if_closed f) returns code (Some before) standing stations station was differ has is) so
     ∙ ap (λ n. moved_sum n (f counts) add) (sym (closed-total f returns stations))
 
 -- ---- the sums of each constituency

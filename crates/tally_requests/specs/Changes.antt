@@ -41,7 +41,8 @@ pub record HasWrittenSeats (code : List ℕ) (edition : ℕ) (certified : Bool) 
   pub cons : MovesRows Cons con_rows code (IsAt edition certified note) old new
   pub seats : MovesSeats code given old new
 
--- The rows of `cons` of a constituency are these, it has none in `seats`, and one certificate more is on record.
+-- The rows of `cons` of a constituency are these. It has none in `seats`, and one certificate more
+-- is on record.
 pub record HasWrittenRecord (code : List ℕ) (edition : ℕ) (note : List ℕ) (standing : PastSeats) (old new : Seen) : Type 0 where
   pub only : ChangesAmong (Cons ∷ Seats ∷ Past ∷ []) old new
   pub cons : MovesRows Cons con_rows code (IsAt edition false note) old new
@@ -55,11 +56,13 @@ pub record HoldsCon (code : List ℕ) (s : Seen) : Type 0 where
   pub is : get cons code ≡ Some before
   pub rows : AreRowsOf con_rows cons (stored_in Cons s)
 
--- What a call says that writes so of a constituency that there was, of a disk that returned what was written.
+-- What holds after a call that writes this of a constituency that was there, where the disk
+-- returned what was written.
 abbrev pub WritesSo : List ℕ → (Seen → Seen → Type 0) → Seen → Seen → Result Unit Error → Type 0
 WritesSo code Written old new result = HasCleanDisk new → IsInside old → HoldsCon code old → OnOk result (Written old new)
 
--- What a call says that carried out what was decided.
+-- What holds after a call that carries out what was decided, where the disk returned what was
+-- written.
 abbrev pub CarriesDecided : List Constituency → Constituency → View → ConChange → Seen → Seen → Result Reply Error → Type 0
 CarriesDecided setup con view decided old new result =
     HasCleanDisk new → IsInside old → IfOk result (λ reply. (text : List ℕ) (s : State) → IsLawfulState setup s → IsView con s view → AreTables setup text s old.now.trees

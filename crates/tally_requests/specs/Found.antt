@@ -1,4 +1,5 @@
--- What a command that moves a return does to the tables of an office, by what was found of its station.
+-- What a command that moves a return does to the tables of an office, by what was found of its
+-- station.
 use Rattle.std.specs.Prelude.{◌≡◌, ◌≢◌, ℕ, Bool, List, length, Option, Some, Result, IfOk}
 use Rattle.std.specs.FinMap.{get}
 use Rattle.sqlite.specs.declared.error.Error.{Error}
@@ -17,7 +18,7 @@ use Rattle.tally_statements.specs.Office.{IsInside}
 use Rattle.tally_tables.specs.TablesOfState.{AreTables}
 use Rattle.tally_requests.specs.Requests.{IsCarriedOut}
 
--- A command moves the return that stood to this one.
+-- A command turns the return that was recorded into this one.
 abbrev pub MovesTo : Constituency → Ask → StationReturn → StationReturn → Type 0
 MovesTo con (Query station rev note) before standing = (standing.status ≡ Queried) × (before.counts ≡ standing.counts)
 MovesTo con (Correct station rev slip counts) before standing =
@@ -30,11 +31,12 @@ abbrev pub after_lot : Constituency → Ask → State → State
 after_lot con (Query station rev note) s = without_lot s (Some con.code)
 after_lot con other s = s
 
--- the state after a command on the return of a station of this constituency put this one
+-- the state after a command has recorded this return at a station of this constituency
 abbrev pub after_move : Constituency → List ℕ → Ask → StationReturn → State → State
 after_move con station ask standing s = with_return (after_lot con ask s) (Some station) standing
 
--- What a call says that answers a command on the return of a station, of every lawful state whose tables there were, in which the
+-- What holds after a call that answers a command on the return of a station, where the disk
+-- returned what was written. It holds for every lawful state whose tables were there, in which the
 -- constituency is certified or not as was found, and the return is the one that was found.
 abbrev pub CarriesOutFound : List Constituency → Constituency → List ℕ → Bool → Option StationReturn → Ask → Seen → Seen → Result (Result Reply Refusal) Error → Type 0
 CarriesOutFound setup con station certified found ask old new result =

@@ -1,4 +1,4 @@
--- What a call in a transaction keeps that carries requests out on a lawful state.
+-- What a call that carries requests out on a lawful state keeps in a transaction.
 use Rattle.std.specs.Prelude.{ℕ, List}
 use Rattle.sqlite_trees.specs.declared.store.Store.{Ghosts}
 use Rattle.sqlite.specs.declared.transaction.Transaction.{Transaction}
@@ -18,6 +18,6 @@ pub record IsLawfulInside (setup : List Constituency) (seen : Seen) : Type 0 whe
   pub lawful : IsLawfulState setup office
   pub tables : AreTables setup text office seen.now.trees
 
--- of one in which they are those of a lawful state
+-- what a call keeps in a transaction in which they are those of a lawful state
 abbrev pub StaysInState : List Constituency → {S : Type 0} (g : Ghosts S) → Transaction S → Transaction S → Type 0
 StaysInState setup g old new = StaysFrom (IsLawfulInside setup) g old new

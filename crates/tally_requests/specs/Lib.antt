@@ -1,4 +1,5 @@
 pub mod Lodging
+pub mod Known
 pub mod Requests
 pub mod Seen
 pub mod Found

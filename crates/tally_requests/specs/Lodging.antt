@@ -13,12 +13,12 @@ use Rattle.tally_steps.specs.LawfulState.{IsLawfulState}
 use Rattle.tally_statements.specs.Office.{IsInside}
 use Rattle.tally_tables.specs.TablesOfState.{AreTables}
 
--- What a Lodge is answered, of every lawful state whose tables there are.
+-- What a Lodge is answered, for every lawful state whose tables are there.
 abbrev pub IsLodgeAnswer : List Constituency → List ℕ → List ℕ → VoteCounts → Seen → Result LodgeReply Refusal → Type 0
 IsLodgeAnswer setup station slip counts seen r =
     (text : List ℕ) (s : State) → IsLawfulState setup s → AreTables setup text s seen.now.trees → r ≡ lodge_answer (stations_of setup) s.returns station slip counts
 
--- The same of a call that decides a Lodge, of a disk that returned what was written.
+-- The same after a call that decides a Lodge, where the disk returned what was written.
 abbrev pub DecidesLodge : List Constituency → List ℕ → List ℕ → VoteCounts → Seen → Seen → Result (Result LodgeReply Refusal) Error → Type 0
 DecidesLodge setup station slip counts old new result = HasCleanDisk new → IsInside old → IfOk result (IsLodgeAnswer setup station slip counts old)
 

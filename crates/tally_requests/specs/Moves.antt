@@ -26,8 +26,9 @@ abbrev pub CountsSo : Bool → VoteCounts → StationReturn → StationReturn �
 CountsSo true counts before standing = (counts_if_closed (Some before) ≡ []) × (counts_if_closed (Some standing) ≡ counts ∷ [])
 CountsSo false counts before standing = (counts_if_closed (Some before) ≡ counts ∷ []) × (counts_if_closed (Some standing) ≡ [])
 
--- What a call says that adds counts to the sums of a constituency or takes them out, of a disk that returned what was written: where the
--- sums were those of a lawful state, they are those of the returns in which one at a station of the constituency has moved so.
+-- What holds after a call that adds counts to the sums of a constituency or takes them out, where
+-- the disk returned what was written. Where the sums were those of a lawful state, they are those
+-- of the returns in which one at a station of the constituency has moved in this way.
 abbrev pub MovesSums : Constituency → VoteCounts → Bool → Seen → Seen → Result Unit Error → Type 0
 MovesSums con counts add old new result =
     HasCleanDisk new → IsInside old → (setup : List Constituency) (s : State) (station : List ℕ) (place : Station) (before standing : StationReturn)
@@ -35,9 +36,10 @@ MovesSums con counts add old new result =
     → AreRowsOf (total_rows setup s.returns) s.cons (stored_in Totals old)
     → OnOk result (ChangesOnly Totals old new × AreRowsOf (total_rows setup (insert s.returns station standing)) s.cons (stored_in Totals new))
 
--- What a call says that takes the counts of a return out of the sums of its constituency where it is closed, of a disk that returned what
--- was written: where the sums were those of a lawful state, they are those of the returns in which another one, which is not closed, stands
--- at its station.
+-- What holds after a call that takes the counts of a return, if it is closed, out of the sums of
+-- its constituency, where the disk returned what was written. Where the sums were those of a lawful
+-- state, they are those of the returns in which another one, which is not closed, is recorded at
+-- its station.
 abbrev pub Uncounts : Constituency → StationReturn → Seen → Seen → Result Unit Error → Type 0
 Uncounts con before old new result =
     HasCleanDisk new → IsInside old → (setup : List Constituency) (s : State) (station : List ℕ) (place : Station) (standing : StationReturn)
@@ -45,8 +47,9 @@ Uncounts con before old new result =
     → AreRowsOf (total_rows setup s.returns) s.cons (stored_in Totals old)
     → OnOk result (ChangesOnly Totals old new × AreRowsOf (total_rows setup (insert s.returns station standing)) s.cons (stored_in Totals new))
 
--- What a call says that writes a return in place of the one that stood, of a disk that returned what was written: where the tables were
--- those of a lawful state in which the constituency was not certified, they are those of this state.
+-- What holds after a call that writes a return in place of the one that was recorded, where the
+-- disk returned what was written. Where the tables were those of a lawful state in which the
+-- constituency was not certified, they are those of the next state.
 abbrev pub PutsMoved : (State → State) → Constituency → List ℕ → StationReturn → Seen → Seen → Result Unit Error → Type 0
 PutsMoved next con station before old new result =
     HasCleanDisk new → IsInside old → (setup : List Constituency) (place : Station) (text : List ℕ) (s : State)

@@ -22,6 +22,7 @@ use Rattle.tally_keeper.specs.declared.import.Row.{Row}
 use Rattle.tally_keeper.specs.declared.source.ImportFault.{ImportFault}
 use Rattle.tally_statements.specs.Office.{IsInside}
 use Rattle.tally_tables.specs.TablesOfState.{AreTables}
+use Rattle.tally_requests.specs.Known.{AreKnown, Known}
 
 -- In a transaction: the tables are those of this state.
 pub record IsInState (setup : List Constituency) (text : List ℕ) (s : State) (seen : Seen) : Type 0 where
@@ -34,22 +35,36 @@ pub record IsCarriedOut (setup : List Constituency) (text : List ℕ) (s : State
   pub answered : IsAnswered setup s ask r state
   pub in_state : IsInState setup text state new
 
--- What a call says that answers a request, of a disk that returned what was written: of every lawful state whose tables there were.
+-- What holds after a call that answers a request, where the disk returned what was written. It
+-- holds for every lawful state whose tables were there.
 abbrev pub CarriesOut : List Constituency → Ask → Seen → Seen → Result (Result Reply Refusal) Error → Type 0
 CarriesOut setup ask old new result =
     HasCleanDisk new → IsInside old → IfOk result (λ r. (text : List ℕ) (s : State) → IsLawfulState setup s → AreTables setup text s old.now.trees → IsCarriedOut setup text s ask r new)
 
--- A return was lodged as in this state, or the Lodge refused, and the tables are those of the state after it.
+-- The same where all that is known is true.
+abbrev pub CarriesOutKnown : List Constituency → Known → Ask → Seen → Seen → Result (Result Reply Refusal) Error → Type 0
+CarriesOutKnown setup known ask old new result =
+    HasCleanDisk new → IsInside old → IfOk result (λ r. (text : List ℕ) (s : State) → IsLawfulState setup s → AreKnown setup s.returns known
+    → AreTables setup text s old.now.trees → IsCarriedOut setup text s ask r new)
+
+-- And what is known then is true of the state after the request.
+abbrev pub KeepsKnown : List Constituency → Known → Known → Ask → Seen → Seen → Result (Result Reply Refusal) Error → Type 0
+KeepsKnown setup before after ask old new result =
+    HasCleanDisk new → IsInside old → IfOk result (λ r. (text : List ℕ) (s t : State) → IsLawfulState setup s → AreKnown setup s.returns before
+    → AreTables setup text s old.now.trees → IsAnswered setup s ask r t → AreKnown setup t.returns after)
+
+-- A return was lodged as in this state, or the Lodge was refused. The tables are those of the state
+-- after it.
 pub record IsLodged (setup : List Constituency) (text : List ℕ) (s : State) (station slip : List ℕ) (counts : VoteCounts) (r : Result LodgeReply Refusal) (new : Seen) : Type 0 where
   pub answered : r ≡ lodge_answer (stations_of setup) s.returns station slip counts
   pub in_state : IsInState setup text (record s { returns = lodge (stations_of setup) s.returns station slip counts }) new
 
--- and so of every lawful state whose tables there were
+-- and so for every lawful state whose tables were there
 abbrev pub LodgesOf : List Constituency → List ℕ → List ℕ → VoteCounts → Seen → Seen → Result LodgeReply Refusal → Type 0
 LodgesOf setup station slip counts old new r =
     (text : List ℕ) (s : State) → IsLawfulState setup s → AreTables setup text s old.now.trees → IsLodged setup text s station slip counts r new
 
--- The same of a call that lodges a return.
+-- The same after a call that lodges a return, where the disk returned what was written.
 abbrev pub Lodges : List Constituency → List ℕ → List ℕ → VoteCounts → Seen → Seen → Result (Result LodgeReply Refusal) Error → Type 0
 Lodges setup station slip counts old new result =
     HasCleanDisk new → IsInside old → IfOk result (LodgesOf setup station slip counts old new)
@@ -59,29 +74,37 @@ pub record IsRowTaken (setup : List Constituency) (text : List ℕ) (s : State) 
   pub answered : row_answer (stations_of setup) s.returns row ≡ answer
   pub in_state : IsInState setup text (record s { returns = after_row (stations_of setup) s.returns row }) new
 
--- and so of every lawful state whose tables there were
+-- and so for every lawful state whose tables were there
 abbrev pub TakesRow : List Constituency → Row → Seen → Seen → Result RowAnswer ImportFault → Type 0
 TakesRow setup row old new result =
     HasCleanDisk new → IsInside old → IfOk result (λ answer. (text : List ℕ) (s : State) → IsLawfulState setup s → AreTables setup text s old.now.trees → IsRowTaken setup text s row answer new)
 
--- All rows of a source were lodged as in this state, and the tables are those of the state after that.
+-- All rows of a source were lodged as in this state, and the tables are those of the state after
+-- that.
 pub record IsImported (setup : List Constituency) (text : List ℕ) (s : State) (known : Option Coming) (count : ImportCount) (new : Seen) : Type 0 where
   pub state : State
   pub imported : IsImportOf setup (Some s) known count (Some state)
   pub in_state : IsInState setup text state new
 
--- What a call says that lodged the rows of a source, of a disk that returned what was written.
-abbrev pub ImportsRows : List Constituency → Option Coming → Seen → Seen → Result ImportCount ImportFault → Type 0
-ImportsRows setup known old new result =
-    HasCleanDisk new → IsInside old → IfOk result (λ count. (text : List ℕ) (s : State) → IsLawfulState setup s → AreTables setup text s old.now.trees → IsImported setup text s known count new)
+-- and what was known of the state before it is known of the state after it
+abbrev pub IsImportedKnown : List Constituency → List ℕ → State → Option Coming → Known → Known → ImportCount → Seen → Type 0
+IsImportedKnown setup text s coming before after count new =
+    (done : IsImported setup text s coming count new) × (AreKnown setup s.returns before → AreKnown setup done.state.returns after)
 
--- A change of a constituency was carried out as decided in this state: the reply is that of the step, and the tables are those of the state
--- after it.
+-- What holds after a call that lodges the rows of a source, where the disk returned what was
+-- written.
+abbrev pub ImportsRows : List Constituency → Option Coming → Known → Known → Seen → Seen → Result ImportCount ImportFault → Type 0
+ImportsRows setup coming before after old new result =
+    HasCleanDisk new → IsInside old → IfOk result (λ count. (text : List ℕ) (s : State) → IsLawfulState setup s → AreTables setup text s old.now.trees
+    → IsImportedKnown setup text s coming before after count new)
+
+-- A change of a constituency was carried out as decided in this state. The reply is that of the
+-- step, and the tables are those of the state after it.
 pub record IsChangeCarriedOut (setup : List Constituency) (text : List ℕ) (s : State) (con : Constituency) (view : View) (decided : ConChange) (reply : Reply) (new : Seen) : Type 0 where
   pub answered : Ok (answer_seen reply) ≡ con_answer view (Ok decided)
   pub in_state : IsInState setup text (after_change s con.code (Ok decided)) new
 
--- and so of every lawful state whose tables there were and of which this was seen
+-- and so for every lawful state whose tables were there and of which this was seen
 abbrev pub CarriesChange : List Constituency → Constituency → View → Change → Seen → Seen → Result Reply Error → Type 0
 CarriesChange setup con view change old new result =
     HasCleanDisk new → IsInside old → IfOk result (λ reply. (text : List ℕ) (s : State) (decided : ConChange) → con_change change ≡ Some decided → IsLawfulState setup s → IsView con s view → AreTables setup text s old.now.trees

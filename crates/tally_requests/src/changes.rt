@@ -112,7 +112,7 @@ fn set_certified<S: Alter>(
     Ok(Reply::Edition { edition })
 }
 
-/// Opens a constituency again: this is the note, and the certificate goes on record.
+/// Opens a constituency again with this note, and puts its certificate on record.
 fn set_reopened<S: Alter>(
     tx: &mut Transaction<'_, S>,
     setup: &Setup,
@@ -170,7 +170,7 @@ fn write_record<S: Alter>(
     put_record(tx, con, past)
 }
 
-/// Writes that a candidate is gone, and tells who moves in.
+/// Writes that a candidate is gone, and answers who moves in.
 fn set_gone<S: Alter>(
     tx: &mut Transaction<'_, S>,
     setup: &Setup,

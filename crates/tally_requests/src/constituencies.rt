@@ -1,46 +1,53 @@
 //! Requests on a constituency, and the one that shows how far constituencies have come.
 
-ghost use Rattle.std.specs.Prelude.{◌≡◌, Some, IfOk};
+ghost use Rattle.std.specs.Prelude.{◌≡◌, Some, IfOk, OnOk};
 ghost use Rattle.sqlite.specs.State.{HasCleanDisk};
 ghost use Rattle.sqlite.specs.Held.{state};
 ghost use Rattle.tally_steps.specs.Kinds.{IsReplyTo};
 ghost use Rattle.tally_steps.specs.Step.{IsConDecision};
-ghost use Rattle.tally_ledger.specs.Rows.{row_of};
 ghost use Rattle.tally_returns.specs.Named.{con_named};
 ghost use Rattle.tally_returns.specs.View.{FitsView};
 ghost use Rattle.tally_returns.specs.declared.ask.Ask.TheVariants.{ShowProgress};
 ghost use Rattle.tally_rules.specs.Limits.{IsSetup};
 ghost use Rattle.tally_rules.specs.Setup.{constituency_with};
 ghost use Rattle.tally_statements.specs.Office.{IsInside};
-ghost use Rattle.tally_statements.specs.Inside.{OnlyReads, StaysInside};
-ghost use Rattle.tally_requests.specs.Requests.{CarriesOut};
-ghost use Rattle.tally_requests.specs.Seen.{CarriesOutSeen, FindsProgress, FindsRow, LooksUp};
+ghost use Rattle.tally_statements.specs.Inside.{StaysInside};
+ghost use Rattle.tally_requests.specs.Known.{known_of};
+ghost use Rattle.tally_requests.specs.Requests.{CarriesOutKnown, KeepsKnown};
+ghost use Rattle.tally_requests.specs.Seen.{CarriesOutSeen, FindsKnown, FindsProgress, LooksUp};
 
 use crate::changes::carry_out;
+use crate::known::{known_at, remember, statuses_of, statuses_of_row};
 use sqlite::{Alter, Error, Transaction};
 use std::alloc::Global;
-use tally_entries::find_view;
+use std::collections::BTreeMap;
+use tally_entries::{find_progress_row, find_view};
 use tally_machine::{Ask, Change, ConView, ProgressRow, Refusal, Reply, decide_con};
 use tally_rules::{Code, Constituency, Setup};
+use tally_tables::Statuses;
 
 /// Answers a request on the constituency of a code, and carries it out.
 pub(crate) fn answer_on<S: Alter>(
     alloc: Global,
     tx: &mut Transaction<'_, S>,
     setup: &Setup,
+    known: &mut BTreeMap<Code, Statuses>,
     code: Code,
     ask: &Ask,
 ) -> Result<Result<Reply, Refusal>, Error>
     requires named { con_named ask.now ≡ Some code }
     ensures stays { StaysInside S.Store tx.old tx.new }
     ensures kind { IfOk result (λ r. IfOk r (IsReplyTo setup.now ask.now)) }
-    ensures step { CarriesOut setup.now ask.now
+    ensures step { CarriesOutKnown setup.now (known_of known.old) ask.now
+        (state S.Store tx.old.conn.now) (state S.Store tx.new.conn.now) result }
+    ensures known { KeepsKnown setup.now (known_of known.old) (known_of known.new) ask.now
         (state S.Store tx.old.conn.now) (state S.Store tx.new.conn.now) result }
 {
     let Some(con) = setup.con(code) else {
         return Ok(Err(Refusal::NoConstituency));
     };
-    let view = find_view(alloc, tx, setup, con)?;
+    let view = find_view(alloc, tx, setup, con, known_at(known, con.code))?;
+    remember(known, con.code, statuses_of(&view))?;
     answer_seen(alloc, tx, setup, con, view, ask)
 }
 
@@ -68,8 +75,8 @@ fn answer_seen<S: Alter>(
     }
 }
 
-/// Carries out what was decided of a request on a constituency; where nothing changes, what was seen
-/// is shown.
+/// Carries out what was decided of a request on a constituency. Where nothing changes, what was
+/// seen is shown.
 fn carry_out_or_show<S: Alter>(
     tx: &mut Transaction<'_, S>,
     setup: &Setup,
@@ -98,13 +105,16 @@ pub(crate) fn show_progress<S: Alter>(
     alloc: Global,
     tx: &mut Transaction<'_, S>,
     setup: &Setup,
+    known: &mut BTreeMap<Code, Statuses>,
 ) -> Result<Result<Reply, Refusal>, Error>
     ensures stays { StaysInside S.Store tx.old tx.new }
     ensures kind { IfOk result (λ r. IfOk r (IsReplyTo setup.now ShowProgress)) }
-    ensures step { CarriesOut setup.now ShowProgress
+    ensures step { CarriesOutKnown setup.now (known_of known.old) ShowProgress
+        (state S.Store tx.old.conn.now) (state S.Store tx.new.conn.now) result }
+    ensures known { KeepsKnown setup.now (known_of known.old) (known_of known.new) ShowProgress
         (state S.Store tx.old.conn.now) (state S.Store tx.new.conn.now) result }
 {
-    let rows = find_progress(alloc, tx, setup)?;
+    let rows = find_progress(alloc, tx, setup, known)?;
     Ok(Ok(Reply::Progress(rows)))
 }
 
@@ -113,46 +123,21 @@ fn find_progress<S: Alter>(
     alloc: Global,
     tx: &mut Transaction<'_, S>,
     setup: &Setup,
+    known: &mut BTreeMap<Code, Statuses>,
 ) -> Result<Vec<ProgressRow>, Error>
     ensures stays { StaysInside S.Store tx.old tx.new }
     ensures found { HasCleanDisk (state S.Store tx.new.conn.now) → IsInside (state S.Store tx.old.conn.now) →
-        IfOk result (λ rows. FindsProgress setup.now (state S.Store tx.old.conn.now) rows.items) }
+        IfOk result (λ rows. FindsProgress setup.now (known_of known.old) (state S.Store tx.old.conn.now) rows.items) }
+    ensures known { HasCleanDisk (state S.Store tx.new.conn.now) → IsInside (state S.Store tx.old.conn.now) →
+        OnOk result (FindsKnown setup.now (known_of known.old) (known_of known.new) (state S.Store tx.old.conn.now)) }
     ensures still { LooksUp (state S.Store tx.old.conn.now) (state S.Store tx.new.conn.now) result }
 {
     let cons = setup.cons();
     let mut rows = Vec::with_capacity(alloc, cons.len())?;
     for con in cons {
-        rows.push(find_row(alloc, tx, setup, con)?)?;
+        let row = find_progress_row(tx, con, known_at(known, con.code))?;
+        remember(known, con.code, statuses_of_row(&row))?;
+        rows.push(row)?;
     }
     Ok(rows)
-}
-
-/// How far a constituency has come.
-fn find_row<S: Alter>(
-    alloc: Global,
-    tx: &mut Transaction<'_, S>,
-    setup: &Setup,
-    con: &Constituency,
-) -> Result<ProgressRow, Error>
-    ensures reads { OnlyReads S.Store tx.old tx.new result }
-    ensures found { HasCleanDisk (state S.Store tx.new.conn.now) → IsInside (state S.Store tx.old.conn.now) →
-        IfOk result (λ row. FindsRow setup.now con.now (state S.Store tx.old.conn.now) row) }
-{
-    let view = find_view(alloc, tx, setup, con)?;
-    Ok(progress_row(con.code, &view))
-}
-
-fn progress_row(con: Code, view: &ConView) -> ProgressRow
-    ensures { result ≡ row_of con view.now }
-{
-    ProgressRow {
-        con,
-        stations: view.stations,
-        received: view.received,
-        queried: view.queried,
-        corrected: view.corrected,
-        closed: view.closed,
-        edition: view.edition,
-        certified: view.certified,
-    }
 }

@@ -1,10 +1,11 @@
-//! Requests and imports carried out on the tables of an office, in a transaction that the caller begins
-//! and ends.
+//! Requests and imports carried out on the tables of an office, in a transaction that the caller
+//! begins and ends.
 #![tactic(auto)]
 
 mod answer;
 mod changes;
 mod constituencies;
+mod known;
 mod moves;
 mod returns;
 mod rows;

@@ -14,8 +14,8 @@ use tally_entries::{change_return, correct_return, put_lot};
 use tally_returns::{Return, Status};
 use tally_rules::{Code, Constituency};
 
-/// Writes a return that is queried now. Its counts count no longer, and the lot of its constituency is
-/// taken out.
+/// Writes a return that is queried now. Its counts are no longer in the totals, and the lot of its
+/// constituency is taken out.
 pub(crate) fn put_queried<S: Alter>(
     alloc: Global,
     tx: &mut Transaction<'_, S>,
@@ -36,7 +36,7 @@ pub(crate) fn put_queried<S: Alter>(
     change_return(tx, station.as_str(), standing)
 }
 
-/// Takes the counts of a return that is closed out of the sums of its constituency.
+/// Takes the counts of a return, if it is closed, out of the sums of its constituency.
 fn uncount<S: Alter>(
     alloc: Global,
     tx: &mut Transaction<'_, S>,
@@ -73,7 +73,7 @@ pub(crate) fn put_corrected<S: Alter>(
     correct_return(tx, station.as_str(), standing)
 }
 
-/// Writes a return that is closed now. Its counts count.
+/// Writes a return that is closed now. Its counts are added to the totals.
 pub(crate) fn put_closed<S: Alter>(
     alloc: Global,
     tx: &mut Transaction<'_, S>,

@@ -1,6 +1,6 @@
 //! Requests on the return of a station.
 
-ghost use Rattle.std.specs.Prelude.{◌≡◌, ◌≤◌, length, Some, Ok, IfOk, true};
+ghost use Rattle.std.specs.Prelude.{◌≡◌, ◌≤◌, length, Some, Ok, IfOk, OnOk, true};
 ghost use Rattle.std.specs.Option.{ForSome};
 ghost use Rattle.sqlite.specs.State.{HasCleanDisk};
 ghost use Rattle.sqlite.specs.Held.{state};
@@ -19,22 +19,28 @@ ghost use Rattle.tally_requests.specs.Found.{CarriesOutFound, MovesTo, after_mov
 ghost use Rattle.tally_statements.specs.Inside.{OnlyReads, Stays, StaysInside};
 ghost use Rattle.tally_requests.specs.Lodging.{DecidesLodge, IsFewIfLodged};
 ghost use Rattle.tally_requests.specs.Moves.{PutsMoved};
-ghost use Rattle.tally_requests.specs.Requests.{CarriesOut, Lodges};
+ghost use Rattle.tally_requests.specs.Known.{after_lodge, known_of};
+ghost use Rattle.tally_requests.specs.Requests.{CarriesOut, CarriesOutKnown, KeepsKnown, Lodges};
 
+use crate::known::{count_command, count_move, status_found};
 use crate::moves::{put_closed, put_corrected, put_queried};
 use sqlite::{Alter, Error, ErrorCode, Transaction};
 use std::alloc::Global;
+use std::collections::BTreeMap;
 use tally_entries::{add_return, find_certified, find_return};
 use tally_machine::{
     Ask, Change, Counts, LodgeReply, Refusal, Reply, Return, decide_at, decide_lodge,
 };
+use tally_returns::Status;
 use tally_rules::{Code, Constituency, Setup, Station};
+use tally_tables::Statuses;
 
 /// Lodges the return of a station.
 pub(crate) fn lodge<S: Alter>(
     alloc: Global,
     tx: &mut Transaction<'_, S>,
     setup: &Setup,
+    known: &mut BTreeMap<Code, Statuses>,
     station: Code,
     slip: Code,
     counts: &Counts,
@@ -42,6 +48,8 @@ pub(crate) fn lodge<S: Alter>(
     ensures stays { StaysInside S.Store tx.old tx.new }
     ensures lodged { Lodges setup.now station slip counts.now
         (state S.Store tx.old.conn.now) (state S.Store tx.new.conn.now) result }
+    ensures limits { OnOk result (IsSetup setup.now) }
+    ensures known { IfOk result (λ r. known_of known.new ≡ after_lodge setup.now station r (known_of known.old)) }
 {
     let Some((con, place)) = setup.station(station) else {
         return Ok(Err(Refusal::NoStation));
@@ -54,6 +62,7 @@ pub(crate) fn lodge<S: Alter>(
         return Ok(Ok(reply));
     };
     put_first(alloc, tx, con, station, slip, counts)?;
+    count_move(known, con.code, None, Status::Received);
     Ok(Ok(reply))
 }
 
@@ -80,7 +89,7 @@ fn decide_first<S: Alter>(
     Ok(decide_lodge(lists, place.electors, found.as_ref(), slip, counts))
 }
 
-/// Puts the first return of a station of this constituency.
+/// Writes the first return of a station of this constituency.
 fn put_first<S: Alter>(
     alloc: Global,
     tx: &mut Transaction<'_, S>,
@@ -98,11 +107,12 @@ fn put_first<S: Alter>(
     add_return(tx, con.code.as_str(), station.as_str(), &first)
 }
 
-/// Query, Correct and Close.
+/// Answers Query, Correct and Close, and carries them out.
 pub(crate) fn move_on<S: Alter>(
     alloc: Global,
     tx: &mut Transaction<'_, S>,
     setup: &Setup,
+    known: &mut BTreeMap<Code, Statuses>,
     station: Code,
     ask: &Ask,
 ) -> Result<Result<Reply, Refusal>, Error>
@@ -110,7 +120,9 @@ pub(crate) fn move_on<S: Alter>(
     requires moves { moves_return ask.now ≡ true }
     ensures stays { StaysInside S.Store tx.old tx.new }
     ensures kind { IfOk result (λ r. IfOk r (IsReplyTo setup.now ask.now)) }
-    ensures step { CarriesOut setup.now ask.now
+    ensures step { CarriesOutKnown setup.now (known_of known.old) ask.now
+        (state S.Store tx.old.conn.now) (state S.Store tx.new.conn.now) result }
+    ensures known { KeepsKnown setup.now (known_of known.old) (known_of known.new) ask.now
         (state S.Store tx.old.conn.now) (state S.Store tx.new.conn.now) result }
 {
     let Some((con, place)) = setup.station(station) else {
@@ -118,7 +130,10 @@ pub(crate) fn move_on<S: Alter>(
     };
     let found = find_lawful(alloc, tx, setup, con, place, station)?;
     let certified = find_certified(tx, con.code.as_str())?;
-    move_found(alloc, tx, setup, con, place, station, ask, certified, found)
+    let before = status_found(&found);
+    let answer = move_found(alloc, tx, setup, con, place, station, ask, certified, found)?;
+    count_command(known, con.code, ask, before, answer.is_ok());
+    Ok(answer)
 }
 
 /// The return of a station of this constituency, if it has one. One that is not lawful there is an
@@ -221,7 +236,7 @@ fn put_next<S: Alter>(
     Ok(Ok(Reply::Moved { rev: standing.rev }))
 }
 
-/// Writes the return that a command leaves, in place of the one that stood.
+/// Writes the return that a command leaves, in place of the one that was recorded.
 fn put_moved<S: Alter>(
     alloc: Global,
     tx: &mut Transaction<'_, S>,

@@ -10,71 +10,83 @@ ghost use Rattle.tally_rules.specs.Code.{is_code};
 ghost use Rattle.tally_statements.specs.Office.{IsInside};
 ghost use Rattle.tally_statements.specs.Inside.{StaysInside};
 ghost use Rattle.tally_requests.specs.Inside.{StaysInState};
+ghost use Rattle.tally_requests.specs.Known.{after_lodge, after_row, known_of};
 ghost use Rattle.tally_requests.specs.Requests.{ImportsRows, LodgesOf, TakesRow};
 
 use crate::returns::lodge;
 use sqlite::{Alter, Error, ErrorCode, Transaction};
 use std::alloc::Global;
+use std::collections::BTreeMap;
 use tally_keeper::{
     Ask, Counts, ImportCount, ImportFault, LodgeReply, ROW_LIMIT, Refusal, Row, RowSource,
 };
 use tally_rules::{Code, Setup};
+use tally_tables::Statuses;
 
-/// Lodges the rows of a source one by one; refused and bad ones are passed over. With a fault the
-/// caller undoes what was written.
+/// Lodges the rows of a source one by one. Refused and bad rows are passed over. With a fault the
+/// caller undoes what was written, and forgets what was known.
 pub fn take_rows<S: Alter, R: RowSource>(
     alloc: Global,
     tx: &mut Transaction<'_, S>,
     setup: &Setup,
+    known: &mut BTreeMap<Code, Statuses>,
     source: &mut R,
 ) -> Result<ImportCount, ImportFault>
     ensures stays { StaysInState setup.now S.Store tx.old tx.new }
-    ensures imported { ImportsRows setup.now (R.coming source.old)
+    ensures imported { ImportsRows setup.now (R.coming source.old) (known_of known.old) (known_of known.new)
         (state S.Store tx.old.conn.now) (state S.Store tx.new.conn.now) result }
     ensures ended { OnOk result (R.ended source.new ≡ Some None) }
     ensures fault { IfErr result (IsFault (R.coming source.old) (R.ended source.new)) }
 {
+    // Called for what its contract says: the setup is within its limits.
     let _cons = setup.cons();
     let mut count = ImportCount::new();
     for before in 0..ROW_LIMIT + 1 {
         let Some(row) = source.next_row()? else {
             return Ok(count);
         };
-        let answer = take_row(alloc, tx, setup, row)?;
+        let answer = take_row(alloc, tx, setup, known, row)?;
         count.add_row(before + 1, answer);
     }
     Err(ImportFault::TooLong)
 }
 
-/// Lodges a row. One that is no Lodge is answered nothing, as a bad one is.
+/// Lodges a row. A row that is not a Lodge has no answer, as a bad row has none. It takes one layer
+/// off, which the prover needs.
 fn take_row<S: Alter>(
     alloc: Global,
     tx: &mut Transaction<'_, S>,
     setup: &Setup,
+    known: &mut BTreeMap<Code, Statuses>,
     row: Row,
 ) -> Result<Option<Result<LodgeReply, Refusal>>, ImportFault>
     ensures stays { StaysInside S.Store tx.old tx.new }
     ensures codes { IsCodedRow row }
     ensures taken { TakesRow setup.now row
         (state S.Store tx.old.conn.now) (state S.Store tx.new.conn.now) result }
+    ensures known { IfOk result (λ answer. known_of known.new ≡ after_row setup.now row answer (known_of known.old)) }
     ensures own { IfErr result IsOwnFault }
 {
     let Row::Lodge(ask) = row else {
         return Ok(None);
     };
-    take_ask(alloc, tx, setup, ask)
+    take_ask(alloc, tx, setup, known, ask)
 }
 
+/// Lodges what a Lodge brings. Another request has no answer. It takes one layer off, which the
+/// prover needs.
 fn take_ask<S: Alter>(
     alloc: Global,
     tx: &mut Transaction<'_, S>,
     setup: &Setup,
+    known: &mut BTreeMap<Code, Statuses>,
     ask: Ask,
 ) -> Result<Option<Result<LodgeReply, Refusal>>, ImportFault>
     ensures stays { StaysInside S.Store tx.old tx.new }
     ensures codes { IsCodedRow (Row.Lodge ask) }
     ensures taken { TakesRow setup.now (Row.Lodge ask)
         (state S.Store tx.old.conn.now) (state S.Store tx.new.conn.now) result }
+    ensures known { IfOk result (λ answer. known_of known.new ≡ after_row setup.now (Row.Lodge ask) answer (known_of known.old)) }
     ensures own { IfErr result IsOwnFault }
 {
     let Ask::Lodge {
@@ -85,15 +97,17 @@ fn take_ask<S: Alter>(
     else {
         return Ok(None);
     };
-    let answer = take_return(alloc, tx, setup, station, slip, &counts)?;
+    let answer = take_return(alloc, tx, setup, known, station, slip, &counts)?;
     Ok(Some(answer))
 }
 
-/// Lodges a return. An error of the database is a fault of the import.
+/// Lodges a return. An error of the database is a fault of the import. It takes one layer off,
+/// which the prover needs.
 fn take_return<S: Alter>(
     alloc: Global,
     tx: &mut Transaction<'_, S>,
     setup: &Setup,
+    known: &mut BTreeMap<Code, Statuses>,
     station: Code,
     slip: Code,
     counts: &Counts,
@@ -103,10 +117,12 @@ fn take_return<S: Alter>(
     ensures lodged { HasCleanDisk (state S.Store tx.new.conn.now) → IsInside (state S.Store tx.old.conn.now) →
         IfOk result (λ r. LodgesOf setup.now station slip counts.now
         (state S.Store tx.old.conn.now) (state S.Store tx.new.conn.now) r) }
+    ensures known { IfOk result (λ r. known_of known.new ≡ after_lodge setup.now station r (known_of known.old)) }
     ensures own { IfErr result IsOwnFault }
 {
+    // Called for what its contract says: a slip is a code.
     let _slip = slip.as_bytes();
-    match lodge(alloc, tx, setup, station, slip, counts) {
+    match lodge(alloc, tx, setup, known, station, slip, counts) {
         Ok(answer) => Ok(answer),
         Err(error) => Err(import_fault_of(&error)),
     }

@@ -14,9 +14,9 @@ use tally_returns::Counts;
 use tally_rules::Constituency;
 use tally_tables::Sums;
 
-/// Adds the counts of a return that is closed now to the sums of its constituency, or takes out those
-/// of one that is closed no longer. Sums that are not those of its lists, or from which they cannot be
-/// taken out, are an error.
+/// Adds the counts of a return that is closed now to the sums of its constituency, or takes out
+/// those of one that is no longer closed. Sums that are not those of its lists, or from which they
+/// cannot be taken out, are an error.
 pub(crate) fn move_sums<S: Alter>(
     alloc: Global,
     tx: &mut Transaction<'_, S>,
@@ -39,8 +39,8 @@ pub(crate) fn move_sums<S: Alter>(
     put_sums(tx, con.code.as_str(), &sums)
 }
 
-/// The sums with these counts added or taken out, if they are of the same lists and 64 bits hold what
-/// comes of it.
+/// The sums with these counts added or taken out, if they are of the same lists and the results fit
+/// in 64 bits.
 fn moved_sums(sums: Sums, counts: &Counts, add: bool) -> Option<Sums>
     ensures { SomeIff result (FitCounts sums counts.now add) (with_counts_moved sums counts.now add) }
 {
@@ -69,7 +69,7 @@ fn move_votes(votes: &mut [u64], by: &[u32], add: bool) -> Option<()>
     Some(())
 }
 
-/// The sum with a number added or taken out, if 64 bits hold it.
+/// The sum with a number added or taken out, if the result fits in 64 bits.
 fn moved(n: u64, by: u32, add: bool) -> Option<u64>
     ensures { SomeIff result (FitsMoved n by add) (moved_sum n by add) }
 {

@@ -1,4 +1,5 @@
--- Commands as contracts see them: a note is its bytes and an order its codes, however a program keeps them.
+-- Commands as contracts see them: a note is its bytes and an order its codes, however a program
+-- keeps them.
 use Rattle.std.specs.Prelude.{ℕ, List, string_bytes}
 use Rattle.tally_returns.specs.Counts.{VoteCounts}
 use Rattle.tally_returns.specs.declared.ask.Ask.{Ask}

@@ -19,7 +19,9 @@ is_number n = nat_le n greatest
 
 -- one number for each list, and none above the greatest
 abbrev pub are_counts : ℕ → VoteCounts → Bool
-are_counts lists c = (length c.votes == lists) && list_all is_number c.votes && is_number c.blank && is_number c.spoiled
+are_counts lists c =
+    (length c.votes == lists) && list_all is_number c.votes && is_number c.blank
+    && is_number c.spoiled
 
 -- every vote that was cast: a blank and a spoiled one count too
 abbrev pub all_votes : VoteCounts → ℕ
@@ -27,4 +29,6 @@ all_votes c = sum c.votes + c.blank + c.spoiled
 
 -- the same counts
 abbrev pub same_counts : VoteCounts → VoteCounts → Bool
-same_counts = eq_of_both (on (λ c. c.votes) (pointwise nat_eq)) (eq_of_both (on (λ c. c.blank) nat_eq) (on (λ c. c.spoiled) nat_eq))
+same_counts =
+    eq_of_both (on (λ c. c.votes) (pointwise nat_eq))
+    (eq_of_both (on (λ c. c.blank) nat_eq) (on (λ c. c.spoiled) nat_eq))

@@ -1,4 +1,5 @@
--- What is decided of a command on the return of a station: the refusal of the first check that fails, or what is changed.
+-- What is decided of a command on the return of a station: the refusal of the first check that
+-- fails, or what is changed.
 use Rattle.std.specs.Prelude.{◌≡◌, ◌≢◌, ℕ, Bool, List, [], ◌∷◌, Option, Some, None, Result, Ok, Err, is_some, string_bytes, length, option_and_then, option_map}
 use Rattle.std.specs.List.{find}
 use Rattle.std.specs.Str.{bytes_eq}
@@ -28,7 +29,8 @@ limits_of con station = limits_for (length con.lists) station.electors
 
 -- what the constituency says of the station that a command names
 abbrev pub limits_named : Constituency → Ask → Option StationLimits
-limits_named con ask = option_map (limits_of con) (option_and_then (station_in con) (station_named ask))
+limits_named con ask =
+    option_map (limits_of con) (option_and_then (station_in con) (station_named ask))
 
 -- the checks of ShowReturn
 abbrev pub show_checks : Option StationLimits → Option StationReturn → List (Option Refusal)
@@ -40,37 +42,52 @@ lodge_change slip counts (Ok (reply.Lodged rev)) = Ok (PutReturn (first_return s
 lodge_change slip counts (Ok (reply.Same rev)) = Ok Same
 lodge_change slip counts (Err refusal) = Err refusal
 
--- The recorded return becomes the next one. That there is one is among the checks of each command that moves it, so the line for none is
--- never used.
+-- The recorded return becomes the next one. Each command that moves it checks that there is one, so
+-- the line for none is never used.
 abbrev pub put_next : Option StationReturn → (StationReturn → StationReturn) → Change
 put_next None next = Same
 put_next (Some standing) next = PutReturn (next standing)
-
--- the refusal of the first check that fails, or else the next return
-abbrev pub decided_move : List (Option Refusal) → Option StationReturn → (StationReturn → StationReturn) → Result Change Refusal
-decided_move checks found next = refused_or (first_refusal checks) (Ok (put_next found next))
-
--- what is decided at a station, by whether its constituency is certified and by the return that it has. Other commands change no
--- return.
-abbrev pub decided_return : Option StationLimits → Bool → Option StationReturn → Ask → Result Change Refusal
-decided_return station certified found (Lodge code slip counts) = lodge_change slip counts (decided_at_code station found slip counts)
-decided_return station certified found (Query code rev note) =
-    decided_move (query_checks station certified found rev (string_bytes note)) found (queried (string_bytes note))
-decided_return station certified found (Correct code rev slip counts) =
-    decided_move (correct_checks station certified found rev counts) found (corrected slip counts)
-decided_return station certified found (Close code rev) = decided_move (close_checks station certified found rev) found closed
-decided_return station certified found (ShowReturn code) = refused_or (first_refusal (show_checks station found)) (Ok Same)
-decided_return station certified found other = Ok Same
-
--- the same at a station of this constituency
-abbrev pub decided_there : Constituency → Station → Bool → Option StationReturn → Ask → Result Change Refusal
-decided_there con station certified found ask = decided_return (Some (limits_of con station)) certified found ask
-
--- the same at the station of this constituency that the command names
-abbrev pub decided_where_named : Constituency → Bool → Option StationReturn → Ask → Result Change Refusal
-decided_where_named con certified found ask = decided_return (limits_named con ask) certified found ask
 
 -- what is answered is this, unless an allocation was refused
 abbrev pub IsUnlessMemory : {X : Type 0} → Result X Refusal → Result X Refusal → Type 0
 IsUnlessMemory (Ok x) answer = answer ≡ Ok x
 IsUnlessMemory (Err refusal) answer = refusal ≢ Memory → answer ≡ Err refusal
+
+-- the refusal of the first check that fails, or else the next return
+abbrev pub decided_move : List (Option Refusal) → Option StationReturn
+    → (StationReturn → StationReturn) → Result Change Refusal
+decided_move checks found next = refused_or (first_refusal checks) (Ok (put_next found next))
+
+-- This is decided of a move, unless an allocation was refused.
+abbrev pub IsDecidedMove : List (Option Refusal) → Option StationReturn
+    → (StationReturn → StationReturn) → Result Change Refusal → Type 0
+IsDecidedMove checks found next result = IsUnlessMemory result (decided_move checks found next)
+
+-- what is decided at a station, by whether its constituency is certified and by the return that it
+-- has. Other commands change no return.
+abbrev pub decided_return : Option StationLimits → Bool → Option StationReturn → Ask
+    → Result Change Refusal
+decided_return station certified found (Lodge code slip counts) =
+    lodge_change slip counts (decided_at_code station found slip counts)
+decided_return station certified found (Query code rev note) =
+    decided_move (query_checks station certified found rev (string_bytes note)) found
+    (queried (string_bytes note))
+decided_return station certified found (Correct code rev slip counts) =
+    decided_move (correct_checks station certified found rev counts) found (corrected slip counts)
+decided_return station certified found (Close code rev) =
+    decided_move (close_checks station certified found rev) found closed
+decided_return station certified found (ShowReturn code) =
+    refused_or (first_refusal (show_checks station found)) (Ok Same)
+decided_return station certified found other = Ok Same
+
+-- the same at a station of this constituency
+abbrev pub decided_there : Constituency → Station → Bool → Option StationReturn → Ask
+    → Result Change Refusal
+decided_there con station certified found ask =
+    decided_return (Some (limits_of con station)) certified found ask
+
+-- the same at the station of this constituency that the command names
+abbrev pub decided_where_named : Constituency → Bool → Option StationReturn → Ask
+    → Result Change Refusal
+decided_where_named con certified found ask =
+    decided_return (limits_named con ask) certified found ask

@@ -15,7 +15,8 @@ use Rattle.tally_returns.specs.declared.ask.Ask.{Ask}
 use Rattle.tally_returns.specs.declared.change.Change.{Change}
 use Rattle.tally_returns.specs.declared.change.Change.TheVariants.{Same, PutReturn}
 
--- a note that is kept, of a query, of a reopening or of one who is gone: it is UTF-8, as every text here is
+-- a note that is kept, of a query, of a reopening or of one who is gone: it is UTF-8, as every text
+-- here is
 abbrev pub is_kept_note : List ℕ → Bool
 is_kept_note note = is_note note && is_utf8 note
 
@@ -35,11 +36,14 @@ pub record IsLawful (station : StationLimits) (standing : StationReturn) : Type 
 
 -- a lawful return of the station of a code
 abbrev pub IsLawfulAt : List Constituency → List ℕ → StationReturn → Type 0
-IsLawfulAt setup station standing = (limits : StationLimits) × (stations_of setup station ≡ Some limits) × IsLawful limits standing
+IsLawfulAt setup station standing =
+    (limits : StationLimits) × (stations_of setup station ≡ Some limits) × IsLawful limits standing
 
--- the return that stands, if one does, is lawful at the station of this constituency that a command names
+-- the recorded return, if there is one, is lawful at the station of this constituency that a
+-- command names
 abbrev pub IsLawfulWhereNamed : Constituency → Ask → Option StationReturn → Type 0
-IsLawfulWhereNamed con ask found = ForSome (limits_named con ask) (λ station. ForSome found (IsLawful station))
+IsLawfulWhereNamed con ask found =
+    ForSome (limits_named con ask) (λ station. ForSome found (IsLawful station))
 
 -- a return that is put is lawful, and nothing else is changed
 abbrev pub PutsLawful : StationLimits → Change → Type 0
@@ -49,4 +53,5 @@ PutsLawful station other = ⊥
 
 -- the same at the station of this constituency that a command names
 abbrev pub PutsLawfulWhereNamed : Constituency → Ask → Change → Type 0
-PutsLawfulWhereNamed con ask change = ForSome (limits_named con ask) (λ station. PutsLawful station change)
+PutsLawfulWhereNamed con ask change =
+    ForSome (limits_named con ask) (λ station. PutsLawful station change)

@@ -1,14 +1,15 @@
 -- Query, Correct and Close: the checks of each in their order, and the return that it leaves.
-use Rattle.std.specs.Prelude.{◌+◌, ◌==◌, not, ℕ, Bool, true, false, List, [], ◌∷◌, ◌++◌, Option, nat_le, is_some}
+use Rattle.std.specs.Prelude.{◌+◌, ◌==◌, not, ℕ, Bool, true, false, List, [], ◌∷◌, ◌++◌, Option, is_some}
+use Rattle.std.specs.Option.{option_map_or}
 use Rattle.tally_rules.specs.Text.{is_note}
-use Rattle.tally_returns.specs.Counts.{VoteCounts, are_counts, all_votes}
+use Rattle.tally_returns.specs.Counts.{VoteCounts}
 use Rattle.tally_returns.specs.Return.{StationReturn}
-use Rattle.tally_returns.specs.Lodge.{StationLimits}
+use Rattle.tally_returns.specs.Lodge.{StationLimits, counts_checks}
 use Rattle.tally_returns.specs.Checks.{check, check_found}
 use Rattle.tally_returns.specs.declared.returns.Status.{Status}
 use Rattle.tally_returns.specs.declared.returns.Status.TheVariants.{Received, Queried, Corrected, Closed}
 use Rattle.tally_returns.specs.declared.refusal.Refusal.{Refusal}
-use Rattle.tally_returns.specs.declared.refusal.Refusal.TheVariants.{NoStation, BadCounts, BadNote, TooManyVotes, NoReturn, Certified, Stale, Exhausted, WrongStatus}
+use Rattle.tally_returns.specs.declared.refusal.Refusal.TheVariants.{NoStation, BadNote, NoReturn, Certified, Stale, Exhausted, WrongStatus}
 
 -- the last revision that a return can have
 abbrev pub last_revision : ℕ
@@ -33,35 +34,38 @@ may_close Queried = false
 may_close Corrected = true
 may_close Closed = false
 
--- the checks on a return that is to move: it is there, its constituency is not certified, the revision named is the present
--- one and is not the last, and the command starts from its status
+-- the checks on a return that is to move: it is there, its constituency is not certified, the
+-- revision named is the present one and is not the last, and the command starts from its status
 abbrev pub move_checks : Bool → Option StationReturn → ℕ → (Status → Bool) → List (Option Refusal)
 move_checks certified found rev may_start =
     check (is_some found) NoReturn
     ∷ check (not certified) Certified
     ∷ check_found found (λ standing. standing.rev == rev) (λ standing. Stale standing.rev)
     ∷ check_found found (λ standing. not (standing.rev == last_revision)) (λ standing. Exhausted)
-    ∷ check_found found (λ standing. may_start standing.status) (λ standing. WrongStatus standing.status)
+    ∷ check_found found (λ standing. may_start standing.status)
+    (λ standing. WrongStatus standing.status)
     ∷ []
 
-abbrev pub query_checks : Option StationLimits → Bool → Option StationReturn → ℕ → List ℕ → List (Option Refusal)
+abbrev pub query_checks : Option StationLimits → Bool → Option StationReturn → ℕ → List ℕ
+    → List (Option Refusal)
 query_checks station certified found rev note =
     check (is_some station) NoStation
     ∷ check (is_note note) BadNote
     ∷ move_checks certified found rev may_query
 
--- the checks on the counts that come to a station
+-- the checks on the counts that come to a code: it is a station, and then those on what was counted
 abbrev pub counts_checks_at : Option StationLimits → VoteCounts → List (Option Refusal)
 counts_checks_at station counts =
     check (is_some station) NoStation
-    ∷ check_found station (λ limits. are_counts limits.lists counts) (λ limits. BadCounts)
-    ∷ check_found station (λ limits. nat_le (all_votes counts) limits.electors) (λ limits. TooManyVotes)
-    ∷ []
+    ∷ option_map_or (λ limits. counts_checks limits counts) station []
 
-abbrev pub correct_checks : Option StationLimits → Bool → Option StationReturn → ℕ → VoteCounts → List (Option Refusal)
-correct_checks station certified found rev counts = counts_checks_at station counts ++ move_checks certified found rev may_correct
+abbrev pub correct_checks : Option StationLimits → Bool → Option StationReturn → ℕ → VoteCounts
+    → List (Option Refusal)
+correct_checks station certified found rev counts =
+    counts_checks_at station counts ++ move_checks certified found rev may_correct
 
-abbrev pub close_checks : Option StationLimits → Bool → Option StationReturn → ℕ → List (Option Refusal)
+abbrev pub close_checks : Option StationLimits → Bool → Option StationReturn → ℕ
+    → List (Option Refusal)
 close_checks station certified found rev =
     check (is_some station) NoStation
     ∷ move_checks certified found rev may_close
@@ -72,7 +76,8 @@ queried note standing = record standing { rev = standing.rev + 1; status = Queri
 
 -- slip and counts are replaced, the note is kept
 abbrev pub corrected : List ℕ → VoteCounts → StationReturn → StationReturn
-corrected slip counts standing = record standing { rev = standing.rev + 1; slip = slip; status = Corrected; counts = counts }
+corrected slip counts standing =
+    record standing { rev = standing.rev + 1; slip = slip; status = Corrected; counts = counts }
 
 -- the note is kept
 abbrev pub closed : StationReturn → StationReturn

@@ -47,6 +47,7 @@ slip_named (Vacate con list place note) = None
 slip_named (ShowCon con) = None
 slip_named ShowProgress = None
 
--- The slip that a command brings is a code. So it is of each command that a program makes; a law that speaks of all commands asks for it.
+-- The slip that a command brings is a code. So it is of each command that a program makes; a law
+-- that speaks of all commands asks for it.
 abbrev pub BringsCode : Ask → Type 0
 BringsCode ask = ForSome (slip_named ask) (λ slip. is_code slip ≡ true)

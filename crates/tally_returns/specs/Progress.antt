@@ -36,7 +36,10 @@ is_closed Closed = true
 
 -- how many of these stations have a return of such a status
 abbrev pub stations_in : (Status → Bool) → Returns → List Station → ℕ
-stations_in is_status returns stations = count_by (λ (station : Station). option_map_or (λ (standing : StationReturn). is_status standing.status) (get returns station.code) false) stations
+stations_in is_status returns stations =
+    count_by (λ (station : Station).
+    option_map_or (λ (standing : StationReturn). is_status standing.status)
+    (get returns station.code) false) stations
 
 abbrev pub progress_row : State → Constituency → ProgressRow
 progress_row s con = record {

@@ -6,7 +6,8 @@ use Rattle.tally_returns.specs.Counts.{VoteCounts}
 use Rattle.tally_returns.specs.declared.returns.Status.{Status}
 use Rattle.tally_returns.specs.declared.returns.Status.TheVariants.{Received}
 
--- its revision (from 1), the code of the slip that it was lodged with, its status, the note of its last query (empty at first) and its counts
+-- its revision (from 1), the code of the slip that it was lodged with, its status, the note of its
+-- last query (empty at first) and its counts
 pub record StationReturn : Type 0 where
   pub rev : ℕ
   pub slip : List ℕ
@@ -20,4 +21,5 @@ Returns = FinMap code_cmp StationReturn
 
 -- a return as it is lodged
 abbrev pub first_return : List ℕ → VoteCounts → StationReturn
-first_return slip counts = record { rev = 1; slip = slip; status = Received; note = []; counts = counts }
+first_return slip counts =
+    record { rev = 1; slip = slip; status = Received; note = []; counts = counts }

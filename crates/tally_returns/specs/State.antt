@@ -1,4 +1,5 @@
--- What the office keeps: the return of each station that has one, and what each constituency has come to.
+-- What the office keeps: the return of each station that has one, and what each constituency has
+-- come to.
 use Rattle.std.specs.Prelude.{ℕ, Bool, false, List, [], map, option_map, unwrap_or}
 use Rattle.std.specs.FinMap.{FinMap, get, empty, from_entries}
 use Rattle.std.specs.Ordering.{nat_cmp}
@@ -10,16 +11,19 @@ use Rattle.tally_returns.specs.Return.{Returns}
 use Rattle.tally_returns.specs.Lodge.{Stations}
 use Rattle.tally_returns.specs.Decide.{limits_of}
 
--- the note of each candidate who is gone, by the place of its list in the constituency and its own place there, both from 1
+-- the note of each candidate who is gone, by the place of its list in the constituency and its own
+-- place there, both from 1
 abbrev pub GoneCandidates : Type 0
 GoneCandidates = FinMap (slice_cmp nat_cmp) (List ℕ)
 
--- the seats of each list of each certificate that was reopened, by the edition at which it was in force
+-- the seats of each list of each certificate that was reopened, by the edition at which it was in
+-- force
 abbrev pub Records : Type 0
 Records = FinMap nat_cmp (List ℕ)
 
--- what a constituency has come to: its edition, whether it is certified, the note of its last reopening, its lot (the places of
--- lists, none where no lot is recorded), the candidates who are gone and the certificates that were reopened
+-- what a constituency has come to: its edition, whether it is certified, the note of its last
+-- reopening, its lot (the places of lists, none where no lot is recorded), the candidates who are
+-- gone and the certificates that were reopened
 pub record ConState : Type 0 where
   pub edition : ℕ
   pub certified : Bool
@@ -38,7 +42,8 @@ last_edition = 9999
 
 -- a constituency as it opens
 abbrev pub opening_con : ConState
-opening_con = record { edition = 1; certified = false; note = []; lot = []; gone = empty; past = empty }
+opening_con =
+    record { edition = 1; certified = false; note = []; lot = []; gone = empty; past = empty }
 
 abbrev pub opening_cons : List Constituency → FinMap code_cmp ConState
 opening_cons setup = from_entries (map (λ (con : Constituency). (con.code, opening_con)) setup)
@@ -53,4 +58,5 @@ con_state s code = unwrap_or (get s.cons code) opening_con
 
 -- what a setup says of the station of a code
 abbrev pub stations_of : List Constituency → Stations
-stations_of setup station = option_map (λ place. limits_of place.0 place.1) (station_with station setup)
+stations_of setup station =
+    option_map (λ place. limits_of place.0 place.1) (station_with station setup)

@@ -1,4 +1,5 @@
--- What is seen of a constituency: what it has come to, how many of its returns are in each status, and its closed votes.
+-- What is seen of a constituency: what it has come to, how many of its returns are in each status,
+-- and its closed votes.
 use Rattle.std.specs.Prelude.{◌≡◌, ◌≤◌, ◌++◌, ℕ, All, Bool, true, List, [], ◌∷◌, length, map, sum_by, slice_index, Option, Some, None, if◌then◌else◌}
 use Rattle.std.specs.List.{range_with_len}
 use Rattle.std.specs.FinMap.{get, entries}
@@ -12,9 +13,10 @@ use Rattle.tally_returns.specs.Return.{StationReturn, Returns}
 use Rattle.tally_returns.specs.State.{State, ConState, GoneCandidates, Records, con_state, last_edition}
 use Rattle.tally_returns.specs.Progress.{is_received, is_queried, is_corrected, is_closed, stations_in}
 
--- how many stations there are and how many of their returns are in each status; votes, blank and spoiled ones are those of the
--- closed returns; seats are those of each list where the constituency is certified, and else there are none; past are the
--- certificates that were reopened, in order of edition
+-- how many stations there are and how many of their returns are in each status; votes, blank and
+-- spoiled ones are those of the closed returns; seats are those of each list where the constituency
+-- is certified, and else there are none; past are the certificates that were reopened, in order of
+-- edition
 pub record View : Type 0 where
   pub edition : ℕ
   pub certified : Bool
@@ -36,7 +38,8 @@ pub record View : Type 0 where
 abbrev pub HasEachList : Constituency → PastSeats → Type 0
 HasEachList con past = length past.seats ≡ length con.lists
 
--- The shape of a view of this constituency. One that a database gave may have it and yet be no view of a state that an office comes to.
+-- The shape of a view of this constituency. One that a database gave may have it and yet be no view
+-- of a state that an office comes to.
 pub record FitsView (con : Constituency) (view : View) : Type 0 where
   pub lists : length view.votes ≡ length con.lists
   pub votes : IsWithinVotes view.votes view.blank
@@ -54,7 +57,8 @@ counts_if_closed (Some standing) = if is_closed standing.status then standing.co
 -- the counts of the closed returns of these stations, in order
 abbrev pub closed_counts : Returns → List Station → List VoteCounts
 closed_counts returns [] = []
-closed_counts returns (station ∷ stations) = counts_if_closed (get returns station.code) ++ closed_counts returns stations
+closed_counts returns (station ∷ stations) =
+    counts_if_closed (get returns station.code) ++ closed_counts returns stations
 
 -- the votes for the list at a place, from 0, together
 abbrev pub votes_at : List VoteCounts → ℕ → ℕ
@@ -74,7 +78,8 @@ spoiled_of counts = sum_by (λ (c : VoteCounts). c.spoiled) counts
 
 -- the candidates who are gone, in order of list and then of candidate
 abbrev pub gone_candidate : List ℕ × List ℕ → GoneCandidate
-gone_candidate entry = record { list = slice_index entry.0 0; place = slice_index entry.0 1; note = entry.1 }
+gone_candidate entry =
+    record { list = slice_index entry.0 0; place = slice_index entry.0 1; note = entry.1 }
 
 abbrev pub gone_candidates : GoneCandidates → List GoneCandidate
 gone_candidates gone = map gone_candidate (entries gone)

@@ -131,6 +131,7 @@ fn known(code: Code) -> Code
     ensures same { result ≡ code }
     ensures code { is_code code ≡ true }
 {
+    // Called for what its contract says: these are the bytes of a code.
     let _characters = code.as_bytes();
     code
 }

@@ -1,20 +1,22 @@
 //! What is decided of a command on the return of a station.
 
-ghost use Rattle.std.specs.Prelude.{◌≡◌, ◌≤◌, ◌∷◌, [], Some, None, Ok, IfOk, IfErr, IsSome, is_some, option_map};
+ghost use Rattle.std.specs.Prelude.{◌≡◌, ◌≤◌, ◌∷◌, [], Ok, IfOk, IsSome, is_some};
 ghost use Rattle.std.specs.Option.{ForSome, option_copied};
 ghost use Rattle.tally_rules.specs.Text.{is_note};
 ghost use Rattle.tally_returns.specs.Checks.{check, first_refusal, refused_or};
-ghost use Rattle.tally_returns.specs.Decide.{IsUnlessMemory, decided_move, decided_there, decided_where_named, limits_named, limits_of, lodge_change, station_in};
+ghost use Rattle.tally_returns.specs.Decide.{IsDecidedMove, IsUnlessMemory, decided_there, decided_where_named};
+ghost use Rattle.tally_returns.specs.Decide.{limits_named, limits_of, lodge_change, station_in};
 ghost use Rattle.tally_returns.specs.Lawful.{IsLawful, IsLawfulWhereNamed, PutsLawful, PutsLawfulWhereNamed};
 ghost use Rattle.tally_returns.specs.Lodge.{decided_at};
 ghost use Rattle.tally_returns.specs.declared.change.Change.TheVariants.{Same};
-ghost use Rattle.tally_returns.specs.Moves.{closed, corrected, counts_checks_at, last_revision, may_close, may_correct, may_query, move_checks, queried};
+ghost use Rattle.tally_returns.specs.Moves.{closed, corrected, last_revision, may_close, may_correct, may_query};
+ghost use Rattle.tally_returns.specs.Moves.{move_checks, queried};
 ghost use Rattle.tally_returns.specs.declared.refusal.Refusal.TheVariants.{BadNote, NoReturn};
 
 use crate::ask::Ask;
 use crate::change::Change;
 use crate::counts::Counts;
-use crate::lodge::decide_lodge;
+use crate::lodge::{check_counts, decide_lodge};
 use crate::moves::{check_move, may_close, may_correct, may_query};
 use crate::refusal::Refusal;
 use crate::reply::LodgeReply;
@@ -23,7 +25,7 @@ use std::alloc::Global;
 use tally_rules::{Code, Constituency, Station, good_note};
 
 /// What a command on a return changes, or why it is refused: at a station of this constituency,
-/// which is certified or not, where this return or none stands.
+/// which is certified or not, where this return or none is recorded.
 pub fn decide_return(
     alloc: Global,
     con: &Constituency,
@@ -33,7 +35,8 @@ pub fn decide_return(
 ) -> Result<Change, Refusal>
     requires station { IsSome (limits_named con.now ask.now) }
     requires lawful { IsLawfulWhereNamed con.now ask.now (option_copied found) }
-    ensures decided { IsUnlessMemory result (decided_where_named con.now certified (option_copied found.entry) ask.now) }
+    ensures decided { IsUnlessMemory result
+        (decided_where_named con.now certified (option_copied found.entry) ask.now) }
     ensures lawful { IfOk result (PutsLawfulWhereNamed con.now ask.now) }
 {
     let Some(code) = ask.station() else {
@@ -55,9 +58,11 @@ pub fn decide_at(
     ask: &Ask,
 ) -> Result<Change, Refusal>
     requires lawful { ForSome (option_copied found) (IsLawful (limits_of con.now station.now)) }
-    ensures decided { IsUnlessMemory result (decided_there con.now station.now certified (option_copied found.entry) ask.now) }
+    ensures decided { IsUnlessMemory result
+        (decided_there con.now station.now certified (option_copied found.entry) ask.now) }
     ensures lawful { IfOk result (PutsLawful (limits_of con.now station.now)) }
 {
+    // Called for what its contract says: a slip is a code.
     let _slip = ask.slip();
     match ask {
         Ask::Lodge { slip, counts, .. } => decide_first(alloc, con, station, found, *slip, counts),
@@ -68,7 +73,7 @@ pub fn decide_at(
             counts,
             ..
         } => {
-            check_counts(con, station, counts)?;
+            check_counts(con.lists.len(), station.electors, counts)?;
             decide_correct(alloc, certified, found, *rev, *slip, counts)
         }
         Ask::Close { rev, .. } => decide_close(alloc, certified, found, *rev),
@@ -85,7 +90,8 @@ fn decide_first(
     slip: Code,
     counts: &Counts,
 ) -> Result<Change, Refusal>
-    ensures { IsUnlessMemory result (lodge_change slip counts.now (decided_at (limits_of con.now station.now) (option_copied found.entry) slip counts.now)) }
+    ensures { IsUnlessMemory result (lodge_change slip counts.now
+        (decided_at (limits_of con.now station.now) (option_copied found.entry) slip counts.now)) }
 {
     match decide_lodge(con.lists.len(), station.electors, found, slip, counts)? {
         LodgeReply::Lodged { .. } => {
@@ -104,7 +110,9 @@ fn decide_query(
     note: &str,
 ) -> Result<Change, Refusal>
     requires { ForSome (option_copied found) (λ standing. standing.rev ≤ last_revision) }
-    ensures { IsUnlessMemory result (decided_move (check (is_note note.now) BadNote ∷ move_checks certified (option_copied found.entry) rev may_query) (option_copied found.entry) (queried note.now)) }
+    ensures { let standing = option_copied found.entry in IsDecidedMove
+        (check (is_note note.now) BadNote ∷ move_checks certified standing rev may_query)
+        standing (queried note.now) result }
 {
     if !good_note(note) {
         return Err(Refusal::BadNote);
@@ -125,7 +133,9 @@ fn decide_correct(
     counts: &Counts,
 ) -> Result<Change, Refusal>
     requires { ForSome (option_copied found) (λ standing. standing.rev ≤ last_revision) }
-    ensures { IsUnlessMemory result (decided_move (move_checks certified (option_copied found.entry) rev may_correct) (option_copied found.entry) (corrected slip counts.now)) }
+    ensures { let standing = option_copied found.entry in IsDecidedMove
+        (move_checks certified standing rev may_correct)
+        standing (corrected slip counts.now) result }
 {
     let Some(standing) = found else {
         return Err(Refusal::NoReturn);
@@ -141,7 +151,8 @@ fn decide_close(
     rev: u32,
 ) -> Result<Change, Refusal>
     requires { ForSome (option_copied found) (λ standing. standing.rev ≤ last_revision) }
-    ensures { IsUnlessMemory result (decided_move (move_checks certified (option_copied found.entry) rev may_close) (option_copied found.entry) closed) }
+    ensures { let standing = option_copied found.entry in IsDecidedMove
+        (move_checks certified standing rev may_close) standing closed result }
 {
     let Some(standing) = found else {
         return Err(Refusal::NoReturn);
@@ -151,26 +162,13 @@ fn decide_close(
 }
 
 fn decide_show(found: Option<&Return>) -> Result<Change, Refusal>
-    ensures { result ≡ refused_or (first_refusal (check (is_some found.entry) NoReturn ∷ [])) (Ok Same) }
+    ensures { result
+        ≡ refused_or (first_refusal (check (is_some found.entry) NoReturn ∷ [])) (Ok Same) }
 {
     match found {
         Some(_) => Ok(Change::Same),
         None => Err(Refusal::NoReturn),
     }
-}
-
-/// The checks on the counts that come to a station.
-fn check_counts(con: &Constituency, station: &Station, counts: &Counts) -> Result<(), Refusal>
-    ensures passed { IfOk result (λ _. first_refusal (counts_checks_at (Some (limits_of con.now station.now)) counts.now) ≡ None) }
-    ensures refused { IfErr result (λ refusal. first_refusal (counts_checks_at (Some (limits_of con.now station.now)) counts.now) ≡ Some refusal) }
-{
-    if !counts.are_for(con.lists.len()) {
-        return Err(Refusal::BadCounts);
-    }
-    if counts.all_votes() > u64::from(station.electors) {
-        return Err(Refusal::TooManyVotes);
-    }
-    Ok(())
 }
 
 fn station_in(con: &Constituency, station: Code) -> Option<&Station>

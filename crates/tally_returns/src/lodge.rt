@@ -1,8 +1,9 @@
 //! What is decided of a Lodge.
 
-ghost use Rattle.std.specs.Prelude.{◌≡◌, ◌≤◌};
+ghost use Rattle.std.specs.Prelude.{◌≡◌, ◌≤◌, IfErr, OnOk, None, Some};
 ghost use Rattle.std.specs.Option.{option_copied};
-ghost use Rattle.tally_returns.specs.Lodge.{again, decided_at, limits_for};
+ghost use Rattle.tally_returns.specs.Checks.{first_refusal};
+ghost use Rattle.tally_returns.specs.Lodge.{again, counts_checks, decided_at, limits_for};
 
 use crate::counts::Counts;
 use crate::refusal::Refusal;
@@ -11,8 +12,8 @@ use crate::returns::Return;
 use tally_rules::Code;
 
 /// What a Lodge is answered at a station of so many lists (at most 60) and electors, where this
-/// return or none stands. Where the reply is `Lodged`, `Return::lodged` is the return that is then
-/// to stand.
+/// return or none is recorded. Where the reply is `Lodged`, `Return::lodged` is the return that is
+/// then to be recorded.
 pub fn decide_lodge(
     lists: usize,
     electors: u32,
@@ -21,7 +22,23 @@ pub fn decide_lodge(
     counts: &Counts,
 ) -> Result<LodgeReply, Refusal>
     requires { lists ≤ 60 }
-    ensures { result ≡ decided_at (limits_for lists electors) (option_copied found.entry) slip counts.now }
+    ensures { result
+        ≡ decided_at (limits_for lists electors) (option_copied found.entry) slip counts.now }
+{
+    check_counts(lists, electors, counts)?;
+    match found {
+        Some(standing) => decide_again(standing, slip, counts),
+        None => Ok(LodgeReply::Lodged { rev: 1 }),
+    }
+}
+
+/// The checks on the counts that come to a station of so many lists (at most 60) and electors.
+pub(crate) fn check_counts(lists: usize, electors: u32, counts: &Counts) -> Result<(), Refusal>
+    requires { lists ≤ 60 }
+    ensures passed { OnOk result
+        (first_refusal (counts_checks (limits_for lists electors) counts.now) ≡ None) }
+    ensures refused { IfErr result (λ refusal.
+        first_refusal (counts_checks (limits_for lists electors) counts.now) ≡ Some refusal) }
 {
     if !counts.are_for(lists) {
         return Err(Refusal::BadCounts);
@@ -29,10 +46,7 @@ pub fn decide_lodge(
     if counts.all_votes() > u64::from(electors) {
         return Err(Refusal::TooManyVotes);
     }
-    match found {
-        Some(standing) => decide_again(standing, slip, counts),
-        None => Ok(LodgeReply::Lodged { rev: 1 }),
-    }
+    Ok(())
 }
 
 fn decide_again(standing: &Return, slip: Code, counts: &Counts) -> Result<LodgeReply, Refusal>

@@ -31,17 +31,20 @@ pub(crate) fn may_close(status: Status) -> bool
     matches!(status, Status::Received | Status::Corrected)
 }
 
-/// The checks on a return that is to move, where one stands: the command names its revision, and
-/// may start from its status or not.
+/// The checks on a return that is to move, where one is recorded. `rev` is the revision that the
+/// command names, and `may_start` whether the command starts from the return's status.
 pub(crate) fn check_move(
     standing: &Return,
     certified: bool,
     rev: u32,
     may_start: bool,
 ) -> Result<(), Refusal>
-    ensures passed { IfOk result (λ _. first_refusal (move_checks certified (Some standing.now) rev (λ _. may_start)) ≡ None) }
+    ensures passed { IfOk result (λ _.
+        first_refusal (move_checks certified (Some standing.now) rev (λ _. may_start)) ≡ None) }
     ensures not_last { OnOk result (standing.now.rev ≢ last_revision) }
-    ensures refused { IfErr result (λ refusal. first_refusal (move_checks certified (Some standing.now) rev (λ _. may_start)) ≡ Some refusal) }
+    ensures refused { IfErr result (λ refusal.
+        first_refusal (move_checks certified (Some standing.now) rev (λ _. may_start))
+        ≡ Some refusal) }
 {
     if certified {
         return Err(Refusal::Certified);

@@ -1,4 +1,4 @@
-//! Refusals. A refused command changes nothing.
+//! Refusals. A command that the machine refuses changes nothing.
 
 ghost use Rattle.std.specs.Prelude.{◌≡◌};
 
@@ -6,7 +6,7 @@ use crate::returns::Status;
 use std::alloc::AllocError;
 use tally_rules::ListSet;
 
-/// Why a command was refused: the first of its checks that failed. `Memory` and `Store` stand
+/// Why a command was refused: the first of its checks that failed. `Memory` and `Store` are
 /// outside that order.
 #[derive(Clone, Copy, Debug, PartialEq, Eq)]
 pub enum Refusal {
@@ -22,7 +22,7 @@ pub enum Refusal {
     BadNote,
     /// The votes, blank and spoiled ones with them, are more than the station's electors.
     TooManyVotes,
-    /// Another return of the station stands, at this revision.
+    /// Another return of the station is recorded, at this revision.
     Differs { rev: u32 },
     /// The station has no return.
     NoReturn,
@@ -30,7 +30,7 @@ pub enum Refusal {
     Certified,
     /// The constituency is not certified.
     NotCertified,
-    /// The revision or edition named is not the one that stands, which is this.
+    /// The revision or edition named is not the present one, which is `now`.
     Stale { now: u32 },
     /// The return is at the last revision, or the constituency at the last edition: 9,999.
     Exhausted,
@@ -40,13 +40,13 @@ pub enum Refusal {
     NotAllClosed { left: u32 },
     /// No list is eligible (LOREG article 163.1 a)).
     NoEligible,
-    /// A lot stands already.
+    /// A lot is recorded already.
     LotStands,
     /// The votes decide, so that no lot is needed.
     LotNotNeeded,
     /// The order does not name each list of this group once and no other.
     LotWrongGroup { group: ListSet },
-    /// A lot among these lists is needed, for so many seats, and none stands (LOREG article
+    /// A lot among these lists is needed, for so many seats, and none is recorded (LOREG article
     /// 163.1 d)).
     LotMissing { group: ListSet, seats: u32 },
     /// The candidate is gone already.
@@ -55,7 +55,8 @@ pub enum Refusal {
     NotHolder,
     /// An allocation of this request was refused.
     Memory,
-    /// A database call of this request was refused, for another cause than memory.
+    /// A database call of this request was refused for a cause other than memory, or the rows of
+    /// the database are not those of an office.
     Store,
 }
 

@@ -9,7 +9,8 @@ use crate::view::ConView;
 pub enum LodgeReply {
     /// The return was lodged, as this revision (1).
     Lodged { rev: u32 },
-    /// A return with this slip and these counts stands already, at this revision; nothing changed.
+    /// A return with this slip and these counts is recorded already, at this revision; nothing
+    /// changed.
     Same { rev: u32 },
 }
 
@@ -18,7 +19,8 @@ pub enum LodgeReply {
 pub enum Reply {
     /// The return was lodged, as this revision (1).
     Lodged { rev: u32 },
-    /// A return with this slip and these counts stands already, at this revision; nothing changed.
+    /// A return with this slip and these counts is recorded already, at this revision; nothing
+    /// changed.
     Same { rev: u32 },
     /// The return moved on, to this revision.
     Moved { rev: u32 },

@@ -2,6 +2,7 @@
 
 ghost use Rattle.std.specs.Prelude.{◌≡◌, ◌≤◌, IfOk, IsTrue};
 ghost use Rattle.tally_returns.specs.Lawful.{IsLawful, may_stand};
+ghost use Rattle.tally_returns.specs.Lodge.{limits_for};
 ghost use Rattle.tally_returns.specs.Return.{first_return};
 
 use crate::counts::Counts;
@@ -42,7 +43,13 @@ impl Model for Return {
 
     ghost Value = { StationReturn };
 
-    ghost view = { λ r. record { rev = r.rev; slip = r.slip; status = r.status; note = string_bytes r.note; counts = r.counts } };
+    ghost view = { λ r. record {
+      rev = r.rev;
+      slip = r.slip;
+      status = r.status;
+      note = string_bytes r.note;
+      counts = r.counts;
+    } };
 }
 
 impl Return {
@@ -72,16 +79,17 @@ impl Return {
         })
     }
 
-    /// Whether the return may stand at a station of so many lists (at most 60) and electors: by its
-    /// revision, note and counts.
+    /// Whether the return may be recorded at a station of so many lists (at most 60) and electors:
+    /// by its revision, note and counts.
     pub fn is_lawful(&self, lists: usize, electors: u32) -> bool
         requires { lists ≤ 60 }
-        ensures lawful { IsTrue result → IsLawful (record { lists = lists; electors = electors }) self.now }
-        ensures otherwise { IsLawful (record { lists = lists; electors = electors }) self.now → IsTrue result }
+        ensures lawful { IsTrue result → IsLawful (limits_for lists electors) self.now }
+        ensures otherwise { IsLawful (limits_for lists electors) self.now → IsTrue result }
     {
         if !self.counts.are_for(lists) {
             return false;
         }
+        // Called for what its contract says: a slip is a code.
         let _slip = self.slip.as_bytes();
         self.rev >= 1
             && self.rev <= LAST_REVISION

@@ -29,7 +29,11 @@ impl Model for Gone {
 
     ghost Value = { GoneCandidate };
 
-    ghost view = { λ gone. record { list = gone.list; place = gone.place; note = string_bytes gone.note } };
+    ghost view = { λ gone. record {
+      list = gone.list;
+      place = gone.place;
+      note = string_bytes gone.note;
+    } };
 }
 
 impl Gone {
@@ -48,7 +52,7 @@ impl Gone {
 /// The seats of a certificate that was reopened, and its edition.
 #[derive(Debug, Drop)]
 pub struct Past {
-    /// The edition at which the certificate stood, from 1.
+    /// The edition of the constituency with the certificate, from 1.
     pub edition: u32,
     /// The seats of each list, in the setup's order.
     pub seats: Vec<u32>,
@@ -82,7 +86,7 @@ pub struct ConView {
     pub certified: bool,
     /// The note of its last reopening, empty where there was none.
     pub note: String,
-    /// The places of the lists in the order of the lot that stands, empty where none does.
+    /// The places of the lists in the order of the recorded lot, empty where there is none.
     pub lot: Vec<u32>,
     /// How many stations there are.
     pub stations: u32,
@@ -111,7 +115,23 @@ impl Model for ConView {
 
     ghost Value = { View };
 
-    ghost view = { λ v. record { edition = v.edition; certified = v.certified; note = string_bytes v.note; lot = v.lot.items; stations = v.stations; received = v.received; queried = v.queried; corrected = v.corrected; closed = v.closed; votes = v.votes.items; blank = v.blank; spoiled = v.spoiled; seats = v.seats.items; gone = v.gone.items; past = v.past.items } };
+    ghost view = { λ v. record {
+      edition = v.edition;
+      certified = v.certified;
+      note = string_bytes v.note;
+      lot = v.lot.items;
+      stations = v.stations;
+      received = v.received;
+      queried = v.queried;
+      corrected = v.corrected;
+      closed = v.closed;
+      votes = v.votes.items;
+      blank = v.blank;
+      spoiled = v.spoiled;
+      seats = v.seats.items;
+      gone = v.gone.items;
+      past = v.past.items;
+    } };
 }
 
 impl ConView {

@@ -15,11 +15,12 @@ use Rattle.sqlite_rules.specs.Edit.{is_taken}
 abbrev pub text_cmp : List ℕ → List ℕ → Ordering
 text_cmp = slice_cmp nat_cmp
 
--- the columns of each row, without the rowid in front of them
+-- the columns of each row, without its rowid
 abbrev pub cells : List Row → List Row
 cells rows = map (drop 1) rows
 
--- the rows of a table are those of a map: for each entry the rows that it has, and no others, in any order
+-- the rows of a table are those of a map: for each entry the rows that it has, and no others, in
+-- any order
 pub record AreRowsOf {X : Type 0} (rows_of : List ℕ × X → List Row) (m : FinMap text_cmp X) (rows : List Row) : Type 0 where
   pub each : IsPermutation (flat_map rows_of (entries m)) (cells rows)
 

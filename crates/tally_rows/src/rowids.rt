@@ -27,8 +27,8 @@ fn is_above(rowid: i64, last: Option<i64>) -> bool
     }
 }
 
-/// Whether the first columns hold integers, each above the one before. Where these are the rowids of
-/// a table, no two of its rows have the same one. `false` says nothing.
+/// Whether the first columns hold integers, each above the one before. Where these are the rowids
+/// of a table, no two of its rows have the same one. `false` says nothing.
 pub fn rowids_rise(rows: &[Row]) -> bool
     ensures { IsTrue result → HaveDistinctRowids rows.now }
 {

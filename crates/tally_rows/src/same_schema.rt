@@ -185,8 +185,8 @@ fn are_same_indexes(a: &[Index], b: &[Index]) -> bool
 }
 
 /// Whether both schemas have the same tables and indexes, in the same order and in the same places.
-/// `false` says nothing, and is the answer where either has a view, a foreign key, a computed default
-/// or a real number in a CHECK.
+/// `false` says nothing, and is the answer where either has a view, a foreign key, a computed
+/// default or a real number in a CHECK.
 pub fn is_same_schema(a: &Schema, b: &Schema) -> bool
     ensures { IsTrue result → a.now ≡ b.now }
 {

@@ -1,5 +1,6 @@
 -- A code: the short name of a list, a station, a constituency, a profile or a slip.
-use Rattle.std.specs.Prelude.{◌-◌, ◌≤◌, ◌++◌, ◌==◌, ◌&&◌, ◌||◌, ◌≡◌, ℕ, Bool, nat_le, length, List, take, drop, replicate, Option, Some, None, if◌then◌else◌}
+use Rattle.std.specs.Prelude.{◌-◌, ◌≤◌, ◌++◌, ◌==◌, ◌&&◌, ◌||◌, ◌≡◌, ℕ, Bool, nat_le, length, List}
+use Rattle.std.specs.Prelude.{take, drop, replicate, Option, Some, None, if◌then◌else◌}
 use Rattle.std.proofs.Common.{length-take-le, take-append-drop, ◌∙◌, ap, sym}
 use Rattle.std.specs.Char.{is_ascii_alphanumeric}
 use Rattle.std.specs.List.{list_all}
@@ -23,8 +24,9 @@ code_of text = if is_code text then Some text else None
 abbrev pub code_cmp : List ℕ → List ℕ → Ordering
 code_cmp = slice_cmp nat_cmp
 
--- the 16 bytes that a code is kept in, zeros behind it, are got back from the code
-pub padded-take : (len : ℕ) (bytes : List ℕ) → len ≤ length bytes → drop len bytes ≡ replicate (16 - len) 0
+-- the 16 bytes that a code is kept in, with zeros after it, are obtained from the code again
+pub padded-take : (len : ℕ) (bytes : List ℕ) → len ≤ length bytes →
+    drop len bytes ≡ replicate (16 - len) 0
     → take len bytes ++ replicate (16 - length (take len bytes)) 0 ≡ bytes
 padded-take len bytes fits zeros =
     ap (λ n. take len bytes ++ replicate (16 - n) 0) (length-take-le len bytes fits)

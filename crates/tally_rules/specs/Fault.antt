@@ -1,4 +1,4 @@
--- Why a text is no setup.
+-- Why a text is not a setup.
 use Rattle.std.specs.Prelude.{ℕ, ◌≡◌, ⊤, List, Result, Err}
 use Rattle.tally_rules.specs.declared.fault.SetupFault.{SetupFault}
 use Rattle.tally_rules.specs.declared.fault.SetupFault.TheVariants as answer
@@ -12,7 +12,8 @@ pub data Fault : Type 0 where
   duplicate : List ℕ → Fault
   unknown_profile : Fault
 
--- What is answered is the fault that reading comes to. Being out of memory is no fault of the text, and may be answered at any place.
+-- What is answered is the fault that reading comes to. Being out of memory is not a fault of the
+-- text, and may be answered at any place.
 abbrev pub IsFaultIn : {A : Type 0} → Result A Fault → SetupFault → Type 0
 IsFaultIn reading answer.NotToml = reading ≡ Err not_toml
 IsFaultIn reading (answer.Missing key) = reading ≡ Err (missing key.now)

@@ -1,7 +1,8 @@
 -- What is passed on within the reading of a setup. No public contract speaks of it.
 use Rattle.std.specs.Prelude.{ℕ, ◌≡◌, ⊤, Bool, List, Result, Err, codes}
 use Rattle.toml.specs.Data.{Data}
-use Rattle.tally_rules.specs.Fault.{Fault, not_toml, missing, bad_value, over_limit, duplicate, unknown_profile}
+use Rattle.tally_rules.specs.Fault.{Fault, not_toml, missing, bad_value, over_limit, duplicate}
+use Rattle.tally_rules.specs.Fault.{unknown_profile}
 use Rattle.tally_rules.specs.Reading.{is_text, is_table}
 use Rattle.tally_rules.specs.declared.read.entry.Kind.{Kind}
 use Rattle.tally_rules.specs.declared.read.entry.Kind.TheVariants as kind

@@ -1,5 +1,6 @@
 -- What is kept so that a code is found at once. No public contract speaks of it.
-use Rattle.std.specs.Prelude.{ℕ, suc, zero, ◌≡◌, List, [], ◌∷◌, ◌++◌, map, Option, Some, None, option_map, if◌then◌else◌}
+use Rattle.std.specs.Prelude.{ℕ, suc, zero, ◌≡◌, List, [], ◌∷◌, ◌++◌, map, Option, Some, None}
+use Rattle.std.specs.Prelude.{option_map, if◌then◌else◌}
 use Rattle.std.specs.BTreeMap.{BTreeMap, get}
 use Rattle.std.specs.List.{slice_get}
 use Rattle.std.specs.Option.{option_and_then}
@@ -15,7 +16,8 @@ use Rattle.tally_rules.specs.declared.setup.StationPlace.{StationPlace}
 -- the first place of the code among these, from 0
 abbrev pub index_of : List ℕ → List (List ℕ) → Option ℕ
 index_of code [] = None
-index_of code (first ∷ others) = if bytes_eq code first then Some 0 else option_map suc (index_of code others)
+index_of code (first ∷ others) =
+    if bytes_eq code first then Some 0 else option_map suc (index_of code others)
 
 -- No two of the codes are the same, and the map has the place of each.
 pub record IsIndex (codes : List (List ℕ)) (places : BTreeMap (List ℕ) ℕ) : Type 0 where
@@ -25,11 +27,14 @@ pub record IsIndex (codes : List (List ℕ)) (places : BTreeMap (List ℕ) ℕ) 
 -- the station at a place, by the number of its constituency and its own number in it
 abbrev pub station_at : List Constituency → StationPlace → Option (Constituency × Station)
 station_at cons place = option_and_then
-    (λ (con : Constituency). option_map (λ (station : Station). (con, station)) (slice_get con.stations place.station))
+    (λ (con : Constituency).
+    option_map (λ (station : Station). (con, station)) (slice_get con.stations place.station))
     (slice_get cons place.con)
 
--- Beside the constituencies of a setup: their codes, the codes of all stations, and the place of each station.
-pub record IsIndexed (cons : List Constituency) (codes stations : List (List ℕ)) (places : List StationPlace) : Type 0 where
+-- Beside the constituencies of a setup: their codes, the codes of all stations, and the place of
+-- each station.
+pub record IsIndexed (cons : List Constituency) (codes stations : List (List ℕ))
+    (places : List StationPlace) : Type 0 where
   pub limits : IsSetup cons
   pub codes_are : codes ≡ constituency_codes cons
   pub stations_are : stations ≡ all_station_codes cons
@@ -38,4 +43,5 @@ pub record IsIndexed (cons : List Constituency) (codes stations : List (List ℕ
 -- the places of so many stations of one constituency
 abbrev pub places_in : ℕ → ℕ → List StationPlace
 places_in con zero = []
-places_in con (suc stations) = places_in con stations ++ record { con = con; station = stations } ∷ []
+places_in con (suc stations) =
+    places_in con stations ++ record { con = con; station = stations } ∷ []

@@ -1,10 +1,11 @@
 -- The limits that a setup keeps.
 use Rattle.std.specs.Prelude.{◌≡◌, ◌≤◌, true, List, length, All}
 use Rattle.tally_frac.specs.Limits.{most_lists, most_seats}
+use Rattle.tally_rules.specs.Code.{is_code}
 use Rattle.tally_rules.specs.Codes.{AreDistinct}
 use Rattle.tally_rules.specs.Constituency.{Constituency, ListEntry, list_codes}
 use Rattle.tally_rules.specs.Setup.{constituency_codes, all_station_codes}
-use Rattle.tally_rules.specs.Text.{is_name}
+use Rattle.tally_rules.specs.Text.{IsName}
 use Rattle.tally_rules.specs.declared.constituency.Station.{Station}
 use Rattle.tally_rules.specs.declared.profile.Profile.{Profile}
 
@@ -14,21 +15,25 @@ IsProfile profile = profile.threshold ≤ 10000
 
 -- The limits of a list.
 pub record IsListEntry (list : ListEntry) : Type 0 where
-  pub name : is_name list.name ≡ true
+  pub code : is_code list.code ≡ true
+  pub name : IsName list.name
   pub some_candidate : 1 ≤ length list.candidates
   pub candidates : length list.candidates ≤ 1000
-  pub candidate_names : All (λ name. is_name name ≡ true) list.candidates
+  pub candidate_names : All IsName list.candidates
 
 -- The limits of a station.
 pub record IsStation (station : Station) : Type 0 where
+  pub code : is_code station.code ≡ true
   pub some_elector : 1 ≤ station.electors
   pub electors : station.electors ≤ 1000000
 
 -- The limits of a constituency, and that no two of its lists have one code.
 pub record IsConstituency (con : Constituency) : Type 0 where
-  pub name : is_name con.name ≡ true
+  pub code : is_code con.code ≡ true
+  pub name : IsName con.name
   pub some_seat : 1 ≤ con.seats
   pub seats : con.seats ≤ most_seats
+  pub profile_code : is_code con.profile_code ≡ true
   pub profile : IsProfile con.profile
   pub some_list : 1 ≤ length con.lists
   pub lists : length con.lists ≤ most_lists
@@ -38,7 +43,8 @@ pub record IsConstituency (con : Constituency) : Type 0 where
   pub stations : length con.stations ≤ 5000
   pub each_station : All IsStation con.stations
 
--- The limits of a setup, and that no two of its constituencies have one code, and no two of its stations.
+-- The limits of a setup, and that no two of its constituencies have one code, and no two of its
+-- stations.
 pub record IsSetup (cons : List Constituency) : Type 0 where
   pub some_constituency : 1 ≤ length cons
   pub constituencies : length cons ≤ 200

@@ -1,16 +1,21 @@
--- The setup that a text is, or its first fault. Each definition below has the order of checks of one part of the format.
-use Rattle.std.specs.Prelude.{ℕ, ℤ, pos, negsuc, Bool, ◌==◌, ◌&&◌, not, nat_lt, nat_le, List, [], ◌∷◌, ◌++◌, length, map, Option, Some, None, option_map, is_some, Result, Ok, Err, if◌then◌else◌, codes}
+-- The setup that a text is, or its first fault. Each definition below has the order of checks of
+-- one part of the format.
+use Rattle.std.specs.Prelude.{ℕ, ℤ, pos, negsuc, Bool, ◌==◌, ◌&&◌, not, nat_lt, nat_le, List, []}
+use Rattle.std.specs.Prelude.{◌∷◌, ◌++◌, length, map, Option, Some, None, option_map, is_some}
+use Rattle.std.specs.Prelude.{Result, Ok, Err, if◌then◌else◌, codes}
 use Rattle.std.specs.List.{list_all}
 use Rattle.std.specs.Map.{lookup}
 use Rattle.std.specs.Option.{ok_or, option_and_then}
 use Rattle.std.specs.Str.{is_utf8, bytes_eq}
-use Rattle.toml.specs.Data.{Data, Items, no_items, item, table, get, as_str, as_integer, as_array, as_table}
+use Rattle.toml.specs.Data.{Data, Items, no_items, item, table, get, as_str, as_integer, as_array}
+use Rattle.toml.specs.Data.{as_table}
 use Rattle.toml.specs.Parse.{parse_document}
 use Rattle.tally_frac.specs.Limits.{most_lists, most_seats}
 use Rattle.tally_rules.specs.Code.{code_of}
 use Rattle.tally_rules.specs.Codes.{is_among}
 use Rattle.tally_rules.specs.Constituency.{Constituency, ListEntry, list_codes, station_codes}
-use Rattle.tally_rules.specs.Fault.{Fault, not_toml, missing, bad_value, over_limit, duplicate, unknown_profile}
+use Rattle.tally_rules.specs.Fault.{Fault, not_toml, missing, bad_value, over_limit, duplicate}
+use Rattle.tally_rules.specs.Fault.{unknown_profile}
 use Rattle.tally_rules.specs.Setup.{constituency_codes, all_station_codes}
 use Rattle.tally_rules.specs.Text.{is_name}
 use Rattle.tally_rules.specs.declared.constituency.Station.{Station}
@@ -19,7 +24,8 @@ use Rattle.tally_rules.specs.declared.profile.Base.TheVariants.{Valid, Lists}
 use Rattle.tally_rules.specs.declared.profile.LotRule.{LotRule}
 use Rattle.tally_rules.specs.declared.profile.LotRule.TheVariants.{Fixed, Alternating}
 use Rattle.tally_rules.specs.declared.profile.Method.{Method}
-use Rattle.tally_rules.specs.declared.profile.Method.TheVariants.{DHondt, SainteLague, ModifiedSainteLague, Hare}
+use Rattle.tally_rules.specs.declared.profile.Method.TheVariants.{DHondt, SainteLague}
+use Rattle.tally_rules.specs.declared.profile.Method.TheVariants.{ModifiedSainteLague, Hare}
 use Rattle.tally_rules.specs.declared.profile.Profile.{Profile}
 
 -- one step after another, as far as the first fault
@@ -110,7 +116,9 @@ lot_rule_named word =
 
 unfoldable pub lot_rule_of : Data → Result LotRule Fault
 lot_rule_of entry =
-    if is_some (get (codes "lot") entry) then (text_at (codes "lot") entry >>= (λ word. ok_or (lot_rule_named word) (bad_value (codes "lot"))))
+    if is_some (get (codes "lot") entry)
+    then (text_at (codes "lot") entry >>=
+    (λ word. ok_or (lot_rule_named word) (bad_value (codes "lot"))))
     else Ok Fixed
 
 -- ---- arrays
@@ -120,7 +128,8 @@ abbrev pub list_of : Items → List Data
 list_of no_items = []
 list_of (item d ds) = d ∷ list_of ds
 
--- the array of a key: there is an item, each is of the kind that is wanted, and there are at most so many
+-- the array of a key: there is an item, each is of the kind that is wanted, and there are at most
+-- so many
 unfoldable pub array_at : (Data → Bool) → List ℕ → ℕ → Data → Result (List Data) Fault
 array_at is_wanted key limit entry = do
   value ← value_at key entry
@@ -137,7 +146,8 @@ abbrev pub is_table : Data → Bool
 is_table value = is_some (as_table value)
 
 -- the entries of an array of tables, in order, each read beside those before it
-unfoldable pub in_turn : {A : Type 0} → (List A → Data → Result A Fault) → List A → List Data → Result (List A) Fault
+unfoldable pub in_turn : {A : Type 0} → (List A → Data → Result A Fault) → List A → List Data →
+    Result (List A) Fault
 in_turn read before [] = Ok before
 in_turn read before (entry ∷ entries) = do
   a ← read before entry
@@ -195,8 +205,10 @@ stations_of taken entry = do
 abbrev pub profile_with : List ℕ → List (List ℕ × Profile) → Option Profile
 profile_with code profiles = lookup (bytes_eq code) profiles
 
--- an entry of `constituency`, beside the codes of the constituencies before it and those of their stations
-unfoldable pub constituency_entry : List (List ℕ × Profile) → List (List ℕ) → List (List ℕ) → Data → Result Constituency Fault
+-- an entry of `constituency`, beside the codes of the constituencies before it and those of their
+-- stations
+unfoldable pub constituency_entry : List (List ℕ × Profile) → List (List ℕ) → List (List ℕ) → Data →
+    Result Constituency Fault
 constituency_entry profiles taken stations_taken entry = do
   code ← new_code taken entry
   name ← name_of entry
@@ -205,7 +217,15 @@ constituency_entry profiles taken stations_taken entry = do
   profile ← ok_or (profile_with profile_code profiles) unknown_profile
   lists ← lists_of entry
   stations ← stations_of stations_taken entry
-  Ok (record { code = code; name = name; seats = seats; profile_code = profile_code; profile = profile; lists = lists; stations = stations })
+  Ok (record {
+    code = code;
+    name = name;
+    seats = seats;
+    profile_code = profile_code;
+    profile = profile;
+    lists = lists;
+    stations = stations;
+  })
 
 -- `profile` of the document
 unfoldable pub profiles_of : Data → Result (List (List ℕ × Profile)) Fault
@@ -217,7 +237,9 @@ profiles_of document = do
 unfoldable pub constituencies_of : List (List ℕ × Profile) → Data → Result (List Constituency) Fault
 constituencies_of profiles document = do
   entries ← array_at is_table (codes "constituency") 200 document
-  in_turn (λ before. constituency_entry profiles (constituency_codes before) (all_station_codes before)) [] entries
+  in_turn
+      (λ before. constituency_entry profiles (constituency_codes before) (all_station_codes before))
+      [] entries
 
 -- ---- the text
 

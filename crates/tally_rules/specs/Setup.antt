@@ -7,7 +7,8 @@ use Rattle.tally_rules.specs.declared.constituency.Station.{Station}
 
 -- every station, in order, with its constituency
 abbrev pub all_stations : List Constituency → List (Constituency × Station)
-all_stations cons = flat_map (λ (con : Constituency). map (λ (station : Station). (con, station)) con.stations) cons
+all_stations cons =
+    flat_map (λ (con : Constituency). map (λ (station : Station). (con, station)) con.stations) cons
 
 -- the constituency of the code
 abbrev pub constituency_with : List ℕ → List Constituency → Option Constituency
@@ -15,7 +16,8 @@ constituency_with code cons = find (λ (con : Constituency). bytes_eq code con.c
 
 -- the station of the code, with its constituency
 abbrev pub station_with : List ℕ → List Constituency → Option (Constituency × Station)
-station_with code cons = find (λ (place : Constituency × Station). bytes_eq code place.1.code) (all_stations cons)
+station_with code cons =
+    find (λ (place : Constituency × Station). bytes_eq code place.1.code) (all_stations cons)
 
 abbrev pub constituency_codes : List Constituency → List (List ℕ)
 constituency_codes cons = map (λ (con : Constituency). con.code) cons

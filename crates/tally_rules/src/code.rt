@@ -3,7 +3,8 @@
 ghost use Rattle.std.specs.Prelude.{◌≡◌, Some, true, nat_eq, refl};
 ghost use Rattle.std.specs.List.{list_all};
 ghost use Rattle.std.specs.Ordering.{nat_cmp};
-ghost use Rattle.std.specs.Cmp.Lexicographic.{pointwise, slice_cmp, nat_list_eq_equiv, nat_list_cmp_total, texts_po, texts_ties};
+ghost use Rattle.std.specs.Cmp.Lexicographic.{pointwise, slice_cmp, nat_list_eq_equiv};
+ghost use Rattle.std.specs.Cmp.Lexicographic.{nat_list_cmp_total, texts_po, texts_ties};
 ghost use Rattle.std.specs.Cmp.{partial_equiv_from_equiv};
 ghost use Rattle.std.specs.Cmp.Rules.{hashing};
 ghost use Rattle.std.specs.Hash as fed;
@@ -19,7 +20,7 @@ use std::{fmt, str};
 const LIMIT: usize = 16;
 
 /// The short name of a list, a station, a constituency, a profile or a slip: 1 to 16 characters
-/// from `A-Z a-z 0-9 - _`, case counting. Contracts see a code as the list of its bytes.
+/// from `A-Z a-z 0-9 - _`, in which case matters. Contracts see a code as the list of its bytes.
 #[derive(Clone, Copy)]
 pub struct Code {
     bytes: [u8; LIMIT],
@@ -27,7 +28,8 @@ pub struct Code {
 }
 
 impl Model for Code {
-    ghost use Rattle.std.specs.Prelude.{◌≡◌, ◌≤◌, ◌-◌, ◌++◌, ℕ, List, true, length, take, drop, replicate};
+    ghost use Rattle.std.specs.Prelude.{◌≡◌, ◌≤◌, ◌-◌, ◌++◌, ℕ, List, true, length, take, drop};
+    ghost use Rattle.std.specs.Prelude.{replicate};
     ghost use Rattle.std.proofs.Common.{arith, length-take-le};
     ghost use Rattle.tally_rules.specs.Code.{padded-take};
     ghost use Rattle.tally_rules.specs.Code.{is_code};
@@ -36,9 +38,13 @@ impl Model for Code {
 
     ghost view = { λ c. take c.len c.bytes };
 
-    ghost invariant = { λ c. (c.len ≤ 16) × (length c.bytes ≡ 16) × (is_code (take c.len c.bytes) ≡ true) × (drop c.len c.bytes ≡ replicate (16 - c.len) 0) };
+    ghost invariant = { λ c. (c.len ≤ 16) × (length c.bytes ≡ 16) ×
+        (is_code (take c.len c.bytes) ≡ true) × (drop c.len c.bytes ≡ replicate (16 - c.len) 0) };
 
-    ghost inverse = { λ text. record { bytes = text ++ replicate (16 - length text) 0; len = length text } };
+    ghost inverse = { λ text. record {
+      bytes = text ++ replicate (16 - length text) 0;
+      len = length text;
+    } };
 
     ghost inverse_ok = { λ c h i. record {
       bytes = padded-take c.len c.bytes (Prim.omega (arith, h.0, h.1)) h.3 i;
@@ -47,7 +53,7 @@ impl Model for Code {
 }
 
 impl Code {
-    /// The code that a text is, or `None` where it is none.
+    /// The code that a text is, or `None` where it is not one.
     pub fn new(text: &[u8]) -> Option<Code>
         ensures { result ≡ code_of text.now }
     {

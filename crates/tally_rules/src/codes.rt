@@ -41,7 +41,8 @@ impl Codes {
     /// Adds a code at the end, unless it is there already, and says whether it did.
     pub fn insert(&mut self, code: Code) -> Result<bool, AllocError>
         ensures added { IfOk result (λ added. added ≡ not (is_among code self.old)) }
-        ensures codes { IfOk result (λ added. self.new ≡ (if added then self.old ++ code ∷ [] else self.old)) }
+        ensures codes { IfOk result (λ added.
+            self.new ≡ (if added then self.old ++ code ∷ [] else self.old)) }
         ensures distinct { AreDistinct self.new }
     {
         if self.places.contains_key(&code) {

@@ -35,7 +35,11 @@ impl Model for ListEntry {
 
     ghost Value = { value.ListEntry };
 
-    ghost view = { λ list. record { code = list.code; name = string_bytes list.name; candidates = map string_bytes list.candidates.items } };
+    ghost view = { λ list. record {
+      code = list.code;
+      name = string_bytes list.name;
+      candidates = map string_bytes list.candidates.items;
+    } };
 
     ghost invariant = { λ list. limits.IsListEntry (record {
       code = list.code;

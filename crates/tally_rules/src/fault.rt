@@ -1,4 +1,4 @@
-//! Why a text is no setup.
+//! Why a text is not a setup.
 
 ghost use Rattle.std.specs.Prelude.{◌≡◌};
 ghost use Rattle.tally_rules.specs.Fault.{number_of};
@@ -21,10 +21,10 @@ pub enum SetupFault {
     /// 4: the text or an array is longer than its limit.
     #[error("`{0}` is over its limit")]
     OverLimit(&'static str),
-    /// 5: a code stands twice where codes have to differ.
+    /// 5: a code occurs twice where codes have to differ.
     #[error("the code `{0}` stands twice")]
     Duplicate(Code),
-    /// 6: a constituency names a profile that there is not.
+    /// 6: a constituency names a profile that does not exist.
     #[error("no such profile")]
     UnknownProfile,
     /// 7: an allocation was refused, which says nothing of the text.

@@ -4,7 +4,8 @@ ghost use Rattle.std.specs.Prelude.{◌≡◌, Ok, IfOk, IfErr};
 ghost use Rattle.toml.specs.View.{view};
 ghost use Rattle.tally_rules.specs.Fault.{IsFaultIn};
 ghost use Rattle.tally_rules.specs.Found.{IsFoundIn};
-ghost use Rattle.tally_rules.specs.Reading.{constituencies_of, document_of, setup_of, setup_of_text};
+ghost use Rattle.tally_rules.specs.Reading.{constituencies_of, document_of, setup_of};
+ghost use Rattle.tally_rules.specs.Reading.{setup_of_text};
 
 mod entry;
 mod fault;
@@ -26,7 +27,7 @@ const TEXT_LIMIT: usize = 8_388_608;
 
 /// Reads a setup from its text, or answers the text's first fault, in the order of the format:
 /// the length, TOML, the profiles with their keys, and the constituencies with their keys, lists
-/// and stations. Keys that the format has not are passed over.
+/// and stations. Keys that the format does not have are passed over.
 pub fn read_setup(alloc: Global, text: &[u8]) -> Result<Setup, SetupFault>
     ensures setup { IfOk result (λ setup. setup_of_text text.now ≡ Ok setup) }
     ensures fault { IfErr result (IsFaultIn (setup_of_text text.now)) }
@@ -81,7 +82,8 @@ fn constituencies_of(
     document: &Value,
     profiles: &Profiles,
 ) -> Result<Setup, KeyFault>
-    ensures setup { IfOk result (λ setup. constituencies_of profiles.now (view document.now) ≡ Ok setup) }
+    ensures setup { IfOk result (λ setup.
+        constituencies_of profiles.now (view document.now) ≡ Ok setup) }
     ensures fault { IfErr result (IsFoundIn (constituencies_of profiles.now (view document.now))) }
 {
     let entries = array_at(document, Key::Constituency, Kind::Table, 200)?;

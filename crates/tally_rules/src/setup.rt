@@ -1,7 +1,8 @@
 //! Setups.
 
 ghost use Rattle.std.specs.Prelude.{◌≡◌, ◌++◌, IfOk, Some, map, option_copied, option_map};
-ghost use Rattle.tally_rules.specs.Setup.{all_station_codes, constituency_codes, constituency_with, station_with, all_stations};
+ghost use Rattle.tally_rules.specs.Setup.{all_station_codes, constituency_codes, constituency_with};
+ghost use Rattle.tally_rules.specs.Setup.{station_with, all_stations};
 ghost use Rattle.tally_rules.specs.Index.{places_in, station_at};
 ghost use Rattle.tally_rules.specs.Limits.{IsSetup};
 
@@ -21,7 +22,7 @@ pub struct Setup {
     station_places: Vec<StationPlace>,
 }
 
-/// Where a station stands: the number of its constituency and its own number there, from 0.
+/// Where a station is: the number of its constituency and its own number there, from 0.
 #[derive(Clone, Copy)]
 struct StationPlace {
     con: usize,
@@ -37,7 +38,8 @@ impl Model for Setup {
 
     ghost view = { λ s. s.cons.items };
 
-    ghost invariant = { λ s. IsIndexed s.cons.items s.con_codes s.station_codes s.station_places.items };
+    ghost invariant = { λ s. IsIndexed s.cons.items s.con_codes s.station_codes
+        s.station_places.items };
 }
 
 impl Setup {
@@ -80,7 +82,8 @@ impl Setup {
 
     /// The station of a code, with its constituency.
     pub fn station(&self, code: Code) -> Option<(&Constituency, &Station)>
-        ensures found { option_map (λ place. (place.0.now, place.1.now)) result ≡ station_with code self.now }
+        ensures found { option_map (λ place. (place.0.now, place.1.now)) result ≡
+            station_with code self.now }
         ensures limits { IsSetup self.now }
     {
         let place = self.station_places.get(self.station_codes.index_of(code)?)?;
@@ -90,7 +93,8 @@ impl Setup {
 }
 
 fn station_places(alloc: Global, cons: &[Constituency]) -> Result<Vec<StationPlace>, AllocError>
-    ensures { IfOk result (λ places. map (station_at cons.now) places.items ≡ map Some (all_stations cons.now)) }
+    ensures { IfOk result (λ places.
+        map (station_at cons.now) places.items ≡ map Some (all_stations cons.now)) }
 {
     let mut places = Vec::new(alloc);
     for (con, entry) in cons.iter().enumerate() {

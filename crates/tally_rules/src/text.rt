@@ -10,14 +10,14 @@ const NAME_LIMIT: usize = 80;
 /// The most bytes that a note has.
 const NOTE_LIMIT: usize = 200;
 
-/// Whether a text may stand as a note: 1 to 200 bytes, none of them 00 to 1F or 7F.
+/// Whether a text may be a note: 1 to 200 bytes, none of them 00 to 1F or 7F.
 pub fn good_note(note: &str) -> bool
     ensures { result ≡ is_note note.now }
 {
     is_short_line(note, NOTE_LIMIT)
 }
 
-/// Whether a text may stand as a name: 1 to 80 bytes, none of them 00 to 1F or 7F.
+/// Whether a text may be a name: 1 to 80 bytes, none of them 00 to 1F or 7F.
 pub(crate) fn good_name(name: &str) -> bool
     ensures { result ≡ is_name name.now }
 {

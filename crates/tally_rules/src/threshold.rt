@@ -24,17 +24,17 @@ pub fn eligible(
     let base = base_of(profile.base, votes, blank);
     let mut lists = Vec::with_capacity(alloc, votes.len())?;
     for list in votes {
-        lists.push(is_eligible(*list, profile.threshold, base))?;
+        lists.push(is_eligible(profile.threshold, base, *list))?;
     }
     Ok(lists)
 }
 
 /// Whether a list of so many votes takes part: it has a vote, and its votes are at least
 /// `threshold` ten-thousandths of the base. Votes and base are up to 5,000,000,000.
-pub fn is_eligible(votes: u64, threshold: u32, base: u64) -> bool
-    requires few_votes { votes ≤ most_votes }
-    requires few_in_base { base ≤ most_votes }
+pub fn is_eligible(threshold: u32, base: u64, votes: u64) -> bool
     requires threshold { threshold ≤ 10000 }
+    requires few_in_base { base ≤ most_votes }
+    requires few_votes { votes ≤ most_votes }
     ensures { result ≡ is_eligible threshold base votes }
 {
     votes > 0 && is_at_least(votes, threshold, base)

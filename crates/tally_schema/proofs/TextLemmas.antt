@@ -1,5 +1,5 @@
 -- What each text makes, as sqlite reads it.
-use Rattle.std.proofs.Common.{◌≡◌, ℕ, ◌+◌, List, [], ◌∷◌, ◌++◌, Result, Ok, Err, false, refl, sym, ap, subst, ◌∙◌}
+use Rattle.std.proofs.Common.{◌≡◌, ℕ, ◌+◌, List, [], ◌∷◌, ◌++◌, Result, Ok, Err, OnOk, false, refl, sym, ap, subst, ◌∙◌}
 use Rattle.std.specs.List.{AllByRecursion}
 use Rattle.sqlite_keyed.proofs.ListLemmas.{all-append}
 use Rattle.sqlite_schema.specs.declared.command.Command.TheVariants.{CreateTable}
@@ -8,6 +8,7 @@ use Rattle.sqlite_trees.specs.Tree.{Trees}
 use Rattle.sqlite.specs.Change.{created, next_tree}
 use Rattle.sqlite.specs.Compile.{table_defined_by}
 use Rattle.sqlite.specs.Does.{lacks_sequence}
+use Rattle.sqlite.specs.Effect.{IsDatabase}
 use Rattle.sqlite.specs.Listing.{understood}
 use Rattle.sqlite.specs.State.{State}
 use Rattle.sqlite.specs.declared.error.Error.{Error}
@@ -112,6 +113,10 @@ past_is = record { command = refl; text = refl; defined = refl; made = refl; seq
 
 pub makes_past : (old new : State) (r : Result Unit Error) → Runs create_past_text old new r → Makes 8 9 old new r
 makes_past old new r = made_where_run 8 past_table create_past_text old new r past_is
+
+pub past_sound : (old new : State) (r : Result Unit Error) → OnOk r (AddsTable 8 past_tree old new) → OnOk r (IsDatabase new.now)
+past_sound old new (Ok done) added = added.sound
+past_sound old new (Err e) added = tt
 
 pub adds_past : (old new : State) (r : Result Unit Error) → Runs create_past_text old new r → MakesPast old new r
 adds_past old new (Ok done) ran clean has = adds 8 past_table create_past_text old new past_is has (ran clean has.inside)

@@ -22,8 +22,8 @@ pub record HasEmptyTables (n : ℕ) (s : Seen) : Type 0 where
   pub tables : HasFirstTables n s
   pub empty : AllByRecursion (λ (t : Table). s.now.trees t.tree ≡ []) (schema_with n).tables
 
--- After the first `n` tables the next one is made, in this tree: it has no row, the others are as they were, and the
--- database is in order under the new schema.
+-- After the first `n` tables the next one is made, in this tree. It has no row, the others are as
+-- they were, and the database is in order under the new schema.
 pub record AddsTable (n : ℕ) (tree : ℕ) (old new : Seen) : Type 0 where
   pub tables : HasFirstTables (n + 1) new
   pub empty : new.now.trees tree ≡ []
@@ -34,7 +34,7 @@ pub record AddsTable (n : ℕ) (tree : ℕ) (old new : Seen) : Type 0 where
 abbrev pub HasRun : List ℕ → Seen → Seen → Type 0
 HasRun sql old new = (count : ℕ) × ExecutesInside 0 sql [] old new (Ok count)
 
--- ---- what a call says, of a disk that returned what was written
+-- ---- what a call says, where the disk returned what was written
 
 abbrev pub Runs : List ℕ → Seen → Seen → Result Unit Error → Type 0
 Runs sql old new result = HasCleanDisk new → IsTrue old.in_transaction → OnOk result (HasRun sql old new)
@@ -47,6 +47,10 @@ Makes n m old new result = HasCleanDisk new → HasEmptyTables n old → OnOk re
 abbrev pub MakesPast : Seen → Seen → Result Unit Error → Type 0
 MakesPast old new result = HasCleanDisk new → HasFirstTables 8 old → OnOk result (AddsTable 8 past_tree old new)
 
+-- what was made of a database without tables is in order under its schema
+abbrev pub MakesDatabase : Seen → Seen → Result Unit Error → Type 0
+MakesDatabase old new result = HasCleanDisk new → HasEmptyTables 0 old → OnOk result (IsDatabase new.now)
+
 -- ---- names
 
 abbrev pub former_names : List (List ℕ)
@@ -55,8 +59,8 @@ former_names = codes "setup" ∷ codes "returns" ∷ codes "counts" ∷ codes "c
 abbrev pub office_names : List (List ℕ)
 office_names = codes "past" ∷ former_names
 
--- A table of the name that SQL cannot reach, such as one with a trigger: `sqlite` keeps it among the views, as an entry
--- that belongs to a table of its own name.
+-- A table of the name that SQL cannot reach, such as one with a trigger. `sqlite` keeps it among
+-- the views, as an entry that belongs to a table of its own name.
 abbrev pub is_table_aside : List ℕ → View → Bool
 is_table_aside name view = unwrap_or (option_map (same_name name) view.foreign) false && same_name view.name name
 

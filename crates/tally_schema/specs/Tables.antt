@@ -123,7 +123,8 @@ key_index name table tree places = record { name = name; tree = tree; table = ta
 
 -- ---- the schema
 
--- Each table and each index has a tree, numbered in the order in which they are made: a table, and then the index of its key.
+-- Each table and each index has a tree. Trees are numbered in the order in which they are made: a
+-- table, and then the index of its key.
 abbrev pub setup_tree : ℕ
 setup_tree = 0
 

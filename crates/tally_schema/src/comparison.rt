@@ -1,5 +1,5 @@
-//! Whether a schema is that of an office. Such a schema is learned by making an office in memory, so
-//! no column, key or CHECK is written twice.
+//! Whether a schema is that of an office. Such a schema is learned by making an office in memory,
+//! so no column, key or CHECK is written twice.
 
 ghost use Rattle.std.specs.Prelude.{◌≡◌, IsTrue, IfOk};
 ghost use Rattle.sqlite.specs.Held.{state};
@@ -50,8 +50,8 @@ pub fn is_office_schema(alloc: Global, schema: &Schema) -> Result<bool, Error>
     Ok(is_same_schema(schema, office.schema()))
 }
 
-/// Whether the schema is that of an office of version 1: the eight tables without `past`, and nothing
-/// else. `false` says nothing.
+/// Whether the schema is that of an office of version 1: the eight tables without `past`, and
+/// nothing else. `false` says nothing.
 pub fn is_former_schema(alloc: Global, schema: &Schema) -> Result<bool, Error>
     ensures same { IfOk result (λ same. IsTrue same → schema.now ≡ former_schema) }
 {

@@ -2,7 +2,7 @@
 
 ghost use Rattle.std.specs.Prelude.{◌≡◌};
 ghost use Rattle.sqlite.specs.Held.{state};
-ghost use Rattle.tally_schema.specs.Made.{Runs, Makes, MakesPast};
+ghost use Rattle.tally_schema.specs.Made.{Runs, Makes, MakesDatabase, MakesPast};
 ghost use Rattle.tally_schema.specs.Stays.{Stays};
 ghost use Rattle.tally_schema.specs.Tables.{create_returns_text};
 
@@ -164,6 +164,7 @@ pub fn create_former_tables<S: Alter>(tx: &mut Transaction<'_, S>) -> Result<(),
 pub fn create_tables<S: Alter>(tx: &mut Transaction<'_, S>) -> Result<(), Error>
     ensures stays { Stays S.Store tx.old tx.new }
     ensures made { Makes 0 9 (state S.Store tx.old.conn.now) (state S.Store tx.new.conn.now) result }
+    ensures sound { MakesDatabase (state S.Store tx.old.conn.now) (state S.Store tx.new.conn.now) result }
 {
     create_former_tables(tx)?;
     create_past(tx)

@@ -38,7 +38,7 @@ fn has_name(schema: &Schema, name: &[u8]) -> bool
         || schema.view_named(name).is_some()
 }
 
-/// Whether a table stands under each name of version 1, whatever its columns are.
+/// Whether there is a table of each name of version 1, whatever its columns are.
 pub fn has_former_tables(schema: &Schema) -> bool
     ensures { result ≡ has_former_tables schema.now }
 {

@@ -3,7 +3,7 @@
 use crate::commands::command;
 use std::alloc::Global;
 use std::test::Fail;
-use tally_keeper::{ConView, Keeper, ListSet, ProgressRow, Refusal, Reply, Return};
+use tally_keeper::{ConView, Keeper, ListSet, ProgressRow, Refusal, Reply, Return, run};
 
 /// What is answered, as text: a word for it, and its numbers.
 pub fn told(alloc: Global, answer: &Result<Reply, Refusal>) -> Result<String, Fail> {
@@ -41,9 +41,9 @@ fn told_return(alloc: Global, standing: &Return) -> Result<String, Fail> {
     Ok(text)
 }
 
-/// Whether it is certified, the edition, how many of the stations are closed, the votes, the lot, the
-/// seats; the note of the last reopening; who is gone, in the order of lists and places; and the
-/// edition and the seats of each certificate that was reopened.
+/// Whether it is certified, the edition, how many of the stations are closed, the votes, the lot,
+/// the seats; the note of the last reopening; who is gone, in the order of lists and places; and
+/// the edition and the seats of each certificate that was reopened.
 fn told_view(alloc: Global, view: &ConView) -> Result<String, Fail> {
     let certified = if view.certified { "certified" } else { "open" };
     let mut text = format!(in alloc; "{certified} {}", view.edition)?;
@@ -69,7 +69,8 @@ fn told_progress(alloc: Global, rows: &[ProgressRow]) -> Result<String, Fail> {
     Ok(text)
 }
 
-/// The constituency, its stations, the returns of each status, the edition, whether it is certified.
+/// The constituency, its stations, the returns of each status, the edition, whether it is
+/// certified.
 fn push_row(text: &mut String, row: ProgressRow) -> Result<(), Fail> {
     write!(text, " {} {}:", row.con, row.stations)?;
     write!(text, " {} {}", row.received, row.queried)?;
@@ -95,7 +96,7 @@ pub fn told_refusal(alloc: Global, refusal: &Refusal) -> Result<String, Fail> {
     }
 }
 
-/// The places of a group behind a text.
+/// The places of a group after a text.
 fn told_group(alloc: Global, front: &str, group: &ListSet) -> Result<String, Fail> {
     let mut text = String::from_str(alloc, front)?;
     for place in 1..=60u32 {
@@ -117,6 +118,36 @@ pub fn first_wrong<K: Keeper>(alloc: Global, keeper: &mut K, script: &str) -> Re
     for line in script.lines() {
         let (ask, wanted) = line.split_once(" = ").ok_or("no answer")?;
         let told = answered(alloc, keeper, ask)?;
+        if told.as_str() != wanted {
+            return Ok(format!(in alloc; "{line}, and not {told}")?);
+        }
+    }
+    Ok(String::new(alloc))
+}
+
+/// The same where all commands of the script are one run.
+pub fn first_wrong_of_run<K: Keeper>(
+    alloc: Global,
+    keeper: &mut K,
+    script: &str,
+) -> Result<String, Fail> {
+    let mut asks = Vec::new(alloc);
+    for line in script.lines() {
+        let (ask, _wanted) = line.split_once(" = ").ok_or("no answer")?;
+        asks.push(command(alloc, ask)?)?;
+    }
+    first_other(alloc, script, &run(alloc, keeper, &asks)?)
+}
+
+/// The first line of a script to which another answer came.
+fn first_other(
+    alloc: Global,
+    script: &str,
+    answers: &[Result<Reply, Refusal>],
+) -> Result<String, Fail> {
+    for (place, line) in script.lines().enumerate() {
+        let (_ask, wanted) = line.split_once(" = ").ok_or("no answer")?;
+        let told = told(alloc, answers.get(place).ok_or("an answer is missing")?)?;
         if told.as_str() != wanted {
             return Ok(format!(in alloc; "{line}, and not {told}")?);
         }

@@ -6,8 +6,8 @@ use std::test::Fail;
 use tally_keeper::{Ask, Counts};
 use tally_rules::Code;
 
-/// The counts of a text such as `100,50 3 1`: the votes of the lists, and blank and spoiled ones if there are
-/// any.
+/// The counts of a text such as `100,50 3 1`: the votes of the lists, and blank and spoiled ones if
+/// there are any.
 pub fn counts(alloc: Global, text: &str) -> Result<Counts, Fail> {
     let (lists, others) = text.split_once(" ").unwrap_or((text, "0"));
     let (blank, spoiled) = others.split_once(" ").unwrap_or((others, "0"));
@@ -46,7 +46,10 @@ fn other_command(alloc: Global, verb: &str, named: Code, rest: &str) -> Result<A
         "vacate" => vacate_command(alloc, named, rest),
         "show" => Ok(Ask::ShowCon { con: named }),
         "return" => Ok(Ask::ShowReturn { station: named }),
-        _ => edition_command(alloc, verb, named, rest),
+        "draw" => edition_command(alloc, verb, named, rest),
+        "certify" => edition_command(alloc, verb, named, rest),
+        "reopen" => edition_command(alloc, verb, named, rest),
+        _ => Err(Fail::from("no command has this name")),
     }
 }
 

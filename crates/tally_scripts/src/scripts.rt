@@ -10,8 +10,8 @@ query s1 1 = refused 5
 correct s1 1 p2 1,1 = status Received
 query s1 1 sum = moved 2
 close s1 2 = status Queried
-correct s1 2 p2 1,1 7 = moved 3
-return s1 = 3 p2 Corrected [1, 1] 7 0 sum";
+correct s1 2 p2 1,1 = moved 3
+return s1 = 3 p2 Corrected [1, 1] 0 0 sum";
 
 /// 9 is Certified, 10 NotCertified, 16 LotStands, 20 AlreadyGone, 21 NotHolder.
 pub const RECOUNT: &str = "lodge s1 p1 100,100 = lodged 1
@@ -46,8 +46,8 @@ show c1 = certified 6 1/1 [120, 120] [1, 2] [2, 1] recount 2.1 resigned past 3 [
 lodge s1 p1 100,100 = differs 5
 lodge s1 p2 120,120 = same 5";
 
-/// The same where lots alternate: a lot is turned round for second seats, so that by the lot B, A the third
-/// seat is A's.
+/// The same where lots alternate: a lot is turned round for second seats, so that by the lot B, A
+/// the third seat is A's.
 pub const ALTERNATING: &str = "lodge s1 p1 100,100 = lodged 1
 certify c1 1 = left 1
 close s1 1 = moved 2
@@ -76,8 +76,8 @@ show c1 = certified 6 1/1 [120, 120] [1, 2] [1, 2] recount 1.2 moved 2.1 resigne
 lodge s1 p1 100,100 = differs 5
 lodge s1 p2 120,120 = same 5";
 
-/// D has less than a twentieth. Of 999 votes of the others A has 2 quotas and 2 over, B 1 and 501, C 1
-/// and 496: the fifth seat is B's. Of 1,000, B and C have 1 quota and 500 over: a lot decides.
+/// D has less than a twentieth. Of 999 votes of the others A has 2 quotas and 2 over, B 1 and 501,
+/// C 1 and 496: the fifth seat is B's. Of 1,000, B and C have 1 quota and 500 over: a lot decides.
 pub const HARE: &str = "lodge r1 p1 200,150,150,10 = lodged 1
 lodge r2 q1 200,150,149,10 = lodged 1
 close r1 1 = moved 2

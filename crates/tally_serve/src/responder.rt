@@ -15,7 +15,8 @@ pub trait Responder<K> {
 
     ghost content: { K → Content };
 
-    /// The premise under which a keeper is known to have that content. It may cease to hold at any call.
+    /// The premise under which a keeper is known to have that content. It may cease to hold at any
+    /// call.
     ghost IsTrusted: { K → Type 0 };
 
     /// What is answered to a message or a fault over a content, and the content then.
@@ -32,8 +33,8 @@ pub trait Responder<K> {
         message: &Result<Message, MessageFault>,
     ) -> Option<Vec<u8>>
         ensures trusted { IsTrusted keeper.new → IsTrusted keeper.old }
-        ensures answers { IsTrusted keeper.new →
-            Answers (content keeper.old) message.now (text_or unavailable result) (content keeper.new) };
+        ensures answers { IsTrusted keeper.new → Answers (content keeper.old) message.now
+            (text_or unavailable result) (content keeper.new) };
 
     /// The answer where there was no memory for one. It takes none.
     fn unavailable(&self) -> &'static [u8]

@@ -1,9 +1,9 @@
 //! Serving the connections of a door.
 
-ghost use Rattle.std.specs.Prelude.{◌≡◌, ◌+◌, ◌++◌, List, true, Some, option_to_list, take, drop, length, is_ok, nat_le};
-ghost use Rattle.tally_door.specs.Connection.{Connection, Connections, ChangesCurrent, after_text};
-ghost use Rattle.tally_serve.specs.Serving.{IsExchange, Serves, text_or};
-ghost use Rattle.tally_serve.specs.Next.{IsNext};
+ghost use Rattle.std.specs.Prelude.{◌≡◌, ◌+◌, true, length, nat_le};
+ghost use Rattle.tally_door.specs.Connection.{ChangesCurrent, after_text};
+ghost use Rattle.tally_serve.specs.Serving.{IsExchange, IsServing, text_or};
+ghost use Rattle.tally_serve.specs.Next.{IsNextServed};
 
 use crate::responder::Responder;
 use std::alloc::Global;
@@ -17,7 +17,7 @@ pub struct Served {
     pub failed: u32,
 }
 
-/// Writes a text, and tells whether it was written whole.
+/// Writes a text, and says whether it was written whole.
 fn send<D: Door>(door: &mut D, text: &[u8]) -> bool
     requires { D.connected door.old ≡ true }
     ensures { ChangesCurrent (D.known door.old) (D.known door.new)
@@ -26,7 +26,7 @@ fn send<D: Door>(door: &mut D, text: &[u8]) -> bool
     write_all(door, text).is_ok()
 }
 
-/// Writes an answer, and tells whether it was written whole.
+/// Writes an answer, and says whether it was written whole.
 fn send_answer<K, R: Responder<K>, D: Door>(
     responder: &R,
     door: &mut D,
@@ -43,7 +43,7 @@ fn send_answer<K, R: Responder<K>, D: Door>(
     }
 }
 
-/// Reads a message and answers it, and tells whether the answer was written whole.
+/// Reads a message and answers it, and says whether the answer was written whole.
 fn exchange<K, R: Responder<K>, D: Door>(
     alloc: Global,
     responder: &R,
@@ -53,7 +53,8 @@ fn exchange<K, R: Responder<K>, D: Door>(
     requires { D.connected door.old ≡ true }
     ensures trusted { R.IsTrusted keeper.new → R.IsTrusted keeper.old }
     ensures exchange { ChangesCurrent (D.known door.old) (D.known door.new)
-        (λ c d. R.IsTrusted keeper.new → IsExchange R.Answers (R.content keeper.old) c result d (R.content keeper.new)) }
+        (λ c d. R.IsTrusted keeper.new
+        → IsExchange R.Answers (R.content keeper.old) c result d (R.content keeper.new)) }
 {
     let message = read_message(alloc, door);
     if let Err(MessageFault::Read) = message {
@@ -71,11 +72,8 @@ fn serve_next<K, R: Responder<K>, D: Door>(
     door: &mut D,
 ) -> bool
     ensures trusted { R.IsTrusted keeper.new → R.IsTrusted keeper.old }
-    ensures next { (before : Connections) → D.known door.old ≡ Some before
-        → (after : Connections) × (D.known door.new ≡ Some after)
-        × IsNext (before.ended ++ option_to_list before.current) before.coming after result
-        (λ c d. R.IsTrusted keeper.new → IsExchange R.Answers (R.content keeper.old) c result d (R.content keeper.new))
-        (R.content keeper.new ≡ R.content keeper.old) }
+    ensures next { IsNextServed R.Answers (R.IsTrusted keeper.new) result
+        (D.known door.old) (D.known door.new) (R.content keeper.old) (R.content keeper.new) }
 {
     match door.next() {
         Ok(()) => exchange(alloc, responder, keeper, door),
@@ -83,9 +81,9 @@ fn serve_next<K, R: Responder<K>, D: Door>(
     }
 }
 
-/// Serves so many connections of a door, one after the other: from each it reads a message, and writes its answer.
-/// A connection counts as failed where the door had none, where a read of its message failed, and where its answer
-/// was not written whole.
+/// Serves so many connections of a door, one after the other: from each it reads a message, and
+/// writes its answer. A connection counts as failed where the door had none, where a read of its
+/// message failed, and where its answer was not written whole.
 pub fn serve<K, R: Responder<K>, D: Door>(
     alloc: Global,
     responder: &R,
@@ -95,13 +93,8 @@ pub fn serve<K, R: Responder<K>, D: Door>(
 ) -> Served
     ensures count { result.answered + result.failed ≡ count }
     ensures trusted { R.IsTrusted keeper.new → R.IsTrusted keeper.old }
-    ensures serves { (before : Connections) → D.known door.old ≡ Some before
-        → (after : Connections) × (D.known door.new ≡ Some after) × (ended : List Connection)
-        × (after.ended ++ option_to_list after.current
-        ≡ before.ended ++ option_to_list before.current ++ ended)
-        × (after.coming ≡ drop count before.coming)
-        × (R.IsTrusted keeper.new → Serves R.Answers (R.content keeper.old)
-        (take count before.coming) ended result.answered (R.content keeper.new)) }
+    ensures serves { IsServing R.Answers (R.IsTrusted keeper.new) count result.answered
+        (D.known door.old) (D.known door.new) (R.content keeper.old) (R.content keeper.new) }
 {
     let mut answered = 0;
     let mut failed = 0;

@@ -48,10 +48,10 @@ use Rattle.tally_statements.proofs.WriteLemmas.{Means, does}
 not_keyed : (t : KeyedTable) → tree_of t ≢ setup_tree
 not_keyed t e = not_setup t (sym e)
 
-changed_setup : (version : ℕ) (text : List ℕ) (old new : State) → IsInside old → new.now.schema ≡ office_schema → new.now.trees setup_tree ≡ setup_row version text ∷ []
+changed_setup : (version : ℕ) (text : List ℕ) (old new : State) → IsInside old → new.now.schema ≡ office_schema → IsDatabase new.now → new.now.trees setup_tree ≡ setup_row version text ∷ []
     → ((t : KeyedTable) → new.now.trees (tree_of t) ≡ old.now.trees (tree_of t)) → new.in_transaction ≡ true → HasSetup version text old new
-changed_setup version text old new inside schema is others mode = record {
-  inside = record { schema = schema; distinct = λ t. subst HaveDistinctRowids (sym (others t)) (inside.distinct t); inside = mode };
+changed_setup version text old new inside schema sound is others mode = record {
+  inside = record { schema = schema; sound = sound; distinct = λ t. subst HaveDistinctRowids (sym (others t)) (inside.distinct t); inside = mode };
   setup = is;
   others = others;
 }
@@ -71,7 +71,7 @@ inserts_setup version text old new count inside ran none =
     let w = runs_as insert_setup_text params old new office_schema inside.schema (Insert 0 (Values given_id 4)) insert_setup_is.command insert_setup_is.plain count ran.0 in
     let made = stores_one office_schema 0 (setup_table setup_tree) setup_ordinary given_id 4 params (Int (pos 1)) (Null ∷ params) refl (cast_int (pos 1)) (rw (cast_null, cast_int (pos version))) old.step_limit (mode_of old)
     (statement_of insert_setup_text (understood office_schema insert_setup_text)) old.now.trees w.tally new.now (does insert_setup_text params (Insert 0 (Values given_id 4)) old new count inside.schema w) in
-    changed_setup version text old new inside made.0 (made.1.stored ∙ ap (put_row (setup_row version text)) none) (λ t. made.1.others (tree_of t) (not_keyed t) (no_index t)) ran.1.mode
+    changed_setup version text old new inside made.0 w.sound (made.1.stored ∙ ap (put_row (setup_row version text)) none) (λ t. made.1.others (tree_of t) (not_keyed t) (no_index t)) ran.1.mode
 
 pub insert_setup_does : (version : ℕ) (text : List ℕ) (old new : State) (r : Result Unit Error) → Runs insert_setup_text (Int (pos version) ∷ Text text ∷ []) old new r → InsertsSetup version text old new r
 insert_setup_does version text old new r ran clean inside none = on_ok r (λ it. inserts_setup version text old new it.0 inside it.1 none) (ran clean inside.inside)
@@ -99,7 +99,7 @@ sets_version version before text old new count inside ran one =
     let only : IsOnly (old.now.trees setup_tree) (λ x. true) before_row (pos 1) = record { only = subst (λ l. filter (λ x. true) l ≡ before_row ∷ []) (sym one) refl; id = refl } in
     let made = updates_one office_schema 0 (setup_table setup_tree) setup_ordinary [] version_set params (λ x. true) (λ x. refl) before_row row (pos 1) refl (rw (cast_null, cast_int (pos version))) old.step_limit (mode_of old)
     (statement_of update_version_text (understood office_schema update_version_text)) old.now.trees w.tally new.now refl distinct only (does update_version_text params (Update 0 (record { lets = []; body = from_table setup_tree [] version_set [] })) old new count inside.schema w) in
-    changed_setup version text old new inside made.0 (made.1.stored ∙ ap (λ l. put_row (Int (pos 1) ∷ row) (without_rowid (pos 1) l)) one ∙ ap (put_row (Int (pos 1) ∷ row)) (none_left before text)) (λ t. made.1.others (tree_of t) (not_keyed t) (no_index t)) ran.1.mode
+    changed_setup version text old new inside made.0 w.sound (made.1.stored ∙ ap (λ l. put_row (Int (pos 1) ∷ row) (without_rowid (pos 1) l)) one ∙ ap (put_row (Int (pos 1) ∷ row)) (none_left before text)) (λ t. made.1.others (tree_of t) (not_keyed t) (no_index t)) ran.1.mode
 
 pub update_version_does : (version : ℕ) (old new : State) (r : Result Unit Error) → Runs update_version_text (Int (pos version) ∷ []) old new r → SetsVersion version old new r
 update_version_does version old new r ran clean inside before text one = on_ok r (λ it. sets_version version before text old new it.0 inside it.1 one) (ran clean inside.inside)

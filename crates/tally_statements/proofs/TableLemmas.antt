@@ -2,6 +2,7 @@
 use Rattle.std.proofs.Common.{◌≡◌, ◌≢◌, ◌⊎◌, inl, inr, ℕ, eqb, true, false, IsTrue, refl, sym, subst, arith, append-nil}
 use Rattle.std.proofs.lemmas.Bool.Decides.{eqb_tells}
 use Rattle.sqlite_rules.specs.Edit.{IsNoIndex}
+use Rattle.sqlite.specs.Effect.{IsDatabase}
 use Rattle.sqlite.specs.State.{State}
 use Rattle.tally_rows.specs.Rows.{HaveDistinctRowids}
 use Rattle.tally_rows.proofs.InsertLemmas.{IsOrdinary}
@@ -47,9 +48,9 @@ not_setup Totals e = omega arith
 not_setup Past e = omega arith
 
 -- what a change of one table leaves of all of them
-pub still_inside : (t : KeyedTable) (old new : State) → IsInside old → new.now.schema ≡ office_schema → HaveDistinctRowids (new.now.trees (tree_of t))
+pub still_inside : (t : KeyedTable) (old new : State) → IsInside old → new.now.schema ≡ office_schema → IsDatabase new.now → HaveDistinctRowids (new.now.trees (tree_of t))
     → ((u : ℕ) → u ≢ tree_of t → IsNoIndex office_schema u → new.now.trees u ≡ old.now.trees u) → IsTrue new.in_transaction → IsInside new
-still_inside t old new inside schema own others mode = record { schema = schema; distinct = each; inside = mode }
+still_inside t old new inside schema sound own others mode = record { schema = schema; sound = sound; distinct = each; inside = mode }
   where
     each : (u : KeyedTable) → HaveDistinctRowids (new.now.trees (tree_of u))
     each u = go (eqb_tells (tree_of u) (tree_of t))

@@ -51,7 +51,7 @@ module _ (t : KeyedTable) (sql : List ℕ) (params row : Row) where
       let w = runs_as sql params old new office_schema inside.schema (Insert (table_number t) (Values terms width)) means.command means.plain count ran.0 in
       let made = inserts_one office_schema (table_number t) (table_of t) (ordinary t) terms width params row is casts old.step_limit (mode_of old) (statement_of sql (understood office_schema sql)) old.now.trees w.tally new.now (does sql params (Insert (table_number t) (Values terms width)) old new count inside.schema w) in
       record {
-        inside = still_inside t old new inside made.0 (made.1.keyed (inside.distinct t)) made.1.others ran.1.mode;
+        inside = still_inside t old new inside made.0 w.sound (made.1.keyed (inside.distinct t)) made.1.others ran.1.mode;
         rows = made.1.added;
         others = λ u apart. made.1.others (tree_of u) apart (no_index u);
         setup = made.1.others setup_tree (not_setup t) no_index_setup;
@@ -69,7 +69,7 @@ module _ (t : KeyedTable) (sql key : List ℕ) (more row : Row) where
       let w = runs_as sql params old new office_schema inside.schema (Update (table_number t) (record { lets = []; body = from_table (tree_of t) by_text project [] })) means.command means.plain count ran.0 in
       let made = updates_one office_schema (table_number t) (table_of t) (ordinary t) by_text project params (has_key key) (by_text_is key more) found.0 row found.1 (ap (shows params project) found.3 ∙ shown found.1) casts old.step_limit (mode_of old) (statement_of sql (understood office_schema sql)) old.now.trees w.tally new.now (plain old.now.trees) (inside.distinct t) found.2 (does sql params (Update (table_number t) (record { lets = []; body = from_table (tree_of t) by_text project [] })) old new count inside.schema w) in
       record {
-        inside = still_inside t old new inside made.0 made.1.keyed made.1.others ran.1.mode;
+        inside = still_inside t old new inside made.0 w.sound made.1.keyed made.1.others ran.1.mode;
         rows = made.1.put;
         others = λ u apart. made.1.others (tree_of u) apart (no_index u);
         setup = made.1.others setup_tree (not_setup t) no_index_setup;
@@ -113,7 +113,7 @@ module _ (t : KeyedTable) (sql key : List ℕ) (item n : ℕ) where
       let left : IsPermutation rest (without (is_item key item) (rows_in t old)) =
       subst (λ l. IsPermutation l (without (is_item key item) (rows_in t old))) (without_first key item before rest none) (IsPermutation-filter (λ x. not (is_item key item x)) _ _ held) in
       record {
-        inside = still_inside t old new inside made.0 made.1.keyed made.1.others ran.1.mode;
+        inside = still_inside t old new inside made.0 w.sound made.1.keyed made.1.others ran.1.mode;
         rows = IsPermutation-trans _ _ _ (IsPermutation-cons params _ _ left) made.1.put;
         others = λ u apart. made.1.others (tree_of u) apart (no_index u);
         setup = made.1.others setup_tree (not_setup t) no_index_setup;
@@ -127,7 +127,7 @@ module _ (t : KeyedTable) (sql key : List ℕ) where
       let w = runs_as sql params old new office_schema inside.schema (Delete (table_number t) (record { lets = []; body = from_table (tree_of t) by_text (col 1 0 ∷ []) [] })) means.command means.plain count ran.0 in
       let made = deletes_all office_schema (table_number t) (table_of t) (ordinary t) by_text params (has_key key) (by_text_is key []) old.step_limit (mode_of old) (statement_of sql (understood office_schema sql)) old.now.trees w.tally new.now (plain old.now.trees) (inside.distinct t) (does sql params (Delete (table_number t) (record { lets = []; body = from_table (tree_of t) by_text (col 1 0 ∷ []) [] })) old new count inside.schema w) in
       record {
-        inside = still_inside t old new inside made.0 made.1.keyed made.1.others ran.1.mode;
+        inside = still_inside t old new inside made.0 w.sound made.1.keyed made.1.others ran.1.mode;
         rows = subst (λ l. IsPermutation (others key (rows_in t old)) l) (sym made.1.left) (IsPermutation-refl _);
         others = λ u apart. made.1.others (tree_of u) apart (no_index u);
         setup = made.1.others setup_tree (not_setup t) no_index_setup;

@@ -47,9 +47,11 @@ tree_of t = (table_of t).tree
 abbrev pub rows_in : KeyedTable → Seen → List Row
 rows_in t s = cells (s.now.trees (tree_of t))
 
--- The tables of the office are open in a transaction, and in none of them two rows have the same rowid.
+-- The tables of the office are open in a transaction. The catalogue lists them and no others, and
+-- the rows obey them. No two rows of one of them have the same rowid.
 pub record IsInside (s : Seen) : Type 0 where
   pub schema : s.now.schema ≡ office_schema
+  pub sound : IsDatabase s.now
   pub distinct : (t : KeyedTable) → HaveDistinctRowids (s.now.trees (tree_of t))
   pub inside : IsTrue s.in_transaction
 
@@ -70,7 +72,7 @@ item_cells key item n = Text key ∷ Int (pos item) ∷ Int (pos n) ∷ []
 abbrev pub is_item : List ℕ → ℕ → Row → Bool
 is_item key item row = has_key key row && is_eq (value_cmp (column row 1) (Int (pos item)))
 
--- ---- what a call says, of a disk that returned what was written
+-- ---- what a call says, where the disk returned what was written
 
 -- whatever it answers, nothing was committed
 abbrev pub KeepsCommitIfClean : Seen → Seen → Type 0
@@ -80,7 +82,7 @@ KeepsCommitIfClean old new = HasCleanDisk new → KeepsCommit old new
 abbrev pub Runs : List ℕ → Row → Seen → Seen → Result Unit Error → Type 0
 Runs sql params old new result = HasCleanDisk new → IsTrue old.in_transaction → OnOk result ((count : ℕ) × ExecutesInside 0 sql params old new (Ok count))
 
--- the row is one more
+-- the table has this row in addition
 abbrev pub Inserts : KeyedTable → Row → Seen → Seen → Result Unit Error → Type 0
 Inserts t row old new result = HasCleanDisk new → IsInside old → OnOk result (HasRows t (row ∷ rows_in t old) old new)
 
@@ -123,7 +125,8 @@ all_cells Gone r = column r 0 ∷ column r 1 ∷ column r 2 ∷ column r 3 ∷ [
 all_cells Totals r = column r 0 ∷ column r 1 ∷ column r 2 ∷ []
 all_cells Past r = column r 0 ∷ column r 1 ∷ column r 2 ∷ column r 3 ∷ []
 
--- Each row has the columns of the table and no more, and the key of each is below that of the next: texts by their bytes, numbers by their size.
+-- Each row has the columns of the table and no more. The key of each is below that of the next:
+-- texts by their bytes, numbers by their size.
 pub record AreInOrder (t : KeyedTable) (rows : List Row) : Type 0 where
   pub whole : AllByRecursion (λ r. all_cells t r ≡ r) rows
   pub rising : IsAscending (λ a b. row_cmp (key_cells t a) (key_cells t b) ≡ Less) rows
@@ -140,7 +143,8 @@ pub record HasTables (s : Seen) : Type 0 where
   pub sound : IsTrue s.is_open → IsDatabase s.now
   pub inside : IsTrue s.in_transaction
 
--- The answer has the rows of a table and no others. Where these rows are the table's, in order, they are the answer.
+-- The answer has the rows of a table and no others. Where these rows are the table's, in order,
+-- they are the answer.
 pub record ShowsTable (t : KeyedTable) (s : Seen) (answer : List Row) : Type 0 where
   pub same : IsPermutation (rows_in t s) answer
   pub in_order : (rows : List Row) → AreInOrder t rows → IsPermutation rows (rows_in t s) → answer ≡ rows
@@ -157,7 +161,7 @@ pub record HasSetup (version : ℕ) (text : List ℕ) (old new : Seen) : Type 0 
   pub setup : new.now.trees setup_tree ≡ setup_row version text ∷ []
   pub others : (t : KeyedTable) → new.now.trees (tree_of t) ≡ old.now.trees (tree_of t)
 
--- the row stands in the table, which was empty
+-- the row is in the table, which was empty
 abbrev pub InsertsSetup : ℕ → List ℕ → Seen → Seen → Result Unit Error → Type 0
 InsertsSetup version text old new result = HasCleanDisk new → IsInside old → old.now.trees setup_tree ≡ [] → OnOk result (HasSetup version text old new)
 
@@ -170,7 +174,7 @@ SetsVersion version old new result =
 abbrev pub shown_setup : Row → Row
 shown_setup row = column row 0 ∷ column row 2 ∷ column row 3 ∷ []
 
--- the row of which this is shown: the id is the rowid
+-- the row that is shown as this: the id is the rowid
 abbrev pub stored_setup : Row → Row
 stored_setup shown = column shown 0 ∷ Null ∷ column shown 1 ∷ column shown 2 ∷ []
 

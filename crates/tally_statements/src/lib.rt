@@ -1,5 +1,5 @@
-//! The statements of the store, each in a function of its own. It knows rows and tables, and nothing of
-//! what the rows mean.
+//! The statements of the store, each in a function of its own. It knows rows and tables, and
+//! nothing of what the rows mean.
 #![tactic(auto)]
 
 mod delete;

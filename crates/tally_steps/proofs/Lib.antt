@@ -21,4 +21,5 @@ pub mod OneLemmas
 pub mod OwnLemmas
 pub mod DecisionLemmas
 pub mod RecordLemmas
+pub mod GoneLemmas
 pub mod KindLemmas

@@ -1,14 +1,13 @@
 -- The order of a lot, as a test and as a fact, and the places of the lists that an order names.
-use Rattle.std.proofs.Common.{◌≡◌, ◌≢◌, ◌<◌, ◌↔◌, ◌∙◌, ℕ, zero, suc, ◌+◌, List, [], ◌∷◌, ◌++◌, Bool, true, false, ◌&&◌, ◌||◌, Option, Some, None, cond, length, get_or, refl, sym, ap, arith}
-use Rattle.std.specs.Prelude.{nat_eq, not, option_map}
+use Rattle.std.proofs.Common.{◌≡◌, ◌≢◌, ◌<◌, ◌↔◌, ◌∙◌, ℕ, zero, suc, ◌+◌, List, [], ◌∷◌, ◌++◌, Bool, true, false, ◌&&◌, ◌||◌, Option, Some, None, length, get_or, refl, sym, ap, arith}
+use Rattle.std.specs.Prelude.{nat_eq, not}
 use Rattle.std.specs.List.{list_all, list_any}
-use Rattle.std.specs.Str.{bytes_eq}
 use Rattle.std.proofs.lemmas.Bool.{false≢true, true≢false, eqb-true, eqb-false, eq-eqb, ne_eqb, and_parts, and_from, not-true, false_from_ne_true}
 use Rattle.std.proofs.lemmas.List.Recursion.{and_at, and_from_places}
-use Rattle.tally_rules.specs.Constituency.{Constituency, ListEntry}
+use Rattle.tally_rules.specs.Constituency.{Constituency}
 use Rattle.tally_rules.specs.ListSet.{has_place}
 use Rattle.tally_law.specs.Lot.{IsOrderOf}
-use Rattle.tally_steps.specs.Certification.{ListFound, are_distinct, found_from, list_found, list_place, list_places, marked_from, names_group, place_from, with_place}
+use Rattle.tally_steps.specs.Certification.{are_distinct, list_place, list_places, marked_from, names_group, with_place}
 use Rattle.tally_steps.specs.Holders.{is_among}
 
 -- ---- what is among places
@@ -118,18 +117,6 @@ order-same group other places to from order = record {
     place-same (suc l) e = to l e
 
 -- ---- the places of the lists that an order names
-
-place-is : (p : ℕ) (code : List ℕ) (lists : List ListEntry) → place_from p code lists ≡ option_map (λ (f : ListFound). f.place) (found_from p code lists)
-place-is p code [] = refl
-place-is p code (list ∷ lists) = by_cases (bytes_eq code list.code) (place-is (p + 1) code lists)
-  where
-    by_cases : (b : Bool) → place_from (p + 1) code lists ≡ option_map (λ (f : ListFound). f.place) (found_from (p + 1) code lists)
-        → cond b (Some p) (place_from (p + 1) code lists) ≡ option_map (λ (f : ListFound). f.place) (cond b (Some (record { place = p; candidates = length list.candidates })) (found_from (p + 1) code lists))
-    by_cases true rest = refl
-    by_cases false rest = rest
-
-pub list_place-is : (con : Constituency) (code : List ℕ) → list_place con code ≡ option_map (λ (f : ListFound). f.place) (list_found con code)
-list_place-is con code = place-is 1 code con.lists
 
 -- one code more
 pub list_places-more : (con : Constituency) (order : List (List ℕ)) (code : List ℕ) (places : List ℕ) (place : ℕ)

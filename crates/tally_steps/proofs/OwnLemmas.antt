@@ -119,11 +119,12 @@ move-own certified found rev may_start = (
 )
 
 counts-own : (known : Option StationLimits) (counts : VoteCounts) → AreOwnChecks (counts_checks_at known counts)
-counts-own known counts = (
-  check-own (is_some known) NoStation tt,
+counts-own None counts = (check-own false NoStation tt, tt)
+counts-own (Some limits) counts = (
+  check-own true NoStation tt,
   (
-    found-own known (λ limits. are_counts limits.lists counts) (λ limits. BadCounts) (λ limits. tt),
-    (found-own known (λ limits. nat_le (all_votes counts) limits.electors) (λ limits. TooManyVotes) (λ limits. tt), tt),
+    check-own (are_counts limits.lists counts) BadCounts tt,
+    (check-own (nat_le (all_votes counts) limits.electors) TooManyVotes tt, tt),
   ),
 )
 

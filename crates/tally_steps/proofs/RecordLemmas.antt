@@ -97,7 +97,7 @@ changed-stays c (open_again note past) its earlier = reopened-stays c note past 
 changed-stays c (gone_for_good candidate next) its earlier = (λ edition seats is. is, earlier)
 
 -- what is so of one constituency that changes, and of each that does not, is so of each
-with_con-each : (P : ConState → ConState → Type 0) → ((c : ConState) → P c c) → (s : State) (code : List ℕ) (c : ConState) → P (con_state s code) c → (q : List ℕ) → P (con_state s q) (con_state (with_con s code c) q)
+pub with_con-each : (P : ConState → ConState → Type 0) → ((c : ConState) → P c c) → (s : State) (code : List ℕ) (c : ConState) → P (con_state s code) c → (q : List ℕ) → P (con_state s q) (con_state (with_con s code c) q)
 with_con-each P same s code c is q = subst (P (con_state s q)) (sym (con_state-with_con s code c q)) (go (eq_by_cmp code_cmp q code) refl)
   where
     go : (b : Bool) → eq_by_cmp code_cmp q code ≡ b → P (con_state s q) (cond b c (con_state s q))

@@ -1,5 +1,5 @@
 -- Draw, Certify, Reopen and Vacate: the checks of each in their order, and what it then sets.
-use Rattle.std.specs.Prelude.{◌≡◌, ◌≢◌, ◌⊎◌, if◌then◌else◌, ◌+◌, ◌-◌, ◌==◌, ◌&&◌, not, ℕ, nat_le, Bool, true, false, List, [], ◌∷◌, length, map, slice_index, Option, Some, None, Result, Ok, Err, is_some}
+use Rattle.std.specs.Prelude.{◌≡◌, ◌≢◌, ◌⊎◌, if◌then◌else◌, ◌+◌, ◌-◌, ◌==◌, ◌&&◌, not, ℕ, nat_le, Bool, true, false, List, [], ◌∷◌, length, map, slice_index, Option, Some, None, Result, Ok, Err, is_some, option_map}
 use Rattle.std.specs.List.{list_all, filter}
 use Rattle.std.specs.Str.{bytes_eq}
 use Rattle.tally_rules.specs.Constituency.{Constituency, ListEntry}
@@ -26,29 +26,42 @@ count_checks view edition =
     ∷ []
 
 -- Refused by a check, or else this.
-abbrev pub RefusedOr : {X : Type 0} → Option Refusal → (Result X Refusal → Type 0) → Result X Refusal → Type 0
+abbrev pub RefusedOr : {X : Type 0} → Option Refusal → (Result X Refusal → Type 0)
+    → Result X Refusal → Type 0
 RefusedOr (Some refusal) Otherwise result = result ≡ Err refusal
 RefusedOr None Otherwise result = Otherwise result
 
 -- What is given for the outcome of the closed votes.
-abbrev pub ByOutcome : Constituency → View → (Outcome → Result (List ℕ) Refusal) → Result (List ℕ) Refusal → Type 0
-ByOutcome con view gives result = (outcome : Outcome) × IsOutcome con view outcome × (result ≡ gives outcome)
+abbrev pub ByOutcome : Constituency → View → (Outcome → Result (List ℕ) Refusal)
+    → Result (List ℕ) Refusal → Type 0
+ByOutcome con view gives result =
+    (outcome : Outcome) × IsOutcome con view outcome × (result ≡ gives outcome)
 
--- The same where the lot that stands may be wrong, as it is in no lawful view but may be in one that a database gave. Then some list is
--- eligible, the votes come to no outcome, and this is the refusal.
-abbrev pub ByOutcomeOrWrongLot : Constituency → View → (Outcome → Result (List ℕ) Refusal) → Refusal → Result (List ℕ) Refusal → Type 0
+-- The same where the recorded lot may be wrong, as it is in no lawful view but may be in one
+-- that a database gave. Then some list is eligible, the votes come to no outcome, and this is the
+-- refusal.
+abbrev pub ByOutcomeOrWrongLot : Constituency → View → (Outcome → Result (List ℕ) Refusal) → Refusal
+    → Result (List ℕ) Refusal → Type 0
 ByOutcomeOrWrongLot con view gives told result =
-    ByOutcome con view gives result ⊎ (HasEligible (poll_in con view) × HasWrongLot con view × (result ≡ Err told))
+    ByOutcome con view gives result
+    ⊎ (HasEligible (poll_in con view) × HasWrongLot con view × (result ≡ Err told))
 
--- Draw and Certify alike: the refusal of the first check that fails, or else what is given for the outcome.
-abbrev pub CountGives : Constituency → View → ℕ → (Outcome → Result (List ℕ) Refusal) → Result (List ℕ) Refusal → Type 0
-CountGives con view edition gives = RefusedOr (first_refusal (count_checks view edition)) (ByOutcome con view gives)
+-- Draw and Certify alike: the refusal of the first check that fails, or else what is given for the
+-- outcome.
+abbrev pub CountGives : Constituency → View → ℕ → (Outcome → Result (List ℕ) Refusal)
+    → Result (List ℕ) Refusal → Type 0
+CountGives con view edition gives =
+    RefusedOr (first_refusal (count_checks view edition)) (ByOutcome con view gives)
 
--- A refusal of Draw or Certify, want of memory aside: that of the first check that fails, whatever lot stands; or else the one that is
--- given for the outcome, or this one where the lot is wrong.
-abbrev pub IsCountRefusal : Constituency → View → ℕ → (Outcome → Result (List ℕ) Refusal) → Refusal → Refusal → Type 0
+-- A refusal of Draw or Certify other than Memory: that of the first check that fails, whatever
+-- lot is recorded; or else the one that is given for the outcome, or this one where the lot is
+-- wrong.
+abbrev pub IsCountRefusal : Constituency → View → ℕ → (Outcome → Result (List ℕ) Refusal) → Refusal
+    → Refusal → Type 0
 IsCountRefusal con view edition gives told refusal =
-    refusal ≢ Memory → RefusedOr (first_refusal (count_checks view edition)) (ByOutcomeOrWrongLot con view gives told) (Err refusal)
+    refusal ≢ Memory
+    → RefusedOr (first_refusal (count_checks view edition))
+    (ByOutcomeOrWrongLot con view gives told) (Err refusal)
 
 -- ---- Certify
 
@@ -61,19 +74,33 @@ certified_by (allotted seats) = Ok seats
 abbrev pub Certifies : Constituency → View → ℕ → Result (List ℕ) Refusal → Type 0
 Certifies con view edition = CountGives con view edition certified_by
 
--- A refusal of Certify; where the lot that stands is wrong, the database that gave the view is refused.
+-- A refusal of Certify; where the recorded lot is wrong, the database that gave the view is
+-- refused.
 abbrev pub IsCertifyRefusal : Constituency → View → ℕ → Refusal → Type 0
 IsCertifyRefusal con view edition = IsCountRefusal con view edition certified_by Store
+
+-- ---- the list of a code
+
+-- its place in the constituency, from 1, and how many candidates it has
+pub record ListFound : Type 0 where
+  pub place : ℕ
+  pub candidates : ℕ
+
+abbrev pub found_from : ℕ → List ℕ → List ListEntry → Option ListFound
+found_from place code [] = None
+found_from place code (list ∷ lists) =
+    if bytes_eq code list.code
+    then Some (record { place = place; candidates = length list.candidates })
+    else found_from (place + 1) code lists
+
+abbrev pub list_found : Constituency → List ℕ → Option ListFound
+list_found con code = found_from 1 code con.lists
 
 -- ---- Draw
 
 -- the place of the list of a code, from 1
-abbrev pub place_from : ℕ → List ℕ → List ListEntry → Option ℕ
-place_from place code [] = None
-place_from place code (list ∷ lists) = if bytes_eq code list.code then Some place else place_from (place + 1) code lists
-
 abbrev pub list_place : Constituency → List ℕ → Option ℕ
-list_place con code = place_from 1 code con.lists
+list_place con code = option_map (λ (list : ListFound). list.place) (list_found con code)
 
 -- the places of the lists that an order names, where each is one
 abbrev pub with_place : Option ℕ → Option (List ℕ) → Option (List ℕ)
@@ -98,13 +125,17 @@ marked_from place (false ∷ marks) = marked_from (place + 1) marks
 
 -- the order names each list of the group once and no other
 abbrev pub names_group : List Bool → List ℕ → Bool
-names_group group places = list_all (has_place group) places && are_distinct places && list_all (λ place. is_among place places) (marked_from 1 group)
+names_group group places =
+    list_all (has_place group) places && are_distinct places
+    && list_all (λ place. is_among place places) (marked_from 1 group)
 
 abbrev pub drawn_places : List Bool → Option (List ℕ) → Result (List ℕ) Refusal
 drawn_places group None = Err (LotWrongGroup group)
-drawn_places group (Some places) = if names_group group places then Ok places else Err (LotWrongGroup group)
+drawn_places group (Some places) =
+    if names_group group places then Ok places else Err (LotWrongGroup group)
 
--- what Draw gives where the votes come to this and no lot is recorded: the places of the lists in the order drawn
+-- what Draw gives where the votes come to this and no lot is recorded: the places of the lists in
+-- the order drawn
 abbrev pub drawn_by : Outcome → Option (List ℕ) → Result (List ℕ) Refusal
 drawn_by nobody places = Err NoEligible
 drawn_by (lot_missing group in_question) places = drawn_places group places
@@ -123,9 +154,10 @@ drawn_in con view order outcome = drawn_where view.lot outcome (list_places con 
 abbrev pub Draws : Constituency → View → ℕ → List (List ℕ) → Result (List ℕ) Refusal → Type 0
 Draws con view edition order = CountGives con view edition (drawn_in con view order)
 
--- A refusal of Draw; a lot that stands is one that stands, be it wrong.
+-- A refusal of Draw. A recorded lot that is wrong is refused as any recorded lot is: by LotStands.
 abbrev pub IsDrawRefusal : Constituency → View → ℕ → List (List ℕ) → Refusal → Type 0
-IsDrawRefusal con view edition order = IsCountRefusal con view edition (drawn_in con view order) LotStands
+IsDrawRefusal con view edition order =
+    IsCountRefusal con view edition (drawn_in con view order) LotStands
 
 -- ---- Reopen
 
@@ -143,23 +175,10 @@ certificate_of view = record { edition = view.edition; seats = view.seats }
 
 -- Reopen gives its note, and what is put on record.
 abbrev pub reopened : View → ℕ → List ℕ → Result (List ℕ × PastSeats) Refusal
-reopened view edition note = refused_or (first_refusal (reopen_checks view edition note)) (Ok (note, certificate_of view))
+reopened view edition note =
+    refused_or (first_refusal (reopen_checks view edition note)) (Ok (note, certificate_of view))
 
 -- ---- Vacate
-
--- how many candidates the list of a code has, and its place
-pub record ListFound : Type 0 where
-  pub place : ℕ
-  pub candidates : ℕ
-
-abbrev pub found_from : ℕ → List ℕ → List ListEntry → Option ListFound
-found_from place code [] = None
-found_from place code (list ∷ lists) =
-    if bytes_eq code list.code then Some (record { place = place; candidates = length list.candidates })
-    else found_from (place + 1) code lists
-
-abbrev pub list_found : Constituency → List ℕ → Option ListFound
-list_found con code = found_from 1 code con.lists
 
 -- the list has a candidate at this place, from 1
 abbrev pub has_candidate : ℕ → ListFound → Bool
@@ -167,7 +186,8 @@ has_candidate place list = nat_le 1 place && nat_le place list.candidates
 
 -- the places of a list's candidates who are gone
 abbrev pub gone_of : View → ℕ → List ℕ
-gone_of view list = map (λ (g : GoneCandidate). g.place) (filter (λ (g : GoneCandidate). g.list == list) view.gone)
+gone_of view list =
+    map (λ (g : GoneCandidate). g.place) (filter (λ (g : GoneCandidate). g.list == list) view.gone)
 
 -- who holds the seats of the list
 abbrev pub holders_of : View → ListFound → List ℕ → List ℕ
@@ -179,20 +199,25 @@ vacate_checks view found place note =
     ∷ check_found found (has_candidate place) (λ list. NoCandidate)
     ∷ check (is_note note) BadNote
     ∷ check view.certified NotCertified
-    ∷ check_found found (λ list. not (is_among place (gone_of view list.place))) (λ list. AlreadyGone)
-    ∷ check_found found (λ list. is_among place (holders_of view list (gone_of view list.place))) (λ list. NotHolder)
+    ∷ check_found found (λ list. not (is_among place (gone_of view list.place)))
+    (λ list. AlreadyGone)
+    ∷ check_found found (λ list. is_among place (holders_of view list (gone_of view list.place)))
+    (λ list. NotHolder)
     ∷ []
 
 -- the candidate is gone, and this is the one who now moves in
-abbrev pub vacancy : View → Option ListFound → ℕ → List ℕ → Result (GoneCandidate × Option ℕ) Refusal
+abbrev pub vacancy : View → Option ListFound → ℕ → List ℕ
+    → Result (GoneCandidate × Option ℕ) Refusal
 vacancy view None place note = Err NoCandidate
 vacancy view (Some list) place note = Ok (
   record { list = list.place; place = place; note = note },
-  newcomer (holders_of view list (gone_of view list.place)) (holders_of view list (place ∷ gone_of view list.place)),
+  newcomer (holders_of view list (gone_of view list.place))
+      (holders_of view list (place ∷ gone_of view list.place)),
 )
 
 -- Vacate gives the candidate who is gone, and the next.
-abbrev pub vacates : Constituency → View → List ℕ → ℕ → List ℕ → Result (GoneCandidate × Option ℕ) Refusal
+abbrev pub vacates : Constituency → View → List ℕ → ℕ → List ℕ
+    → Result (GoneCandidate × Option ℕ) Refusal
 vacates con view code place note =
     let found = list_found con code in
     refused_or (first_refusal (vacate_checks view found place note)) (vacancy view found place note)

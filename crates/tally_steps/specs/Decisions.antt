@@ -1,5 +1,5 @@
--- What a decision has to do with a step: where it was made of what a state says, its refusal is that of the step, or its change leads
--- to the state of the step. These are the statements of laws.
+-- What a decision has to do with a step: where it was made of what a state says, its refusal is
+-- that of the step, or its change leads to the state of the step. These are the statements of laws.
 use Rattle.std.specs.Prelude.{◌≡◌, ◌<◌, ◌≤◌, ◌≢◌, ◌∷◌, ℕ, All, List, [], Option, Some, None, Result, Ok, Err}
 use Rattle.std.specs.FinMap.{get}
 use Rattle.tally_rules.specs.Constituency.{Constituency}
@@ -27,11 +27,14 @@ use Rattle.tally_steps.specs.LawfulState.{IsLawfulState}
 
 -- the command names the station of a code, which is in this constituency
 abbrev pub IsAt : List Constituency → Constituency → List ℕ → Ask → Type 0
-IsAt setup con code ask = (station_named ask ≡ Some code) × ((station : Station) × (station_with code setup ≡ Some (con, station)))
+IsAt setup con code ask =
+    (station_named ask ≡ Some code)
+    × ((station : Station) × (station_with code setup ≡ Some (con, station)))
 
 -- what is decided of a command on the return of a station, by what a state says of it
 abbrev pub decided_of : State → Constituency → List ℕ → Ask → Result Change Refusal
-decided_of s con code ask = decided_where_named con (con_state s con.code).certified (get s.returns code) ask
+decided_of s con code ask =
+    decided_where_named con (con_state s con.code).certified (get s.returns code) ask
 
 -- what a command on a return is answered where this is what it changes
 abbrev pub told : Ask → Option StationReturn → Change → Option Answer
@@ -46,17 +49,21 @@ told ask found other = None
 -- what a constituency says of its stations is what the setup says
 abbrev pub LimitsAreThoseOfTheSetup : Type 0
 LimitsAreThoseOfTheSetup =
-    (setup : List Constituency) (con : Constituency) (code : List ℕ) (ask : Ask) → IsAt setup con code ask
+    (setup : List Constituency) (con : Constituency) (code : List ℕ) (ask : Ask)
+    → IsAt setup con code ask
     → limits_named con ask ≡ stations_of setup code
 
 abbrev pub RefusalsOnReturnsAreSteps : Type 0
 RefusalsOnReturnsAreSteps =
-    (setup : List Constituency) (s : State) (con : Constituency) (code : List ℕ) (ask : Ask) (refusal : Refusal)
-    → IsAt setup con code ask → decided_of s con code ask ≡ Err refusal → IsStepSeen setup s ask (Err refusal) s
+    (setup : List Constituency) (s : State) (con : Constituency) (code : List ℕ) (ask : Ask)
+    (refusal : Refusal)
+    → IsAt setup con code ask → decided_of s con code ask ≡ Err refusal
+    → IsStepSeen setup s ask (Err refusal) s
 
 abbrev pub ChangesOfReturnsAreSteps : Type 0
 ChangesOfReturnsAreSteps =
-    (setup : List Constituency) (s : State) (con : Constituency) (code : List ℕ) (ask : Ask) (change : Change)
+    (setup : List Constituency) (s : State) (con : Constituency) (code : List ℕ) (ask : Ask)
+    (change : Change)
     → IsAt setup con code ask → decided_of s con code ask ≡ Ok change
     → (answer : Answer) × (told ask (get s.returns code) change ≡ Some answer)
     × IsStepSeen setup s ask (Ok answer) (after setup s ask (Ok change))
@@ -65,7 +72,8 @@ ChangesOfReturnsAreSteps =
 abbrev pub UnknownStationsAreRefused : Type 0
 UnknownStationsAreRefused =
     (setup : List Constituency) (s : State) (code : List ℕ) (ask : Ask)
-    → station_named ask ≡ Some code → station_with code setup ≡ None → IsStepSeen setup s ask (Err NoStation) s
+    → station_named ask ≡ Some code → station_with code setup ≡ None
+    → IsStepSeen setup s ask (Err NoStation) s
 
 -- ---- commands on constituencies
 
@@ -76,47 +84,57 @@ IsOn setup con code ask = (con_named ask ≡ Some code) × (constituency_with co
 -- a refusal and a change alike
 abbrev pub DecisionsOnConstituenciesAreSteps : Type 0
 DecisionsOnConstituenciesAreSteps =
-    (setup : List Constituency) (s : State) (con : Constituency) (code : List ℕ) (view : View) (ask : Ask)
-    (decided : Result ConChange Refusal) → IsOn setup con code ask → IsView con s view → Decides con view ask decided
+    (setup : List Constituency) (s : State) (con : Constituency) (code : List ℕ) (view : View)
+    (ask : Ask)
+    (decided : Result ConChange Refusal) → IsOn setup con code ask → IsView con s view
+    → Decides con view ask decided
     → IsStepSeen setup s ask (con_answer view decided) (after_change s con.code decided)
 
 -- a code that is no constituency
 abbrev pub UnknownConstituenciesAreRefused : Type 0
 UnknownConstituenciesAreRefused =
     (setup : List Constituency) (s : State) (code : List ℕ) (ask : Ask)
-    → con_named ask ≡ Some code → constituency_with code setup ≡ None → IsStepSeen setup s ask (Err NoConstituency) s
+    → con_named ask ≡ Some code → constituency_with code setup ≡ None
+    → IsStepSeen setup s ask (Err NoConstituency) s
 
 -- the edition that a change leads to is one that a constituency can have
 abbrev pub EditionsStayWithinTheirLimit : Type 0
 EditionsStayWithinTheirLimit =
-    (setup : List Constituency) (s : State) (con : Constituency) (code : List ℕ) (view : View) (ask : Ask) (change : ConChange)
+    (setup : List Constituency) (s : State) (con : Constituency) (code : List ℕ) (view : View)
+    (ask : Ask) (change : ConChange)
     → IsSetup setup → IsLawfulState setup s → IsOn setup con code ask → IsView con s view
-    → Decides con view ask (Ok change) → (changed (con_state s con.code) change).edition ≤ last_edition
+    → Decides con view ask (Ok change)
+    → (changed (con_state s con.code) change).edition ≤ last_edition
 
 -- one who goes was not gone
 abbrev pub NobodyGoesTwice : Type 0
 NobodyGoesTwice =
-    (setup : List Constituency) (s : State) (con : Constituency) (code : List ℕ) (view : View) (ask : Ask) (gone : GoneCandidate)
-    (next : Option ℕ) → IsOn setup con code ask → IsView con s view → Decides con view ask (Ok (gone_for_good gone next))
+    (setup : List Constituency) (s : State) (con : Constituency) (code : List ℕ) (view : View)
+    (ask : Ask) (gone : GoneCandidate)
+    (next : Option ℕ) → IsOn setup con code ask → IsView con s view
+    → Decides con view ask (Ok (gone_for_good gone next))
     → get (con_state s con.code).gone (gone.list ∷ gone.place ∷ []) ≡ None
 
 -- what is put on record comes after all that was
 abbrev pub RecordsComeLast : Type 0
 RecordsComeLast =
-    (setup : List Constituency) (s : State) (con : Constituency) (code : List ℕ) (view : View) (ask : Ask) (note : List ℕ)
+    (setup : List Constituency) (s : State) (con : Constituency) (code : List ℕ) (view : View)
+    (ask : Ask) (note : List ℕ)
     (past : PastSeats) → IsLawfulState setup s → IsOn setup con code ask → IsView con s view
     → Decides con view ask (Ok (open_again note past))
-    → All (λ (earlier : PastSeats). earlier.edition < past.edition) (past_records (con_state s con.code).past)
+    → All (λ (earlier : PastSeats). earlier.edition < past.edition)
+    (past_records (con_state s con.code).past)
 
 -- ---- steps
 
 -- from a state and a command at most one answer and one state
 abbrev pub StepsAreOne : Type 0
 StepsAreOne =
-    (setup : List Constituency) (s t u : State) (ask : Ask) (answer other : Result Answer Refusal) → IsSetup setup
+    (setup : List Constituency) (s t u : State) (ask : Ask) (answer other : Result Answer Refusal)
+    → IsSetup setup
     → IsStepSeen setup s ask answer t → IsStepSeen setup s ask other u → (answer ≡ other) × (t ≡ u)
 
--- no step is refused as out of memory or by a store
+-- no step has the refusal Memory or Store
 abbrev pub StepsAreOfTheMachine : Type 0
 StepsAreOfTheMachine =
     (setup : List Constituency) (s t : State) (ask : Ask) (refusal : Refusal)
@@ -126,4 +144,5 @@ StepsAreOfTheMachine =
 abbrev pub AnswersAreOfTheirKind : Type 0
 AnswersAreOfTheirKind =
     (setup : List Constituency) (s t : State) (ask : Ask) (answer : Answer)
-    → IsSetup setup → IsLawfulState setup s → IsStepSeen setup s ask (Ok answer) t → IsAnswerTo setup ask answer
+    → IsSetup setup → IsLawfulState setup s → IsStepSeen setup s ask (Ok answer) t
+    → IsAnswerTo setup ask answer

@@ -20,7 +20,8 @@ IsAnswerTo setup (Draw con edition order) (edition_now next) = Unit {0}
 IsAnswerTo setup (Certify con edition) (edition_now next) = Unit {0}
 IsAnswerTo setup (Reopen con edition note) (edition_now next) = Unit {0}
 IsAnswerTo setup (Vacate con list place note) (vacated next) = Unit {0}
-IsAnswerTo setup (ShowCon code) (con_shown view) = (con : Constituency) × (constituency_with code setup ≡ Some con) × FitsView con view
+IsAnswerTo setup (ShowCon code) (con_shown view) =
+    (con : Constituency) × (constituency_with code setup ≡ Some con) × FitsView con view
 IsAnswerTo setup ShowProgress (progress_shown rows) = Unit {0}
 IsAnswerTo setup ask other = ⊥
 

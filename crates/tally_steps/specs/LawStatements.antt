@@ -1,6 +1,7 @@
--- The laws of states, steps and runs. Each is proved as a clause of a function of `src/laws.rt`. What is said of decisions is in
--- `Decisions`, and of certificates that were reopened in `Records`.
-use Rattle.std.specs.Prelude.{◌≡◌, ◌↔◌, ◌<◌, ℕ, All, Bool, List, [], Some, None, Err, Result, true, false, slice_get}
+-- The laws of states, steps and runs. Each is proved as a clause of a function of `src/laws.rt`.
+-- What is said of decisions is in `Decisions`, and of certificates that were reopened in `Records`.
+use Rattle.std.specs.Prelude.{◌≡◌, ◌↔◌, ◌<◌, ℕ, All, Bool, List, [], ◌∷◌, Some, None, Err, Result, true, false, is_some, slice_get}
+use Rattle.std.specs.FinMap.{get}
 use Rattle.std.specs.List.{filter}
 use Rattle.tally_rules.specs.Constituency.{Constituency}
 use Rattle.tally_rules.specs.Limits.{IsSetup}
@@ -17,7 +18,7 @@ use Rattle.tally_returns.specs.declared.refusal.Refusal.{Refusal}
 use Rattle.tally_returns.specs.declared.refusal.Refusal.TheVariants.{LotMissing}
 use Rattle.tally_returns.specs.declared.reply.Reply.{Reply}
 use Rattle.tally_steps.specs.Certification.{count_checks}
-use Rattle.tally_steps.specs.Step.{ConChange, Decides, IsView, Answer, IsStep, IsStepSeen}
+use Rattle.tally_steps.specs.Step.{ConChange, Decides, IsAnswered, IsView, Answer, IsStep, IsStepSeen}
 use Rattle.tally_steps.specs.LawfulState.{IsLawfulState}
 use Rattle.tally_steps.specs.Outcome.{Outcome, HasWrongLot, IsCertificate, IsLawfulView, IsOutcome, poll_in, rule_in}
 use Rattle.tally_steps.specs.Runs.{IsRun, is_act, IsSameCommand, acting_asks, kept}
@@ -26,18 +27,21 @@ use Rattle.tally_steps.specs.Runs.{IsRun, is_act, IsSameCommand, acting_asks, ke
 
 -- the state that an office opens with is lawful
 abbrev pub OpeningStatesAreLawful : Type 0
-OpeningStatesAreLawful = (setup : List Constituency) → IsSetup setup → IsLawfulState setup (opening setup)
+OpeningStatesAreLawful =
+    (setup : List Constituency) → IsSetup setup → IsLawfulState setup (opening setup)
 
 -- a step from a lawful state leads to a lawful one
 abbrev pub StepsKeepStatesLawful : Type 0
 StepsKeepStatesLawful =
-    (setup : List Constituency) (s t : State) (ask : Ask) (r : Result Reply Refusal) → BringsCode ask → IsSetup setup → IsLawfulState setup s
+    (setup : List Constituency) (s t : State) (ask : Ask) (r : Result Reply Refusal)
+    → BringsCode ask → IsSetup setup → IsLawfulState setup s
     → IsStep setup s ask r t → IsLawfulState setup t
 
 -- and so does a run
 abbrev pub RunsKeepStatesLawful : Type 0
 RunsKeepStatesLawful =
-    (setup : List Constituency) (s t : State) (asks : List Ask) (rs : List (Result Reply Refusal)) → All BringsCode asks → IsSetup setup
+    (setup : List Constituency) (s t : State) (asks : List Ask) (rs : List (Result Reply Refusal))
+    → All BringsCode asks → IsSetup setup
     → IsRun setup s asks rs t → IsLawfulState setup s → IsLawfulState setup t
 
 -- ---- certificates
@@ -48,49 +52,60 @@ CertificatesOfRunsStand =
     (setup : List Constituency) (s t : State) (asks : List Ask) (rs : List (Result Reply Refusal))
     → All BringsCode asks → IsSetup setup → IsLawfulState setup s → IsRun setup s asks rs t
     → (code : List ℕ) (con : Constituency) → constituency_with code setup ≡ Some con
-    → (con_state t con.code).certified ≡ true → (view : View) × IsView con t view × IsCertificate con view
+    → (con_state t con.code).certified ≡ true
+    → (view : View) × IsView con t view × IsCertificate con view
 
 -- in a lawful state each view of a certified constituency has one
 abbrev pub CertificatesStand : Type 0
 CertificatesStand =
-    (setup : List Constituency) (s : State) → IsSetup setup → IsLawfulState setup s → (code : List ℕ) (con : Constituency) (view : View)
-    → constituency_with code setup ≡ Some con → (con_state s con.code).certified ≡ true → IsView con s view → IsCertificate con view
+    (setup : List Constituency) (s : State) → IsSetup setup → IsLawfulState setup s
+    → (code : List ℕ) (con : Constituency) (view : View)
+    → constituency_with code setup ≡ Some con → (con_state s con.code).certified ≡ true
+    → IsView con s view → IsCertificate con view
 
 -- ---- views
 
 -- a constituency has at most one view in a state
 abbrev pub ViewsAreOne : Type 0
 ViewsAreOne =
-    (setup : List Constituency) (s : State) (code : List ℕ) (con : Constituency) (view other : View) → IsSetup setup
-    → constituency_with code setup ≡ Some con → IsView con s view → IsView con s other → view ≡ other
+    (setup : List Constituency) (s : State) (code : List ℕ) (con : Constituency) (view other : View)
+    → IsSetup setup
+    → constituency_with code setup ≡ Some con → IsView con s view → IsView con s other
+    → view ≡ other
 
 -- and it has one in a lawful state
 abbrev pub ConstituenciesHaveViews : Type 0
 ConstituenciesHaveViews =
-    (setup : List Constituency) (s : State) (code : List ℕ) (con : Constituency) → IsSetup setup → IsLawfulState setup s
+    (setup : List Constituency) (s : State) (code : List ℕ) (con : Constituency) → IsSetup setup
+    → IsLawfulState setup s
     → constituency_with code setup ≡ Some con → (view : View) × IsView con s view
 
 -- which is lawful
 abbrev pub ViewsAreLawful : Type 0
 ViewsAreLawful =
-    (setup : List Constituency) (s : State) (code : List ℕ) (con : Constituency) (view : View) → IsSetup setup → IsLawfulState setup s
+    (setup : List Constituency) (s : State) (code : List ℕ) (con : Constituency) (view : View)
+    → IsSetup setup → IsLawfulState setup s
     → constituency_with code setup ≡ Some con → IsView con s view → IsLawfulView con view
 
--- and the lot that stands in a lawful view is not a wrong one
+-- and the recorded lot of a lawful view is not a wrong one
 abbrev pub LotsOfLawfulViewsAreRight : Type 0
-LotsOfLawfulViewsAreRight = (con : Constituency) (view : View) → IsLawfulView con view → ¬ HasWrongLot con view
+LotsOfLawfulViewsAreRight =
+    (con : Constituency) (view : View) → IsLawfulView con view → ¬ HasWrongLot con view
 
--- where a wrong lot stands and some list is eligible, the votes come to no outcome: neither seats nor a lot that is missing
+-- where a wrong lot is recorded and some list is eligible, the votes come to no outcome: neither
+-- seats nor a lot that is missing
 abbrev pub WrongLotsLeadToNoOutcome : Type 0
 WrongLotsLeadToNoOutcome =
-    (con : Constituency) (view : View) (outcome : Outcome) → HasEligible (poll_in con view) → HasWrongLot con view → ¬ IsOutcome con view outcome
+    (con : Constituency) (view : View) (outcome : Outcome) → HasEligible (poll_in con view)
+    → HasWrongLot con view → ¬ IsOutcome con view outcome
 
 -- ---- steps
 
 -- by the view of a lawful state each command on a constituency is decided
 abbrev pub CommandsAreDecided : Type 0
 CommandsAreDecided =
-    (setup : List Constituency) (s : State) (code : List ℕ) (con : Constituency) (view : View) (ask : Ask)
+    (setup : List Constituency) (s : State) (code : List ℕ) (con : Constituency) (view : View)
+    (ask : Ask)
     → IsSetup setup → IsLawfulState setup s
     → constituency_with code setup ≡ Some con → IsView con s view → con_named ask ≡ Some code
     → (decided : Result ConChange Refusal) × Decides con view ask decided
@@ -101,41 +116,69 @@ CommandsHaveSteps =
     (setup : List Constituency) (s : State) (ask : Ask) → IsSetup setup → IsLawfulState setup s
     → (t : State) × (seen_as : Result Answer Refusal) × IsStepSeen setup s ask seen_as t
 
--- where the checks before it pass and some list is eligible, Certify answers that a lot is missing exactly where one is needed and none
--- is recorded
+-- where the checks before it pass and some list is eligible, Certify answers that a lot is missing
+-- exactly where one is needed and none is recorded
 abbrev pub MissingLotsAreTold : Type 0
 MissingLotsAreTold =
-    (setup : List Constituency) (s t : State) (code : List ℕ) (con : Constituency) (view : View) (edition : ℕ)
-    (r : Result Reply Refusal) → IsSetup setup → constituency_with code setup ≡ Some con → IsView con s view
-    → first_refusal (count_checks view edition) ≡ None → HasEligible (poll_in con view) → IsStep setup s (Certify code edition) r t
+    (setup : List Constituency) (s t : State) (code : List ℕ) (con : Constituency) (view : View)
+    (edition : ℕ)
+    (r : Result Reply Refusal) → IsSetup setup → constituency_with code setup ≡ Some con
+    → IsView con s view
+    → first_refusal (count_checks view edition) ≡ None → HasEligible (poll_in con view)
+    → IsStep setup s (Certify code edition) r t
     → ((group : List Bool) × (in_question : ℕ) × (r ≡ Err (LotMissing group in_question)))
     ↔ (IsLotNeeded (rule_in con) (poll_in con view) con.seats × (view.lot ≡ []))
 
 -- and it names the group and the seats in question
 abbrev pub MissingLotsAreToldAsNeeded : Type 0
 MissingLotsAreToldAsNeeded =
-    (setup : List Constituency) (s t : State) (code : List ℕ) (con : Constituency) (view : View) (edition : ℕ)
+    (setup : List Constituency) (s t : State) (code : List ℕ) (con : Constituency) (view : View)
+    (edition : ℕ)
     (r : Result Reply Refusal) (group : List Bool) (in_question : ℕ)
-    → constituency_with code setup ≡ Some con → IsView con s view → IsStep setup s (Certify code edition) r t
-    → r ≡ Err (LotMissing group in_question) → IsNeed (rule_in con) (poll_in con view) con.seats group in_question
+    → constituency_with code setup ≡ Some con → IsView con s view
+    → IsStep setup s (Certify code edition) r t
+    → r ≡ Err (LotMissing group in_question)
+    → IsNeed (rule_in con) (poll_in con view) con.seats group in_question
+
+-- a request that is refused, that repeats what is recorded or that shows something changes nothing
+abbrev pub WhatDoesNotActChangesNothing : Type 0
+WhatDoesNotActChangesNothing =
+    (setup : List Constituency) (s t : State) (ask : Ask) (r : Result Reply Refusal)
+    → IsAnswered setup s ask r t → is_act r ≡ false → t ≡ s
+
+-- a candidate who is gone stays gone through every request, a reopening among them
+abbrev pub TheGoneStayGone : Type 0
+TheGoneStayGone =
+    (setup : List Constituency) (s t : State) (ask : Ask) (r : Result Reply Refusal)
+    → IsAnswered setup s ask r t → (code : List ℕ) (list place : ℕ)
+    → is_some (get (con_state s code).gone (list ∷ place ∷ [])) ≡ true
+    → is_some (get (con_state t code).gone (list ∷ place ∷ [])) ≡ true
 
 -- ---- runs
 
 -- where a command acted, the same one at a later place did not
 abbrev pub NoTwoEqualCommandsAct : Type 0
 NoTwoEqualCommandsAct =
-    (setup : List Constituency) (s t : State) (asks : List Ask) (rs : List (Result Reply Refusal)) → IsRun setup s asks rs t
-    → (i j : ℕ) (ask other : Ask) (first second : Result Reply Refusal) → i < j → slice_get asks i ≡ Some ask → slice_get asks j ≡ Some other
-    → IsSameCommand ask other → slice_get rs i ≡ Some first → slice_get rs j ≡ Some second → is_act first ≡ true → is_act second ≡ false
+    (setup : List Constituency) (s t : State) (asks : List Ask) (rs : List (Result Reply Refusal))
+    → IsRun setup s asks rs t
+    → (i j : ℕ) (ask other : Ask) (first second : Result Reply Refusal) → i < j
+    → slice_get asks i ≡ Some ask → slice_get asks j ≡ Some other
+    → IsSameCommand ask other → slice_get rs i ≡ Some first → slice_get rs j ≡ Some second
+    → is_act first ≡ true → is_act second ≡ false
 
--- without the requests that do not act a run has the same last state, and the others the same answers
+-- without the requests that do not act a run has the same last state, and the others the same
+-- answers
 abbrev pub ActsAloneAreARun : Type 0
 ActsAloneAreARun =
-    (setup : List Constituency) (s t : State) (asks : List Ask) (rs : List (Result Reply Refusal)) → IsRun setup s asks rs t
+    (setup : List Constituency) (s t : State) (asks : List Ask) (rs : List (Result Reply Refusal))
+    → IsRun setup s asks rs t
     → IsRun setup s (acting_asks asks rs) (filter is_act rs) t
 
 -- and so it has without some of them
 abbrev pub WhatDoesNotActCanBeLeftOut : Type 0
 WhatDoesNotActCanBeLeftOut =
-    (setup : List Constituency) (s t : State) (asks : List Ask) (rs : List (Result Reply Refusal)) → IsRun setup s asks rs t → (keep : ℕ → Bool)
-    → ((i : ℕ) (r : Result Reply Refusal) → slice_get rs i ≡ Some r → keep i ≡ false → is_act r ≡ false) → IsRun setup s (kept keep asks) (kept keep rs) t
+    (setup : List Constituency) (s t : State) (asks : List Ask) (rs : List (Result Reply Refusal))
+    → IsRun setup s asks rs t → (keep : ℕ → Bool)
+    → ((i : ℕ) (r : Result Reply Refusal) → slice_get rs i ≡ Some r → keep i ≡ false
+    → is_act r ≡ false)
+    → IsRun setup s (kept keep asks) (kept keep rs) t

@@ -18,8 +18,8 @@ pub record IsLawfulIn (con : Constituency) (s : State) : Type 0 where
   pub seen : IsLawfulCon con (view_of con s [])
   pub gone : All IsUnderPlaces (entries (con_state s con.code).gone)
 
--- A lawful state: each return is one of a station of the setup, and lawful there, and each constituency is one of the setup, and
--- lawful too.
+-- A lawful state: each return is one of a station of the setup, and lawful there, and each
+-- constituency is one of the setup, and lawful too.
 pub record IsLawfulState (setup : List Constituency) (s : State) : Type 0 where
   pub stations : (station : List ℕ) → ForSome (get s.returns station) (IsLawfulAt setup station)
   pub cons : (code : List ℕ) → ForSome (constituency_with code setup) (λ con. IsLawfulIn con s)

@@ -1,4 +1,5 @@
--- Certificates that were reopened: they stay on record, and what is on record is what was certified. These are the statements of laws.
+-- Certificates that were reopened: they stay on record, and what is on record is what was
+-- certified. These are the statements of laws.
 use Rattle.std.specs.Prelude.{◌≡◌, ◌⊎◌, ◌+◌, ℕ, All, true, List, Some, Result, Ok, slice_get, take, drop}
 use Rattle.std.specs.FinMap.{get}
 use Rattle.tally_rules.specs.Constituency.{Constituency}
@@ -26,20 +27,26 @@ IsOnRecord s code edition seats = get (con_state s code).past edition ≡ Some s
 -- what is on record stays there, word for word, whatever is asked
 abbrev pub RecordsStay : Type 0
 RecordsStay =
-    (setup : List Constituency) (s t : State) (ask : Ask) (r : Result Reply Refusal) → IsLawfulState setup s → IsAnswered setup s ask r t
-    → (code : List ℕ) (edition : ℕ) (seats : List ℕ) → IsOnRecord s code edition seats → IsOnRecord t code edition seats
+    (setup : List Constituency) (s t : State) (ask : Ask) (r : Result Reply Refusal)
+    → IsLawfulState setup s → IsAnswered setup s ask r t
+    → (code : List ℕ) (edition : ℕ) (seats : List ℕ) → IsOnRecord s code edition seats
+    → IsOnRecord t code edition seats
 
 -- and so it is through a run, from any lawful state
 abbrev pub RecordsStayInRuns : Type 0
 RecordsStayInRuns =
-    (setup : List Constituency) (s t : State) (asks : List Ask) (rs : List (Result Reply Refusal)) → IsLawfulState setup s → IsRun setup s asks rs t
-    → (code : List ℕ) (edition : ℕ) (seats : List ℕ) → IsOnRecord s code edition seats → IsOnRecord t code edition seats
+    (setup : List Constituency) (s t : State) (asks : List Ask) (rs : List (Result Reply Refusal))
+    → IsLawfulState setup s → IsRun setup s asks rs t
+    → (code : List ℕ) (edition : ℕ) (seats : List ℕ) → IsOnRecord s code edition seats
+    → IsOnRecord t code edition seats
 
 -- ---- records are of allotments
 
--- In this state the constituency was certified at this edition, with these seats: all its stations were closed, and the seats are the
--- one allotment of its closed votes. And this request reopened it.
-pub record IsReopened (con : Constituency) (edition : ℕ) (seats : List ℕ) (s : State) (ask : Ask) (r : Result Reply Refusal) : Type 0 where
+-- In this state the constituency was certified at this edition, with these seats: all its stations
+-- were closed, and the seats are the one allotment of its closed votes. And this request reopened
+-- it.
+pub record IsReopened (con : Constituency) (edition : ℕ) (seats : List ℕ) (s : State) (ask : Ask)
+    (r : Result Reply Refusal) : Type 0 where
   pub view : View
   pub seen : IsView con s view
   pub certified : view.certified ≡ true
@@ -53,13 +60,17 @@ pub record IsReopened (con : Constituency) (edition : ℕ) (seats : List ℕ) (s
 -- what is on record after a request was on record before, or the request reopened it
 abbrev pub RecordsAreOfAllotments : Type 0
 RecordsAreOfAllotments =
-    (setup : List Constituency) (s t : State) (ask : Ask) (r : Result Reply Refusal) → IsSetup setup → IsLawfulState setup s → IsAnswered setup s ask r t
-    → (code : List ℕ) (con : Constituency) (edition : ℕ) (seats : List ℕ) → constituency_with code setup ≡ Some con
-    → IsOnRecord t con.code edition seats → IsOnRecord s con.code edition seats ⊎ IsReopened con edition seats s ask r
+    (setup : List Constituency) (s t : State) (ask : Ask) (r : Result Reply Refusal) → IsSetup setup
+    → IsLawfulState setup s → IsAnswered setup s ask r t
+    → (code : List ℕ) (con : Constituency) (edition : ℕ) (seats : List ℕ)
+    → constituency_with code setup ≡ Some con
+    → IsOnRecord t con.code edition seats
+    → IsOnRecord s con.code edition seats ⊎ IsReopened con edition seats s ask r
 
--- At some place of the run, from 0, is the request that reopened the certificate, in the state to which the requests before it led.
-pub record IsReopenedIn (con : Constituency) (edition : ℕ) (seats : List ℕ) (setup : List Constituency) (s : State)
-    (asks : List Ask) (rs : List (Result Reply Refusal)) (t : State) : Type 0 where
+-- At some place of the run, from 0, is the request that reopened the certificate, in the state to
+-- which the requests before it led.
+pub record IsReopenedIn (con : Constituency) (edition : ℕ) (seats : List ℕ)
+    (setup : List Constituency) (s : State) (asks : List Ask) (rs : List (Result Reply Refusal)) (t : State) : Type 0 where
   pub place : ℕ
   pub state : State
   pub ask : Ask
@@ -70,12 +81,13 @@ pub record IsReopenedIn (con : Constituency) (edition : ℕ) (seats : List ℕ) 
   pub answered : slice_get rs place ≡ Some answer
   pub reopened : IsReopened con edition seats state ask answer
 
--- Each certificate on record after a run was on record before it, word for word, or it was reopened in that run. From the opening state
--- it was reopened, since there nothing is on record.
+-- Each certificate on record after a run was on record before it, word for word, or it was reopened
+-- in that run. From the opening state it was reopened, since there nothing is on record.
 abbrev pub RecordsOfRunsAreOfAllotments : Type 0
 RecordsOfRunsAreOfAllotments =
     (setup : List Constituency) (s t : State) (asks : List Ask) (rs : List (Result Reply Refusal))
     → All BringsCode asks → IsSetup setup → IsLawfulState setup s → IsRun setup s asks rs t
-    → (code : List ℕ) (con : Constituency) (edition : ℕ) (seats : List ℕ) → constituency_with code setup ≡ Some con
+    → (code : List ℕ) (con : Constituency) (edition : ℕ) (seats : List ℕ)
+    → constituency_with code setup ≡ Some con
     → IsOnRecord t con.code edition seats
     → IsOnRecord s con.code edition seats ⊎ IsReopenedIn con edition seats setup s asks rs t

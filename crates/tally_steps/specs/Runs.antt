@@ -10,9 +10,11 @@ use Rattle.tally_returns.specs.declared.reply.Reply.TheVariants.{Lodged, Same, M
 use Rattle.tally_returns.specs.State.{State}
 
 -- A run: requests one after the other, their answers and the last state.
-abbrev pub IsRun : List Constituency → State → List Ask → List (Result Reply Refusal) → State → Type 0
+abbrev pub IsRun : List Constituency → State → List Ask → List (Result Reply Refusal) → State
+    → Type 0
 IsRun setup s [] [] t = t ≡ s
-IsRun setup s (ask ∷ asks) (r ∷ rs) t = (mid : State) × IsAnswered setup s ask r mid × IsRun setup mid asks rs t
+IsRun setup s (ask ∷ asks) (r ∷ rs) t =
+    (mid : State) × IsAnswered setup s ask r mid × IsRun setup mid asks rs t
 IsRun setup s [] (r ∷ rs) t = ⊥
 IsRun setup s (ask ∷ asks) [] t = ⊥
 
@@ -28,13 +30,15 @@ is_act (Ok (Con view)) = false
 is_act (Ok (Progress rows)) = false
 is_act (Err refusal) = false
 
--- The same command: all its parts are equal. Of a note the text counts and of an order its codes, not how a program keeps them.
+-- The same command: all its parts are equal. A note is compared by its text and an order by its
+-- codes, not by how a program keeps them.
 abbrev pub IsSameCommand : Ask → Ask → Type 0
 IsSameCommand ask other = ask_seen ask ≡ ask_seen other
 
 -- the requests that acted, by what they were answered
 abbrev pub acting_asks : List Ask → List (Result Reply Refusal) → List Ask
-acting_asks (ask ∷ asks) (r ∷ rs) = if is_act r then ask ∷ acting_asks asks rs else acting_asks asks rs
+acting_asks (ask ∷ asks) (r ∷ rs) =
+    if is_act r then ask ∷ acting_asks asks rs else acting_asks asks rs
 acting_asks [] rs = []
 acting_asks (ask ∷ asks) [] = []
 

@@ -1,5 +1,6 @@
--- Step: what a command is answered in a state, and the state that it leaves. What a command on a return is refused for is in
--- `Decide` of tally_returns, and what one on a constituency is refused for in `Certification`.
+-- Step: what a command is answered in a state, and the state that it leaves. What a command on a
+-- return is refused for is in `Decide` of tally_returns, and what one on a constituency is refused
+-- for in `Certification`.
 use Rattle.std.specs.Prelude.{◌≡◌, ◌≢◌, ◌+◌, ◌∷◌, ◌⊎◌, ℕ, Bool, true, false, List, [], Option, Some, None, Result, Ok, Err, option_map, string_bytes}
 use Rattle.std.specs.Option.{option_map_or}
 use Rattle.std.specs.FinMap.{get, insert}
@@ -62,16 +63,21 @@ seen (Err refusal) = Err refusal
 
 -- the code of the constituency that a station is in
 abbrev pub con_of_station : List Constituency → List ℕ → Option (List ℕ)
-con_of_station setup station = option_map (λ (place : Constituency × Station). place.0.code) (station_with station setup)
+con_of_station setup station =
+    option_map (λ (place : Constituency × Station). place.0.code) (station_with station setup)
 
 -- whether the constituency of a station is certified
 abbrev pub is_certified : List Constituency → State → List ℕ → Bool
-is_certified setup s station = option_map_or (λ code. (con_state s code).certified) (con_of_station setup station) false
+is_certified setup s station =
+    option_map_or (λ code. (con_state s code).certified) (con_of_station setup station) false
 
 -- what is decided of a command that names this station, or none
-abbrev pub decided_at_station : List Constituency → State → Ask → Option (List ℕ) → Result Change Refusal
+abbrev pub decided_at_station : List Constituency → State → Ask → Option (List ℕ)
+    → Result Change Refusal
 decided_at_station setup s ask None = Ok Same
-decided_at_station setup s ask (Some station) = decided_return (stations_of setup station) (is_certified setup s station) (get s.returns station) ask
+decided_at_station setup s ask (Some station) =
+    decided_return (stations_of setup station) (is_certified setup s station)
+    (get s.returns station) ask
 
 abbrev pub decided_in : List Constituency → State → Ask → Result Change Refusal
 decided_in setup s ask = decided_at_station setup s ask (station_named ask)
@@ -79,7 +85,8 @@ decided_in setup s ask = decided_at_station setup s ask (station_named ask)
 -- without the lot of this constituency
 abbrev pub without_lot : State → Option (List ℕ) → State
 without_lot s None = s
-without_lot s (Some code) = record s { cons = insert s.cons code (record (con_state s code) { lot = [] }) }
+without_lot s (Some code) =
+    record s { cons = insert s.cons code (record (con_state s code) { lot = [] }) }
 
 -- a query takes the lot of the constituency with it
 abbrev pub after_put : List Constituency → State → Ask → State
@@ -93,7 +100,8 @@ with_return s (Some station) standing = record s { returns = insert s.returns st
 
 -- the state after what was decided: a refusal leaves it
 abbrev pub after : List Constituency → State → Ask → Result Change Refusal → State
-after setup s ask (Ok (PutReturn standing)) = with_return (after_put setup s ask) (station_named ask) standing
+after setup s ask (Ok (PutReturn standing)) =
+    with_return (after_put setup s ask) (station_named ask) standing
 after setup s ask other = s
 
 -- the state that a command on a return leaves
@@ -106,34 +114,40 @@ lodge_reply (Ok (lodge.Lodged rev)) = Ok (lodged rev)
 lodge_reply (Ok (lodge.Same rev)) = Ok (same rev)
 lodge_reply (Err refusal) = Err refusal
 
--- What a command is answered that moves a return: the new revision. It is refused or puts one (`ChangesOfReturnsAreSteps`), so the line for
--- another change is never used.
+-- What a command is answered that moves a return: the new revision. It is refused or puts one
+-- (`ChangesOfReturnsAreSteps`), so the line for another change is never used.
 abbrev pub move_reply : Result Change Refusal → Result Answer Refusal
 move_reply (Ok (PutReturn standing)) = Ok (moved standing.rev)
 move_reply (Ok other) = Err NoReturn
 move_reply (Err refusal) = Err refusal
 
--- The recorded return. That there is one is a check that comes before, so the line for none is never used.
+-- The recorded return. That there is one is a check that comes before, so the line for none is
+-- never used.
 abbrev pub return_reply : Option StationReturn → Result Answer Refusal
 return_reply (Some standing) = Ok (return_shown standing)
 return_reply None = Err NoReturn
 
 -- what a command on a return is answered, or one that shows how far constituencies have come
 abbrev pub answer : List Constituency → State → Ask → Result Answer Refusal
-answer setup s (Lodge station slip counts) = lodge_reply (lodge_answer (stations_of setup) s.returns station slip counts)
+answer setup s (Lodge station slip counts) =
+    lodge_reply (lodge_answer (stations_of setup) s.returns station slip counts)
 answer setup s (ShowReturn station) =
-    refused_or (first_refusal (show_checks (stations_of setup station) (get s.returns station))) (return_reply (get s.returns station))
+    refused_or (first_refusal (show_checks (stations_of setup station) (get s.returns station)))
+    (return_reply (get s.returns station))
 answer setup s ShowProgress = Ok (progress_shown (progress setup s))
 answer setup s ask = move_reply (decided_in setup s ask)
 
 -- A step on a return, or one that shows how far constituencies have come.
-abbrev pub IsReturnStepSeen : List Constituency → State → Ask → Result Answer Refusal → State → Type 0
-IsReturnStepSeen setup s ask seen_as t = (seen_as ≡ answer setup s ask) × (t ≡ after_return setup s ask)
+abbrev pub IsReturnStepSeen : List Constituency → State → Ask → Result Answer Refusal → State
+    → Type 0
+IsReturnStepSeen setup s ask seen_as t =
+    (seen_as ≡ answer setup s ask) × (t ≡ after_return setup s ask)
 
 -- ---- commands on constituencies
 
--- what a command on a constituency changes, as contracts see it: nothing; the lot, as the places of its lists; it is certified, with
--- these seats; it is open again, with this note, and its certificate is on record; a candidate is gone, and another moves in or nobody
+-- what a command on a constituency changes, as contracts see it: nothing; the lot, as the places of
+-- its lists; it is certified, with these seats; it is open again, with this note, and its
+-- certificate is on record; a candidate is gone, and another moves in or nobody
 pub data ConChange : Type 0 where
   no_change : ConChange
   lot_set : List ℕ → ConChange
@@ -157,27 +171,35 @@ changed_by change (Err refusal) = Err refusal
 -- What is decided of a command on a constituency with this view.
 abbrev pub Decides : Constituency → View → Ask → Result ConChange Refusal → Type 0
 Decides con view (Draw code edition order) decided =
-    (places : Result (List ℕ) Refusal) × Draws con view edition order.items places × (decided ≡ changed_by lot_set places)
+    (places : Result (List ℕ) Refusal) × Draws con view edition order.items places
+    × (decided ≡ changed_by lot_set places)
 Decides con view (Certify code edition) decided =
-    (seats : Result (List ℕ) Refusal) × Certifies con view edition seats × (decided ≡ changed_by certified_with seats)
+    (seats : Result (List ℕ) Refusal) × Certifies con view edition seats
+    × (decided ≡ changed_by certified_with seats)
 Decides con view (Reopen code edition note) decided =
-    decided ≡ changed_by (λ (r : List ℕ × PastSeats). open_again r.0 r.1) (reopened view edition (string_bytes note))
+    decided ≡ changed_by (λ (r : List ℕ × PastSeats). open_again r.0 r.1)
+    (reopened view edition (string_bytes note))
 Decides con view (Vacate code list place note) decided =
-    decided ≡ changed_by (λ (v : GoneCandidate × Option ℕ). gone_for_good v.0 v.1) (vacates con view list place (string_bytes note))
+    decided ≡ changed_by (λ (v : GoneCandidate × Option ℕ). gone_for_good v.0 v.1)
+    (vacates con view list place (string_bytes note))
 Decides con view (ShowCon code) decided = decided ≡ Ok no_change
 Decides con view other decided = ⊥
 
 -- A change that is decided of a command on a constituency.
 abbrev pub IsConDecision : Constituency → View → Ask → Change → Type 0
-IsConDecision con view ask change = (decided : ConChange) × (con_change change ≡ Some decided) × Decides con view ask (Ok decided)
+IsConDecision con view ask change =
+    (decided : ConChange) × (con_change change ≡ Some decided) × Decides con view ask (Ok decided)
 
--- A refusal that is decided of a command on a constituency, want of memory aside. Draw and Certify may meet a lot that is wrong.
+-- A refusal other than Memory that is decided of a command on a constituency. Draw and Certify may
+-- meet a lot that is wrong.
 abbrev pub IsConRefusal : Constituency → View → Ask → Refusal → Type 0
-IsConRefusal con view (Draw code edition order) refusal = IsDrawRefusal con view edition order.items refusal
+IsConRefusal con view (Draw code edition order) refusal =
+    IsDrawRefusal con view edition order.items refusal
 IsConRefusal con view (Certify code edition) refusal = IsCertifyRefusal con view edition refusal
 IsConRefusal con view other refusal = refusal ≢ Memory → Decides con view other (Err refusal)
 
--- This is what is seen of a constituency in a state: where it is certified, its seats are those of the one allotment.
+-- This is what is seen of a constituency in a state: where it is certified, its seats are those of
+-- the one allotment.
 abbrev pub IsView : Constituency → State → View → Type 0
 IsView con s view = (view ≡ view_of con s view.seats) × HasSeats con view view.certified
 
@@ -186,8 +208,14 @@ abbrev pub changed : ConState → ConChange → ConState
 changed c no_change = c
 changed c (lot_set places) = record c { edition = c.edition + 1; lot = places }
 changed c (certified_with seats) = record c { edition = c.edition + 1; certified = true }
-changed c (open_again note past) = record c { edition = c.edition + 1; certified = false; note = note; past = insert c.past past.edition past.seats }
-changed c (gone_for_good candidate next) = record c { gone = insert c.gone (candidate.list ∷ candidate.place ∷ []) candidate.note }
+changed c (open_again note past) = record c {
+  edition = c.edition + 1;
+  certified = false;
+  note = note;
+  past = insert c.past past.edition past.seats;
+}
+changed c (gone_for_good candidate next) =
+    record c { gone = insert c.gone (candidate.list ∷ candidate.place ∷ []) candidate.note }
 
 -- the state in which the constituency of a code has come to this
 abbrev pub with_con : State → List ℕ → ConState → State
@@ -206,19 +234,24 @@ con_answer view (Ok (gone_for_good candidate next)) = Ok (vacated next)
 con_answer view (Ok other) = Ok (edition_now (view.edition + 1))
 con_answer view (Err refusal) = Err refusal
 
--- A step on the constituency of a code, by its view: what is seen of its answer, and the state that it leaves.
-abbrev pub IsConStepSeen : Option Constituency → State → Ask → Result Answer Refusal → State → Type 0
+-- A step on the constituency of a code, by its view: what is seen of its answer, and the state that
+-- it leaves.
+abbrev pub IsConStepSeen : Option Constituency → State → Ask → Result Answer Refusal → State
+    → Type 0
 IsConStepSeen None s ask seen_as t = (seen_as ≡ Err NoConstituency) × (t ≡ s)
 IsConStepSeen (Some con) s ask seen_as t =
-    (view : View) × (decided : Result ConChange Refusal) × IsView con s view × Decides con view ask decided
+    (view : View) × (decided : Result ConChange Refusal) × IsView con s view
+    × Decides con view ask decided
     × (seen_as ≡ con_answer view decided) × (t ≡ after_change s con.code decided)
 
 -- ---- all commands
 
 -- a step of a command that names this constituency, or none
-abbrev pub IsStepSeenAt : Option (List ℕ) → List Constituency → State → Ask → Result Answer Refusal → State → Type 0
+abbrev pub IsStepSeenAt : Option (List ℕ) → List Constituency → State → Ask → Result Answer Refusal
+    → State → Type 0
 IsStepSeenAt None setup s ask seen_as t = IsReturnStepSeen setup s ask seen_as t
-IsStepSeenAt (Some code) setup s ask seen_as t = IsConStepSeen (constituency_with code setup) s ask seen_as t
+IsStepSeenAt (Some code) setup s ask seen_as t =
+    IsConStepSeen (constituency_with code setup) s ask seen_as t
 
 -- A step: what is seen of the answer to a command, and the state that it leaves.
 abbrev pub IsStepSeen : List Constituency → State → Ask → Result Answer Refusal → State → Type 0
@@ -231,7 +264,7 @@ IsConStep found s ask r t = IsConStepSeen found s ask (seen r) t
 abbrev pub IsStep : List Constituency → State → Ask → Result Reply Refusal → State → Type 0
 IsStep setup s ask r t = IsStepSeen setup s ask (seen r) t
 
--- The request was not accepted, being out of memory or since the store failed.
+-- The request was not accepted: it was out of memory, or the store failed.
 abbrev pub IsNotAccepted : Result Reply Refusal → Type 0
 IsNotAccepted r = (r ≡ Err Memory) ⊎ (r ≡ Err Store)
 

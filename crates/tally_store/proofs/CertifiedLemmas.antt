@@ -1,12 +1,12 @@
 -- The rows of seats of certified constituencies.
-use Rattle.std.proofs.Common.{◌≡◌, ◌∙◌, ◌++◌, ℕ, List, [], true, Bool, Option, Some, None, map, refl, sym, ap, subst}
+use Rattle.std.proofs.Common.{◌≡◌, ◌∙◌, ℕ, List, true, Option, Some, None, map, refl, ap, subst}
 use Rattle.std.specs.Prelude.{filter, is_some, IsPermutation, unwrap_or}
 use Rattle.std.specs.FinMap.{get}
 use Rattle.std.specs.List.{flat_map}
 use Rattle.std.specs.Option.{option_to_list}
 use Rattle.std.proofs.lemmas.List.{append-nil}
 use Rattle.sqlite.specs.State.{State as Seen}
-use Rattle.tally_rows.specs.Rows.{AreRowsOf, has_key, cells}
+use Rattle.tally_rows.specs.Rows.{AreRowsOf, has_key}
 use Rattle.tally_rows.proofs.RowsLemmas.{rows_of_key}
 use Rattle.tally_rules.specs.Constituency.{Constituency}
 use Rattle.tally_rules.specs.Limits.{IsSetup}
@@ -20,7 +20,7 @@ use Rattle.tally_steps.proofs.ViewLemmas.{constituency-code}
 use Rattle.tally_statements.specs.declared.table.KeyedTable.TheVariants.{Seats}
 use Rattle.tally_statements.specs.Office.{rows_in, tree_of}
 use Rattle.tally_tables.specs.Cells.{item_row, numbered, seat_rows}
-use Rattle.tally_store.specs.Certified.{HasCertificates, HasSeatRows}
+use Rattle.tally_store.specs.Certified.{HasCertificates}
 use Rattle.tally_opening.specs.Office.{IsOffice}
 use Rattle.tally_opening.proofs.ShownLemmas.{items_keyed}
 

@@ -1,14 +1,21 @@
 -- What a request or an import leaves of a connection, and of a store.
 use Rattle.std.proofs.Common.{◌≡◌, ◌⊎◌, ◌∙◌, inl, inr, ℕ, Bool, true, false, IsTrue, IsErr, IfErr, IfSome, OnOk, Option, Some, None, List, [], ◌∷◌, Result, Ok, Err, refl, sym, ap, subst, subst₂, arith, true≢false}
+use Rattle.std.specs.BTreeMap.{BTreeMap, is_at}
+use Rattle.std.specs.Map.{lookup}
 use Rattle.std.proofs.lemmas.List.Elements.{All-from_recursion}
 use Rattle.sqlite.proofs.StateLemmas.{survives_then}
-use Rattle.sqlite.specs.Effect.{Database}
-use Rattle.sqlite.specs.State.{State as Seen, HasCleanDisk, Shows, Survives}
+use Rattle.sqlite.specs.Effect.{Database, IsDatabase}
+use Rattle.sqlite.specs.declared.transaction.Transaction.{Transaction}
+use Rattle.sqlite.specs.State.{State as Seen, HasCleanDisk, IsUnchanged, Shows, Survives}
+use Rattle.sqlite_trees.specs.declared.store.Store.{Ghosts}
 use Rattle.sqlite_trees.specs.Tree.{Trees}
 use Rattle.tally_rows.specs.Rows.{HaveDistinctRowids}
 use Rattle.tally_rules.specs.Constituency.{Constituency}
 use Rattle.tally_rules.specs.Limits.{IsSetup}
 use Rattle.tally_returns.specs.Named.{BringsCode}
+use Rattle.tally_rules.specs.Code.{code_cmp}
+use Rattle.tally_rules.specs.Reading.{setup_of_text}
+use Rattle.tally_returns.specs.Return.{Returns}
 use Rattle.tally_returns.specs.State.{State}
 use Rattle.tally_returns.specs.declared.ask.Ask.{Ask}
 use Rattle.tally_returns.specs.declared.refusal.Refusal.{Refusal}
@@ -16,7 +23,7 @@ use Rattle.tally_returns.specs.declared.refusal.Refusal.TheVariants as refusal
 use Rattle.tally_returns.specs.declared.reply.Reply.{Reply}
 use Rattle.tally_steps.specs.LawStatements.{ViewsAreLawful}
 use Rattle.tally_steps.specs.LawfulState.{IsLawfulState}
-use Rattle.tally_steps.specs.Step.{IsNotAccepted}
+use Rattle.tally_steps.specs.Step.{IsAnswered, IsNotAccepted}
 use Rattle.tally_steps.proofs.LawLemmas.{answered-lawful}
 use Rattle.tally_keeper.specs.Events.{BringsCodes}
 use Rattle.tally_keeper.specs.Keeper.{Event, Happens, Imports, IsFault, IsImportOf, failed_import, request, whole_import}
@@ -24,17 +31,49 @@ use Rattle.tally_keeper.specs.Source.{Coming, Ending}
 use Rattle.tally_keeper.specs.declared.import.ImportCount.{ImportCount}
 use Rattle.tally_keeper.specs.declared.source.ImportFault.{ImportFault}
 use Rattle.tally_keeper.proofs.EventLemmas.{happen-lawful}
-use Rattle.tally_requests.specs.Requests.{IsCarriedOut, IsImported, IsInState}
+use Rattle.tally_ledger.proofs.TreeLemmas.{get-tree}
+use Rattle.tally_requests.specs.Inside.{IsLawfulInside, StaysInState}
+use Rattle.tally_requests.specs.Known.{AreKnown, Known, known_of}
+use Rattle.tally_requests.specs.Requests.{IsCarriedOut, IsImported, IsImportedKnown, IsInState}
+use Rattle.tally_statements.specs.Inside.{StaysInside}
 use Rattle.tally_statements.specs.declared.table.KeyedTable.{KeyedTable}
-use Rattle.tally_statements.specs.Office.{tree_of}
+use Rattle.tally_statements.specs.Office.{IsInside, tree_of}
 use Rattle.tally_tables.specs.TablesOfState.{AreTables}
+use Rattle.tally_tables.specs.declared.views.Statuses.{Statuses}
 use Rattle.tally_store.specs.Content.{content_of}
 use Rattle.tally_store.specs.Crash.{AreTablesAfter, AreTablesImported}
 use Rattle.tally_opening.specs.Create.{IsAsBefore}
-use Rattle.tally_store.specs.Requests.{Does, DoesImport, IsDone, IsAllDone, IsImportDone}
+use Rattle.tally_store.specs.Requests.{Does, DoesImport, IsDone, IsAllDone, IsAllKnown, IsImportDone, IsNothing, KnowsAfter, KnowsImported}
 use Rattle.tally_opening.specs.Office.{HasState, IsOffice}
-use Rattle.tally_store.specs.Store.{IsStored, KeepsText}
+use Rattle.tally_store.specs.Store.{IsKnownOf, IsServed, IsStored, KeepsText}
+use Rattle.tally_opening.proofs.WholeLemmas.{whole_inside}
 use Rattle.tally_store.proofs.ContentLemmas.{content_is, content_shut}
+
+-- ---- a read before the rest
+
+pub on_ok : {X E P : Type 0} (r : Result X E) → P → OnOk r P
+on_ok (Ok x) p = p
+on_ok (Err e) p = tt
+
+pub stays_in_state : {S : Type 0} (setup : List Constituency) (g : Ghosts S) (old new : Transaction S) → StaysInside g old new → StaysInState setup g old new
+stays_in_state setup g old new stays = record { same_reference = stays.same_reference; was_open = stays.was_open; kept = λ clean at. stays.kept clean at.inside; survives = stays.survives }
+
+pub inside_still : (old new : Seen) → IsUnchanged old new → IsInside old → IsInside new
+inside_still old new same inside = record {
+  schema = ap (λ (d : Database). d.schema) same.0.now_is ∙ inside.schema;
+  sound = subst IsDatabase (sym same.0.now_is) inside.sound;
+  distinct = subst (λ (d : Database). (t : KeyedTable) → HaveDistinctRowids (d.trees (tree_of t))) (sym same.0.now_is) inside.distinct;
+  inside = same.0.mode ∙ inside.inside;
+}
+
+pub lawful_still : (setup : List Constituency) (old new : Seen) → IsUnchanged old new → IsLawfulInside setup old → IsLawfulInside setup new
+lawful_still setup old new same at = record {
+  text = at.text;
+  office = at.office;
+  inside = inside_still old new same at.inside;
+  lawful = at.lawful;
+  tables = subst (λ (d : Database). AreTables setup at.text at.office d.trees) (sym same.0.now_is) at.tables;
+}
 
 -- ---- a transaction and its end
 
@@ -43,6 +82,7 @@ pub state_back : (setup : List Constituency) (text : List ℕ) (s : State) (old 
 state_back setup text s old new h back = record {
   tables = subst (λ (d : Database). AreTables setup text s d.trees) (sym back.now) h.tables;
   schema = ap (λ (d : Database). d.schema) back.now ∙ h.schema;
+  sound = subst IsDatabase (sym back.now) h.sound;
   distinct = subst (λ (d : Database). (t : KeyedTable) → HaveDistinctRowids (d.trees (tree_of t))) (sym back.now) h.distinct;
   settled = back.committed ∙ h.settled ∙ sym back.now;
 }
@@ -52,6 +92,7 @@ pub state_committed : (setup : List Constituency) (text : List ℕ) (s : State) 
 state_committed setup text s last new h shown = record {
   tables = subst (λ (d : Database). AreTables setup text s d.trees) (sym shown.now_is) h.tables;
   schema = ap (λ (d : Database). d.schema) shown.now_is ∙ h.inside.schema;
+  sound = subst IsDatabase (sym shown.now_is) h.inside.sound;
   distinct = subst (λ (d : Database). (t : KeyedTable) → HaveDistinctRowids (d.trees (tree_of t))) (sym shown.now_is) h.inside.distinct;
   settled = shown.committed_is ∙ sym shown.now_is;
 }
@@ -76,7 +117,7 @@ pub done_failed : (setup : List Constituency) (text : List ℕ) (s : State) (ask
 done_failed setup text s ask e old new own h back = record { state = s; answered = inr (not_accepted e own, refl); has = state_back setup text s old new h back }
 
 pub tables_after : (setup : List Constituency) (text : List ℕ) (s : State) (ask : Ask) (r : Result Reply Refusal) (last : Seen) → IsCarriedOut setup text s ask r last → AreTablesAfter setup text s ask last.now.trees
-tables_after setup text s ask r last h = record { answer = r; state = h.state; answered = h.answered; tables = h.in_state.tables }
+tables_after setup text s ask r last h = record { answer = r; state = h.state; answered = h.answered; whole = whole_inside setup text h.state last h.in_state.inside h.in_state.tables }
 
 -- ---- an import
 
@@ -85,7 +126,7 @@ pub all_committed : (setup : List Constituency) (text : List ℕ) (s : State) (k
 all_committed setup text s known count last new h shown = record { state = h.state; imported = h.imported; has = state_committed setup text h.state last new h.in_state shown }
 
 pub tables_imported : (setup : List Constituency) (text : List ℕ) (s : State) (known : Option Coming) (count : ImportCount) (last : Seen) → IsImported setup text s known count last → AreTablesImported setup text s known last.now.trees
-tables_imported setup text s known count last h = record { count = count; state = h.state; imported = h.imported; tables = h.in_state.tables }
+tables_imported setup text s known count last h = record { count = count; state = h.state; imported = h.imported; whole = whole_inside setup text h.state last h.in_state.inside h.in_state.tables }
 
 import-lawful : (setup : List Constituency) (s t : State) (known : Option Coming) (count : ImportCount) → IsSetup setup → IsLawfulState setup s → IsImportOf setup (Some s) known count (Some t) → IsLawfulState setup t
 import-lawful setup s t known count limits lawful is =
@@ -204,6 +245,67 @@ module _ (setup : List Constituency) (old new : Seen) (known : Option Coming) (e
           subst₂ (λ a b. Happens setup a (failed_import fault) b) (sym (content_is setup office.0 old views was.limits office.1 office.2 before)) (sym (content_shut setup new shut)) tt
       go false true before now = absurd (true≢false (sym (h.was_open clean now) ∙ before))
       go false false before shut = subst₂ (λ a b. Happens setup a (failed_import fault) b) (sym (content_shut setup old before)) (sym (content_shut setup new shut)) tt
+
+-- ---- what is known
+
+nothing-known : (setup : List Constituency) (returns : Returns) (known : Known) → IsNothing known → AreKnown setup returns known
+nothing-known setup returns known nothing con here = rw (nothing con.code) tt
+
+-- an empty tree
+pub empty-nothing : (t : BTreeMap (List ℕ) Statuses) → t.entries ≡ [] → IsNothing (known_of t)
+empty-nothing t empty code = get-tree t code ∙ ap (lookup (is_at (code_cmp code))) empty
+
+pub empty-known : (setup : List Constituency) (seen : Seen) (t : BTreeMap (List ℕ) Statuses) → t.entries ≡ [] → IsKnownOf setup seen (known_of t)
+empty-known setup seen t empty clean text s lawful has = nothing-known setup s.returns (known_of t) (empty-nothing t empty)
+
+-- a database is that of one lawful state
+one_state : (setup : List Constituency) (s t : State) (text : List ℕ) (seen : Seen) → ViewsAreLawful → IsSetup setup → IsLawfulState setup s → HasState setup text s seen → IsLawfulState setup t → IsOffice setup t seen → IsTrue seen.is_open → t ≡ s
+one_state setup s t text seen views limits lawful has lawful_too office now =
+    let rows = sym office.has.tables.setup_is ∙ has.tables.setup_is in
+    let same : office.text ≡ text = (let e = rows in cc) in
+    let own : IsOffice setup s seen = record { text = text; reads = subst (λ x. setup_of_text x ≡ Ok setup) same office.reads; has = has } in
+    let both : Some t ≡ Some s = sym (content_is setup t seen views limits lawful_too office now) ∙ content_is setup s seen views limits lawful own now in
+    (let e = both in cc)
+
+pub served_after : (setup : List Constituency) (old new : Seen) (ask : Ask) (r : Result Reply Refusal) (known : Known) → ViewsAreLawful → IsStored setup old → Served setup old new ask r → KnowsAfter setup ask old new r known → IsServed setup new known
+served_after setup old new ask r known views was h knows = record {
+  stored = stored_after setup old new ask r was h;
+  true_is = λ clean text s lawful has. go clean text s lawful has (knows clean);
+}
+  where
+    go : HasCleanDisk new → (text : List ℕ) (s : State) → IsLawfulState setup s → HasState setup text s new
+        → IsNothing known ⊎ (IsTrue new.is_open × ((text : List ℕ) (s t : State) → IsLawfulState setup s → HasState setup text s old → IsAnswered setup s ask r t → AreKnown setup t.returns known)) → AreKnown setup s.returns known
+    go clean text s lawful has (inl nothing) = nothing-known setup s.returns known nothing
+    go clean text s lawful has (inr told) =
+        let office = was.office (h.clean clean) (h.was_open clean told.0) in
+        let done = h.done clean told.0 office.2.text office.0 office.1 office.2.has in
+        let next : IsOffice setup done.state new = record { text = office.2.text; reads = office.2.reads; has = done.has } in
+        subst (λ (x : State). AreKnown setup x.returns known)
+        (one_state setup s done.state text new views was.limits lawful has (answered-lawful setup office.0 done.state ask r h.codes was.limits office.1 done.answered) next told.0)
+        (told.1 office.2.text office.0 done.state office.1 office.2.has done.answered)
+
+pub all_known : (setup : List Constituency) (text : List ℕ) (s : State) (coming : Option Coming) (before after : Known) (count : ImportCount) (last new : Seen) → IsImportedKnown setup text s coming before after count last → AreKnown setup s.returns before
+    → Shows last new last.now last.now false → IsAllKnown setup text s coming count new after
+all_known setup text s coming before after count last new h held shown =
+    (record { state = h.0.state; imported = h.0.imported; has = state_committed setup text h.0.state last new h.0.in_state shown }, h.1 held)
+
+pub served_import : (setup : List Constituency) (old new : Seen) (coming : Option Coming) (ending : Ending) (r : Result ImportCount ImportFault) (known : Known) → ViewsAreLawful → IsStored setup old → Took setup old new coming ending r
+    → KnowsImported setup coming old new r known → IsServed setup new known
+served_import setup old new coming ending (Ok count) known views was h knows = record {
+  stored = stored_import setup old new coming ending (Ok count) was h;
+  true_is = λ clean text s lawful has.
+      let told = knows clean in
+      let office = was.office (h.clean clean) (h.was_open clean told.0) in
+      let all = told.1 office.2.text office.0 office.1 office.2.has in
+      let next : IsOffice setup all.0.state new = record { text = office.2.text; reads = office.2.reads; has = all.0.has } in
+      subst (λ (x : State). AreKnown setup x.returns known)
+      (one_state setup s all.0.state text new views was.limits lawful has (import-lawful setup office.0 all.0.state coming count was.limits office.1 all.0.imported) next told.0)
+      all.1;
+}
+served_import setup old new coming ending (Err fault) known views was h knows = record {
+  stored = stored_import setup old new coming ending (Err fault) was h;
+  true_is = λ clean text s lawful has. nothing-known setup s.returns known knows;
+}
 
 -- ---- the text of the setup
 

@@ -14,15 +14,16 @@ use Rattle.tally_statements.specs.Office.{rows_in}
 use Rattle.tally_tables.specs.Cells.{item_row, numbered}
 use Rattle.tally_opening.specs.Office.{IsOffice}
 
--- The rows of `seats` of this constituency, in any order: one for each list, with the seats of a certificate that stands on the closed votes
--- of this state.
+-- The rows of `seats` of this constituency, in any order: one for each list, with the seats of a
+-- certificate of its closed votes in this state.
 pub record HasSeatRows (con : Constituency) (s : State) (seen : Seen) : Type 0 where
   pub view : View
   pub is_view : IsView con s view
   pub certificate : IsCertificate con view
   pub rows : IsPermutation (map (item_row con.code) (numbered 1 view.seats)) (filter (has_key con.code) (rows_in Seats seen))
 
--- The database is that of a lawful state, and has such rows of each constituency that is certified in it.
+-- The database is that of a lawful state, and has such rows of each constituency that is certified
+-- in it.
 pub record HasCertificates (setup : List Constituency) (seen : Seen) : Type 0 where
   pub state : State
   pub lawful : IsLawfulState setup state

@@ -1,4 +1,4 @@
--- The state that the tables of an office stand for.
+-- The state that the tables of an office read as.
 use Rattle.std.specs.Prelude.{if◌then◌else◌, List, [], ◌∷◌, map, Option, Some, None, option_and_then, option_map, unwrap_or, ℕ}
 use Rattle.std.specs.FinMap.{from_entries, from_sorted}
 use Rattle.std.specs.declared.cmp.Ordering.{Ordering}
@@ -69,7 +69,8 @@ state_of_rows setup rows = option_and_then (λ returns. option_map (state_with r
 unfoldable pub state_read : List Constituency → Seen → Option State
 state_read setup seen = state_of_rows setup (office_rows seen)
 
--- The state whose tables they are, while the connection is open; where it is shut there is none. A disk that did not return what was
--- written may leave tables that read as none: then nothing is said of the state, and that of the opening stands for it.
+-- The state whose tables they are, while the connection is open. Where it is shut there is none. A
+-- disk that did not return what was written may leave tables that read as none. Then nothing is
+-- said of the state, and the opening state is taken for it.
 abbrev pub content_of : List Constituency → Seen → Option State
 content_of setup seen = if seen.is_open then Some (unwrap_or (state_read setup seen) (opening setup)) else None

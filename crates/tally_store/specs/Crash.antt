@@ -1,5 +1,5 @@
 -- What a crash may leave of a store.
-use Rattle.std.specs.Prelude.{◌≡◌, List, ℕ, Option, Some, Result}
+use Rattle.std.specs.Prelude.{◌≡◌, List, ℕ, IsTrue, Option, Some, Result}
 use Rattle.sqlite.specs.State.{State as Seen}
 use Rattle.sqlite_trees.specs.Tree.{Trees}
 use Rattle.tally_rules.specs.Constituency.{Constituency}
@@ -12,32 +12,45 @@ use Rattle.tally_returns.specs.declared.reply.Reply.{Reply}
 use Rattle.tally_keeper.specs.Keeper.{IsImportOf}
 use Rattle.tally_keeper.specs.Source.{Coming}
 use Rattle.tally_keeper.specs.declared.import.ImportCount.{ImportCount}
-use Rattle.tally_tables.specs.TablesOfState.{AreTables}
-use Rattle.tally_opening.specs.Office.{HasState, IsOffice}
+use Rattle.tally_opening.specs.Office.{HasState, IsOffice, IsWholeOffice}
 
--- The tables of the state after a request.
+-- The tables of the state after a request, and no others.
 pub record AreTablesAfter (setup : List Constituency) (text : List ℕ) (s : State) (ask : Ask) (db : Trees) : Type 0 where
   pub answer : Result Reply Refusal
   pub state : State
   pub answered : IsAnswered setup s ask answer state
-  pub tables : AreTables setup text state db
+  pub whole : IsWholeOffice setup text state db
 
--- beside what it could leave before: the tables of the state after a request, of the lawful state that there was
-abbrev pub LeavesAfter : List Constituency → Ask → Seen → Trees → Type 0
-LeavesAfter setup ask old db = (text : List ℕ) (s : State) → IsLawfulState setup s → HasState setup text s old → AreTablesAfter setup text s ask db
+-- Beside what it could leave before: the store was open, with a lawful state, and what is left are
+-- the tables after a request.
+pub record LeavesAfter (setup : List Constituency) (ask : Ask) (old : Seen) (db : Trees) : Type 0 where
+  pub was_open : IsTrue old.is_open
+  pub text : List ℕ
+  pub state : State
+  pub lawful : IsLawfulState setup state
+  pub has : HasState setup text state old
+  pub after : AreTablesAfter setup text state ask db
 
--- The tables of the state after an import of all rows of a source.
+-- The tables of the state after an import of all rows that come, where it is known what comes of
+-- the source, and no others.
 pub record AreTablesImported (setup : List Constituency) (text : List ℕ) (s : State) (known : Option Coming) (db : Trees) : Type 0 where
   pub count : ImportCount
   pub state : State
   pub imported : IsImportOf setup (Some s) known count (Some state)
-  pub tables : AreTables setup text state db
+  pub whole : IsWholeOffice setup text state db
 
--- beside what it could leave before: the tables of the state after the import, of the lawful state that there was
-abbrev pub LeavesImported : List Constituency → Option Coming → Seen → Trees → Type 0
-LeavesImported setup known old db = (text : List ℕ) (s : State) → IsLawfulState setup s → HasState setup text s old → AreTablesImported setup text s known db
+-- Beside what it could leave before: the store was open, with a lawful state, and what is left are
+-- the tables after the import.
+pub record LeavesImported (setup : List Constituency) (known : Option Coming) (old : Seen) (db : Trees) : Type 0 where
+  pub was_open : IsTrue old.is_open
+  pub text : List ℕ
+  pub state : State
+  pub lawful : IsLawfulState setup state
+  pub has : HasState setup text state old
+  pub after : AreTablesImported setup text state known db
 
--- Between calls: the database is that of a lawful state, and a crash leaves its tables and nothing else.
+-- Between calls: the database is that of a lawful state, and a crash leaves its tables and nothing
+-- else.
 pub record IsKept (setup : List Constituency) (seen : Seen) : Type 0 where
   pub state : State
   pub lawful : IsLawfulState setup state

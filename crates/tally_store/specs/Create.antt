@@ -1,17 +1,34 @@
--- What the making of a store leaves in the database, and how a connection is given back where there is no store.
-use Rattle.std.specs.Prelude.{◌≡◌, List, ℕ, IsTrue, false}
+-- What the making and the opening of a store leave in the database, and how a connection is given
+-- back where there is no store.
+use Rattle.std.specs.Prelude.{◌≡◌, List, ℕ, IsTrue, Some, false}
 use Rattle.sqlite.specs.State.{State as Seen, HasCleanDisk}
 use Rattle.tally_rules.specs.Constituency.{Constituency}
-use Rattle.tally_returns.specs.State.{opening}
-use Rattle.tally_tables.specs.TablesOfState.{AreTables}
+use Rattle.tally_returns.specs.State.{State, opening}
+use Rattle.tally_steps.specs.LawfulState.{IsLawfulState}
 use Rattle.tally_opening.specs.Create.{IsAsBefore}
+use Rattle.tally_opening.specs.Office.{HasState, IsOffice}
+use Rattle.tally_opening.specs.Open.{IsOpened}
+use Rattle.tally_store.specs.Content.{content_of}
 
--- The connection is open, and the tables are those of the opening state.
+-- The connection is open, and the database is that of the opening state, which is the content.
 pub record HasOpeningTables (setup : List Constituency) (text : List ℕ) (seen : Seen) : Type 0 where
   pub is_open : IsTrue seen.is_open
-  pub tables : AreTables setup text (opening setup) seen.now.trees
+  pub has : HasState setup text (opening setup) seen
+  pub content : content_of setup seen ≡ Some (opening setup)
 
--- A connection comes back in no transaction; where it is open, with its tables as they were.
+-- What an opening leaves: what was found is of one lawful state, which is the content, while the
+-- connection is open.
+pub record ShowsFound (setup : List Constituency) (old new : Seen) : Type 0 where
+  pub opened : IsOpened setup old new
+  pub content : IsTrue new.is_open → content_of setup new ≡ Some opened.state
+
+-- While the connection is open, the content is each lawful state of which the database is.
+abbrev pub ShowsState : List Constituency → Seen → Type 0
+ShowsState setup seen =
+    IsTrue seen.is_open → (s : State) → IsLawfulState setup s → IsOffice setup s seen
+    → content_of setup seen ≡ Some s
+
+-- A connection comes back in no transaction. Where it is open, its tables are as they were.
 pub record IsGivenBack (old new : Seen) : Type 0 where
   pub autocommit : new.in_transaction ≡ false
   pub same : HasCleanDisk new → IsTrue new.is_open → IsAsBefore old new

@@ -8,6 +8,7 @@ use Rattle.tally_rules.specs.Limits.{IsSetup}
 use Rattle.tally_rules.specs.contracts.setup.Setup.{the_row as setup_row}
 use Rattle.tally_returns.specs.State.{State}
 use Rattle.tally_steps.specs.LawfulState.{IsLawfulState}
+use Rattle.tally_requests.specs.Known.{AreKnown, Known}
 use Rattle.tally_opening.specs.Office.{HasState, IsOffice}
 
 -- a connection to the tables of an office, and the constituencies of its setup
@@ -20,14 +21,30 @@ stored_code {S} store =
     code_by (Held S × List Constituency) (coded× (held_code store) setup_row.coded)
     (λ h. (h.conn, h.setup)) (λ p. record { conn = p.0; setup = p.1 }) (λ _. refl)
 
--- No transaction is open. As long as the disk has returned what was written, and has not failed, the database is that of a lawful state.
+-- as long as the disk has returned what was written, and has not failed, the database is that of a
+-- lawful state
+abbrev pub IsOfLawfulState : List Constituency → Seen → Type 0
+IsOfLawfulState setup seen =
+    HasCleanDisk seen → IsTrue seen.is_open
+    → (s : State) × IsLawfulState setup s × IsOffice setup s seen
+
+-- No transaction is open, and the database is that of a lawful state.
 pub record IsStored (setup : List Constituency) (seen : Seen) : Type 0 where
   pub limits : IsSetup setup
   pub autocommit : seen.in_transaction ≡ false
-  pub office : HasCleanDisk seen → IsTrue seen.is_open → (s : State) × IsLawfulState setup s × IsOffice setup s seen
+  pub office : IsOfLawfulState setup seen
 
--- The text of the setup that is on record stays, byte for byte: where the database was that of a lawful state over this text, it is that of
--- some state over the same.
+-- What is known of constituencies is true of every lawful state whose database it is.
+abbrev pub IsKnownOf : List Constituency → Seen → Known → Type 0
+IsKnownOf setup seen known = HasCleanDisk seen → (text : List ℕ) (s : State) → IsLawfulState setup s → HasState setup text s seen → AreKnown setup s.returns known
+
+-- What a store keeps true of its connection, and of what it knows.
+pub record IsServed (setup : List Constituency) (seen : Seen) (known : Known) : Type 0 where
+  pub stored : IsStored setup seen
+  pub true_is : IsKnownOf setup seen known
+
+-- The text of the setup that is on record stays, byte for byte. Where the database was that of a
+-- lawful state over this text, it is that of some state over the same text.
 abbrev pub KeepsText : List Constituency → Seen → Seen → Type 0
 KeepsText setup old new =
     (text : List ℕ) (s : State) → IsLawfulState setup s → HasState setup text s old → (t : State) × HasState setup text t new

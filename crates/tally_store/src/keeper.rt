@@ -29,14 +29,15 @@ impl<S: Alter> Keeper for Store<S> {
     ghost memory_is_trusted = { λ _ none. absurd (none tt) };
 
     fn setup(&self) -> &Setup {
+        // Called for what its contract says: a constituency has a view in each lawful state.
         laws::a_constituency_has_a_view();
         &self.setup
     }
 
-    /// Answers a request in a transaction of its own. The database is then that of the store's state, with
-    /// the same text of the setup, or a failed disk has shut the store. A crash at the end of the call, and
-    /// so a disk that stops anywhere within it, leaves what it could leave before, or the tables after this
-    /// request.
+    /// Answers a request in a transaction of its own. The database is then that of the store's
+    /// state, with the same text of the setup, or a failed disk has shut the store. A crash at the
+    /// end of the call, and so a disk that stops anywhere within it, leaves what it could leave
+    /// before, or the tables after this request.
     fn answer(&mut self, ask: &Ask) -> Result<Reply, Refusal>
         ensures setup { self.new.setup ≡ self.old.setup }
         ensures trusted { HasCleanDisk (state S.Store self.new.conn) → HasCleanDisk (state S.Store self.old.conn) }
@@ -52,14 +53,21 @@ impl<S: Alter> Keeper for Store<S> {
         ensures crash { Survives (state S.Store self.old.conn) (state S.Store self.new.conn)
             (LeavesAfter self.old.setup ask.now (state S.Store self.old.conn)) }
     {
+        // Called for what its contract says: a constituency has a view in each lawful state.
         laws::a_constituency_has_a_view();
-        answer_request(self.alloc, &mut self.conn, &self.setup, ask)
+        answer_request(
+            self.alloc,
+            &mut self.conn,
+            &self.setup,
+            &mut self.known,
+            ask,
+        )
     }
 
-    /// Lodges the rows of a source in one transaction. The database is then that of the store's state, with
-    /// the same text of the setup, or a failed disk has shut the store. A crash at the end of the call, and
-    /// so a disk that stops anywhere within it, leaves what it could leave before, or the tables after all
-    /// rows.
+    /// Lodges the rows of a source in one transaction. The database is then that of the store's
+    /// state, with the same text of the setup, or a failed disk has shut the store. A crash at the
+    /// end of the call, and so a disk that stops anywhere within it, leaves what it could leave
+    /// before, or the tables after an import of all rows that come, where it is known what comes.
     fn lodge_from<R: RowSource>(&mut self, rows: &mut R) -> Result<ImportCount, ImportFault>
         ensures setup { self.new.setup ≡ self.old.setup }
         ensures trusted { HasCleanDisk (state S.Store self.new.conn) → HasCleanDisk (state S.Store self.old.conn) }
@@ -74,7 +82,14 @@ impl<S: Alter> Keeper for Store<S> {
         ensures crash { Survives (state S.Store self.old.conn) (state S.Store self.new.conn)
             (LeavesImported self.old.setup (R.coming rows.old) (state S.Store self.old.conn)) }
     {
+        // Called for what its contract says: a constituency has a view in each lawful state.
         laws::a_constituency_has_a_view();
-        import_rows(self.alloc, &mut self.conn, &self.setup, rows)
+        import_rows(
+            self.alloc,
+            &mut self.conn,
+            &self.setup,
+            &mut self.known,
+            rows,
+        )
     }
 }

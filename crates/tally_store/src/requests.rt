@@ -8,59 +8,83 @@ ghost use Rattle.tally_steps.specs.Kinds.{IsReplyTo};
 ghost use Rattle.tally_steps.specs.Step.{IsNotAccepted};
 ghost use Rattle.tally_returns.specs.Named.{BringsCode};
 ghost use Rattle.tally_store.specs.Crash.{LeavesAfter, LeavesImported};
-ghost use Rattle.tally_store.specs.Requests.{Does, DoesImport};
+ghost use Rattle.tally_statements.specs.Inside.{OnlyReads, StaysInside};
+ghost use Rattle.tally_requests.specs.Inside.{StaysInState};
+ghost use Rattle.tally_requests.specs.Known.{known_of};
+ghost use Rattle.tally_requests.specs.Requests.{CarriesOutKnown, ImportsRows, KeepsKnown};
+ghost use Rattle.tally_store.specs.Requests.{Does, DoesImport, KnowsAfter, KnowsImported};
+ghost use Rattle.tally_store.specs.Store.{IsKnownOf, IsOfLawfulState};
 
-use sqlite::{Alter, Connection, Error, ErrorCode};
+use sqlite::{Alter, Connection, Error, ErrorCode, Transaction};
 use std::alloc::Global;
+use std::collections::BTreeMap;
 use tally_keeper::{Ask, ImportCount, ImportFault, Refusal, Reply, RowSource};
 use tally_requests::{answer_in, take_rows};
-use tally_rules::Setup;
+use tally_rules::{Code, Setup};
+use tally_statements::{KeyedTable, rows_of_key};
+use tally_tables::Statuses;
 
 /// Answers a request by the database and carries it out there. Where the request is not accepted,
-/// the database is as it was, unless a disk that failed has shut the connection.
+/// the database is as it was, unless a disk that failed has shut the connection. What is known then
+/// is still true of it, or nothing is known.
 pub(crate) fn answer_request<S: Alter>(
     alloc: Global,
     conn: &mut Connection<S>,
     setup: &Setup,
+    known: &mut BTreeMap<Code, Statuses>,
     ask: &Ask,
 ) -> Result<Reply, Refusal>
     requires autocommit { conn.old.in_transaction ≡ false }
+    requires office { IsOfLawfulState setup.now (state S.Store conn.old) }
+    requires known { IsKnownOf setup.now (state S.Store conn.old) (known_of known.old) }
     ensures ended { conn.new.in_transaction ≡ false }
     ensures codes { BringsCode ask.now }
     ensures kind { IfOk result (IsReplyTo setup.now ask.now) }
     ensures done { Does setup.now ask.now (state S.Store conn.old) (state S.Store conn.new) result }
+    ensures known { KnowsAfter setup.now ask.now
+        (state S.Store conn.old) (state S.Store conn.new) result (known_of known.new) }
     ensures shut { HasCleanDisk (state S.Store conn.new) → (state S.Store conn.new).is_open ≡ false → IsNotAccepted result }
     ensures was_open { HasCleanDisk (state S.Store conn.new) → IsTrue (state S.Store conn.new).is_open →
         IsTrue (state S.Store conn.old).is_open }
     ensures crash { Survives (state S.Store conn.old) (state S.Store conn.new)
         (LeavesAfter setup.now ask.now (state S.Store conn.old)) }
 {
+    // Called for what its contract says: a slip that a request brings is a code.
     let _slip = ask.slip();
     let mut tx = conn.transaction();
-    match answer_in(alloc, &mut tx, setup, ask) {
+    match answer_open(alloc, &mut tx, setup, known, ask) {
         Ok(answer) => match tx.commit() {
             Ok(()) => answer,
-            Err(error) => Err(refusal_of(&error)),
+            Err(error) => {
+                known.clear();
+                Err(refusal_of(&error))
+            }
         },
         Err(error) => {
             tx.rollback();
+            known.clear();
             Err(refusal_of(&error))
         }
     }
 }
 
-/// Lodges the rows of a source in the database. With a fault the database is as it was, unless a disk
-/// that failed has shut the connection.
+/// Lodges the rows of a source in the database. With a fault the database is as it was, unless a
+/// disk that failed has shut the connection, and nothing is known.
 pub(crate) fn import_rows<S: Alter, R: RowSource>(
     alloc: Global,
     conn: &mut Connection<S>,
     setup: &Setup,
+    known: &mut BTreeMap<Code, Statuses>,
     source: &mut R,
 ) -> Result<ImportCount, ImportFault>
     requires autocommit { conn.old.in_transaction ≡ false }
+    requires office { IsOfLawfulState setup.now (state S.Store conn.old) }
+    requires known { IsKnownOf setup.now (state S.Store conn.old) (known_of known.old) }
     ensures ended { conn.new.in_transaction ≡ false }
     ensures done { DoesImport setup.now (R.coming source.old)
         (state S.Store conn.old) (state S.Store conn.new) result }
+    ensures known { KnowsImported setup.now (R.coming source.old)
+        (state S.Store conn.old) (state S.Store conn.new) result (known_of known.new) }
     ensures came { OnOk result (R.ended source.new ≡ Some None) }
     ensures fault { IfErr result (IsFault (R.coming source.old) (R.ended source.new)) }
     ensures shut { HasCleanDisk (state S.Store conn.new) → (state S.Store conn.new).is_open ≡ false → IsErr result }
@@ -70,15 +94,71 @@ pub(crate) fn import_rows<S: Alter, R: RowSource>(
         (LeavesImported setup.now (R.coming source.old) (state S.Store conn.old)) }
 {
     let mut tx = conn.transaction();
-    match take_rows(alloc, &mut tx, setup, source) {
+    match take_open(alloc, &mut tx, setup, known, source) {
         Ok(count) => match tx.commit() {
             Ok(()) => Ok(count),
-            Err(error) => Err(import_fault_of(&error)),
+            Err(error) => {
+                known.clear();
+                Err(import_fault_of(&error))
+            }
         },
         Err(fault) => {
             tx.rollback();
+            known.clear();
             Err(fault)
         }
+    }
+}
+
+/// Reads a row that is never there. A connection that is shut does not answer this. So a request
+/// that looks at no table, or an import without rows, gets to no commit there.
+fn see_open<S: Alter>(tx: &mut Transaction<'_, S>) -> Result<(), Error>
+    ensures reads { OnlyReads S.Store tx.old tx.new result }
+{
+    rows_of_key(tx, KeyedTable::Cons, "")?;
+    Ok(())
+}
+
+/// Answers a request and carries it out, where the connection is open.
+fn answer_open<S: Alter>(
+    alloc: Global,
+    tx: &mut Transaction<'_, S>,
+    setup: &Setup,
+    known: &mut BTreeMap<Code, Statuses>,
+    ask: &Ask,
+) -> Result<Result<Reply, Refusal>, Error>
+    ensures stays { StaysInside S.Store tx.old tx.new }
+    ensures was_open { HasCleanDisk (state S.Store tx.new.conn.now) →
+        OnOk result (IsTrue (state S.Store tx.old.conn.now).is_open) }
+    ensures kind { IfOk result (λ r. IfOk r (IsReplyTo setup.now ask.now)) }
+    ensures step { CarriesOutKnown setup.now (known_of known.old) ask.now
+        (state S.Store tx.old.conn.now) (state S.Store tx.new.conn.now) result }
+    ensures known { KeepsKnown setup.now (known_of known.old) (known_of known.new) ask.now
+        (state S.Store tx.old.conn.now) (state S.Store tx.new.conn.now) result }
+{
+    see_open(tx)?;
+    answer_in(alloc, tx, setup, known, ask)
+}
+
+/// Lodges the rows of a source, where the connection is open.
+fn take_open<S: Alter, R: RowSource>(
+    alloc: Global,
+    tx: &mut Transaction<'_, S>,
+    setup: &Setup,
+    known: &mut BTreeMap<Code, Statuses>,
+    source: &mut R,
+) -> Result<ImportCount, ImportFault>
+    ensures stays { StaysInState setup.now S.Store tx.old tx.new }
+    ensures was_open { HasCleanDisk (state S.Store tx.new.conn.now) →
+        OnOk result (IsTrue (state S.Store tx.old.conn.now).is_open) }
+    ensures imported { ImportsRows setup.now (R.coming source.old) (known_of known.old) (known_of known.new)
+        (state S.Store tx.old.conn.now) (state S.Store tx.new.conn.now) result }
+    ensures ended { OnOk result (R.ended source.new ≡ Some None) }
+    ensures fault { IfErr result (IsFault (R.coming source.old) (R.ended source.new)) }
+{
+    match see_open(tx) {
+        Ok(()) => take_rows(alloc, tx, setup, known, source),
+        Err(error) => Err(import_fault_of(&error)),
     }
 }
 

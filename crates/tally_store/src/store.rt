@@ -4,34 +4,38 @@ ghost use Rattle.std.specs.Prelude.{◌≡◌, false, Ok, IfOk, IfErr, IsTrue, O
 ghost use Rattle.sqlite.specs.State.{HasCleanDisk, KeepsCounts, Survives};
 ghost use Rattle.sqlite.specs.Held.{state};
 ghost use Rattle.tally_rules.specs.Reading.{setup_of_text};
-ghost use Rattle.tally_steps.specs.LawfulState.{IsLawfulState};
-ghost use Rattle.tally_returns.specs.State.{State};
 ghost use Rattle.tally_opening.specs.Crash.{HasPast, IsUnwritten, LeavesOpening, LeavesTakenOver};
 ghost use Rattle.tally_opening.specs.Create.{IsCreateFault, no_schema};
-ghost use Rattle.tally_opening.specs.Office.{IsOffice};
-ghost use Rattle.tally_opening.specs.Open.{IsOpenFault, IsOpened, IsSetupOf};
-ghost use Rattle.tally_store.specs.Create.{HasOpeningTables, IsGivenBack};
-ghost use Rattle.tally_store.specs.Store.{IsStored};
+ghost use Rattle.tally_opening.specs.Open.{IsOpenFault, IsSetupOf};
+ghost use Rattle.tally_store.specs.Create.{HasOpeningTables, IsGivenBack, ShowsFound, ShowsState};
+ghost use Rattle.tally_store.specs.Store.{IsOfLawfulState, IsStored};
 
 use sqlite::{Alter, Connection};
 use std::alloc::Global;
+use std::collections::BTreeMap;
 use std::marker::Model;
 use tally_faults::{CreateFault, OpenFault};
+use tally_machine::laws;
 use tally_opening::{create_in, open_in};
-use tally_rules::Setup;
+use tally_rules::{Code, Setup};
+use tally_tables::Statuses;
 
-/// Keeps the office's state in a database: a connection that stands in no transaction, and the setup
-/// whose text the database has.
+/// Keeps the office's state in a database: a connection that is in no transaction, the setup whose
+/// text the database has, and what is known of how many returns of a constituency are in each
+/// status. What is known is found when it is first asked for, moves with the returns, and is
+/// forgotten after an error.
 #[derive(Drop)]
 pub struct Store<S: Alter> {
     pub(crate) conn: Connection<S>,
     pub(crate) setup: Setup,
+    pub(crate) known: BTreeMap<Code, Statuses>,
     pub(crate) alloc: Global,
 }
 
 impl<S: Alter> Model for Store<S> {
     ghost use Rattle.sqlite.specs.Held.{state};
-    ghost use Rattle.tally_store.specs.Store.{Stored, stored_code, IsStored};
+    ghost use Rattle.tally_requests.specs.Known.{known_of};
+    ghost use Rattle.tally_store.specs.Store.{Stored, stored_code, IsServed};
 
     ghost Value = { Stored S };
 
@@ -39,23 +43,33 @@ impl<S: Alter> Model for Store<S> {
 
     ghost view = { λ s. record { conn = s.conn; setup = s.setup } };
 
-    ghost invariant = { λ s. IsStored s.setup (state S.Store s.conn) };
+    ghost invariant = { λ s. IsServed s.setup (state S.Store s.conn) (known_of s.known) };
 }
 
 /// The store of a connection to the tables of an office.
 fn store_over<S: Alter>(alloc: Global, conn: Connection<S>, setup: Setup) -> Store<S>
     requires autocommit { conn.in_transaction ≡ false }
-    requires office { HasCleanDisk (state S.Store conn) → IsTrue (state S.Store conn).is_open →
-        (s : State) × IsLawfulState setup s × IsOffice setup s (state S.Store conn) }
+    requires office { IsOfLawfulState setup (state S.Store conn) }
     ensures conn { result.conn ≡ conn }
     ensures setup { result.setup ≡ setup }
+    ensures content { ShowsState setup (state S.Store conn) }
 {
-    Store { conn, setup, alloc }
+    // Called for what its contract says: the setup is within its limits.
+    let _cons = setup.cons();
+    // Called for what its contract says: a constituency has a view in each lawful state.
+    laws::a_constituency_has_a_view();
+    Store {
+        conn,
+        setup,
+        known: BTreeMap::new(alloc),
+        alloc,
+    }
 }
 
 impl<S: Alter> Store<S> {
-    /// Makes the tables of an office that opens, of the setup that the text is, in a database without
-    /// tables, in one transaction. Otherwise the connection comes back with its tables as they were.
+    /// Makes the tables of an office that opens, of the setup that the text is, in a database
+    /// without tables, in one transaction. Otherwise the connection comes back with its tables as
+    /// they were.
     pub fn create(
         alloc: Global,
         mut conn: Connection<S>,
@@ -66,7 +80,8 @@ impl<S: Alter> Store<S> {
         ensures unset { OnOk result ((state S.Store conn).now.schema ≡ no_schema) }
         ensures made { IfOk result (λ store. HasCleanDisk (state S.Store store.conn) →
             HasOpeningTables store.setup text.now (state S.Store store.conn)) }
-        ensures fault { IfErr result (λ e. IsCreateFault text.now (state S.Store conn).now.schema e.1) }
+        ensures fault { IfErr result (λ e.
+            IsCreateFault text.now (state S.Store conn).now.schema e.1) }
         ensures same { IfErr result (λ e. IsGivenBack (state S.Store conn) (state S.Store e.0)) }
         ensures crash { IfOk result (λ store.
             Survives (state S.Store conn) (state S.Store store.conn) (LeavesOpening text.now)) }
@@ -74,14 +89,14 @@ impl<S: Alter> Store<S> {
             Survives (state S.Store conn) (state S.Store e.0) (LeavesOpening text.now)) }
     {
         match create_in(alloc, &mut conn, text) {
-            Ok(setup) => Ok(Store { conn, setup, alloc }),
+            Ok(setup) => Ok(store_over(alloc, conn, setup)),
             Err(fault) => Err((conn, fault)),
         }
     }
 
-    /// Takes a database whose tables are those of a lawful state. Tables of version 1 are taken over, in
-    /// one transaction; where the table `past` stands nothing is written. Otherwise the connection comes
-    /// back with its tables as they were.
+    /// Takes a database whose tables are those of a lawful state. Tables of version 1 are taken
+    /// over, in one transaction. Where there is a table `past`, nothing is written. Otherwise the
+    /// connection comes back with its tables as they were.
     pub fn open(
         alloc: Global,
         mut conn: Connection<S>,
@@ -90,19 +105,22 @@ impl<S: Alter> Store<S> {
         ensures setup { IfOk result (λ store. HasCleanDisk (state S.Store store.conn) →
             IsSetupOf (state S.Store conn).now store.setup) }
         ensures opened { IfOk result (λ store. HasCleanDisk (state S.Store store.conn) →
-            IsOpened store.setup (state S.Store conn) (state S.Store store.conn)) }
+            ShowsFound store.setup (state S.Store conn) (state S.Store store.conn)) }
         ensures fault { IfErr result (λ e. HasCleanDisk (state S.Store e.0) →
             IsOpenFault (state S.Store conn).now e.1) }
         ensures same { IfErr result (λ e. IsGivenBack (state S.Store conn) (state S.Store e.0)) }
         ensures crash { IfOk result (λ store.
-            Survives (state S.Store conn) (state S.Store store.conn) (LeavesTakenOver (state S.Store conn).now)) }
+            Survives (state S.Store conn) (state S.Store store.conn)
+            (LeavesTakenOver (state S.Store conn).now)) }
         ensures crash_fault { IfErr result (λ e.
-            Survives (state S.Store conn) (state S.Store e.0) (LeavesTakenOver (state S.Store conn).now)) }
+            Survives (state S.Store conn) (state S.Store e.0)
+            (LeavesTakenOver (state S.Store conn).now)) }
         ensures unwritten { IfOk result (λ store. HasPast (state S.Store conn).now →
             IsUnwritten (state S.Store conn) (state S.Store store.conn)) }
         ensures unwritten_fault { IfErr result (λ e. HasPast (state S.Store conn).now →
             IsUnwritten (state S.Store conn) (state S.Store e.0)) }
-        ensures counts { IfOk result (λ store. HasPast (state S.Store conn).now → HasCleanDisk (state S.Store store.conn) →
+        ensures counts { IfOk result (λ store.
+            HasPast (state S.Store conn).now → HasCleanDisk (state S.Store store.conn) →
             KeepsCounts (state S.Store conn) (state S.Store store.conn)) }
     {
         match open_in(alloc, &mut conn) {
@@ -111,8 +129,8 @@ impl<S: Alter> Store<S> {
         }
     }
 
-    /// The setup, which never changes.
-    pub fn setup(&self) -> &Setup
+    /// The setup of a store. The contract says what a store keeps true of its database.
+    pub(crate) fn stored_setup(&self) -> &Setup
         ensures setup { result.now ≡ self.now.setup }
         ensures kept { IsStored self.now.setup (state S.Store self.now.conn) }
     {

@@ -1,5 +1,6 @@
-//! A file stops at its first call, at a later one, and so on, until a run meets no stop. After each run the
-//! files show what they showed before the step that was stopped, or what they show after it.
+//! A file stops at its first call, at a later one, and so on, until a run meets no stop. After each
+//! run the files show what they showed before the step that was stopped, or what they show after
+//! it.
 
 use crate::deeds::Deed;
 use crate::disks::{Contents, MIXTURES, are_same, disks, have_stopped, mixed, synced, written};
@@ -66,7 +67,8 @@ fn stops(alloc: Global, case: &Case<'_>, calls: (u64, u64)) -> Result<bool, Fail
     Ok(has_stopped)
 }
 
-/// How many calls one file lets through in the first run that meets no stop: in each run that many more.
+/// How many calls one file lets through in the first run that meets no stop. Each run lets so many
+/// more through than the one before.
 fn counted(alloc: Global, case: &Case<'_>, of_log: bool, more: u64) -> Result<u64, Fail> {
     for run in 0..MOST {
         let calls = run.saturating_mul(more);

@@ -30,7 +30,8 @@ impl Read for Text<'_> {
     }
 }
 
-/// Rows of a text, the bytes that a read gives, whether a read fails behind it, and what their import comes to.
+/// Rows of a text, the bytes that a read gives, whether a read fails after it, and what their
+/// import comes to.
 #[derive(Clone, Copy)]
 pub(crate) struct Rows<'a> {
     pub(crate) text: &'a str,
@@ -49,7 +50,8 @@ pub(crate) enum Deed<'a> {
     Open,
     /// It answers these lines, a step each.
     Answer(&'a str),
-    /// It answers these commands and one that shows the progress, in one run, and the answers are shown.
+    /// It answers these commands and one that shows the progress, in one run, and the answers are
+    /// shown.
     Run(&'a str),
     /// It lodges these rows.
     Import(Rows<'a>),
@@ -59,7 +61,7 @@ pub(crate) enum Deed<'a> {
     Look,
 }
 
-/// What is left of a connection: itself, or the store of one that is let go as it is.
+/// What is left of a connection: itself, or the store of one that was dropped as it is.
 #[derive(Drop)]
 pub(crate) enum Left<S: Alter> {
     Conn(Connection<S>),
@@ -131,7 +133,8 @@ fn create<S: Alter + Drop>(
     }
 }
 
-/// How many of the lines an office answers, up to the one that its store refuses, and whether there is none.
+/// How many of the lines an office answers, up to the one that its store refuses, and whether there
+/// is such a line.
 fn answered<K: Keeper>(alloc: Global, office: &mut K, lines: &str) -> Result<(usize, bool), Fail> {
     let mut steps = 0usize;
     for line in lines.lines() {
@@ -159,7 +162,7 @@ fn answer<S: Alter + Drop>(
     Ok(stopped(alloc, office.close(), steps))
 }
 
-/// Whether an import of rows comes to what it should; else the store refuses.
+/// Whether an import of rows comes to what it should. `false` where the store refuses.
 fn imported<K: Keeper>(alloc: Global, office: &mut K, rows: Rows<'_>) -> Result<bool, Fail> {
     let found = office.setup().con(code("c1")?).ok_or("c1")?;
     let con = found.try_copy(alloc)?;

@@ -21,8 +21,8 @@ pub(crate) struct Contents {
     pub(crate) db: Vec<u8>,
 }
 
-/// How many pages the log has before it is copied into the database file: those of some three commits, so
-/// that a script meets copies of it.
+/// How many pages the log has before it is copied into the database file: those of some three
+/// commits, so that a script meets copies of it.
 const LOG_FRAMES: usize = 16;
 
 /// The bytes of a sector.

@@ -1,5 +1,5 @@
-//! Tests of `tally_store` over two files in memory, of which one stops at some call. Nothing here is
-//! public, so there are no must-fail edits.
+//! Tests of `tally_store` over two files in memory, of which one stops at some call. Nothing here
+//! is public, so there are no must-fail edits.
 #![tactic(auto)]
 
 #[cfg(test)]

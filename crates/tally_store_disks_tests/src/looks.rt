@@ -17,7 +17,7 @@ return r2
 show c1
 show h";
 
-/// What is shown of no tables, and the front of what is shown of those of version 1 and of today's.
+/// What is shown of no tables, and the start of what is shown of those of version 1 and of today's.
 pub(crate) const NO_TABLES: &str = "version none, tables\nthe database lacks a table";
 
 pub(crate) const FORMER_TABLES: &str =
@@ -148,8 +148,8 @@ fn push_answered<K: Keeper>(
     push_answers(alloc, text, keeper)
 }
 
-/// What a database is to show of these tables, where the office has answered these lines: as an office in
-/// memory shows it.
+/// What a database is to show of these tables, where the office has answered these lines: as an
+/// office in memory shows it.
 pub(crate) fn wanted(
     alloc: Global,
     tables: &str,

@@ -67,8 +67,8 @@ pub(crate) fn contents_after(
     written(alloc, &done.files)
 }
 
-/// The contents of the files of an office of this setup that has answered these lines, in tables of version
-/// 1. Part of them stands in the log alone.
+/// The contents of the files of an office of this setup that has answered these lines, in tables of
+/// version 1. Part of them is in the log alone.
 pub(crate) fn former_contents(alloc: Global, text: &str, lines: &str) -> Result<Contents, Fail> {
     let made = contents_after(alloc, &no_contents(alloc), Deed::Create(text))?;
     let office = contents_after(alloc, &made, Deed::Answer(lines))?;

@@ -1,4 +1,5 @@
-//! Scripts and imports over files that do not stop: answers and shows are those of an office in memory.
+//! Scripts and imports over files that do not stop. Answers and shows are those of an office in
+//! memory.
 
 use crate::deeds::{Deed, Rows};
 use crate::disks::{Contents, no_contents};
@@ -51,8 +52,8 @@ const QUOTED: &str = "\u{feff}\"station\";\"slip\";\"blank\";\"spoiled\";\"A\";\
 
 const EXCHANGED: &str = "station,slip,blank,spoiled,B,A\ns1,p1,0,0,20,10\n";
 
-/// How many rows were lodged, the same, differing, refused and bad, and the first that was none of the former
-/// two, with the number of its refusal.
+/// How many rows were lodged, the same, differing, refused and bad, and the first row that was
+/// neither lodged nor the same, with the number of its refusal.
 pub(crate) fn count(
     numbers: [u32; 5],
     first: Option<(u32, u32)>,
@@ -75,8 +76,8 @@ fn shows(alloc: Global, contents: &Contents, text: &str, lines: &str) -> Result<
     Ok(shown.as_str() == wanted.as_str())
 }
 
-/// Whether a new office of this setup has the answers of these lines, and after each of them, closed and opened
-/// again, shows what one in memory does.
+/// Whether a new office of this setup has the answers of these lines, and after each of them,
+/// closed and opened again, shows what one in memory does.
 fn follows(alloc: Global, text: &str, lines: &str) -> Result<bool, Fail> {
     let mut contents = contents_after(alloc, &no_contents(alloc), Deed::Create(text))?;
     let mut done = String::new(alloc);
@@ -109,7 +110,7 @@ fn scripts_over_files(rt: HostRuntime) -> Result<(), Fail> {
     Ok(())
 }
 
-/// The lines of the script up to this one, and those behind it, without those that only show.
+/// The lines of the script up to this one, and those after it, without those that only show.
 fn cut(alloc: Global, last: &str) -> Result<(String, String), Fail> {
     let mut before = String::new(alloc);
     let mut after = String::new(alloc);
@@ -135,8 +136,8 @@ fn an_office_of_version_1_goes_on(rt: HostRuntime) -> Result<(), Fail> {
     Ok(())
 }
 
-/// Whether imports into a new office, one after the other, come to what they should, and it shows after each
-/// what one in memory shows that has answered the lines beside them.
+/// Whether imports into a new office, one after the other, come to what they should, and it shows
+/// after each what one in memory shows that has answered the lines beside them.
 fn import_in_turn(alloc: Global, text: &str, cases: &[(Rows<'_>, &str)]) -> Result<bool, Fail> {
     let mut contents = contents_after(alloc, &no_contents(alloc), Deed::Create(text))?;
     for (rows, lines) in cases {

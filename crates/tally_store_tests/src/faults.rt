@@ -1,5 +1,5 @@
-//! Why an office is not made or opened: each fault once. Many more changes of the tables are tried from
-//! outside (`tests/database.py`).
+//! Why an office is not made or opened: each fault once. Many more changes of the tables are tried
+//! from outside (`tests/database.py`).
 
 use crate::offices::{create, database, empty, open};
 use sqlite::{Alter, Connection};
@@ -46,8 +46,8 @@ fn a_changed_office_is_opened_or_not(rt: HostRuntime) -> Result<(), Fail> {
     Ok(())
 }
 
-// What is done to an empty database, and what making an office in it answers then: of the setup above, or,
-// behind `!`, of a text that is none.
+// What is done to an empty database, and what making an office in it answers then: of the setup
+// above, or, after `!`, of a text that is not a setup.
 const MADE: &str = " -> made
 CREATE TABLE lots (n INTEGER) STRICT -> the database has such tables
 CREATE TABLE other (n INTEGER) STRICT -> the database failed

@@ -1,5 +1,5 @@
-//! Imports into an office in a database, which is opened again after each. Texts of other forms are tried
-//! over an office in memory (`tally_core_tests`), and what the tables hold then from outside.
+//! Imports into an office in a database, which is opened again after each. Texts of other forms are
+//! tried over an office in memory (`tally_core_tests`), and what the tables hold then from outside.
 
 use crate::offices::{made, opened};
 use sqlite::Alter;
@@ -27,7 +27,7 @@ const HEADER: &str = "station,slip,blank,spoiled,A,B\n";
 const RETURNS: &str =
     "station,slip,blank,spoiled,A,B\ns1,p1,0,0,10,20\ns2,p2,1,0,30,40\ns3,p3,0,2,50,60\n";
 
-// The same as a spreadsheet saves it, behind a byte order mark.
+// The same as a spreadsheet saves it, after a byte order mark.
 const QUOTED: &str = "\u{feff}\
 \"station\";\"slip\";\"blank\";\"spoiled\";\"A\";\"B\"\r
 \"s1\";\"p1\";\"0\";\"0\";\"10\";\"20\"\r
@@ -39,7 +39,7 @@ const QUOTED: &str = "\u{feff}\
 const NO_NUMBER: &str =
     "station,slip,blank,spoiled,A,B\ns1,p1,0,0,10,20\ns2,p2,1,0,x,40\ns3,p3,0,2,50,60\n";
 
-// Behind the row of s1 a read fails.
+// After the row of s1 a read fails.
 const CUT: &str = "station,slip,blank,spoiled,A,B\ns1,p1,0,0,10,20\ns2,p2,1,0,30,";
 
 // Of 301 votes at a station of 300 electors.
@@ -68,8 +68,8 @@ impl Read for Text<'_> {
     }
 }
 
-/// A text, what separates its fields, the bytes that a read gives, whether a read fails behind it, what its
-/// import comes to, and lines with their answers.
+/// A text, what separates its fields, the bytes that a read gives, whether a read fails after it,
+/// what its import comes to, and lines with their answers.
 #[derive(Clone, Copy)]
 struct Case<'a> {
     text: &'a str,
@@ -131,8 +131,8 @@ fn first_wrong_in_new(alloc: Global, cases: &[Case<'_>]) -> Result<String, Fail>
     first_wrong_import(alloc, made(alloc, setup.as_str())?, cases)
 }
 
-/// How many rows were lodged, the same, differing, refused and bad, and the first that was none of the former
-/// two, with the number of its refusal.
+/// How many rows were lodged, the same, differing, refused and bad, and the first row that was
+/// neither lodged nor the same, with the number of its refusal.
 fn count(numbers: [u32; 5], first: Option<(u32, u32)>) -> Result<ImportCount, ImportFault> {
     let [lodged, same, differs, refused, bad] = numbers;
     Ok(ImportCount {
@@ -211,8 +211,8 @@ fn imports_one_after_the_other(rt: HostRuntime) -> Result<(), Fail> {
     Ok(())
 }
 
-// What is answered in a new office where all three returns were lodged, all but that of s2, and none. 8 is
-// NoReturn.
+// What is answered in a new office where all three returns were lodged, all but that of s2, and
+// none. 8 is NoReturn.
 const ALL_LODGED: &str = "return s1 = 1 p1 Received [10, 20] 0 0 \n\
 return s2 = 1 p2 Received [30, 40] 1 0 \n\
 return s3 = 1 p3 Received [50, 60] 0 2 ";

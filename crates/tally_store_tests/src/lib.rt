@@ -1,8 +1,10 @@
-//! Tests of `tally_store`, which over its finished proofs are checked once. Nothing here is public, so
-//! there are no must-fail edits. What the tables hold, and which tables are opened, is shown from outside
-//! as well (`tests/database.py`).
+//! Tests of `tally_store`. They are checked once, over its finished proofs. Nothing here is public,
+//! so there are no must-fail edits. What the tables hold, and which tables are opened, is shown
+//! from outside as well (`tests/database.py`).
 #![tactic(auto)]
 
+#[cfg(test)]
+mod failures;
 #[cfg(test)]
 mod faults;
 #[cfg(test)]

@@ -6,8 +6,8 @@ use std::test::Fail;
 use tally_scripts::first_wrong;
 use tally_store::{CreateFault, OpenFault, Store};
 
-// What is done to a connection or an office is written over any store. Over this one each of these functions
-// takes the prover longer.
+// What is done to a connection or an office is written over any store. Over this one each of these
+// functions takes the prover longer.
 pub(crate) type Conn = Connection<MemStore>;
 
 pub(crate) fn empty(alloc: Global) -> Result<Conn, Fail> {

@@ -1,5 +1,5 @@
-//! Requests to an office in a database have the answers of one in memory, also where it is opened again
-//! after each, and then it shows what it showed before.
+//! Requests to an office in a database have the answers of one in memory. This also holds where the
+//! office is opened again after each, and then it shows what it showed before.
 
 use crate::offices::{database, made, opened};
 use sqlite::{Alter, Connection};
@@ -37,7 +37,8 @@ fn all_told(alloc: Global, answers: &[Result<Reply, Refusal>]) -> Result<String,
     Ok(text)
 }
 
-/// What an office answers to a run of these commands and to one that shows the progress, a line each.
+/// What an office answers to a run of these commands and to one that shows the progress, a line
+/// each.
 fn answers<K: Keeper>(alloc: Global, office: &mut K, lines: &str) -> Result<String, Fail> {
     let asks = asks(alloc, lines)?;
     all_told(alloc, &run(alloc, office, &asks)?)
@@ -66,8 +67,8 @@ fn wrong_at_once<S: Alter + Drop>(
     first_wrong(alloc, &mut office, script)
 }
 
-/// The same of an office that is closed and opened again behind each line, and then shows what it showed
-/// before.
+/// The same of an office that is closed and opened again after each line, and then shows what it
+/// showed before.
 fn wrong_line_by_line<S: Alter + Drop>(
     alloc: Global,
     mut office: Store<S>,
@@ -104,7 +105,8 @@ fn scripts_at_once_and_line_by_line(rt: HostRuntime) -> Result<(), Fail> {
     Ok(())
 }
 
-/// What a new office answers to a run of these commands and to one that shows the progress, a line each.
+/// What a new office answers to a run of these commands and to one that shows the progress, a line
+/// each.
 fn answers_at_first<S: Alter + Drop>(
     alloc: Global,
     mut office: Store<S>,
@@ -164,7 +166,8 @@ show c1 = certified 6 1/1 [120, 120] [1, 2] [2, 1] recount 2.1 resigned
 lodge s1 p1 100,100 = differs 5
 lodge s1 p2 120,120 = same 5";
 
-/// What is wrong in a script, line by line, where a database was changed by these statements before.
+/// What is wrong in a script, line by line, where a database was changed by these statements
+/// before.
 fn wrong_after<S: Alter + Drop>(
     alloc: Global,
     mut conn: Connection<S>,
@@ -221,7 +224,8 @@ fn wrong_at_the_end<S: Alter + Drop>(
     wrong_at_once(alloc, reopened_the_same(alloc, office)?, end)
 }
 
-// `rt try --test` is slower by far than the test that `rt test` builds, and needs `--seconds` for the 9,998 commands.
+// `rt try --test` is slower by far than the test that `rt test` builds, and needs `--seconds` for
+// the 9,998 commands.
 #[test]
 fn a_return_at_its_last_revision(rt: HostRuntime) -> Result<(), Fail> {
     let script = to_the_last_revision(rt.alloc())?;

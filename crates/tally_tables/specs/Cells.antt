@@ -1,4 +1,5 @@
--- The tables of a state: the rows that each entry of its maps has in each table, without their rowids.
+-- The tables of a state: the rows that each entry of its maps has in each table, without their
+-- rowids.
 use Rattle.std.specs.Prelude.{◌+◌, ℕ, pos, List, [], ◌∷◌, ◌++◌, length, map, slice_index}
 use Rattle.std.specs.List.{flat_map}
 use Rattle.std.specs.Option.{option_map_or}
@@ -33,11 +34,12 @@ abbrev pub numbered : ℕ → List ℕ → List (ℕ × ℕ)
 numbered first [] = []
 numbered first (n ∷ ns) = (first, n) ∷ numbered (first + 1) ns
 
--- the item of the spoiled votes: behind those of 60 lists
+-- the item of the spoiled votes: after those of 60 lists
 abbrev pub spoiled_item : ℕ
 spoiled_item = 61
 
--- the blank votes are item 0, those of a list the item of its place, and the spoiled ones are the last item
+-- the blank votes are item 0, those of a list are the item of its place, and the spoiled ones are
+-- the last item
 abbrev pub items_of : VoteCounts → List (ℕ × ℕ)
 items_of counts = (0, counts.blank) ∷ numbered 1 counts.votes ++ (spoiled_item, counts.spoiled) ∷ []
 
@@ -65,11 +67,13 @@ con_rows e = (Text e.0 ∷ Int (pos e.1.edition) ∷ Int (pos (flag e.1.certifie
 abbrev pub lot_rows : List ℕ × ConState → List Row
 lot_rows e = map (item_row e.0) (numbered 1 e.1.lot)
 
--- for each list, by its place from 1, the seats that the certificate gave it; the seats of a constituency that is not certified are none
+-- for each list, by its place from 1, the seats that the certificate gave it; a constituency that
+-- is not certified has no seats
 abbrev pub seat_rows : (List ℕ → List ℕ) → List ℕ × ConState → List Row
 seat_rows seats e = map (item_row e.0) (numbered 1 (seats e.0))
 
--- for each candidate who is gone the place of the list, the candidate's own place there, and the note
+-- for each candidate who is gone, the place of the list, the candidate's own place there, and the
+-- note
 abbrev pub gone_row : List ℕ → List ℕ × List ℕ → Row
 gone_row con entry = Text con ∷ Int (pos (slice_index entry.0 0)) ∷ Int (pos (slice_index entry.0 1)) ∷ Text entry.1 ∷ []
 
@@ -84,7 +88,8 @@ totals_of setup returns code =
 abbrev pub total_rows : List Constituency → Returns → List ℕ × ConState → List Row
 total_rows setup returns e = map (item_row e.0) (items_of (totals_of setup returns e.0))
 
--- for each certificate that was reopened and each list, by its place from 1, the seats that it gave the list
+-- for each certificate that was reopened and each list, by its place from 1, the seats that it gave
+-- the list
 abbrev pub past_row : List ℕ → ℕ → ℕ × ℕ → Row
 past_row con edition item = Text con ∷ Int (pos edition) ∷ Int (pos item.0) ∷ Int (pos item.1) ∷ []
 

@@ -1,4 +1,4 @@
--- What rows read as, or nothing. Whether what they read as is lawful is judged apart.
+-- What rows read as, or nothing. Whether what they read as is lawful is judged elsewhere.
 use Rattle.std.specs.Prelude.{◌==◌, ◌+◌, ◌-◌, if◌then◌else◌, ℕ, zero, suc, nat_le, Bool, true, false, Option, Some, None, option_map, option_and_then, List, [], ◌∷◌, length, bytes_eq, slice_index_or, slice_range, take, drop}
 use Rattle.std.specs.Option.{option_map_or}
 use Rattle.std.specs.Str.{is_utf8}
@@ -42,7 +42,8 @@ read_all read first (row ∷ rows) = option_and_then (λ x. option_map (λ xs. x
 
 -- ---- rows of a key, an item and a number
 
--- the number that a row has for this item of a key, where it is such a row and its number is read so
+-- the number that a row has for this item of a key, where it is such a row and its number is read
+-- in this way
 abbrev pub item_for : (Value → Option ℕ) → Row → List ℕ → ℕ → Option ℕ
 item_for read row key item = if length row == 3 then with_text row 0 key (option_and_then (λ i. if i == item then read (column row 2) else None) (wide_number_of (column row 1))) else None
 
@@ -90,7 +91,8 @@ abbrev pub next_entry : (List Row → Option (List (List ℕ × StationReturn)))
 next_entry others items place row counts =
     if nat_le items (length counts) then option_and_then (λ e. option_map (λ es. e ∷ es) (others (drop items counts))) (entry_of place.0.code place.1.code row (take items counts)) else None
 
--- the returns whose rows the two tables hold, one after the other: for each row of `returns` a row of `counts` for each list and two more
+-- the returns whose rows the two tables hold, one after the other: for each row of `returns`, a row
+-- of `counts` for each list and two more
 abbrev pub entries_in : List Constituency → List Row → List Row → Option (List (List ℕ × StationReturn))
 entries_in setup [] [] = Some []
 entries_in setup [] (count ∷ counts) = None

@@ -30,7 +30,7 @@ in_each part tables = record { lots = part tables.lots; seats = part tables.seat
 abbrev pub is_empty : Tables → Bool
 is_empty tables = (length tables.lots == 0) && (length tables.seats == 0) && (length tables.gone == 0) && (length tables.totals == 0) && (length tables.past == 0)
 
--- how many rows at the front have this key
+-- how many rows at the start have this key
 abbrev pub key_len : List ℕ → List Row → ℕ
 key_len key rows = prefix_len (λ row. has_text row 0 key) rows
 
@@ -44,7 +44,8 @@ rows_behind key rows = drop (key_len key rows) rows
 abbrev pub statuses_of : View → Statuses
 statuses_of view = record { stations = view.stations; received = view.received; queried = view.queried; corrected = view.corrected; closed = view.closed }
 
--- what is seen of a constituency with so many returns in each status, by its row of `cons` and its rows of the other tables
+-- what is seen of a constituency with so many returns in each status, by its row of `cons` and its
+-- rows of the other tables
 abbrev pub view_in : Constituency → Statuses → Row → Tables → Option View
 view_in con statuses row tables =
     option_and_then (λ standing. option_and_then (λ lot. option_and_then (λ seats. option_and_then (λ gone. option_and_then (λ sums. option_map (λ past. record {
@@ -73,7 +74,8 @@ con_at setup row = option_and_then (λ code. constituency_with code setup) (opti
 abbrev pub con_counted : List Constituency → (Constituency → View) → Row → Option (Constituency × View)
 con_counted setup counted row = option_map (λ con. (con, counted con)) (con_at setup row)
 
--- a constituency with its code, by its row of `cons` and its rows of the other tables; the numbers of its returns are those that were counted
+-- a constituency with its code, by its row of `cons` and its rows of the other tables; the numbers
+-- of its returns are those that were counted
 abbrev pub found_at : View → Row → Tables → Constituency → Option (List ℕ × View)
 found_at counted row tables con = option_map (λ view. (con.code, view)) (view_in con (statuses_of counted) row tables)
 

@@ -9,8 +9,8 @@ use std::alloc::{AllocError, Global};
 use tally_returns::Gone;
 use tally_rows::number_at;
 
-/// What a row of `cons` has beside its code: the edition, whether the constituency is certified, and
-/// the note of its last reopening.
+/// What a row of `cons` has beside its code: the edition, whether the constituency is certified,
+/// and the note of its last reopening.
 #[derive(Clone, Copy)]
 pub struct Standing<'a> {
     pub edition: u32,
@@ -30,7 +30,7 @@ fn flag_of(number: u32) -> Option<bool>
     }
 }
 
-/// What a row of `cons` says of the constituency of a code. `None` where it is no such row.
+/// What a row of `cons` says of the constituency of a code. `None` where it is not such a row.
 pub fn standing_in<'a>(row: &'a Row, con: &[u8]) -> Option<Standing<'a>>
     ensures { option_map (λ s. (s.edition, s.certified, s.note.now)) result ≡ standing_of con.now row.now }
 {
@@ -80,7 +80,7 @@ fn gone_in(alloc: Global, row: &Row, con: &[u8]) -> Result<Option<Gone>, AllocEr
     }))
 }
 
-/// The candidates of a constituency who are gone, one for each row. `None` where these are no such
+/// The candidates of a constituency who are gone, one for each row. `None` where these are not such
 /// rows.
 pub fn all_gone_in(alloc: Global, rows: &[Row], con: &[u8]) -> Result<Option<Vec<Gone>>, AllocError>
     ensures { IfOk result (λ found. option_map (λ v. v.items) found ≡ all_gone_of con.now rows.now) }

@@ -26,7 +26,7 @@ fn number_for(row: &Row, key: &[u8], item: u64) -> Option<u32>
 }
 
 /// The numbers that the rows of a key have for the items from 1 on, one row for each and in order.
-/// `None` where they are no such rows.
+/// `None` where they are not such rows.
 pub fn numbers_in(alloc: Global, rows: &[Row], key: &[u8]) -> Result<Option<Vec<u32>>, AllocError>
     ensures { IfOk result (λ found. option_map (λ v. v.items) found ≡ numbers_from key.now 1 rows.now) }
 {

@@ -1,4 +1,4 @@
-//! The rows of a state in the tables of the office, and what rows that were read stand for.
+//! The rows of a state in the tables of the office, and what rows that were read mean.
 #![tactic(auto)]
 
 mod columns;

@@ -16,7 +16,7 @@ pub struct ConTables<'a> {
     pub past: &'a [Row],
 }
 
-/// How many rows at the front have this key.
+/// How many rows at the start have this key.
 fn key_len(rows: &[Row], key: &[u8]) -> usize
     ensures { result ≡ key_len key.now rows.now }
 {
@@ -28,7 +28,7 @@ fn key_len(rows: &[Row], key: &[u8]) -> usize
     rows.len()
 }
 
-/// The rows at the front that have this key, and those behind them.
+/// The rows at the start that have this key, and those after them.
 fn split_rows<'a>(rows: &'a [Row], key: &[u8]) -> (&'a [Row], &'a [Row])
     ensures front { result.0.now ≡ rows_of_key key.now rows.now }
     ensures back { result.1.now ≡ rows_behind key.now rows.now }
@@ -37,7 +37,7 @@ fn split_rows<'a>(rows: &'a [Row], key: &[u8]) -> (&'a [Row], &'a [Row])
 }
 
 impl<'a> ConTables<'a> {
-    /// The rows at the front of each table that are those of this constituency, and those behind
+    /// The rows at the start of each table that are those of this constituency, and those after
     /// them.
     pub fn split(self, con: &[u8]) -> (ConTables<'a>, ConTables<'a>)
         ensures front { tables_in result.0 ≡ in_each (rows_of_key con.now) (tables_in self.entry) }

@@ -18,7 +18,7 @@ pub fn status_number(status: Status) -> u32
     }
 }
 
-/// The status of a number in a table. `None` where the number is none of a status.
+/// The status of a number in a table. `None` where the number is not that of a status.
 pub fn status_of(number: u32) -> Option<Status>
     ensures { result ≡ status_of number }
 {

@@ -24,7 +24,7 @@ pub struct Statuses {
 }
 
 /// What is seen of a constituency with so many returns in each status, by its row of `cons` and its
-/// rows of the other tables. `None` where these are no such rows.
+/// rows of the other tables. `None` where these are not such rows.
 pub fn view_in(
     alloc: Global,
     con: &Constituency,

@@ -13,4 +13,5 @@ use Rattle.tally_contest.specs.internal.Won.{AreWon}
 abbrev pub IsTableOf : (ℕ → ℕ) → ℕ → LotRule → Poll → List ℕ → List Won → List Award → Type 0
 IsTableOf nth unit lot_rule poll a rows awards = (lot : List ℕ) (seats : ℕ) → IsProperLot poll lot →
     IsDivisorAllotment nth unit lot_rule poll lot seats a →
-    AreWon (placed_divisor_race nth lot_rule poll lot seats) a rows → AreAwards nth unit lot_rule poll lot seats awards
+    AreWon (placed_divisor_race nth lot_rule poll lot seats) a rows →
+    AreAwards nth unit lot_rule poll lot seats awards

@@ -1,6 +1,6 @@
 -- How the votes short are found. No promise to a caller speaks of it.
-use Rattle.std.specs.Prelude.{ℕ, ◌≡◌, ◌≢◌, ◌+◌, ◌-◌, ◌*◌, ◌<◌, ◌≤◌, List, Option, None, Some, MatchOption, length}
-use Rattle.std.specs.Prelude.{slice_index, slice_index_or}
+use Rattle.std.specs.Prelude.{ℕ, ◌≡◌, ◌≢◌, ◌+◌, ◌-◌, ◌*◌, ◌<◌, ◌≤◌, List, Option, None, Some}
+use Rattle.std.specs.Prelude.{MatchOption, length, slice_index, slice_index_or}
 use Rattle.tally_frac.specs.Rank.{RanksAboveByVotes}
 use Rattle.tally_law.specs.Poll.{Poll, IsEligible, SharesOut, votes_of}
 use Rattle.tally_law.specs.Allotment.{Rule, IsAllotment}
@@ -17,25 +17,30 @@ VotesRankAbove votes divisor other_votes other_divisor =
     (record { votes = votes; divisor = divisor; place = 0 })
     (record { votes = other_votes; divisor = other_divisor; place = 0 })
 
--- An allotment by the votes alone, without the unit of the rule, which cancels: no last seat ranks below the next seat
--- of another list.
+-- An allotment by the votes alone, without the unit of the rule, which cancels: no last seat ranks
+-- below the next seat of another list.
 pub record IsByVotes (nth : ℕ → ℕ) (poll : Poll) (seats : ℕ) (a : List ℕ) : Type 0 where
   pub shares : SharesOut poll seats a
-  pub last_not_below_next : (l m : ℕ) → IsEligible poll l → IsEligible poll m → l ≢ m → 1 ≤ slice_index a l →
-      ¬ VotesRankAbove (votes_of poll m) (nth (slice_index a m + 1)) (votes_of poll l) (nth (slice_index a l))
+  pub last_not_below_next : (l m : ℕ) → IsEligible poll l → IsEligible poll m → l ≢ m →
+      1 ≤ slice_index a l →
+      ¬ VotesRankAbove
+      (votes_of poll m) (nth (slice_index a m + 1))
+      (votes_of poll l) (nth (slice_index a l))
 
 -- The fewest votes that by one divisor rank above votes by another.
 pub record AreFewestAbove (divisor other_votes other_divisor votes : ℕ) : Type 0 where
   pub above : VotesRankAbove votes divisor other_votes other_divisor
   pub one_less : ¬ VotesRankAbove (votes - 1) divisor other_votes other_divisor
 
--- Among the first n lists but list m, the one whose last seat ranks lowest by the votes alone, if one of them holds a
--- seat.
+-- Among the first n lists but list m, the one whose last seat ranks lowest by the votes alone, if
+-- one of them holds a seat.
 abbrev pub IsLowestOther : (ℕ → ℕ) → Poll → List ℕ → ℕ → ℕ → Option ℕ → Type 0
 IsLowestOther nth poll a m n None = (p : ℕ) → p < n → p ≢ m → slice_index a p ≡ 0
 IsLowestOther nth poll a m n (Some c) = (c < length poll.votes) × (c ≢ m) × (1 ≤ slice_index a c) ×
     ((p : ℕ) → p < n → p ≢ m → 1 ≤ slice_index a p →
-    ¬ VotesRankAbove (votes_of poll c) (nth (slice_index a c)) (votes_of poll p) (nth (slice_index a p)))
+    ¬ VotesRankAbove
+    (votes_of poll c) (nth (slice_index a c))
+    (votes_of poll p) (nth (slice_index a p)))
 
 -- The number of list m, where a is the allotment.
 pub record IsNumberOf (rule : Rule) (poll : Poll) (seats : ℕ) (a : List ℕ) (m x : ℕ) : Type 0 where
@@ -58,4 +63,5 @@ pub record AreAnswers (rule : Rule) (poll : Poll) (seats : ℕ) (a : List ℕ) (
 -- the answers of all lists beside the seats of the allotment
 abbrev pub AreAnswersOf : Rule → Poll → List ℕ → ℕ → List (Option ℕ) → Type 0
 AreAnswersOf rule poll lot seats numbers =
-    (a : List ℕ) × IsAllotment rule poll lot seats a × AreAnswers rule poll seats a (length poll.votes) numbers
+    (a : List ℕ) × IsAllotment rule poll lot seats a ×
+    AreAnswers rule poll seats a (length poll.votes) numbers

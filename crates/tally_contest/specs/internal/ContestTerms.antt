@@ -9,7 +9,8 @@ use Rattle.tally_contest.specs.declared.poll.Poll.{Poll as PollCode}
 
 -- a rule, the votes, a lot and so many seats
 abbrev pub terms_under : Rule → PollCode → List ℕ → ℕ → Terms
-terms_under rule poll lot seats = record { rule = rule; poll = kept_poll poll; lot = lot; seats = seats }
+terms_under rule poll lot seats =
+    record { rule = rule; poll = kept_poll poll; lot = lot; seats = seats }
 
 -- under a divisor rule, by its divisors and their unit
 abbrev pub divisor_terms : {D : Type 0} → (D → ℕ → ℕ) → (D → ℕ) → DivisorContest D → Terms

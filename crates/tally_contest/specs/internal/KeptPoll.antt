@@ -1,4 +1,4 @@
--- The poll that a `Poll` of the code stands for. No promise to a caller speaks of it.
+-- The poll that a `Poll` of the code is. No promise to a caller speaks of it.
 use Rattle.tally_law.specs.Poll.{Poll}
 use Rattle.tally_contest.specs.internal.Terms.{poll_under}
 use Rattle.tally_contest.specs.declared.poll.Poll.{Poll as PollCode}

@@ -1,5 +1,5 @@
--- The lots that may be the one to be taken, before it is known whether one is needed. No promise to a caller speaks of
--- them.
+-- The lots that may be the one to be taken, before it is known whether one is needed. No promise to
+-- a caller speaks of them.
 use Rattle.std.specs.Prelude.{ℕ, ◌≡◌, ◌⊎◌, List, [], Bool}
 use Rattle.tally_law.specs.Lot.{IsOrderOf}
 use Rattle.tally_law.specs.Poll.{Poll, IsEligible}

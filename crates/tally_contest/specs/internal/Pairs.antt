@@ -1,5 +1,7 @@
--- Pairs as keys have them, in which a place is asked for with the seat. No promise to a caller speaks of them.
-use Rattle.std.specs.Prelude.{ℕ, ◌+◌, ◌-◌, ◌%◌, ◌==◌, ◌&&◌, Bool, false, List, length, max, if◌then◌else◌}
+-- Pairs as keys have them, in which a place is asked for with the seat. No promise to a caller
+-- speaks of them.
+use Rattle.std.specs.Prelude.{ℕ, ◌+◌, ◌-◌, ◌%◌, ◌==◌, ◌&&◌, Bool, false, List, length, max}
+use Rattle.std.specs.Prelude.{if◌then◌else◌}
 use Rattle.tally_frac.specs.Limits.{most_lists}
 use Rattle.tally_frac.specs.Rank.{Pair}
 use Rattle.tally_rules.specs.declared.profile.LotRule.{LotRule}
@@ -7,7 +9,8 @@ use Rattle.tally_rules.specs.declared.profile.LotRule.TheVariants.{Fixed, Altern
 use Rattle.tally_law.specs.Lot.{is_named, place_of}
 use Rattle.tally_law.specs.Poll.{Poll, votes_of}
 
--- whether list l's place is counted from the last for even seats: lots alternate, and this one names the list
+-- whether list l's place is counted from the last for even seats: lots alternate, and this one
+-- names the list
 abbrev pub turns : LotRule → List ℕ → ℕ → Bool
 turns Fixed lot l = false
 turns Alternating lot l = is_named lot l
@@ -16,10 +19,13 @@ turns Alternating lot l = is_named lot l
 abbrev pub last_place : List ℕ → ℕ
 last_place lot = max most_lists (length lot)
 
--- list l's place for its k-th seat: counted from the last where it turns and k is even, so 61 less the place
+-- list l's place for its k-th seat: counted from the last where it turns and k is even, so 61 less
+-- the place
 abbrev pub place_at : LotRule → List ℕ → ℕ → ℕ → ℕ
 place_at lot_rule lot l k =
-    if turns lot_rule lot l && (k % 2 == 0) then last_place lot + 1 - place_of lot l else place_of lot l
+    if turns lot_rule lot l && (k % 2 == 0)
+    then last_place lot + 1 - place_of lot l
+    else place_of lot l
 
 -- the pair of list l and its k-th seat
 abbrev pub pair_of : (ℕ → ℕ) → LotRule → Poll → List ℕ → ℕ → ℕ → Pair

@@ -1,5 +1,5 @@
--- What proofs suppose of a rule, a poll and a lot. The divisors of every rule and every poll of a profile are so, and
--- so is the lot that is to be taken. No promise to a caller speaks of it.
+-- What proofs suppose of a rule, a poll and a lot. The divisors of every rule and every poll of a
+-- profile are so, and so is the lot that is to be taken. No promise to a caller speaks of it.
 use Rattle.std.specs.Prelude.{ℕ, ◌≡◌, ◌<◌, ◌≤◌, ◌≢◌, List, length}
 use Rattle.tally_law.specs.Poll.{Poll, IsEligible, votes_of}
 use Rattle.tally_law.specs.Lot.{is_named, place_of}
@@ -24,9 +24,10 @@ abbrev pub ArePlacedApart : Poll → List ℕ → Type 0
 ArePlacedApart poll lot = (l m : ℕ) → IsEligible poll l → IsEligible poll m → l ≢ m →
     votes_of poll l ≡ votes_of poll m → place_of lot l ≢ place_of lot m
 
--- What holds of the lot that is to be taken, and of none: of eligible lists with equal votes it places no two alike,
--- and names all or none.
+-- What holds of the lot that is to be taken, and of none: of eligible lists with equal votes it
+-- places no two alike, and names all or none.
 pub record IsProperLot (poll : Poll) (lot : List ℕ) : Type 0 where
   pub apart : ArePlacedApart poll lot
-  pub together : (l m : ℕ) → IsEligible poll l → IsEligible poll m → votes_of poll l ≡ votes_of poll m →
+  pub together : (l m : ℕ) → IsEligible poll l → IsEligible poll m →
+      votes_of poll l ≡ votes_of poll m →
       is_named lot l ≡ is_named lot m

@@ -7,8 +7,13 @@ use Rattle.tally_contest.specs.declared.quota.Quota.{Quota}
 
 -- the remainder of an eligible list, and 0 for another
 abbrev pub remainder_for : Poll → ℕ → ℕ → ℕ
-remainder_for poll seats l = if slice_index_or poll.eligible l false then remainder poll seats l else 0
+remainder_for poll seats l =
+    if slice_index_or poll.eligible l false then remainder poll seats l else 0
 
 abbrev pub quota_of : Poll → ℕ → ℕ → Quota
 quota_of poll seats l =
-    record { floor = quotas_for poll seats l; cap = most_for poll seats l; remainder = remainder_for poll seats l }
+    record {
+      floor = quotas_for poll seats l;
+      cap = most_for poll seats l;
+      remainder = remainder_for poll seats l;
+    }

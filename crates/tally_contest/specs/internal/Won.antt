@@ -1,5 +1,6 @@
 -- The seats won, in order. No promise to a caller speaks of them.
-use Rattle.std.specs.Prelude.{ℕ, ◌≡◌, ◌+◌, ◌<◌, ◌≤◌, List, length, replicate, slice_index, slice_index_or}
+use Rattle.std.specs.Prelude.{ℕ, ◌≡◌, ◌+◌, ◌<◌, ◌≤◌, List, length, replicate, slice_index}
+use Rattle.std.specs.Prelude.{slice_index_or}
 use Rattle.tally_frac.specs.Limits.{last_divisor}
 use Rattle.tally_contest.specs.declared.won.Won.{Won}
 use Rattle.tally_contest.specs.internal.Race.{Race, IsPair}
@@ -16,10 +17,11 @@ pub record AreWon (race : Race) (a : List ℕ) (rows : List Won) : Type 0 where
   pub all : (l k : ℕ) → race.floor l < k → k ≤ slice_index a l → (i : ℕ) × (i < length rows) ×
       ((d : Won) → slice_index_or rows i d ≡ record { list = l; seat = k })
   pub falling : (i j : ℕ) (d : Won) → i < j → j < length rows →
-      race.Above (slice_index_or rows i d).list (slice_index_or rows i d).seat (slice_index_or rows j d).list
-      (slice_index_or rows j d).seat
+      race.Above (slice_index_or rows i d).list (slice_index_or rows i d).seat
+      (slice_index_or rows j d).list (slice_index_or rows j d).seat
   pub ahead : (i : ℕ) (d : Won) (m : ℕ) → i < length rows → slice_index a m < race.cap m →
-      race.Above (slice_index_or rows i d).list (slice_index_or rows i d).seat m (slice_index a m + 1)
+      race.Above (slice_index_or rows i d).list (slice_index_or rows i d).seat m
+      (slice_index a m + 1)
 
 -- a seat of one of so many lists, within the most that there are
 abbrev pub IsRow : ℕ → Won → Type 0

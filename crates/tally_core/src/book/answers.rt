@@ -20,10 +20,12 @@ use tally_rules::Code;
 /// Answers a request and carries it out. What can fail is done before anything is changed.
 pub(super) fn answer_in(alloc: Global, ledger: &mut Ledger, ask: &Ask) -> Result<Reply, Refusal>
     requires held { IsHeld ledger.old }
-    ensures step { IsAnsweredInMemory ledger.old.setup (state_in ledger.old) ask.now result (state_in ledger.new) }
+    ensures step { IsAnsweredInMemory ledger.old.setup (state_in ledger.old) ask.now result
+        (state_in ledger.new) }
     ensures setup { ledger.new.setup ≡ ledger.old.setup }
     ensures held { IsHeld ledger.new }
 {
+    // Called for what its contract says: a slip is a code.
     let _slip = ask.slip();
     if let Some(con) = ask.con() {
         return answer_on(alloc, ledger, con, ask);
@@ -56,6 +58,7 @@ fn lodge(
     let LodgeReply::Lodged { .. } = reply else {
         return Ok(Reply::from(reply));
     };
+    // Called for what its contract says: a slip is a code.
     let _slip = slip.as_bytes();
     let first = Return::lodged(alloc, slip, counts.try_copy(alloc)?);
     ledger.put(station, first)?;
@@ -111,12 +114,12 @@ fn take_lot(ledger: &mut Ledger, con: Code, ask: &Ask)
 {
     if let Ask::Query { .. } = ask {
         ledger.drop_lot(con);
-        return;
     }
 }
 
 fn show_return(alloc: Global, ledger: &Ledger, station: Code) -> Result<Reply, Refusal>
-    ensures { (seen result ≡ answer ledger.now.setup (state_in ledger.now) (ShowReturn station)) ⊎ (result ≡ Err Memory) }
+    ensures { (seen result ≡ answer ledger.now.setup (state_in ledger.now) (ShowReturn station))
+        ⊎ (result ≡ Err Memory) }
 {
     if ledger.setup().station(station).is_none() {
         return Err(Refusal::NoStation);

@@ -26,12 +26,14 @@ pub(super) fn take_rows<R: RowSource>(
     source: &mut R,
 ) -> Result<ImportCount, ImportFault>
     ensures imported { IfOk result (λ count.
-        IsImportOf ledger.old.setup (Some (state_in ledger.old)) (R.coming source.old) count (Some (state_in ledger.new))) }
+        IsImportOf ledger.old.setup (Some (state_in ledger.old)) (R.coming source.old) count
+        (Some (state_in ledger.new))) }
     ensures ended { OnOk result (R.ended source.new ≡ Some None) }
     ensures fault { IfErr result (IsFault (R.coming source.old) (R.ended source.new)) }
     ensures own { IfErr result (λ fault. fault ≢ Store) }
     ensures kept { ledger.new ≡ record ledger.old { returns = ledger.new.returns } }
-    ensures undone { without lodged.new.items ledger.new.returns ≡ without lodged.old.items ledger.old.returns }
+    ensures undone { without lodged.new.items ledger.new.returns
+        ≡ without lodged.old.items ledger.old.returns }
 {
     let mut count = ImportCount::new();
     for before in 0..ROW_LIMIT + 1 {
@@ -44,7 +46,7 @@ pub(super) fn take_rows<R: RowSource>(
     Err(ImportFault::TooLong)
 }
 
-/// Lodges a row. One that is no Lodge is answered nothing, as a bad one is.
+/// Lodges a row. A row that is not a Lodge has no answer, just as a bad one has none.
 fn take_row(
     alloc: Global,
     ledger: &mut Ledger,
@@ -55,7 +57,8 @@ fn take_row(
     ensures answer { IfOk result (λ answer. row_answer_in ledger.old row ≡ answer) }
     ensures returns { OnOk result (ledger.new.returns ≡ after_row_in ledger.old row) }
     ensures kept { ledger.new ≡ record ledger.old { returns = ledger.new.returns } }
-    ensures undone { without lodged.new.items ledger.new.returns ≡ without lodged.old.items ledger.old.returns }
+    ensures undone { without lodged.new.items ledger.new.returns
+        ≡ without lodged.old.items ledger.old.returns }
 {
     let Row::Lodge(ask) = row else {
         return Ok(None);
@@ -73,7 +76,8 @@ fn take_ask(
     ensures answer { IfOk result (λ answer. row_answer_in ledger.old (Row.Lodge ask) ≡ answer) }
     ensures returns { OnOk result (ledger.new.returns ≡ after_row_in ledger.old (Row.Lodge ask)) }
     ensures kept { ledger.new ≡ record ledger.old { returns = ledger.new.returns } }
-    ensures undone { without lodged.new.items ledger.new.returns ≡ without lodged.old.items ledger.old.returns }
+    ensures undone { without lodged.new.items ledger.new.returns
+        ≡ without lodged.old.items ledger.old.returns }
 {
     let Ask::Lodge {
         station,
@@ -98,11 +102,14 @@ fn take_return(
     counts: Counts,
 ) -> Result<Result<LodgeReply, Refusal>, AllocError>
     ensures codes { is_code slip ≡ true }
-    ensures answer { IfOk result (λ answer. answer ≡ lodge_answer_in ledger.old station slip counts) }
+    ensures answer { IfOk result (λ answer.
+        answer ≡ lodge_answer_in ledger.old station slip counts) }
     ensures returns { OnOk result (ledger.new.returns ≡ lodge_in ledger.old station slip counts) }
     ensures kept { ledger.new ≡ record ledger.old { returns = ledger.new.returns } }
-    ensures undone { without lodged.new.items ledger.new.returns ≡ without lodged.old.items ledger.old.returns }
+    ensures undone { without lodged.new.items ledger.new.returns
+        ≡ without lodged.old.items ledger.old.returns }
 {
+    // Called for what its contract says: a slip is a code.
     let _slip = slip.as_bytes();
     let answer = decide_first(ledger, station, slip, &counts);
     let Ok(LodgeReply::Lodged { .. }) = answer else {

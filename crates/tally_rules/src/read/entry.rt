@@ -1,6 +1,7 @@
 //! The entries of the arrays of a setup.
 
-ghost use Rattle.std.specs.Prelude.{◌≡◌, ◌≤◌, ◌++◌, ◌∷◌, [], true, All, Ok, IfOk, IfErr, OnOk, length, map, string_bytes};
+ghost use Rattle.std.specs.Prelude.{◌≡◌, ◌≤◌, ◌++◌, ◌∷◌, [], true, All, Ok, IfOk, IfErr, OnOk};
+ghost use Rattle.std.specs.Prelude.{length, map, string_bytes};
 ghost use Rattle.std.specs.List.{list_all};
 ghost use Rattle.toml.specs.View.{view};
 ghost use Rattle.tally_frac.specs.Limits.{most_lists};
@@ -8,8 +9,9 @@ ghost use Rattle.tally_rules.specs.Constituency.{list_codes, station_codes};
 ghost use Rattle.tally_rules.specs.Codes.{AreDistinct};
 ghost use Rattle.tally_rules.specs.Limits.{IsConstituency, IsListEntry, IsStation};
 ghost use Rattle.tally_rules.specs.Found.{key_name, IsFoundIn, is_kind};
-ghost use Rattle.tally_rules.specs.Reading.{array_at, candidates_of, constituency_entry, list_entry, lists_of, station_entry, stations_of};
-ghost use Rattle.tally_rules.specs.Text.{is_name};
+ghost use Rattle.tally_rules.specs.Reading.{array_at, candidates_of, constituency_entry};
+ghost use Rattle.tally_rules.specs.Reading.{list_entry, lists_of, station_entry, stations_of};
+ghost use Rattle.tally_rules.specs.Text.{IsName};
 
 use crate::codes::Codes;
 use crate::constituency::{Constituency, ListEntry, Station};
@@ -50,7 +52,8 @@ pub(super) fn array_at(
         array_at (is_kind kind) (key_name key) limit (view entry.now) ≡ Ok (map view items.now)) }
     ensures some { IfOk result (λ items. 1 ≤ length items.now) }
     ensures limit { IfOk result (λ items. length items.now ≤ limit) }
-    ensures fault { IfErr result (IsFoundIn (array_at (is_kind kind) (key_name key) limit (view entry.now))) }
+    ensures fault { IfErr result
+        (IsFoundIn (array_at (is_kind kind) (key_name key) limit (view entry.now))) }
 {
     let items = match value_at(entry, key)?.as_array() {
         Some(items) => items.as_slice(),
@@ -76,7 +79,8 @@ fn are(kind: Kind, items: &[Value]) -> bool
 /// An entry of `station`, whose code is added to those taken.
 #[tactic(auto, unfolding(crate::specs::Reading::station_entry))]
 fn station_entry(entry: &Value, taken: &mut Codes) -> Result<Station, KeyFault>
-    ensures station { IfOk result (λ station. station_entry taken.old (view entry.now) ≡ Ok station) }
+    ensures station { IfOk result (λ station.
+        station_entry taken.old (view entry.now) ≡ Ok station) }
     ensures taken { IfOk result (λ station. taken.new ≡ taken.old ++ station.code ∷ []) }
     ensures distinct { OnOk result (AreDistinct taken.new) }
     ensures limits { IfOk result IsStation }
@@ -92,8 +96,10 @@ fn station_entry(entry: &Value, taken: &mut Codes) -> Result<Station, KeyFault>
 #[tactic(auto, unfolding(crate::specs::Reading::stations_of))]
 fn stations_of(alloc: Global, entry: &Value, taken: &mut Codes) -> Result<Vec<Station>, KeyFault>
     requires distinct { AreDistinct taken.old }
-    ensures stations { IfOk result (λ stations. stations_of taken.old (view entry.now) ≡ Ok stations.items) }
-    ensures taken { IfOk result (λ stations. taken.new ≡ taken.old ++ station_codes stations.items) }
+    ensures stations { IfOk result (λ stations.
+        stations_of taken.old (view entry.now) ≡ Ok stations.items) }
+    ensures taken { IfOk result (λ stations.
+        taken.new ≡ taken.old ++ station_codes stations.items) }
     ensures distinct { OnOk result (AreDistinct taken.new) }
     ensures some { IfOk result (λ stations. 1 ≤ length stations.items) }
     ensures limit { IfOk result (λ stations. length stations.items ≤ 5000) }
@@ -111,10 +117,11 @@ fn stations_of(alloc: Global, entry: &Value, taken: &mut Codes) -> Result<Vec<St
 /// The names of a list's candidates.
 #[tactic(auto, unfolding(crate::specs::Reading::candidates_of))]
 fn candidates_of(alloc: Global, entry: &Value) -> Result<Vec<String>, KeyFault>
-    ensures candidates { IfOk result (λ names. candidates_of (view entry.now) ≡ Ok (map string_bytes names.items)) }
+    ensures candidates { IfOk result (λ names.
+        candidates_of (view entry.now) ≡ Ok (map string_bytes names.items)) }
     ensures some { IfOk result (λ names. 1 ≤ length names.items) }
     ensures limit { IfOk result (λ names. length names.items ≤ 1000) }
-    ensures each { IfOk result (λ names. All (λ name. is_name name ≡ true) (map string_bytes names.items)) }
+    ensures each { IfOk result (λ names. All IsName (map string_bytes names.items)) }
     ensures fault { IfErr result (IsFoundIn (candidates_of (view entry.now))) }
 {
     let entries = array_at(entry, Key::Candidates, Kind::Text, 1000)?;
@@ -173,11 +180,13 @@ pub(super) fn constituency_entry(
     ensures constituency { IfOk result (λ con.
         constituency_entry profiles.now taken.old stations.old (view entry.now) ≡ Ok con) }
     ensures taken { IfOk result (λ con. taken.new ≡ taken.old ++ con.code ∷ []) }
-    ensures stations { IfOk result (λ con. stations.new ≡ stations.old ++ station_codes con.stations) }
+    ensures stations { IfOk result (λ con.
+        stations.new ≡ stations.old ++ station_codes con.stations) }
     ensures distinct { OnOk result (AreDistinct taken.new) }
     ensures distinct_stations { OnOk result (AreDistinct stations.new) }
     ensures limits { IfOk result IsConstituency }
-    ensures fault { IfErr result (IsFoundIn (constituency_entry profiles.now taken.old stations.old (view entry.now))) }
+    ensures fault { IfErr result
+        (IsFoundIn (constituency_entry profiles.now taken.old stations.old (view entry.now))) }
 {
     let code = new_code(entry, taken)?;
     let name = name_of(alloc, entry)?;

@@ -1,11 +1,15 @@
 //! The keys of an entry.
 
-ghost use Rattle.std.specs.Prelude.{◌≡◌, ◌≤◌, ◌++◌, ◌∷◌, [], true, Ok, IfOk, IfErr, OnOk, string_bytes};
+ghost use Rattle.std.specs.Prelude.{◌≡◌, ◌≤◌, ◌++◌, ◌∷◌, [], true, Ok, IfOk, IfErr, OnOk};
+ghost use Rattle.std.specs.Prelude.{string_bytes};
 ghost use Rattle.toml.specs.View.{view};
+ghost use Rattle.tally_rules.specs.Code.{is_code};
 ghost use Rattle.tally_rules.specs.Codes.{AreDistinct};
 ghost use Rattle.tally_rules.specs.Found.{key_name, IsFoundIn};
-ghost use Rattle.tally_rules.specs.Reading.{base_of, code_at, lot_rule_of, method_of, name_from, name_of, new_code, number_at, number_in, text_at, value_at};
-ghost use Rattle.tally_rules.specs.Text.{is_name};
+ghost use Rattle.tally_rules.specs.Reading.{base_of, code_at, lot_rule_of, method_of, name_from};
+ghost use Rattle.tally_rules.specs.Reading.{name_of, new_code, number_at, number_in, text_at};
+ghost use Rattle.tally_rules.specs.Reading.{value_at};
+ghost use Rattle.tally_rules.specs.Text.{IsName};
 
 use crate::code::Code;
 use crate::codes::Codes;
@@ -18,7 +22,8 @@ use toml::Value;
 /// The value of a key.
 #[tactic(auto, unfolding(crate::specs::Reading::value_at))]
 pub(super) fn value_at<'a>(entry: &'a Value, key: Key) -> Result<&'a Value, KeyFault>
-    ensures value { IfOk result (λ value. value_at (key_name key) (view entry.now) ≡ Ok (view value.now)) }
+    ensures value { IfOk result (λ value.
+        value_at (key_name key) (view entry.now) ≡ Ok (view value.now)) }
     ensures fault { IfErr result (IsFoundIn (value_at (key_name key) (view entry.now))) }
 {
     match entry.get(key.name()) {
@@ -51,7 +56,8 @@ fn number_in(low: u32, high: u32, number: i64) -> Option<u32>
 /// The number of a key, which is whole and from `low` to `high`.
 #[tactic(auto, unfolding(crate::specs::Reading::number_at))]
 pub(super) fn number_at(entry: &Value, key: Key, low: u32, high: u32) -> Result<u32, KeyFault>
-    ensures number { IfOk result (λ number. number_at (key_name key) low high (view entry.now) ≡ Ok number) }
+    ensures number { IfOk result (λ number.
+        number_at (key_name key) low high (view entry.now) ≡ Ok number) }
     ensures low { IfOk result (λ number. low ≤ number) }
     ensures high { IfOk result (λ number. number ≤ high) }
     ensures fault { IfErr result (IsFoundIn (number_at (key_name key) low high (view entry.now))) }
@@ -66,6 +72,7 @@ pub(super) fn number_at(entry: &Value, key: Key, low: u32, high: u32) -> Result<
 #[tactic(auto, unfolding(crate::specs::Reading::code_at))]
 pub(super) fn code_at(entry: &Value, key: Key) -> Result<Code, KeyFault>
     ensures code { IfOk result (λ code. code_at (key_name key) (view entry.now) ≡ Ok code) }
+    ensures is_code { IfOk result (λ code. is_code code ≡ true) }
     ensures fault { IfErr result (IsFoundIn (code_at (key_name key) (view entry.now))) }
 {
     Code::new(text_at(entry, key)?.as_bytes()).ok_or(KeyFault::BadValue(key))
@@ -75,6 +82,7 @@ pub(super) fn code_at(entry: &Value, key: Key) -> Result<Code, KeyFault>
 #[tactic(auto, unfolding(crate::specs::Reading::new_code))]
 pub(super) fn new_code(entry: &Value, taken: &mut Codes) -> Result<Code, KeyFault>
     ensures code { IfOk result (λ code. new_code taken.old (view entry.now) ≡ Ok code) }
+    ensures is_code { IfOk result (λ code. is_code code ≡ true) }
     ensures taken { IfOk result (λ code. taken.new ≡ taken.old ++ code ∷ []) }
     ensures distinct { OnOk result (AreDistinct taken.new) }
     ensures fault { IfErr result (IsFoundIn (new_code taken.old (view entry.now))) }
@@ -90,8 +98,9 @@ pub(super) fn new_code(entry: &Value, taken: &mut Codes) -> Result<Code, KeyFaul
 /// A name, the value of a key or one of the items of its array.
 #[tactic(auto, unfolding(crate::specs::Reading::name_from))]
 pub(super) fn name_from(alloc: Global, value: &Value, key: Key) -> Result<String, KeyFault>
-    ensures name { IfOk result (λ name. name_from (key_name key) (view value.now) ≡ Ok (string_bytes name)) }
-    ensures limits { IfOk result (λ name. is_name (string_bytes name) ≡ true) }
+    ensures name { IfOk result (λ name.
+        name_from (key_name key) (view value.now) ≡ Ok (string_bytes name)) }
+    ensures limits { IfOk result (λ name. IsName (string_bytes name)) }
     ensures fault { IfErr result (IsFoundIn (name_from (key_name key) (view value.now))) }
 {
     match value.as_str() {
@@ -104,7 +113,7 @@ pub(super) fn name_from(alloc: Global, value: &Value, key: Key) -> Result<String
 #[tactic(auto, unfolding(crate::specs::Reading::name_of))]
 pub(super) fn name_of(alloc: Global, entry: &Value) -> Result<String, KeyFault>
     ensures name { IfOk result (λ name. name_of (view entry.now) ≡ Ok (string_bytes name)) }
-    ensures limits { IfOk result (λ name. is_name (string_bytes name) ≡ true) }
+    ensures limits { IfOk result (λ name. IsName (string_bytes name)) }
     ensures fault { IfErr result (IsFoundIn (name_of (view entry.now))) }
 {
     name_from(alloc, value_at(entry, Key::Name)?, Key::Name)

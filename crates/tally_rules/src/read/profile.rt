@@ -32,7 +32,8 @@ impl Model for Profiles {
 
     ghost view = { λ p. p.profiles.items };
 
-    ghost invariant = { λ p. (p.codes ≡ profile_codes p.profiles.items) × All (λ (p : List ℕ × declared.Profile). IsProfile p.1) p.profiles.items };
+    ghost invariant = { λ p. (p.codes ≡ profile_codes p.profiles.items) ×
+        All (λ (p : List ℕ × declared.Profile). IsProfile p.1) p.profiles.items };
 }
 
 impl Profiles {

@@ -23,7 +23,7 @@ pub award_from_heap-requires-clause-keys : goal.award_from_heap-requires-clause-
 award_from_heap-requires-clause-keys g c =
     let t = c.args.contest.now in
     let sound = c.requires.sound in
-    have_keys (g.D.Divisors.divisor t.divisors) t.lot_rule sound.rule.0 (g.met.D.Divisors.at_most t.divisors) (kept_poll t.poll) sound.poll t.poll.few_votes t.poll.few_lists t.lot.now (few_in_lot (kept_poll t.poll) sound.poll t.lot.now (c.if-not-may_be_taken.ensures.0 refl))
+    have_keys (divisor_terms g.D.Divisors.divisor g.D.Divisors.unit_of t) sound.rule.0 (g.met.D.Divisors.at_most t.divisors) sound.poll t.poll.few_votes t.poll.few_lists (few_in_lot (kept_poll t.poll) sound.poll t.lot.now (c.if-not-may_be_taken.ensures.0 refl))
 
 pub returns-in-Right-clause-allotment : goal.returns-in-Right-clause-allotment
 returns-in-Right-clause-allotment g c =

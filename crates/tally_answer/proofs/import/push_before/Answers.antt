@@ -4,7 +4,7 @@ use Rattle.tally_answer.proofs.import.push_before.Goals as goal
 
 pub returns-clause-items : goal.returns-clause-items
 returns-clause-items c =
-    let i = c.args.imported.now in
+    let i = c.args.count.now in
     let differs = decimal i.differs in
     let last = codes ",\"first\":" in
     c.push_around-2.ensures.items ∙ ap (λ (l : List ℕ). l ++ (differs ++ last)) c.push_around.ensures.items

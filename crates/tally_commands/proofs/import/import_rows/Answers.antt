@@ -36,5 +36,5 @@ returns-in-Err-clause-trouble g c sure =
       ended,
       c.in-Err.fault,
       import-of setup old new ended c.args.con c.args.sep _ _ _ _ c.new-rows.ensures c.in-Err.is (c.lodge_from.ensures.imported sure),
-      c.from_import.ensures,
+      c.from_import.ensures.trouble,
     )

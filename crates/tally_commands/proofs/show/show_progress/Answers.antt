@@ -14,7 +14,7 @@ pub returns-in-Err-clause-trouble : goal.returns-in-Err-clause-trouble
 returns-in-Err-clause-trouble g c sure =
     let k = g.K.Keeper in
     let happens = rw c.in-Err.is at c.progress_of.ensures.shows sure in
-    rw c.trouble_of.ensures (progress-trouble (k.constituencies c.args.keeper.now) (k.content c.args.keeper.now) (k.content c.progress_of.new.keeper) c.in-Err.refusal happens)
+    rw c.trouble_of.ensures.trouble (progress-trouble (k.constituencies c.args.keeper.now) (k.content c.args.keeper.now) (k.content c.progress_of.new.keeper) c.in-Err.refusal happens)
 
 pub returns-in-Ok-clause-shown : goal.returns-in-Ok-clause-shown
 returns-in-Ok-clause-shown g c sure =

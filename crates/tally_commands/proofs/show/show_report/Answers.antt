@@ -7,7 +7,7 @@ use Rattle.tally_returns.specs.declared.ask.Ask.TheVariants.{ShowCon}
 use Rattle.tally_returns.specs.declared.reply.Reply.TheVariants as reply
 use Rattle.tally_steps.specs.Outcome.{IsLawfulView}
 use Rattle.tally_desk.specs.Gives.{as_con}
-use Rattle.tally_desk.specs.Reports.{report_fault}
+use Rattle.tally_report.specs.Reports.{report_fault}
 use Rattle.tally_commands.specs.Show.{IsGiven, IsReportShown, IsReportTrouble, IsWithheld, Shows}
 use Rattle.tally_commands.proofs.ShowLemmas.{con-known, con-unknown, con-trouble, fault-trouble, known-found}
 use Rattle.tally_commands.proofs.show.show_report.Goals as goal
@@ -28,7 +28,7 @@ returns-in-Err-clause-trouble g c sure =
     let known = con-known c.code_named.result text c.in-Some.code c.setup.result.now setup c.code_named.ensures c.setup.ensures.setup c.in-Some.is in
     let happens = rw c.in-Err.is at c.view_of.ensures.shows sure in
     let here = subst (λ (code : List ℕ). Happens setup old (request (ShowCon code) (Err c.in-Err.refusal)) new) known.2 happens in
-    rw c.trouble_of.ensures (con-trouble setup old new text c.args.which known.0 c.in-Err.refusal known.1 here)
+    rw c.trouble_of.ensures.trouble (con-trouble setup old new text c.args.which known.0 c.in-Err.refusal known.1 here)
 
 pub returns-in-Ok-clause-unknown : goal.returns-in-Ok-clause-unknown
 returns-in-Ok-clause-unknown g c none =

@@ -1,5 +1,6 @@
 use Rattle.std.proofs.Common.{◌≡◌, ◌∙◌, Some, sym, String, Global}
-use Rattle.tally_desk.specs.Reports.{report_fault}
+use Rattle.tally_report.specs.Reports.{report_fault}
+use Rattle.tally_report.specs.internal.EnoughViews.{lawful-is_enough}
 use Rattle.tally_commands.proofs.ShowLemmas.{given-none, withheld}
 use Rattle.tally_commands.proofs.show.text_of.Goals as goal
 
@@ -11,10 +12,10 @@ returns-in-Ok-clause-text c con found lawful =
     let both : Some c.in-Some.con.now ≡ Some con = c.in-Some.ensures.found ∙ found in
     let same : con ≡ c.in-Some.con.now = cc in
     let at = rw same at lawful in
-    rw same (given-none (report_fault c.in-Some.con.now c.args.view.now c.args.which) c.in-Ok.text c.in-Ok.ensures.fault, c.in-Ok.ensures.text at)
+    rw same (given-none (report_fault c.in-Some.con.now c.args.view.now c.args.which) c.in-Ok.text c.in-Ok.ensures.fault, c.in-Ok.ensures.text (lawful-is_enough c.args.which c.in-Some.con.now c.args.view.now at))
 
 pub returns-in-Err-clause-trouble : goal.returns-in-Err-clause-trouble
 returns-in-Err-clause-trouble c con found =
     let both : Some c.in-Some.con.now ≡ Some con = c.in-Some.ensures.found ∙ found in
     let same : con ≡ c.in-Some.con.now = cc in
-    rw same (rw c.from_report.ensures (withheld (String Global) (report_fault c.in-Some.con.now c.args.view.now c.args.which) c.in-Err.fault c.in-Err.ensures.fault))
+    rw same (rw c.from_report.ensures.trouble (withheld (String Global) (report_fault c.in-Some.con.now c.args.view.now c.args.which) c.in-Err.fault c.in-Err.ensures.fault))

@@ -1,7 +1,6 @@
 use Rattle.std.proofs.Common.{◌≡◌, ℕ, ◌+◌, List, [], ◌∷◌, ◌++◌, length, get_or, set, take, drop, heap_items, sym, ap, ◌∙◌, subst, arith}
 use Rattle.std.proofs.Math.Seq.{take-append_seam}
 use Rattle.std.proofs.lemmas.List.{length-set}
-use Rattle.tally_contest.specs.internal.KeptPoll.{kept_poll}
 use Rattle.tally_contest.specs.internal.ContestTerms.{divisor_terms}
 use Rattle.tally_contest.specs.declared.won.Won.{Won}
 use Rattle.tally_contest.specs.internal.NextPairs.{AreNext}
@@ -35,7 +34,7 @@ loop-seat-preserved g c =
     let B : ℕ → Type 0 = λ k. AreWon (placed_race terms) (one_more a w.list) (c.loop-seat.rows.items ++ record { list = w.list; seat = k } ∷ []) in
     let C : List Won → Type 0 = λ rows. AreWon (placed_race terms) (one_more a w.list) rows in
     let D : List ℕ → Type 0 = λ s. AreWon (placed_race terms) s c.push.new.self.items in
-    let E : List ℕ → Type 0 = λ s. AreNext (g.D.Divisors.divisor t.divisors) t.lot_rule (kept_poll t.poll) t.lot.now (length t.poll.votes.now) s (heap_items c.award_next.new.next) in
+    let E : List ℕ → Type 0 = λ s. AreNext terms (length t.poll.votes.now) s (heap_items c.award_next.new.next) in
     record {
       fair = subst A (sym same) fair;
       won = subst D (sym same) (subst C (sym c.in_ok-push.ensures.items) (subst B (sym seat) won));

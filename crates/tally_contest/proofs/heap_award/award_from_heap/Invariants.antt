@@ -1,6 +1,5 @@
 use Rattle.std.proofs.Common.{length, heap_items}
 use Rattle.std.specs.BinaryHeap.{IsHeap}
-use Rattle.tally_contest.specs.internal.KeptPoll.{kept_poll}
 use Rattle.tally_contest.specs.internal.ContestTerms.{divisor_terms}
 use Rattle.tally_contest.specs.internal.NextPairs.{AreNext, keyed_cmp}
 use Rattle.tally_contest.specs.internal.Race.{IsFair}
@@ -13,5 +12,5 @@ invariant-loop-seat g l = record {
   fair : IsFair (placed_race (divisor_terms g.D.Divisors.divisor g.D.Divisors.unit_of l.contest)) l._seat l.seats.items;
   won : AreWon (placed_race (divisor_terms g.D.Divisors.divisor g.D.Divisors.unit_of l.contest)) l.seats.items l.rows.items;
   order : IsHeap keyed_cmp (heap_items l.next);
-  next : AreNext (g.D.Divisors.divisor l.contest.divisors) l.contest.lot_rule (kept_poll l.contest.poll) l.contest.lot.now (length l.contest.poll.votes.now) l.seats.items (heap_items l.next);
+  next : AreNext (divisor_terms g.D.Divisors.divisor g.D.Divisors.unit_of l.contest) (length l.contest.poll.votes.now) l.seats.items (heap_items l.next);
 }

@@ -1,5 +1,5 @@
 use Rattle.std.proofs.Common.{◌∷◌, length, heap_items, IsPermutation, arith, subst}
-use Rattle.tally_contest.specs.internal.KeptPoll.{kept_poll}
+use Rattle.tally_contest.specs.internal.ContestTerms.{divisor_terms}
 use Rattle.tally_contest.specs.internal.NextPairs.{Keyed}
 use Rattle.tally_contest.proofs.HeapLemmas.{popped_listed, popped_eligible, popped_few, popped_highest, pushed_next}
 use Rattle.tally_contest.proofs.heap_award.award_next.Goals as goal
@@ -7,32 +7,32 @@ use Rattle.tally_contest.proofs.heap_award.award_next.Goals as goal
 pub overflow_add-seat : goal.overflow_add-seat
 overflow_add-seat g c =
     let t = c.args.contest.now in
-    omega (arith, popped_few (g.D.Divisors.divisor t.divisors) t.lot_rule (kept_poll t.poll) t.lot.now (length t.poll.votes.now) c.args.seats.now _ _ _ c.requires.next c.in-Some.ensures.permutation t.seats c.requires.room t.few_seats)
+    omega (arith, popped_few (divisor_terms g.D.Divisors.divisor g.D.Divisors.unit_of t) (length t.poll.votes.now) c.args.seats.now _ _ _ c.requires.next c.in-Some.ensures.permutation t.seats c.requires.room t.few_seats)
 
 pub keyed_pair-requires-clause-listed : goal.keyed_pair-requires-clause-listed
 keyed_pair-requires-clause-listed g c =
     let t = c.args.contest.now in
-    popped_listed (g.D.Divisors.divisor t.divisors) t.lot_rule (kept_poll t.poll) t.lot.now (length t.poll.votes.now) c.args.seats.now _ _ _ c.requires.next c.in-Some.ensures.permutation
+    popped_listed (divisor_terms g.D.Divisors.divisor g.D.Divisors.unit_of t) (length t.poll.votes.now) c.args.seats.now _ _ _ c.requires.next c.in-Some.ensures.permutation
 
 pub keyed_pair-requires-clause-eligible : goal.keyed_pair-requires-clause-eligible
 keyed_pair-requires-clause-eligible g c =
     let t = c.args.contest.now in
-    popped_eligible (g.D.Divisors.divisor t.divisors) t.lot_rule (kept_poll t.poll) t.lot.now (length t.poll.votes.now) c.args.seats.now _ _ _ c.requires.next c.in-Some.ensures.permutation
+    popped_eligible (divisor_terms g.D.Divisors.divisor g.D.Divisors.unit_of t) (length t.poll.votes.now) c.args.seats.now _ _ _ c.requires.next c.in-Some.ensures.permutation
 
 pub keyed_pair-requires-clause-last : goal.keyed_pair-requires-clause-last
 keyed_pair-requires-clause-last g c =
     let t = c.args.contest.now in
-    popped_few (g.D.Divisors.divisor t.divisors) t.lot_rule (kept_poll t.poll) t.lot.now (length t.poll.votes.now) c.args.seats.now _ _ _ c.requires.next c.in-Some.ensures.permutation t.seats c.requires.room t.few_seats
+    popped_few (divisor_terms g.D.Divisors.divisor g.D.Divisors.unit_of t) (length t.poll.votes.now) c.args.seats.now _ _ _ c.requires.next c.in-Some.ensures.permutation t.seats c.requires.room t.few_seats
 
 pub returns-clause-highest : goal.returns-clause-highest
 returns-clause-highest g c =
     let t = c.args.contest.now in
-    popped_highest (g.D.Divisors.divisor t.divisors) t.lot_rule (kept_poll t.poll) t.lot.now (length t.poll.votes.now) c.args.seats.now _ _ _ c.requires.next c.in-Some.ensures.permutation t.seats c.requires.keys c.requires.sound.poll.listed c.requires.room t.few_seats (c.in-Some.ensures.heap_order c.requires.order).1
+    popped_highest (divisor_terms g.D.Divisors.divisor g.D.Divisors.unit_of t) (length t.poll.votes.now) c.args.seats.now _ _ _ c.requires.next c.in-Some.ensures.permutation t.seats c.requires.keys c.requires.sound.poll.listed c.requires.room t.few_seats (c.in-Some.ensures.heap_order c.requires.order).1
 
 pub returns-clause-next : goal.returns-clause-next
 returns-clause-next g c =
     let t = c.args.contest.now in
-    let nth = g.D.Divisors.divisor t.divisors in
-    let inside = popped_listed nth t.lot_rule (kept_poll t.poll) t.lot.now (length t.poll.votes.now) c.args.seats.now _ _ _ c.requires.next c.in-Some.ensures.permutation in
+    let terms = divisor_terms g.D.Divisors.divisor g.D.Divisors.unit_of t in
+    let inside = popped_listed terms (length t.poll.votes.now) c.args.seats.now _ _ _ c.requires.next c.in-Some.ensures.permutation in
     let P : Keyed → Type 0 = λ x. IsPermutation (x ∷ heap_items c.pop.new.self) (heap_items c.push.new.self) in
-    pushed_next nth t.lot_rule (kept_poll t.poll) t.lot.now (length t.poll.votes.now) c.args.seats.now _ _ _ c.requires.next c.in-Some.ensures.permutation _ (omega (arith, inside, c.requires.fair.one_each)) (subst P c.keyed_pair.ensures c.in_ok-push.ensures.permutation)
+    pushed_next terms (length t.poll.votes.now) c.args.seats.now _ _ _ c.requires.next c.in-Some.ensures.permutation _ (omega (arith, inside, c.requires.fair.one_each)) (subst P c.keyed_pair.ensures c.in_ok-push.ensures.permutation)

@@ -1,5 +1,5 @@
 use Rattle.std.proofs.Common.{◌∷◌, length, heap_items, IsPermutation, sym, ◌∙◌, subst}
-use Rattle.tally_contest.specs.internal.KeptPoll.{kept_poll}
+use Rattle.tally_contest.specs.internal.ContestTerms.{divisor_terms}
 use Rattle.tally_contest.specs.internal.NextPairs.{Keyed}
 use Rattle.tally_contest.specs.internal.Won.{none_held}
 use Rattle.tally_contest.proofs.HeapLemmas.{one_passed, one_pushed}
@@ -10,7 +10,7 @@ use Rattle.tally_contest.proofs.heap_award.first_pairs.Goals.{then-is_eligible+i
 pub loop-list-preserved : goal.loop-list-preserved
 loop-list-preserved g c =
     let t = c.args.contest.now in
-    let nth = g.D.Divisors.divisor t.divisors in
+    let terms = divisor_terms g.D.Divisors.divisor g.D.Divisors.unit_of t in
     let n = c.loop-list.list in
     let count = length t.poll.votes.now in
     let i = c.loop-list.invariant in
@@ -19,7 +19,7 @@ loop-list-preserved g c =
           let P : Keyed → Type 0 = λ x. IsPermutation (x ∷ heap_items c.loop-list.next) (heap_items w.push.new.self) in
           rw w.next-is (record {
             order = w.in_ok-push.ensures.heap_order i.order;
-            next = one_pushed nth t.lot_rule (kept_poll t.poll) t.lot.now n (none_held count) _ i.next (sym c.is_eligible.ensures ∙ w.if-is_eligible.true) (at-replicate_zero count n) _ (subst P w.keyed_pair.ensures w.in_ok-push.ensures.permutation);
+            next = one_pushed terms n (none_held count) _ i.next (sym c.is_eligible.ensures ∙ w.if-is_eligible.true) (at-replicate_zero count n) _ (subst P w.keyed_pair.ensures w.in_ok-push.ensures.permutation);
           })
-      | else-is_eligible w ↦ rw w.next-is (record { order = i.order; next = one_passed nth t.lot_rule (kept_poll t.poll) t.lot.now n (none_held count) _ i.next (sym c.is_eligible.ensures ∙ w.if-is_eligible.false) })
+      | else-is_eligible w ↦ rw w.next-is (record { order = i.order; next = one_passed terms n (none_held count) _ i.next (sym c.is_eligible.ensures ∙ w.if-is_eligible.false) })
     ]

@@ -1,5 +1,5 @@
 use Rattle.std.proofs.Common.{arith}
-use Rattle.tally_contest.specs.internal.KeptPoll.{kept_poll}
+use Rattle.tally_contest.specs.internal.ContestTerms.{hare_terms}
 use Rattle.tally_contest.proofs.ClaimLemmas.{one_passed, one_pushed}
 use Rattle.tally_contest.proofs.remainder_award.claims_of.Goals as goal
 use Rattle.tally_contest.proofs.remainder_award.claims_of.Goals.{then-seats-list+in_ok-push, else-seats-list}
@@ -13,7 +13,7 @@ loop-list-preserved c =
       | then-seats-list+in_ok-push w ↦
           rw w.claims-is (record {
             order = w.in_ok-push.ensures.heap_order i.order;
-            claims = one_pushed (kept_poll t.poll) t.lot.now t.seats n c.args.seats.now _ i.claims (omega (arith, w.if-seats-list.true, c.cap.ensures)) w.claim_of.result w.claim_of.ensures.claim w.claim_of.ensures.list _ w.in_ok-push.ensures.permutation;
+            claims = one_pushed (hare_terms t) n c.args.seats.now _ i.claims (omega (arith, w.if-seats-list.true, c.cap.ensures)) w.claim_of.result w.claim_of.ensures.claim w.claim_of.ensures.list _ w.in_ok-push.ensures.permutation;
           })
-      | else-seats-list w ↦ rw w.claims-is (record { order = i.order; claims = one_passed (kept_poll t.poll) t.lot.now t.seats n c.args.seats.now _ i.claims (omega (arith, w.if-seats-list.false, c.cap.ensures)) })
+      | else-seats-list w ↦ rw w.claims-is (record { order = i.order; claims = one_passed (hare_terms t) n c.args.seats.now _ i.claims (omega (arith, w.if-seats-list.false, c.cap.ensures)) })
     ]

@@ -1,11 +1,11 @@
 use Rattle.std.proofs.Common.{heap_items}
 use Rattle.std.specs.BinaryHeap.{IsHeap}
 use Rattle.tally_contest.specs.internal.Claims.{AreClaims, claim_cmp}
-use Rattle.tally_contest.specs.internal.KeptPoll.{kept_poll}
+use Rattle.tally_contest.specs.internal.ContestTerms.{hare_terms}
 use Rattle.tally_contest.proofs.remainder_award.claims_of.Given as goal
 
 abbrev pub invariant-loop-list : goal.invariant-loop-list
 invariant-loop-list l = record {
   order : IsHeap claim_cmp (heap_items l.claims);
-  claims : AreClaims (kept_poll l.contest.poll) l.contest.lot.now l.contest.seats l.list l.seats (heap_items l.claims);
+  claims : AreClaims (hare_terms l.contest) l.list l.seats (heap_items l.claims);
 }

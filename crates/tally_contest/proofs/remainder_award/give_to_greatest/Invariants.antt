@@ -1,6 +1,5 @@
 use Rattle.std.proofs.Common.{◌+◌, length, sum, heap_items}
 use Rattle.std.specs.BinaryHeap.{IsHeap}
-use Rattle.tally_contest.specs.internal.KeptPoll.{kept_poll}
 use Rattle.tally_contest.specs.internal.Claims.{AreClaims, claim_cmp}
 use Rattle.tally_contest.specs.internal.ContestTerms.{hare_terms}
 use Rattle.tally_contest.specs.internal.Race.{IsFair}
@@ -11,5 +10,5 @@ abbrev pub invariant-loop-seat : goal.invariant-loop-seat
 invariant-loop-seat l = record {
   fair : IsFair (placed_race (hare_terms l.contest)) (sum l.initial.seats + l._seat) l.seats;
   order : IsHeap claim_cmp (heap_items l.claims);
-  claims : AreClaims (kept_poll l.contest.poll) l.contest.lot.now l.contest.seats (length l.contest.poll.votes.now) l.seats (heap_items l.claims);
+  claims : AreClaims (hare_terms l.contest) (length l.contest.poll.votes.now) l.seats (heap_items l.claims);
 }

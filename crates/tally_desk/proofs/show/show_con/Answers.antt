@@ -10,7 +10,7 @@ use Rattle.tally_rules.specs.Setup.{constituency_with}
 use Rattle.tally_returns.specs.declared.ask.Ask.TheVariants.{ShowCon}
 use Rattle.tally_returns.specs.declared.reply.Reply.TheVariants as reply
 use Rattle.tally_desk.specs.Gives.{as_con}
-use Rattle.tally_desk.specs.Requests.{OnCon, ShowsCon}
+use Rattle.tally_desk.specs.Requests.{AtCon, ShowsCon}
 use Rattle.tally_desk.proofs.DeskLemmas.{gives, con-answer}
 use Rattle.tally_desk.proofs.show.show_con.Goals as goal
 
@@ -35,7 +35,7 @@ returns-in-Ok-clause-gives g c sure =
     let kept = rw c.in-Ok.is at c.view_of.ensures.kept sure in
     let lawful = rw c.in-Ok.is at c.view_of.ensures.lawful sure in
     let same : c.setup-in-Ok.result.now ≡ setup = c.setup-in-Ok.ensures.setup ∙ c.view_of.ensures.setup in
-    gives (OnCon setup old m (λ code con. ShowsCon setup old con code)) (λ text. (con : Constituency) → constituency_with c.in-Some.code c.setup-in-Ok.result.now ≡ Some con → text ≡ answer_text status.Done body.Json (compact_text (shown_con con c.in-Ok.view)))
+    gives (AtCon setup old m (λ code con. ShowsCon setup old con code)) (λ text. (con : Constituency) → constituency_with c.in-Some.code c.setup-in-Ok.result.now ≡ Some con → text ≡ answer_text status.Done body.Json (compact_text (shown_con con c.in-Ok.view)))
     old new c.con_shown.result c.con_shown.ensures
     (λ text has. con-answer c.setup.result.now setup old new m c.deref.result.now c.in-Some.code c.con_named.result (λ code con. ShowsCon setup old con code) text
     c.con_named.ensures c.setup.ensures.setup c.deref.ensures.value c.in-Some.is

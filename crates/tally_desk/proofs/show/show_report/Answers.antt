@@ -1,13 +1,14 @@
 use Rattle.std.proofs.Common.{◌≡◌, ◌∙◌, Some, List, Ok, Err, subst, sym}
 use Rattle.tally_keeper.specs.Keeper.{Happens, request}
-use Rattle.tally_steps.specs.Outcome.{IsLawfulView}
+use Rattle.tally_report.specs.Reports.{IsEnoughFor}
+use Rattle.tally_report.specs.internal.EnoughViews.{lawful-is_enough}
 use Rattle.tally_rules.specs.Constituency.{Constituency}
 use Rattle.tally_rules.specs.Setup.{constituency_with}
 use Rattle.tally_returns.specs.declared.ask.Ask.TheVariants.{ShowCon}
 use Rattle.tally_returns.specs.declared.reply.Reply.TheVariants as reply
 use Rattle.tally_desk.specs.Gives.{as_con}
 use Rattle.tally_desk.specs.Reports.{IsReportText}
-use Rattle.tally_desk.specs.Requests.{OnCon, Reports}
+use Rattle.tally_desk.specs.Requests.{AtCon, Reports}
 use Rattle.tally_desk.proofs.DeskLemmas.{gives, con-answer}
 use Rattle.tally_desk.proofs.show.show_report.Goals as goal
 
@@ -32,14 +33,14 @@ returns-in-Ok-clause-gives g c sure =
     let kept = rw c.in-Ok.is at c.view_of.ensures.kept sure in
     let lawful = rw c.in-Ok.is at c.view_of.ensures.lawful sure in
     let same : c.setup-in-Ok.result.now ≡ setup = c.setup-in-Ok.ensures.setup ∙ c.view_of.ensures.setup in
-    gives (OnCon setup old m (λ code con. Reports setup old con code c.args.which)) (λ text. (con : Constituency) → constituency_with c.in-Some.code c.setup-in-Ok.result.now ≡ Some con → IsLawfulView con c.in-Ok.view → IsReportText con c.in-Ok.view c.args.which text)
+    gives (AtCon setup old m (λ code con. Reports setup old con code c.args.which)) (λ text. (con : Constituency) → constituency_with c.in-Some.code c.setup-in-Ok.result.now ≡ Some con → IsEnoughFor c.args.which con c.in-Ok.view → IsReportText con c.in-Ok.view c.args.which text)
     old new c.report_shown.result c.report_shown.ensures
     (λ text has. con-answer c.setup.result.now setup old new m c.deref.result.now c.in-Some.code c.con_named.result (λ code con. Reports setup old con code c.args.which) text
     c.con_named.ensures c.setup.ensures.setup c.deref.ensures.value c.in-Some.is
     (λ con found. (
       Ok (reply.Con c.in-Ok.view),
       subst (λ r. Happens setup old (request (ShowCon c.in-Some.code) (as_con r)) new) c.in-Ok.is (c.view_of.ensures.shows sure),
-      has con (subst (λ (x : List Constituency). constituency_with c.in-Some.code x ≡ Some con) (sym same) found) (lawful con found),
+      has con (subst (λ (x : List Constituency). constituency_with c.in-Some.code x ≡ Some con) (sym same) found) (lawful-is_enough c.args.which con c.in-Ok.view (lawful con found)),
     )))
     kept
 

@@ -12,7 +12,7 @@ use Rattle.tally_returns.specs.declared.ask.Ask.TheVariants.{ShowReturn}
 use Rattle.tally_returns.specs.declared.reply.Reply.TheVariants as reply
 use Rattle.tally_desk.specs.Gives.{as_return}
 use Rattle.tally_desk.specs.Reports.{IsReportText}
-use Rattle.tally_desk.specs.Requests.{OnStation, ShowsReturn}
+use Rattle.tally_desk.specs.Requests.{AtStation, ShowsReturn}
 use Rattle.tally_desk.proofs.DeskLemmas.{gives, station-answer}
 use Rattle.tally_desk.proofs.show.show_return.Goals as goal
 
@@ -35,7 +35,7 @@ returns-in-Ok-clause-gives g c sure =
     let new = k.content c.return_of.new.keeper in
     let m = c.args.message.now in
     let kept = rw c.in-Ok.is at c.return_of.ensures.kept sure in
-    gives (OnStation setup old m (λ code con. ShowsReturn setup old code)) (λ text. text ≡ answer_text status.Done body.Json (compact_text (shown_return c.in-Some.station c.in-Ok.kept)))
+    gives (AtStation setup old m (λ code con. ShowsReturn setup old code)) (λ text. text ≡ answer_text status.Done body.Json (compact_text (shown_return c.in-Some.station c.in-Ok.kept)))
     old new c.return_answer.result c.return_answer.ensures
     (λ text is. station-answer c.setup.result.now setup old new m c.deref.result.now c.in-Some.station c.station_named.result (λ code con. ShowsReturn setup old code) text
     c.station_named.ensures c.setup.ensures.setup c.deref.ensures.value c.in-Some.is

@@ -3,20 +3,21 @@ use Rattle.sqlite.specs.State.{HasCleanDisk, IsUnchanged}
 use Rattle.sqlite.specs.Held.{state}
 use Rattle.tally_rules.specs.Constituency.{Constituency}
 use Rattle.tally_rules.specs.Limits.{IsConstituency}
-use Rattle.tally_entries.specs.Found.{AreFound, FindsStatuses}
+use Rattle.tally_entries.specs.Found.{AreFound}
 use Rattle.tally_entries.proofs.FindLemmas.{inside_still}
-use Rattle.tally_entries.proofs.StatusLemmas.{statuses_before}
+use Rattle.tally_entries.proofs.StatusLemmas.{known_before}
 use Rattle.tally_entries.proofs.WholeViewLemmas.{finds_view}
 use Rattle.tally_entries.proofs.views.find_view.Goals as goal
 
 pub returns-clause-found : goal.returns-clause-found
 returns-clause-found g c clean inside =
+    let con = c.args.con.now in
+    let known = c.args.known in
     let old = state g.S.Store c.args.tx.now.conn.now in
     let mid = state g.S.Store c.rows_of_con.new.tx.conn.now in
-    let early : HasCleanDisk mid = omega (arith, clean, c.find_statuses.ensures.stays.survives.clean) in
+    let early : HasCleanDisk mid = omega (arith, clean, c.find_known.ensures.stays.survives.clean) in
     let same : IsUnchanged old mid = c.in_ok-rows.ensures.reads.same early inside in
-    let limits : IsConstituency c.args.con.now = subst IsConstituency c.con.view_is c.con.invariant in
-    let rows : AreFound c.args.con.now.code old c.in_ok-rows.rows = subst (λ k. AreFound k old c.in_ok-rows.rows) (c.as_str.ensures.text ∙ ap (λ (x : Constituency). x.code) c.con.view_is) (c.in_ok-rows.ensures.found early inside) in
-    let counted : FindsStatuses c.args.con.now.stations mid c.in_ok-statuses.statuses =
-    subst (λ l. FindsStatuses l mid c.in_ok-statuses.statuses) (c.as_slice.ensures.value ∙ ap (λ (x : Constituency). x.stations) c.con.view_is) (c.in_ok-statuses.ensures.found clean (inside_still old mid same inside) same.0.is_open) in
-    finds_view c.args.setup.now c.args.con.now old c.in_ok-statuses.statuses c.in_ok-rows.rows c.fitting_view.result limits rows (statuses_before c.args.con.now.stations old mid c.in_ok-statuses.statuses same counted) c.fitting_view.ensures.read
+    let limits : IsConstituency con = subst IsConstituency c.con.view_is c.con.invariant in
+    let rows : AreFound con.code old c.in_ok-rows.rows = subst (λ k. AreFound k old c.in_ok-rows.rows) (c.as_str.ensures.text ∙ ap (λ (x : Constituency). x.code) c.con.view_is) (c.in_ok-rows.ensures.found early inside) in
+    let counted = c.in_ok-statuses.ensures.found clean (inside_still old mid same inside, same.0.is_open) in
+    finds_view c.args.setup.now con known old c.in_ok-statuses.statuses c.in_ok-rows.rows c.fitting_view.result limits rows (known_before con known old mid c.in_ok-statuses.statuses same counted) c.fitting_view.ensures.read

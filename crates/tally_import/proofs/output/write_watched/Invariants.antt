@@ -1,10 +1,11 @@
-use Rattle.std.proofs.Common.{◌-◌, ◌≤◌, take, length}
+use Rattle.std.proofs.Common.{◌≡◌, ◌-◌, ◌≤◌, take, length}
 use Rattle.std.specs.Io.KnownBytes.{Appends}
 use Rattle.tally_import.proofs.output.write_watched.Given as goal
 
 abbrev pub invariant-loop-written : goal.invariant-loop-written
 invariant-loop-written g l = record {
   within : l.written ≤ length l.text;
+  watch : l.watch.failed ≡ l.fn.watch.failed;
   front : Appends (g.W.Write.contents l.fn.writer) (g.W.Write.contents l.writer) (take l.written l.text);
 }
 

@@ -1,4 +1,4 @@
-use Rattle.std.proofs.Common.{◌≡◌, ◌∙◌, ◌+◌, List, ℕ, Some, ap, ap₂, sym, drop, arith, rules}
+use Rattle.std.proofs.Common.{◌≡◌, ◌∙◌, ◌+◌, List, Some, ap, ap₂, sym, drop, arith, rules}
 use Rattle.sqlite_value.specs.Order.{Row}
 use Rattle.tally_ledger.specs.Kept.{view_in}
 use Rattle.tally_returns.specs.View.{View}

@@ -9,15 +9,15 @@ returns-clause-ready g c clean first =
     let old = state g.S.Store c.args.tx.now.conn.now in
     let mid = state g.S.Store c.create_past.new.tx.conn.now in
     let new = state g.S.Store c.judge_former.new.tx.conn.now in
-    let early : HasCleanDisk mid = omega (arith, c.judge_former.ensures.survives.clean) in
+    let early : HasCleanDisk mid = omega (arith, c.judge_former.ensures.reads.stays.survives.clean) in
     let past = past_added old mid (c.in_ok-create_past.ensures.past early first) in
     let told = c.judge_former.ensures in
-    ready_each c.judge_former.result old mid new past (told.same clean past.has) (told.stored clean past.has) (told.judged clean past.has)
+    ready_each c.judge_former.result old mid new past (told.reads.same clean past.has) (told.stored clean past.has) (told.judged clean past.has)
 
 pub returns-clause-fault : goal.returns-clause-fault
 returns-clause-fault g c clean first =
     let old = state g.S.Store c.args.tx.now.conn.now in
     let mid = state g.S.Store c.create_past.new.tx.conn.now in
-    let early : HasCleanDisk mid = omega (arith, c.judge_former.ensures.survives.clean) in
+    let early : HasCleanDisk mid = omega (arith, c.judge_former.ensures.reads.stays.survives.clean) in
     let past = past_added old mid (c.in_ok-create_past.ensures.past early first) in
     fault_each c.judge_former.result old mid past (c.judge_former.ensures.fault clean past.has)

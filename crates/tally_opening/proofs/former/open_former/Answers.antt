@@ -34,7 +34,7 @@ returns-in-Ok-clause-crash g c =
     let begun = c.transaction-tx.ensures.begun in
     let same : bare.now ≡ old.now = ap (λ (h : _). (state g.S.Store h).now) begun in
     let first : HasFirstTables 8 bare = rw begun (record { schema = c.requires.schema; inside = refl }) in
-    let inside = survives_begin g.S.Store c.args.conn.now last _ (rw begun at c.take_over.ensures.survives) in
+    let inside = survives_begin g.S.Store c.args.conn.now last _ (rw begun at c.take_over.ensures.stays.survives) in
     let whole = survives_then old last (state g.S.Store c.commit.new.self.0) _ _ (LeavesTakenOver old.now) (λ _ db none. absurd none)
     (λ clean db is.
     let early : HasCleanDisk last = omega (arith, c.commit.ensures.survives.clean) in
@@ -53,7 +53,7 @@ returns-in-Err-commit-clause-crash g c =
     let begun = c.transaction-tx.ensures.begun in
     let same : bare.now ≡ old.now = ap (λ (h : _). (state g.S.Store h).now) begun in
     let first : HasFirstTables 8 bare = rw begun (record { schema = c.requires.schema; inside = refl }) in
-    let inside = survives_begin g.S.Store c.args.conn.now last _ (rw begun at c.take_over.ensures.survives) in
+    let inside = survives_begin g.S.Store c.args.conn.now last _ (rw begun at c.take_over.ensures.stays.survives) in
     let whole = survives_then old last (state g.S.Store c.commit.new.self.0) _ _ (LeavesTakenOver old.now) (λ _ db none. absurd none)
     (λ clean db is.
     let early : HasCleanDisk last = omega (arith, c.commit.ensures.survives.clean) in

@@ -1,23 +1,19 @@
-use Rattle.std.proofs.Common.{Option, Some, None, arith, subst}
+use Rattle.std.proofs.Common.{Option, Some, None, subst}
 use Rattle.std.specs.Prelude.{IsSome, OnSome, List}
 use Rattle.std.proofs.lemmas.Result.{IfOk-weaker}
-use Rattle.sqlite.specs.State.{HasCleanDisk, IsUnchanged}
 use Rattle.sqlite.specs.Held.{state}
 use Rattle.tally_rules.specs.Constituency.{Constituency}
 use Rattle.tally_rules.specs.Limits.{IsSetup}
-use Rattle.tally_opening.specs.Opening.{ShowsOffice, rows_found}
-use Rattle.tally_opening.proofs.JudgingLemmas.{judged, judged_none, office_before, tables_still}
+use Rattle.tally_opening.specs.Opening.{AreReadOf, rows_found}
+use Rattle.tally_opening.proofs.JudgingLemmas.{judged, judged_none}
 use Rattle.tally_opening.proofs.judging.judge_office.Goals as goal
 
 pub returns-clause-accepted : goal.returns-clause-accepted
 returns-clause-accepted g c clean has =
     let old = state g.S.Store c.args.tx.now.conn.now in
-    let mid = state g.S.Store c.check_all.new.tx.conn.now in
     let rows = rows_found c.in_ok-rows.rows in
-    let early : HasCleanDisk mid = omega (arith, c.read_rows.ensures.survives.clean) in
-    let same : IsUnchanged old mid = c.in_ok-check_all.ensures.same early has in
-    let shown : ShowsOffice old rows = office_before old mid rows same (c.in_ok-rows.ensures.shown clean (tables_still old mid has same)) in
-    let here = judged c.args.setup old rows (subst IsSetup c.setup.view_is c.setup.invariant.limits) shown (c.in_ok-check_all.ensures.distinct early has) in
+    let read : AreReadOf old rows = c.in_ok-rows.ensures.shown clean has in
+    let here = judged c.args.setup old rows (subst IsSetup c.setup.view_is c.setup.invariant.limits) read.shown read.distinct in
     IfOk-weaker c.accept.result _ _ (λ found passed. on_some found here passed) c.accept.ensures.passed
   where
     on_some : {P Q : Type 0} (found : Option (List Constituency)) → (P → Q) → OnSome found P → OnSome found Q
@@ -27,9 +23,6 @@ returns-clause-accepted g c clean has =
 pub returns-clause-refused : goal.returns-clause-refused
 returns-clause-refused g c clean has =
     let old = state g.S.Store c.args.tx.now.conn.now in
-    let mid = state g.S.Store c.check_all.new.tx.conn.now in
     let rows = rows_found c.in_ok-rows.rows in
-    let early : HasCleanDisk mid = omega (arith, c.read_rows.ensures.survives.clean) in
-    let same : IsUnchanged old mid = c.in_ok-check_all.ensures.same early has in
-    let shown : ShowsOffice old rows = office_before old mid rows same (c.in_ok-rows.ensures.shown clean (tables_still old mid has same)) in
-    IfOk-weaker c.accept.result _ _ (λ found must none. judged_none c.args.setup old rows (subst IsSetup c.setup.view_is c.setup.invariant.limits) shown (λ lawful. let k = subst IsSome none (must lawful) in cc)) c.accept.ensures.must_pass
+    let read : AreReadOf old rows = c.in_ok-rows.ensures.shown clean has in
+    IfOk-weaker c.accept.result _ _ (λ found must none. judged_none c.args.setup old rows (subst IsSetup c.setup.view_is c.setup.invariant.limits) read.shown (λ lawful. let k = subst IsSome none (must lawful) in cc)) c.accept.ensures.must_pass

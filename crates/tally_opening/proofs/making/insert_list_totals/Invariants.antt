@@ -1,6 +1,6 @@
-use Rattle.std.proofs.Common.{◌≡◌}
-use Rattle.sqlite.specs.State.{HasCleanDisk, KeepsCommit, Survives}
+use Rattle.sqlite.specs.State.{HasCleanDisk}
 use Rattle.sqlite.specs.Held.{state}
+use Rattle.tally_statements.specs.Inside.{Stays}
 use Rattle.tally_statements.specs.Office.{IsInside}
 use Rattle.tally_opening.specs.Making.{AddsTotals, no_list_rows}
 use Rattle.tally_opening.proofs.making.insert_list_totals.Given as goal
@@ -10,8 +10,6 @@ invariant-loop-list g l =
     let old = state g.S.Store l.fn.tx.conn.now in
     let now = state g.S.Store l.tx.conn.now in
     record {
-      same_reference : l.tx.conn.ghost_name ≡ l.fn.tx.conn.ghost_name;
-      kept : HasCleanDisk now → KeepsCommit old now;
+      stays : Stays g.S.Store l.fn.tx l.tx;
       added : HasCleanDisk now → IsInside old → AddsTotals (no_list_rows l.con l.list) old now;
-      survives : Survives old now (λ _. ⊥);
     }

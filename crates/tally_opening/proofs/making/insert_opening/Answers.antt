@@ -18,7 +18,7 @@ returns-clause-opened g c clean inside =
     let own : c.con.inside.code ≡ con.code = ap (λ (x : Constituency). x.code) c.con.view_is in
     let seen : length c.con.inside.lists.items ≡ length con.lists = ap (λ (x : Constituency). length x.lists) c.con.view_is in
     let many : c.len.result ≡ length con.lists = omega (arith, c.len.ensures, c.con.inside.lists.ok.0, seen) in
-    let clean_mid : HasCleanDisk mid = omega (arith, c.insert_totals.ensures.survives.clean) in
+    let clean_mid : HasCleanDisk mid = omega (arith, c.insert_totals.ensures.stays.survives.clean) in
     let row = c.in_ok-insert_con.ensures.inserted clean_mid inside in
     opening_last con old mid new c.insert_totals.result
     (subst (λ k. HasRows Cons ((Text k ∷ Int (pos 1) ∷ Int (pos 0) ∷ Text [] ∷ []) ∷ rows_in Cons old) old mid) (c.as_str.ensures.text ∙ own) row)

@@ -16,7 +16,7 @@ returns-clause-added g c clean inside =
     let first = item_row code (0, 0) ∷ [] in
     let rest = no_list_rows code c.args.lists in
     let clean_last : HasCleanDisk last = omega (arith, c.insert_total-2.ensures.stays.survives.clean) in
-    let clean_mid : HasCleanDisk mid = omega (arith, c.insert_list_totals.ensures.survives.clean) in
+    let clean_mid : HasCleanDisk mid = omega (arith, c.insert_list_totals.ensures.stays.survives.clean) in
     let blank = c.in_ok-insert_total.ensures.inserted 0 refl clean_mid inside in
     let lists = c.in_ok-insert_list_totals.ensures.added clean_last blank.inside in
     subst (λ rows. OnOk c.insert_total-2.result (AddsTotals rows old new)) (no_votes_split code c.args.lists)

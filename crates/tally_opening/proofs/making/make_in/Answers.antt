@@ -17,7 +17,7 @@ returns-in-Ok-clause-same g c clean now =
     let early : HasCleanDisk last = omega (arith, c.commit.ensures.survives.clean) in
     let bare : HasEmptyTables 0 (state g.S.Store c.transaction-tx.result.conn.now) = rw begun (record { tables = record { schema = c.requires.unset; inside = refl }; empty = tt }) in
     let made = c.in-Ok.ensures.made early bare in
-    let kept = c.make_office.ensures.kept early in
+    let kept = c.make_office.ensures.stays.kept early tt in
     let was_open = rw begun at kept.was_open in
     let committed = rw begun at kept.committed in
     let began : Began old last = record { settled = c.requires.settled; was_open = was_open; committed = committed } in
@@ -33,7 +33,7 @@ returns-in-Err-clause-same g c clean now =
     let clean_end : HasCleanDisk (state g.S.Store c.rollback.new.self.0) = subst (λ (h : _). HasCleanDisk (state g.S.Store h)) (sym same) clean in
     let open_end : IsTrue (state g.S.Store c.rollback.new.self.0).is_open = subst (λ (h : _). IsTrue (state g.S.Store h).is_open) (sym same) now in
     let early : HasCleanDisk last = omega (arith, c.rollback.ensures.survives.clean) in
-    let kept = c.make_office.ensures.kept early in
+    let kept = c.make_office.ensures.stays.kept early tt in
     let was_open = rw begun at kept.was_open in
     let committed = rw begun at kept.committed in
     let began : Began old last = record { settled = c.requires.settled; was_open = was_open; committed = committed } in

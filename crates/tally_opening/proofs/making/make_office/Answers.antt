@@ -1,4 +1,5 @@
 use Rattle.std.proofs.Common.{arith, subst, OnOk}
+use Rattle.sqlite.specs.Effect.{IsDatabase}
 use Rattle.sqlite.specs.State.{HasCleanDisk}
 use Rattle.sqlite.specs.Held.{state}
 use Rattle.tally_rules.specs.Limits.{IsSetup}
@@ -12,10 +13,11 @@ returns-clause-made g c clean bare =
     let old = state g.S.Store c.create_tables.new.tx.conn.now in
     let set = state g.S.Store c.insert_setup.new.tx.conn.now in
     let made = state g.S.Store c.insert_openings.new.tx.conn.now in
-    let clean_set : HasCleanDisk set = omega (arith, c.insert_openings.ensures.survives.clean) in
+    let clean_set : HasCleanDisk set = omega (arith, c.insert_openings.ensures.stays.survives.clean) in
     let clean_old : HasCleanDisk old = omega (arith, c.insert_setup.ensures.stays.survives.clean) in
     let empty = c.in_ok-create_tables.ensures.made clean_old bare in
-    let row = c.in_ok-insert_setup.ensures.inserted clean_set (empty_inside old empty) (setup_empty old empty) in
+    let sound : IsDatabase old.now = c.in_ok-create_tables.ensures.sound clean_old bare in
+    let row = c.in_ok-insert_setup.ensures.inserted clean_set (empty_inside old empty sound) (setup_empty old empty) in
     let opened = c.insert_openings.ensures.opened clean row.inside in
     let limits : IsSetup c.args.setup.now = c.cons.ensures.limits in
     office_last c.args.setup.now c.args.text.now old set made c.insert_openings.result limits empty row

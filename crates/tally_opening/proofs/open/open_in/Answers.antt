@@ -15,7 +15,7 @@ returns-in-Ok-true-clause-opened g c clean =
     let today = c.in-Ok-true.ensures.today c.in-Ok-true.field-0-test in
     let schema : old.now.schema ≡ office_schema = sym c.schema.ensures.value ∙ today.0 in
     let told = c.open_today.ensures in
-    today_each c.open_today.result old new schema (λ now. c.is_autocommit.ensures.settled c.if-not-is_autocommit.false now) (told.was_open clean) (told.same clean) (told.stored clean) (told.judged clean)
+    today_each c.open_today.result old new schema (λ now. (c.schema.ensures.live now).0) (λ now. c.is_autocommit.ensures.settled c.if-not-is_autocommit.false now) (told.was_open clean) (told.same clean) (told.stored clean) (told.judged clean)
 
 pub returns-in-Ok-true-clause-fault : goal.returns-in-Ok-true-clause-fault
 returns-in-Ok-true-clause-fault g c clean =

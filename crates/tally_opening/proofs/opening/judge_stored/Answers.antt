@@ -9,8 +9,8 @@ pub returns-in-Some-clause-judged : goal.returns-in-Some-clause-judged
 returns-in-Some-clause-judged g c clean has =
     let old = state g.S.Store c.args.tx.now.conn.now in
     let mid = state g.S.Store c.read_stored.new.tx.conn.now in
-    let early : HasCleanDisk mid = omega (arith, c.judge_office.ensures.survives.clean) in
-    let same : IsUnchanged old mid = c.in_ok-setup.ensures.same early has in
+    let early : HasCleanDisk mid = omega (arith, c.judge_office.ensures.reads.stays.survives.clean) in
+    let same : IsUnchanged old mid = c.in_ok-setup.ensures.reads.same early has in
     let judged : IsJudged c.in-Ok.setup mid = rw c.in-Some.is at (c.in_ok-setup-2.ensures.accepted clean (tables_still old mid has same)) in
     let again = rw c.in-Some.is at c.in_ok-setup-2.ensures.setup in
     judged_before c.in-Some.setup old mid same (subst (λ s. IsJudged s mid) (sym again) judged)
@@ -19,8 +19,8 @@ pub returns-in-None-clause-fault : goal.returns-in-None-clause-fault
 returns-in-None-clause-fault g c clean has =
     let old = state g.S.Store c.args.tx.now.conn.now in
     let mid = state g.S.Store c.read_stored.new.tx.conn.now in
-    let early : HasCleanDisk mid = omega (arith, c.judge_office.ensures.survives.clean) in
-    let same : IsUnchanged old mid = c.in_ok-setup.ensures.same early has in
+    let early : HasCleanDisk mid = omega (arith, c.judge_office.ensures.reads.stays.survives.clean) in
+    let same : IsUnchanged old mid = c.in_ok-setup.ensures.reads.same early has in
     let none : AreTablesOfNone c.in-Ok.setup mid = c.in_ok-setup-2.ensures.refused clean (tables_still old mid has same) c.in-None.is in
     let stored : HasSetupRow c.args.number c.in-Ok.setup old = rw c.in-Ok.is at (c.in_ok-setup.ensures.stored early has) in
     inr (c.in-Ok.setup, stored, none_before c.in-Ok.setup old mid same none)

@@ -44,7 +44,7 @@ returns-in-Ok-clause-counts g c clean =
     let early : HasCleanDisk last = omega (arith, c.rollback.ensures.survives.clean) in
     let has : HasTables bare = rw begun (record { schema = c.requires.schema; sound = c.requires.sound; inside = refl }) in
     let end = state g.S.Store c.rollback.new.self.0 in
-    let kept : KeepsCounts bare end = counts_after bare last end (c.in-Ok.ensures.same early has) (c.rollback.ensures.undone clean_end) in
+    let kept : KeepsCounts bare end = counts_after bare last end (c.in-Ok.ensures.reads.same early has) (c.rollback.ensures.undone clean_end) in
     let moved = rw begun at kept in
     let whole : KeepsCounts old end = record { changes = moved.changes; last_rowid = moved.last_rowid } in
     let there = subst (λ (h : _). KeepsCounts old (state g.S.Store h)) ends whole in

@@ -1,12 +1,18 @@
-use Rattle.std.proofs.Common.{string_bytes}
+use Rattle.std.proofs.Common.{inl, inr, string_bytes}
 use Rattle.tally_commands.specs.Imported.{IsCountText}
-use Rattle.tally_program.proofs.WrittenLemmas.{counted, ended, unwritten}
+use Rattle.tally_program.specs.Troubles.{IsTroubleOfImport, IsTroubleOfImporting}
+use Rattle.tally_program.proofs.WrittenLemmas.{counted, ended, ended-named, unwritten}
 use Rattle.tally_program.proofs.commands.import.Goals as goal
 
-pub returns-in-Err : goal.returns-in-Err
-returns-in-Err g c = unwritten IsCountText counted (g.W.Write.contents c.args.output.now) c.in-Err.trouble
+pub returns-in-Err-clause-written : goal.returns-in-Err-clause-written
+returns-in-Err-clause-written g c = unwritten g.W.Write.contents IsCountText counted c.args.output.now c.in-Err.trouble
 
-pub returns : goal.returns
-returns g c =
-    ended IsCountText counted g.W.Write.contents string_bytes c.args.output.now c.end.new.output c.import_file-outcome.result c.end.result
+pub returns-clause-written : goal.returns-clause-written
+returns-clause-written g c =
+    ended g.W.Write.contents IsCountText counted string_bytes c.args.output.now c.end.new.output c.import_file-outcome.result c.end.result
     c.import_file-outcome.ensures.text c.end.ensures.text c.end.ensures.trouble
+
+pub returns-clause-named : goal.returns-clause-named
+returns-clause-named g c =
+    ended-named _ IsTroubleOfImporting IsTroubleOfImport (λ t is. inr (inl is)) (λ t is. inr (inr is)) c.import_file-outcome.result c.end.result
+    c.import_file-outcome.ensures.named c.end.ensures.named c.end.ensures.trouble

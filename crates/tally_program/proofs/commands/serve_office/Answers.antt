@@ -1,12 +1,18 @@
-use Rattle.std.proofs.Common.{string_bytes}
-use Rattle.tally_program.specs.Commands.{IsServedText}
-use Rattle.tally_program.proofs.WrittenLemmas.{ended, served, unwritten}
+use Rattle.std.proofs.Common.{inl, inr, string_bytes}
+use Rattle.tally_commands.specs.Served.{IsServedText}
+use Rattle.tally_program.specs.Troubles.{IsTroubleOfServe, IsTroubleOfServing}
+use Rattle.tally_program.proofs.WrittenLemmas.{ended, ended-named, served, unwritten}
 use Rattle.tally_program.proofs.commands.serve_office.Goals as goal
 
-pub returns-in-Err : goal.returns-in-Err
-returns-in-Err g c = unwritten (IsServedText c.args.count) (served c.args.count) (g.W.Write.contents c.args.output.now) c.in-Err.trouble
+pub returns-in-Err-clause-written : goal.returns-in-Err-clause-written
+returns-in-Err-clause-written g c = unwritten g.W.Write.contents (IsServedText c.args.count) (served c.args.count) c.args.output.now c.in-Err.trouble
 
-pub returns : goal.returns
-returns g c =
-    ended (IsServedText c.args.count) (served c.args.count) g.W.Write.contents string_bytes c.args.output.now c.end.new.output c.serve_on-outcome.result c.end.result
+pub returns-clause-written : goal.returns-clause-written
+returns-clause-written g c =
+    ended g.W.Write.contents (IsServedText c.args.count) (served c.args.count) string_bytes c.args.output.now c.end.new.output c.serve_on-outcome.result c.end.result
     c.serve_on-outcome.ensures.text c.end.ensures.text c.end.ensures.trouble
+
+pub returns-clause-named : goal.returns-clause-named
+returns-clause-named g c =
+    ended-named _ IsTroubleOfServing IsTroubleOfServe (λ t is. inr (inl is)) (λ t is. inr (inr is)) c.serve_on-outcome.result c.end.result
+    c.serve_on-outcome.ensures.named c.end.ensures.named c.end.ensures.trouble

@@ -1,12 +1,19 @@
-use Rattle.std.proofs.Common.{string_bytes}
+use Rattle.std.proofs.Common.{inl, inr, string_bytes}
 use Rattle.tally_program.specs.Commands.{IsAnyText}
-use Rattle.tally_program.proofs.WrittenLemmas.{any, any_text, ended, unwritten}
+use Rattle.tally_commands.specs.Trouble.{IsTroubleOfReport}
+use Rattle.tally_program.specs.Troubles.{IsTroubleOfShow}
+use Rattle.tally_program.proofs.WrittenLemmas.{any, any_text, ended, ended-named, unwritten}
 use Rattle.tally_program.proofs.commands.show.Goals as goal
 
-pub returns-in-Err : goal.returns-in-Err
-returns-in-Err g c = unwritten IsAnyText any (g.W.Write.contents c.args.output.now) c.in-Err.trouble
+pub returns-in-Err-clause-written : goal.returns-in-Err-clause-written
+returns-in-Err-clause-written g c = unwritten g.W.Write.contents IsAnyText any c.args.output.now c.in-Err.trouble
 
-pub returns : goal.returns
-returns g c =
-    ended IsAnyText any g.W.Write.contents string_bytes c.args.output.now c.end.new.output c.show_in-outcome.result c.end.result
+pub returns-clause-written : goal.returns-clause-written
+returns-clause-written g c =
+    ended g.W.Write.contents IsAnyText any string_bytes c.args.output.now c.end.new.output c.show_in-outcome.result c.end.result
     (any_text string_bytes c.show_in-outcome.result) c.end.ensures.text c.end.ensures.trouble
+
+pub returns-clause-named : goal.returns-clause-named
+returns-clause-named g c =
+    ended-named _ IsTroubleOfReport IsTroubleOfShow (λ t is. inr (inl is)) (λ t is. inr (inr is)) c.show_in-outcome.result c.end.result
+    c.show_in-outcome.ensures.named c.end.ensures.named c.end.ensures.trouble

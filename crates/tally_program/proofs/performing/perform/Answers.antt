@@ -1,12 +1,9 @@
-use Rattle.std.proofs.Common.{◌∙◌, ap, inl, inr, map, string_bytes}
-use Rattle.tally_program.specs.Perform.{fault_status}
-use Rattle.tally_line.proofs.CommandLemmas.{lacks_con_alone}
+use Rattle.std.proofs.Common.{map, string_bytes}
+use Rattle.tally_program.proofs.LineLemmas.{refused}
 use Rattle.tally_program.proofs.performing.perform.Goals as goal
 
-pub returns-in-Err-clause-no_con : goal.returns-in-Err-clause-no_con
-returns-in-Err-clause-no_con g c = λ lacks. elim (lacks_con_alone (map string_bytes c.args.words.now) c.in-Err.fault lacks c.in-Err.ensures.fault) [
-  | inl is ↦ inl (c.report_fault.ensures.status ∙ ap fault_status is, c.report_fault.ensures.no_con is)
-  | inr is ↦
-      let failed = c.report_fault.ensures.status ∙ ap fault_status is in
-      inr (failed, c.report_fault.ensures.told failed)
-]
+pub returns-in-Err : goal.returns-in-Err
+returns-in-Err g c =
+    refused g.R.Read.remaining g.W.Write.contents g.E.Write.contents (map string_bytes c.args.words.now) c.in-Err.fault
+    c.args.input.now c.args.output.now c.args.errors.now c.report_fault.new.errors c.report_fault.result
+    c.in-Err.ensures.fault c.report_fault.ensures.status c.report_fault.ensures.told c.report_fault.ensures.no_con

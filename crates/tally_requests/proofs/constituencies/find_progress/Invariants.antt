@@ -7,7 +7,8 @@ use Rattle.tally_steps.specs.LawfulState.{IsLawfulState}
 use Rattle.tally_statements.specs.Office.{IsInside}
 use Rattle.tally_tables.specs.TablesOfState.{AreTables}
 use Rattle.tally_statements.specs.Inside.{StaysInside}
-use Rattle.tally_requests.specs.Seen.{IsStill}
+use Rattle.tally_requests.specs.Known.{AreKnown, known_of}
+use Rattle.tally_requests.specs.Seen.{FindsKnown, IsStill}
 use Rattle.tally_requests.proofs.constituencies.find_progress.Given as goal
 
 -- the rows of the constituencies so far, of every lawful state whose tables there are
@@ -17,6 +18,8 @@ invariant-loop-con g l =
     let now = state g.S.Store l.tx.conn.now in
     record {
       stays : StaysInside g.S.Store l.fn.tx l.tx;
-      found : HasCleanDisk now → IsInside old → (text : List ℕ) (s : State) → IsLawfulState l.setup s → AreTables l.setup text s old.now.trees → l.rows.items ≡ map (progress_row s) (take l.con-index l.cons);
+      found : HasCleanDisk now → IsInside old → (text : List ℕ) (s : State) → IsLawfulState l.setup s → AreKnown l.setup s.returns (known_of l.fn.known) → AreTables l.setup text s old.now.trees
+          → l.rows.items ≡ map (progress_row s) (take l.con-index l.cons);
+      known : HasCleanDisk now → IsInside old → FindsKnown l.setup (known_of l.fn.known) (known_of l.known) old;
       still : HasCleanDisk now → IsInside old → IsStill old now;
     }

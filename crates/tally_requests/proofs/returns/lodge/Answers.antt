@@ -1,7 +1,10 @@
 use Rattle.std.proofs.Common.{Ok, sym, ap, subst, arith}
 use Rattle.sqlite.specs.State.{HasCleanDisk}
 use Rattle.sqlite.specs.Held.{state}
+use Rattle.tally_rules.specs.Constituency.{Constituency}
+use Rattle.tally_requests.specs.Known.{after_lodge, known_of}
 use Rattle.tally_requests.specs.Lodging.{IsLodgeAnswer}
+use Rattle.tally_requests.proofs.KnownLemmas.{lodge-counted}
 use Rattle.tally_requests.proofs.LodgedLemmas.{lodged-first, lodged-refused, lodged-same, still}
 use Rattle.tally_requests.proofs.returns.lodge.Goals as goal
 
@@ -30,3 +33,14 @@ returns-clause-lodged g c clean inside text s lawful tables =
     let answers = subst (IsLodgeAnswer setup c.args.station c.args.slip c.args.counts.now old) c.in-Ok.is (done.decided early inside) in
     lodged-first setup text s c.args.station c.args.slip c.args.counts.now c.in-Some.con.now c.in-Some.place.now (Ok c.in-Ok.reply) c.in-Lodged.rev mid new clean (sym c.in-Some.ensures.found)
     (answers text s lawful tables) (ap Ok c.in-Lodged.is) (still setup text s old mid (done.reads.same early inside) inside tables) c.in_ok-put_first.ensures.added
+
+pub returns-in_default-answer-clause-known : goal.returns-in_default-answer-clause-known
+returns-in_default-answer-clause-known g c = sym (ap (λ r. after_lodge c.args.setup.now c.args.station r (known_of c.args.known.now)) c.in_default-answer.is)
+
+pub returns-in_default-reply-clause-known : goal.returns-in_default-reply-clause-known
+returns-in_default-reply-clause-known g c = sym (ap (λ r. after_lodge c.args.setup.now c.args.station (Ok r) (known_of c.args.known.now)) c.in_default-reply.is)
+
+pub returns-clause-known : goal.returns-clause-known
+returns-clause-known g c =
+    lodge-counted c.args.setup.now c.args.station c.con.inside.code c.in-Some.con.now c.in-Some.place.now c.in-Ok.reply c.in-Lodged.rev (known_of c.args.known.now) (known_of c.count_move.new.known) (sym c.in-Some.ensures.found)
+    (ap (λ (x : Constituency). x.code) c.con.view_is) c.in-Lodged.is c.count_move.ensures

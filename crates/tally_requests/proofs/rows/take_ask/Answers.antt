@@ -1,3 +1,6 @@
+use Rattle.std.proofs.Common.{◌∙◌, Some, ap, sym}
+use Rattle.tally_keeper.specs.declared.import.Row.TheVariants as row
+use Rattle.tally_requests.specs.Known.{after_row, known_of}
 use Rattle.tally_requests.proofs.LodgeLemmas.{lodged-taken}
 use Rattle.tally_requests.proofs.rows.take_ask.Goals as goal
 
@@ -5,3 +8,7 @@ pub returns-clause-taken : goal.returns-clause-taken
 returns-clause-taken g c clean inside text s lawful tables =
     let way = c.in-Lodge in
     lodged-taken c.args.setup.now text s c.args.ask way.station way.slip way.counts c.in_ok-answer.answer _ way.is (c.in_ok-answer.ensures.lodged clean inside text s lawful tables)
+
+pub returns-clause-known : goal.returns-clause-known
+returns-clause-known g c =
+    c.in_ok-answer.ensures.known ∙ sym (ap (λ a. after_row c.args.setup.now (row.Lodge a) (Some c.in_ok-answer.answer) (known_of c.args.known.now)) c.in-Lodge.is)

@@ -4,6 +4,7 @@ use Rattle.sqlite.specs.Held.{state}
 use Rattle.tally_keeper.specs.Source.{GivesNext}
 use Rattle.tally_statements.specs.Office.{IsInside}
 use Rattle.tally_requests.specs.Inside.{IsLawfulInside}
+use Rattle.tally_requests.specs.Known.{known_of}
 use Rattle.tally_requests.proofs.RowLemmas.{came-next, came-start, counted-next, rows-end, rows-next, rows-start}
 use Rattle.tally_statements.proofs.StaysLemmas.{stays-same, stays-then}
 use Rattle.tally_requests.proofs.rows.take_rows.Goals as goal
@@ -16,14 +17,14 @@ loop-before-init g c =
       stays = stays-same (IsLawfulInside c.args.setup.now) g.S.Store c.args.tx.now;
       came = came-start all;
       counted = ([], c.new-count.ensures, refl);
-      taken = λ clean inside text s lawful tables. rows-start c.args.setup.now text s all c.new-count.result old c.new-count.ensures lawful (record { inside = inside; tables = tables });
+      taken = λ clean inside text s lawful tables. rows-start c.args.setup.now text s all c.new-count.result (known_of c.args.known.now) old c.new-count.ensures lawful (record { inside = inside; tables = tables });
     }
 
 pub returns-in_default-clause-imported : goal.returns-in_default-clause-imported
 returns-in_default-clause-imported g c clean inside text s lawful tables =
     let left = g.R.RowSource.coming in
     let given = subst (λ r. GivesNext (left c.loop-before.source) (Ok r) (left c.next_row.new.self)) c.in_default.is c.in_ok-row.ensures.gives in
-    rows-end c.args.setup.now text s (left c.args.source.now) (left c.loop-before.source) (left c.next_row.new.self) c.loop-before.count c.loop-before.before _
+    rows-end c.args.setup.now text s (left c.args.source.now) (left c.loop-before.source) (left c.next_row.new.self) c.loop-before.count c.loop-before.before (known_of c.args.known.now) (known_of c.loop-before.known) _
     (c.loop-before.invariant.taken clean inside text s lawful tables) (omega (arith, c.loop-before-test.true)) given
 
 pub returns-in_err-answer-clause-stays : goal.returns-in_err-answer-clause-stays
@@ -53,6 +54,6 @@ loop-before-preserved g c =
       taken = λ clean inside text s lawful tables.
           let early : HasCleanDisk mid = omega (arith, c.take_row.ensures.stays.survives.clean) in
           let so_far = was.taken early inside text s lawful tables in
-          rows-next setup text s all came comes c.loop-before.count c.add_row.new.self c.loop-before.before row c.in_ok-answer.answer mid new c.cons-cons.ensures.limits so_far c.take_row.ensures.codes given
-          (c.in_ok-answer.ensures.taken clean so_far.in_state.inside text _ so_far.lawful so_far.in_state.tables) c.add_row.ensures;
+          rows-next setup text s all came comes c.loop-before.count c.add_row.new.self c.loop-before.before row c.in_ok-answer.answer (known_of c.args.known.now) (known_of c.loop-before.known) (known_of c.take_row.new.known) mid new c.cons-cons.ensures.limits so_far c.take_row.ensures.codes given
+          (c.in_ok-answer.ensures.taken clean so_far.in_state.inside text (record s { returns = so_far.returns }) so_far.lawful so_far.in_state.tables) c.in_ok-answer.ensures.known c.add_row.ensures;
     }

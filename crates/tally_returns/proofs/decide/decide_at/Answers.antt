@@ -1,6 +1,8 @@
-use Rattle.std.proofs.Common.{rules, ◌≡◌, Some, Err, ap, sym, subst, ◌∙◌}
+use Rattle.std.proofs.Common.{rules, ◌≡◌, Some, None, Err, length, ap, sym, subst, ◌∙◌}
 use Rattle.std.specs.Option.{option_copied}
+use Rattle.tally_returns.specs.Checks.{first_refusal}
 use Rattle.tally_returns.specs.Decide.{IsUnlessMemory, decided_return, limits_of}
+use Rattle.tally_returns.specs.Lodge.{counts_checks, limits_for}
 use Rattle.tally_returns.proofs.DecideLemmas.{answered-lawful, lawful-last, correct-passed, correct-refused}
 use Rattle.tally_returns.proofs.decide.decide_at.Goals as goal
 
@@ -33,7 +35,11 @@ returns-in_err-check_counts-in-Correct-clause-decided c =
     let found = option_copied c.args.found in
     let e = c.in_err-check_counts-in-Correct.field-0.0 in
     let is : c.from_residual.result ≡ Err e = search rules in
-    let refused = correct-refused limits c.args.certified found way.rev way.slip way.counts e c.in_err-check_counts-in-Correct.ensures.refused in
+    let lists : c.len.result ≡ length c.args.con.now.lists = search rules in
+    let some : first_refusal (counts_checks limits way.counts) ≡ Some e =
+    subst (λ n. first_refusal (counts_checks (limits_for n c.args.station.now.electors) way.counts) ≡ Some e) lists
+    c.in_err-check_counts-in-Correct.ensures.refused in
+    let refused = correct-refused limits c.args.certified found way.rev way.slip way.counts e some in
     subst (λ r. IsUnlessMemory r (decided_return (Some limits) c.args.certified found c.args.ask.now)) (sym is)
     (λ other. ap (decided_return (Some limits) c.args.certified found) way.is ∙ refused)
 
@@ -43,7 +49,11 @@ returns-in_ok-check_counts-in-Correct-clause-decided c =
     let way = c.in-Correct in
     let limits = limits_of c.args.con.now c.args.station.now in
     let found = option_copied c.args.found in
-    let passed = correct-passed limits c.args.certified found way.rev way.slip way.counts c.in_ok-check_counts-in-Correct.ensures.passed in
+    let lists : c.len.result ≡ length c.args.con.now.lists = search rules in
+    let none : first_refusal (counts_checks limits way.counts) ≡ None =
+    subst (λ n. first_refusal (counts_checks (limits_for n c.args.station.now.electors) way.counts) ≡ None) lists
+    c.in_ok-check_counts-in-Correct.ensures.passed in
+    let passed = correct-passed limits c.args.certified found way.rev way.slip way.counts none in
     subst (IsUnlessMemory c.decide_correct.result) (sym (ap (decided_return (Some limits) c.args.certified found) way.is ∙ passed)) c.decide_correct.ensures
 
 pub returns-in-Close-clause-lawful : goal.returns-in-Close-clause-lawful

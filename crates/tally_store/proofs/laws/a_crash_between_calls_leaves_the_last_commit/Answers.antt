@@ -4,7 +4,7 @@ use Rattle.tally_store.proofs.laws.a_crash_between_calls_leaves_the_last_commit.
 
 pub returns : goal.returns
 returns g c clean now =
-    let office = c.setup.ensures.kept.office clean now in
+    let office = c.stored_setup.ensures.kept.office clean now in
     record {
       state = office.0;
       lawful = office.1;

@@ -3,6 +3,6 @@ use Rattle.tally_store.proofs.laws.certified_seats_are_the_allotment.Goals as go
 
 pub returns : goal.returns
 returns g c clean now =
-    let kept = c.setup.ensures.kept in
+    let kept = c.stored_setup.ensures.kept in
     let office = kept.office clean now in
     has-certificates c.args.store.now.setup office.0 _ c.a_certificate_stands_on_closed_votes.ensures.each kept.limits office.1 office.2

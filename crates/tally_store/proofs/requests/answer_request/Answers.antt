@@ -1,4 +1,4 @@
-use Rattle.std.proofs.Common.{◌≡◌, Err, IsTrue, arith, refl, rules, subst, sym}
+use Rattle.std.proofs.Common.{◌≡◌, Err, IsTrue, arith, inl, inr, refl, rules, subst, sym}
 use Rattle.sqlite.proofs.Callers.{survives_begin}
 use Rattle.sqlite.specs.State.{HasCleanDisk, Survives}
 use Rattle.sqlite.specs.Held.{state}
@@ -6,7 +6,7 @@ use Rattle.tally_statements.specs.Office.{IsInside}
 use Rattle.tally_tables.specs.TablesOfState.{AreTables}
 use Rattle.tally_store.specs.Crash.{LeavesAfter}
 use Rattle.tally_store.specs.Requests.{IsDone}
-use Rattle.tally_store.proofs.RequestLemmas.{done_committed, done_failed, survives_commit, tables_after}
+use Rattle.tally_store.proofs.RequestLemmas.{done_committed, done_failed, empty-nothing, survives_commit, tables_after}
 use Rattle.tally_opening.proofs.ReturnLemmas.{Began, failed, rolled_back}
 use Rattle.tally_store.proofs.requests.answer_request.Goals as goal
 
@@ -14,52 +14,91 @@ pub returns-in-Ok-commit-clause-done : goal.returns-in-Ok-commit-clause-done
 returns-in-Ok-commit-clause-done g c clean now text s lawful has =
     let setup = c.args.setup.now in
     let bare = state g.S.Store c.transaction-tx.result.conn.now in
-    let last = state g.S.Store c.answer_in.new.tx.conn.now in
+    let last = state g.S.Store c.answer_open.new.tx.conn.now in
     let new = state g.S.Store c.commit.new.self.0 in
     let begun = c.transaction-tx.ensures.begun in
     let same : c.commit.new.self.0 ≡ c.conn-1.given.0 = search rules in
     let clean_end : HasCleanDisk new = subst (λ (h : _). HasCleanDisk (state g.S.Store h)) (sym same) clean in
     let early : HasCleanDisk last = omega (arith, c.commit.ensures.survives.clean) in
-    let here : IsInside bare = rw begun (record { schema = has.schema; distinct = has.distinct; inside = refl }) in
+    let here : IsInside bare = rw begun (record { schema = has.schema; sound = has.sound; distinct = has.distinct; inside = refl }) in
     let held : AreTables setup text s bare.now.trees = rw begun has.tables in
-    let carried = c.in-Ok.ensures.step early here text s lawful held in
+    let inside = survives_begin g.S.Store c.args.conn.now last _ (rw begun at c.answer_open.ensures.stays.survives) in
+    let known = c.requires.known (omega (arith, early, inside.clean)) text s lawful has in
+    let carried = c.in-Ok.ensures.step early here text s lawful known held in
     let shown = (c.in-Ok-commit.ensures.ok clean_end).1 in
     subst (λ (h : _). IsDone setup text s c.args.ask.now c.in-Ok.answer (state g.S.Store h)) same
     (done_committed setup text s c.args.ask.now c.in-Ok.answer last new carried shown)
+
+pub returns-in-Ok-commit-clause-known : goal.returns-in-Ok-commit-clause-known
+returns-in-Ok-commit-clause-known g c clean =
+    let setup = c.args.setup.now in
+    let bare = state g.S.Store c.transaction-tx.result.conn.now in
+    let last = state g.S.Store c.answer_open.new.tx.conn.now in
+    let new = state g.S.Store c.commit.new.self.0 in
+    let begun = c.transaction-tx.ensures.begun in
+    let same : c.commit.new.self.0 ≡ c.conn-1.given.0 = search rules in
+    let clean_end : HasCleanDisk new = subst (λ (h : _). HasCleanDisk (state g.S.Store h)) (sym same) clean in
+    let early : HasCleanDisk last = omega (arith, c.commit.ensures.survives.clean) in
+    let shown = (c.in-Ok-commit.ensures.ok clean_end).1 in
+    let inside = survives_begin g.S.Store c.args.conn.now last _ (rw begun at c.answer_open.ensures.stays.survives) in
+    inr (
+      subst (λ (h : _). IsTrue (state g.S.Store h).is_open) same shown.is_open,
+      λ text s t lawful has answered.
+          let here : IsInside bare = rw begun (record { schema = has.schema; sound = has.sound; distinct = has.distinct; inside = refl }) in
+          let held : AreTables setup text s bare.now.trees = rw begun has.tables in
+          let known = c.requires.known (omega (arith, early, inside.clean)) text s lawful has in
+          c.in-Ok.ensures.known early here text s t lawful known held answered,
+    )
+
+pub returns-in-Err-commit-clause-known : goal.returns-in-Err-commit-clause-known
+returns-in-Err-commit-clause-known g c clean = inl (empty-nothing c.clear.new.self c.clear.ensures.empty)
+
+pub returns-in-Err-clause-known : goal.returns-in-Err-clause-known
+returns-in-Err-clause-known g c clean = inl (empty-nothing c.clear-in-Err.new.self c.clear-in-Err.ensures.empty)
 
 pub returns-in-Ok-commit-clause-crash : goal.returns-in-Ok-commit-clause-crash
 returns-in-Ok-commit-clause-crash g c =
     let setup = c.args.setup.now in
     let old = c.args.conn.now in
     let bare = state g.S.Store c.transaction-tx.result.conn.now in
-    let last = state g.S.Store c.answer_in.new.tx.conn.now in
+    let last = state g.S.Store c.answer_open.new.tx.conn.now in
     let new = state g.S.Store c.commit.new.self.0 in
     let begun = c.transaction-tx.ensures.begun in
     let P = LeavesAfter setup c.args.ask.now (state g.S.Store old) in
-    let inside = survives_begin g.S.Store old last _ (rw begun at c.answer_in.ensures.stays.survives) in
+    let inside = survives_begin g.S.Store old last _ (rw begun at c.answer_open.ensures.stays.survives) in
     let same : c.commit.new.self.0 ≡ c.conn-1.given.0 = search rules in
     subst (λ (h : _). Survives (state g.S.Store old) (state g.S.Store h) P) same
-    (survives_commit (state g.S.Store old) last new P inside c.commit.ensures.survives (λ early text s lawful has.
-    let here : IsInside bare = rw begun (record { schema = has.schema; distinct = has.distinct; inside = refl }) in
+    (survives_commit (state g.S.Store old) last new P inside c.commit.ensures.survives (λ early.
+    let clean_old : HasCleanDisk (state g.S.Store old) = omega (arith, early, inside.clean) in
+    let was_open : IsTrue (state g.S.Store old).is_open = rw begun at (c.in-Ok.ensures.was_open early) in
+    let office = c.requires.office clean_old was_open in
+    let s = office.0 in
+    let text = office.2.text in
+    let lawful = office.1 in
+    let has = office.2.has in
+    let here : IsInside bare = rw begun (record { schema = has.schema; sound = has.sound; distinct = has.distinct; inside = refl }) in
     let held : AreTables setup text s bare.now.trees = rw begun has.tables in
-    tables_after setup text s c.args.ask.now c.in-Ok.answer last (c.in-Ok.ensures.step early here text s lawful held)))
+    let known = c.requires.known (omega (arith, early, inside.clean)) text s lawful has in
+    record { was_open = was_open; text = text; state = s; lawful = lawful; has = has; after = tables_after setup text s c.args.ask.now c.in-Ok.answer last (c.in-Ok.ensures.step early here text s lawful known held) }))
 
 pub returns-in-Err-commit-clause-done : goal.returns-in-Err-commit-clause-done
 returns-in-Err-commit-clause-done g c clean now text s lawful has =
     let setup = c.args.setup.now in
     let old = state g.S.Store c.args.conn.now in
     let bare = state g.S.Store c.transaction-tx.result.conn.now in
-    let last = state g.S.Store c.answer_in.new.tx.conn.now in
+    let last = state g.S.Store c.answer_open.new.tx.conn.now in
     let new = state g.S.Store c.commit.new.self.0 in
     let begun = c.transaction-tx.ensures.begun in
     let same : c.commit.new.self.0 ≡ c.conn-1.given.0 = search rules in
     let clean_end : HasCleanDisk new = subst (λ (h : _). HasCleanDisk (state g.S.Store h)) (sym same) clean in
     let open_end : IsTrue new.is_open = subst (λ (h : _). IsTrue (state g.S.Store h).is_open) (sym same) now in
     let early : HasCleanDisk last = omega (arith, c.commit.ensures.survives.clean) in
-    let here : IsInside bare = rw begun (record { schema = has.schema; distinct = has.distinct; inside = refl }) in
+    let here : IsInside bare = rw begun (record { schema = has.schema; sound = has.sound; distinct = has.distinct; inside = refl }) in
     let held : AreTables setup text s bare.now.trees = rw begun has.tables in
-    let carried = c.in-Ok.ensures.step early here text s lawful held in
-    let kept = c.answer_in.ensures.stays.kept early here in
+    let inside = survives_begin g.S.Store c.args.conn.now last _ (rw begun at c.answer_open.ensures.stays.survives) in
+    let known = c.requires.known (omega (arith, early, inside.clean)) text s lawful has in
+    let carried = c.in-Ok.ensures.step early here text s lawful known held in
+    let kept = c.answer_open.ensures.stays.kept early here in
     let was_open = rw begun at kept.was_open in
     let committed = rw begun at kept.committed in
     let began : Began old last = record { settled = λ _. sym has.settled; was_open = was_open; committed = committed } in
@@ -72,32 +111,40 @@ returns-in-Err-commit-clause-crash g c =
     let setup = c.args.setup.now in
     let old = c.args.conn.now in
     let bare = state g.S.Store c.transaction-tx.result.conn.now in
-    let last = state g.S.Store c.answer_in.new.tx.conn.now in
+    let last = state g.S.Store c.answer_open.new.tx.conn.now in
     let new = state g.S.Store c.commit.new.self.0 in
     let begun = c.transaction-tx.ensures.begun in
     let P = LeavesAfter setup c.args.ask.now (state g.S.Store old) in
-    let inside = survives_begin g.S.Store old last _ (rw begun at c.answer_in.ensures.stays.survives) in
+    let inside = survives_begin g.S.Store old last _ (rw begun at c.answer_open.ensures.stays.survives) in
     let same : c.commit.new.self.0 ≡ c.conn-1.given.0 = search rules in
     subst (λ (h : _). Survives (state g.S.Store old) (state g.S.Store h) P) same
-    (survives_commit (state g.S.Store old) last new P inside c.commit.ensures.survives (λ early text s lawful has.
-    let here : IsInside bare = rw begun (record { schema = has.schema; distinct = has.distinct; inside = refl }) in
+    (survives_commit (state g.S.Store old) last new P inside c.commit.ensures.survives (λ early.
+    let clean_old : HasCleanDisk (state g.S.Store old) = omega (arith, early, inside.clean) in
+    let was_open : IsTrue (state g.S.Store old).is_open = rw begun at (c.in-Ok.ensures.was_open early) in
+    let office = c.requires.office clean_old was_open in
+    let s = office.0 in
+    let text = office.2.text in
+    let lawful = office.1 in
+    let has = office.2.has in
+    let here : IsInside bare = rw begun (record { schema = has.schema; sound = has.sound; distinct = has.distinct; inside = refl }) in
     let held : AreTables setup text s bare.now.trees = rw begun has.tables in
-    tables_after setup text s c.args.ask.now c.in-Ok.answer last (c.in-Ok.ensures.step early here text s lawful held)))
+    let known = c.requires.known (omega (arith, early, inside.clean)) text s lawful has in
+    record { was_open = was_open; text = text; state = s; lawful = lawful; has = has; after = tables_after setup text s c.args.ask.now c.in-Ok.answer last (c.in-Ok.ensures.step early here text s lawful known held) }))
 
 pub returns-in-Err-clause-done : goal.returns-in-Err-clause-done
 returns-in-Err-clause-done g c clean now text s lawful has =
     let setup = c.args.setup.now in
     let old = state g.S.Store c.args.conn.now in
     let bare = state g.S.Store c.transaction-tx.result.conn.now in
-    let last = state g.S.Store c.answer_in.new.tx.conn.now in
+    let last = state g.S.Store c.answer_open.new.tx.conn.now in
     let new = state g.S.Store c.rollback.new.self.0 in
     let begun = c.transaction-tx.ensures.begun in
     let same : c.rollback.new.self.0 ≡ c.conn-in-Err-1.given.0 = search rules in
     let clean_end : HasCleanDisk new = subst (λ (h : _). HasCleanDisk (state g.S.Store h)) (sym same) clean in
     let open_end : IsTrue new.is_open = subst (λ (h : _). IsTrue (state g.S.Store h).is_open) (sym same) now in
     let early : HasCleanDisk last = omega (arith, c.rollback.ensures.survives.clean) in
-    let here : IsInside bare = rw begun (record { schema = has.schema; distinct = has.distinct; inside = refl }) in
-    let kept = c.answer_in.ensures.stays.kept early here in
+    let here : IsInside bare = rw begun (record { schema = has.schema; sound = has.sound; distinct = has.distinct; inside = refl }) in
+    let kept = c.answer_open.ensures.stays.kept early here in
     let was_open = rw begun at kept.was_open in
     let committed = rw begun at kept.committed in
     let began : Began old last = record { settled = λ _. sym has.settled; was_open = was_open; committed = committed } in

@@ -4,10 +4,11 @@ use Rattle.sqlite.specs.State.{HasCleanDisk, Survives}
 use Rattle.sqlite.specs.Held.{state}
 use Rattle.tally_statements.specs.Office.{IsInside}
 use Rattle.tally_tables.specs.TablesOfState.{AreTables}
+use Rattle.tally_requests.specs.Known.{known_of}
 use Rattle.tally_store.specs.Crash.{LeavesImported}
-use Rattle.tally_store.specs.Requests.{IsAllDone}
+use Rattle.tally_store.specs.Requests.{IsAllDone, IsAllKnown}
 use Rattle.tally_opening.specs.Office.{HasState}
-use Rattle.tally_store.proofs.RequestLemmas.{all_committed, state_back, survives_commit, tables_imported}
+use Rattle.tally_store.proofs.RequestLemmas.{all_committed, all_known, empty-nothing, state_back, survives_commit, tables_imported}
 use Rattle.tally_opening.proofs.ReturnLemmas.{Began, failed, rolled_back}
 use Rattle.tally_store.proofs.requests.import_rows.Goals as goal
 
@@ -16,17 +17,45 @@ returns-in-Ok-commit-clause-done g c clean now text s lawful has =
     let setup = c.args.setup.now in
     let known = g.R.RowSource.coming c.args.source.now in
     let bare = state g.S.Store c.transaction-tx.result.conn.now in
-    let last = state g.S.Store c.take_rows.new.tx.conn.now in
+    let last = state g.S.Store c.take_open.new.tx.conn.now in
     let new = state g.S.Store c.commit.new.self.0 in
     let begun = c.transaction-tx.ensures.begun in
     let same : c.commit.new.self.0 ≡ c.conn-1.given.0 = search rules in
     let clean_end : HasCleanDisk new = subst (λ (h : _). HasCleanDisk (state g.S.Store h)) (sym same) clean in
     let early : HasCleanDisk last = omega (arith, c.commit.ensures.survives.clean) in
-    let here : IsInside bare = rw begun (record { schema = has.schema; distinct = has.distinct; inside = refl }) in
+    let here : IsInside bare = rw begun (record { schema = has.schema; sound = has.sound; distinct = has.distinct; inside = refl }) in
     let held : AreTables setup text s bare.now.trees = rw begun has.tables in
-    let all = c.in-Ok.ensures.imported early here text s lawful held in
+    let all = (c.in-Ok.ensures.imported early here text s lawful held).0 in
     let shown = (c.in-Ok-commit.ensures.ok clean_end).1 in
     subst (λ (h : _). IsAllDone setup text s known c.in-Ok.count (state g.S.Store h)) same (all_committed setup text s known c.in-Ok.count last new all shown)
+
+pub returns-in-Ok-commit-clause-known : goal.returns-in-Ok-commit-clause-known
+returns-in-Ok-commit-clause-known g c clean =
+    let setup = c.args.setup.now in
+    let known = g.R.RowSource.coming c.args.source.now in
+    let bare = state g.S.Store c.transaction-tx.result.conn.now in
+    let last = state g.S.Store c.take_open.new.tx.conn.now in
+    let new = state g.S.Store c.commit.new.self.0 in
+    let begun = c.transaction-tx.ensures.begun in
+    let same : c.commit.new.self.0 ≡ c.conn-1.given.0 = search rules in
+    let clean_end : HasCleanDisk new = subst (λ (h : _). HasCleanDisk (state g.S.Store h)) (sym same) clean in
+    let early : HasCleanDisk last = omega (arith, c.commit.ensures.survives.clean) in
+    let shown = (c.in-Ok-commit.ensures.ok clean_end).1 in
+    let inside = survives_begin g.S.Store c.args.conn.now last _ (rw begun at c.take_open.ensures.stays.survives) in (
+      subst (λ (h : _). IsTrue (state g.S.Store h).is_open) same shown.is_open,
+      λ text s lawful has.
+          let here : IsInside bare = rw begun (record { schema = has.schema; sound = has.sound; distinct = has.distinct; inside = refl }) in
+          let held : AreTables setup text s bare.now.trees = rw begun has.tables in
+          let true_is = c.requires.known (omega (arith, early, inside.clean)) text s lawful has in
+          subst (λ (h : _). IsAllKnown setup text s known c.in-Ok.count (state g.S.Store h) (known_of c.take_open.new.known)) same
+          (all_known setup text s known (known_of c.args.known.now) (known_of c.take_open.new.known) c.in-Ok.count last new (c.in-Ok.ensures.imported early here text s lawful held) true_is shown),
+    )
+
+pub returns-in-Err-commit-clause-known : goal.returns-in-Err-commit-clause-known
+returns-in-Err-commit-clause-known g c = empty-nothing c.clear.new.self c.clear.ensures.empty
+
+pub returns-in-Err-clause-known : goal.returns-in-Err-clause-known
+returns-in-Err-clause-known g c = empty-nothing c.clear-in-Err.new.self c.clear-in-Err.ensures.empty
 
 pub returns-in-Ok-commit-clause-crash : goal.returns-in-Ok-commit-clause-crash
 returns-in-Ok-commit-clause-crash g c =
@@ -34,34 +63,41 @@ returns-in-Ok-commit-clause-crash g c =
     let known = g.R.RowSource.coming c.args.source.now in
     let old = c.args.conn.now in
     let bare = state g.S.Store c.transaction-tx.result.conn.now in
-    let last = state g.S.Store c.take_rows.new.tx.conn.now in
+    let last = state g.S.Store c.take_open.new.tx.conn.now in
     let new = state g.S.Store c.commit.new.self.0 in
     let begun = c.transaction-tx.ensures.begun in
     let P = LeavesImported setup known (state g.S.Store old) in
-    let inside = survives_begin g.S.Store old last _ (rw begun at c.take_rows.ensures.stays.survives) in
+    let inside = survives_begin g.S.Store old last _ (rw begun at c.take_open.ensures.stays.survives) in
     let same : c.commit.new.self.0 ≡ c.conn-1.given.0 = search rules in
     subst (λ (h : _). Survives (state g.S.Store old) (state g.S.Store h) P) same
-    (survives_commit (state g.S.Store old) last new P inside c.commit.ensures.survives (λ early text s lawful has.
-    let here : IsInside bare = rw begun (record { schema = has.schema; distinct = has.distinct; inside = refl }) in
+    (survives_commit (state g.S.Store old) last new P inside c.commit.ensures.survives (λ early.
+    let clean_old : HasCleanDisk (state g.S.Store old) = omega (arith, early, inside.clean) in
+    let was_open : IsTrue (state g.S.Store old).is_open = rw begun at (c.in-Ok.ensures.was_open early) in
+    let office = c.requires.office clean_old was_open in
+    let s = office.0 in
+    let text = office.2.text in
+    let lawful = office.1 in
+    let has = office.2.has in
+    let here : IsInside bare = rw begun (record { schema = has.schema; sound = has.sound; distinct = has.distinct; inside = refl }) in
     let held : AreTables setup text s bare.now.trees = rw begun has.tables in
-    tables_imported setup text s known c.in-Ok.count last (c.in-Ok.ensures.imported early here text s lawful held)))
+    record { was_open = was_open; text = text; state = s; lawful = lawful; has = has; after = tables_imported setup text s known c.in-Ok.count last (c.in-Ok.ensures.imported early here text s lawful held).0 }))
 
 pub returns-in-Err-commit-clause-done : goal.returns-in-Err-commit-clause-done
 returns-in-Err-commit-clause-done g c clean now text s lawful has =
     let setup = c.args.setup.now in
     let old = state g.S.Store c.args.conn.now in
     let bare = state g.S.Store c.transaction-tx.result.conn.now in
-    let last = state g.S.Store c.take_rows.new.tx.conn.now in
+    let last = state g.S.Store c.take_open.new.tx.conn.now in
     let new = state g.S.Store c.commit.new.self.0 in
     let begun = c.transaction-tx.ensures.begun in
     let same : c.commit.new.self.0 ≡ c.conn-1.given.0 = search rules in
     let clean_end : HasCleanDisk new = subst (λ (h : _). HasCleanDisk (state g.S.Store h)) (sym same) clean in
     let open_end : IsTrue new.is_open = subst (λ (h : _). IsTrue (state g.S.Store h).is_open) (sym same) now in
     let early : HasCleanDisk last = omega (arith, c.commit.ensures.survives.clean) in
-    let here : IsInside bare = rw begun (record { schema = has.schema; distinct = has.distinct; inside = refl }) in
+    let here : IsInside bare = rw begun (record { schema = has.schema; sound = has.sound; distinct = has.distinct; inside = refl }) in
     let held : AreTables setup text s bare.now.trees = rw begun has.tables in
-    let all = c.in-Ok.ensures.imported early here text s lawful held in
-    let kept = c.take_rows.ensures.stays.kept early (record { text = text; office = s; inside = here; lawful = lawful; tables = held }) in
+    let all = (c.in-Ok.ensures.imported early here text s lawful held).0 in
+    let kept = c.take_open.ensures.stays.kept early (record { text = text; office = s; inside = here; lawful = lawful; tables = held }) in
     let was_open = rw begun at kept.was_open in
     let committed = rw begun at kept.committed in
     let began : Began old last = record { settled = λ _. sym has.settled; was_open = was_open; committed = committed } in
@@ -74,33 +110,40 @@ returns-in-Err-commit-clause-crash g c =
     let known = g.R.RowSource.coming c.args.source.now in
     let old = c.args.conn.now in
     let bare = state g.S.Store c.transaction-tx.result.conn.now in
-    let last = state g.S.Store c.take_rows.new.tx.conn.now in
+    let last = state g.S.Store c.take_open.new.tx.conn.now in
     let new = state g.S.Store c.commit.new.self.0 in
     let begun = c.transaction-tx.ensures.begun in
     let P = LeavesImported setup known (state g.S.Store old) in
-    let inside = survives_begin g.S.Store old last _ (rw begun at c.take_rows.ensures.stays.survives) in
+    let inside = survives_begin g.S.Store old last _ (rw begun at c.take_open.ensures.stays.survives) in
     let same : c.commit.new.self.0 ≡ c.conn-1.given.0 = search rules in
     subst (λ (h : _). Survives (state g.S.Store old) (state g.S.Store h) P) same
-    (survives_commit (state g.S.Store old) last new P inside c.commit.ensures.survives (λ early text s lawful has.
-    let here : IsInside bare = rw begun (record { schema = has.schema; distinct = has.distinct; inside = refl }) in
+    (survives_commit (state g.S.Store old) last new P inside c.commit.ensures.survives (λ early.
+    let clean_old : HasCleanDisk (state g.S.Store old) = omega (arith, early, inside.clean) in
+    let was_open : IsTrue (state g.S.Store old).is_open = rw begun at (c.in-Ok.ensures.was_open early) in
+    let office = c.requires.office clean_old was_open in
+    let s = office.0 in
+    let text = office.2.text in
+    let lawful = office.1 in
+    let has = office.2.has in
+    let here : IsInside bare = rw begun (record { schema = has.schema; sound = has.sound; distinct = has.distinct; inside = refl }) in
     let held : AreTables setup text s bare.now.trees = rw begun has.tables in
-    tables_imported setup text s known c.in-Ok.count last (c.in-Ok.ensures.imported early here text s lawful held)))
+    record { was_open = was_open; text = text; state = s; lawful = lawful; has = has; after = tables_imported setup text s known c.in-Ok.count last (c.in-Ok.ensures.imported early here text s lawful held).0 }))
 
 pub returns-in-Err-clause-done : goal.returns-in-Err-clause-done
 returns-in-Err-clause-done g c clean now text s lawful has =
     let setup = c.args.setup.now in
     let old = state g.S.Store c.args.conn.now in
     let bare = state g.S.Store c.transaction-tx.result.conn.now in
-    let last = state g.S.Store c.take_rows.new.tx.conn.now in
+    let last = state g.S.Store c.take_open.new.tx.conn.now in
     let new = state g.S.Store c.rollback.new.self.0 in
     let begun = c.transaction-tx.ensures.begun in
     let same : c.rollback.new.self.0 ≡ c.conn-in-Err-1.given.0 = search rules in
     let clean_end : HasCleanDisk new = subst (λ (h : _). HasCleanDisk (state g.S.Store h)) (sym same) clean in
     let open_end : IsTrue new.is_open = subst (λ (h : _). IsTrue (state g.S.Store h).is_open) (sym same) now in
     let early : HasCleanDisk last = omega (arith, c.rollback.ensures.survives.clean) in
-    let here : IsInside bare = rw begun (record { schema = has.schema; distinct = has.distinct; inside = refl }) in
+    let here : IsInside bare = rw begun (record { schema = has.schema; sound = has.sound; distinct = has.distinct; inside = refl }) in
     let held : AreTables setup text s bare.now.trees = rw begun has.tables in
-    let kept = c.take_rows.ensures.stays.kept early (record { text = text; office = s; inside = here; lawful = lawful; tables = held }) in
+    let kept = c.take_open.ensures.stays.kept early (record { text = text; office = s; inside = here; lawful = lawful; tables = held }) in
     let was_open = rw begun at kept.was_open in
     let committed = rw begun at kept.committed in
     let began : Began old last = record { settled = λ _. sym has.settled; was_open = was_open; committed = committed } in

@@ -3,10 +3,11 @@ use Rattle.std.specs.List.{list_any}
 use Rattle.std.specs.Str.{bytes_eq}
 use Rattle.csv.specs.Records.{fields_of}
 use Rattle.tally_rules.specs.Constituency.{list_codes, station_codes}
+use Rattle.tally_keeper.specs.declared.source.ImportFault.TheVariants as cause
 use Rattle.tally_records.specs.Input.{AreAll}
 use Rattle.tally_import.specs.ReturnRows.{IsNext, is_header, text_coming}
 use Rattle.tally_import.specs.declared.return_rows.Rows.{Rows}
-use Rattle.tally_import.proofs.ReturnRowsLemmas.{rows-opened, header-stop, header-bad}
+use Rattle.tally_import.proofs.ReturnRowsLemmas.{rows-opened, header-stop, header-bad, header-read}
 use Rattle.tally_import.proofs.return_rows.Rows.new.Goals as goal
 
 pub returns-in-Some-clause-fault : goal.returns-in-Some-clause-fault
@@ -16,6 +17,17 @@ returns-in-Some-clause-fault g c =
     subst (λ f. IsNext text (text_coming c.args.con.now c.args.sep) f) (sym c.header_fault.ensures.fault)
     (header-stop c.args.con.now c.args.sep text (g.R.Read.remaining c.next.new.input) c.in-Some.end.stop
     (subst (λ s. AreAll s text (g.R.Read.remaining c.next.new.input) [] c.in-Some.end.stop) c.in_ok-records.ensures.sep all))
+
+pub returns-in-Some-clause-before : goal.returns-in-Some-clause-before
+returns-in-Some-clause-before g c is =
+    let text = g.R.Read.remaining c.args.reader.now in
+    let left = g.R.Read.remaining c.next.new.input in
+    let stop = c.in-Some.end.stop in
+    let fault : c.header_fault.result ≡ cause.Read = cc is in
+    header-read c.args.con.now c.args.sep text left stop
+    (subst (λ s. AreAll s text left [] stop) c.in_ok-records.ensures.sep
+    (c.in_ok-end.ensures.all c.in-Some.end c.in-Some.is text [] c.in_ok-records.ensures.given))
+    (sym c.header_fault.ensures.fault ∙ fault)
 
 pub returns-then-not-is_header-clause-fault : goal.returns-then-not-is_header-clause-fault
 returns-then-not-is_header-clause-fault g c =

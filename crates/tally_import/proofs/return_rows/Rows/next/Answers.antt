@@ -1,8 +1,8 @@
-use Rattle.std.proofs.Common.{◌<◌, ◌+◌, arith, refl, subst, sym}
+use Rattle.std.proofs.Common.{◌<◌, ◌+◌, ◌∙◌, arith, refl, subst, sym}
 use Rattle.tally_keeper.specs.Source.{row_limit}
 use Rattle.tally_import.specs.ReturnRows.{GivesRow}
 use Rattle.tally_import.specs.declared.return_rows.Rows.{Rows}
-use Rattle.tally_import.proofs.ReturnRowsLemmas.{rows-ended, rows-too_many, rows-row}
+use Rattle.tally_import.proofs.ReturnRowsLemmas.{rows-ended, rows-failed, rows-too_many, rows-row}
 use Rattle.tally_import.proofs.return_rows.Rows.next.Goals as goal
 
 pub returns-in-Some-clause-gives : goal.returns-in-Some-clause-gives
@@ -11,6 +11,11 @@ returns-in-Some-clause-gives g c = λ text con sep at.
     subst (λ r. GivesRow text (g.R.Read.remaining c.next.new.input) con sep c.args.self.now r new) (sym c.rows_end.ensures.end)
     (rows-ended text (g.R.Read.remaining c.args.reader.now) (g.R.Read.remaining c.next.new.input) con sep c.args.self.now new c.in-Some.end.stop at
     (c.in_ok-end.ensures.all c.in-Some.end c.in-Some.is))
+
+pub returns-in-Some-clause-before : goal.returns-in-Some-clause-before
+returns-in-Some-clause-before g c = λ text con sep at is.
+    rows-failed text (g.R.Read.remaining c.args.reader.now) (g.R.Read.remaining c.next.new.input) con sep c.args.self.now c.in-Some.end.stop at
+    (c.in_ok-end.ensures.all c.in-Some.end c.in-Some.is) (sym c.rows_end.ensures.end ∙ is)
 
 pub returns-then-self-eq-ROW_LIMIT-clause-gives : goal.returns-then-self-eq-ROW_LIMIT-clause-gives
 returns-then-self-eq-ROW_LIMIT-clause-gives g c = λ text con sep at.

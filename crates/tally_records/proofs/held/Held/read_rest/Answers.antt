@@ -1,6 +1,7 @@
-use Rattle.std.proofs.Common.{◌∙◌, [], ◌++◌, None, Some, length, sym, ap, subst, arith, length-append}
+use Rattle.std.proofs.Common.{◌≡◌, ◌∙◌, [], ◌++◌, None, Some, length, sym, ap, subst, arith, length-append}
 use Rattle.tally_records.specs.Pieces.{Fills}
 use Rattle.tally_records.specs.Text.{joined}
+use Rattle.tally_records.specs.Watch.{flag_after_end}
 use Rattle.tally_records.proofs.WorkLemmas.{Fills-on, joined-more}
 use Rattle.tally_records.proofs.held.Held.read_rest.Goals as goal
 
@@ -28,6 +29,8 @@ loop-part-preserved g c =
     let count = c.in_ok-end.ensures.count goes in
     record {
       limit = c.in_ok-end.ensures.limit goes;
+      watch = subst (λ e. c.fill.new.watch.failed ≡ flag_after_end e c.loop-part.watch.failed) goes c.in_ok-end.ensures.failed
+          ∙ c.loop-part.invariant.watch;
       bytes = c.loop-part.invariant.bytes;
       count = omega (
         arith,

@@ -6,6 +6,7 @@ use Rattle.tally_records.proofs.held.Held.read_rest.Given as goal
 abbrev pub invariant-loop-part : goal.invariant-loop-part
 invariant-loop-part g l = record {
   limit : l.self.taken ≤ 16777216;
+  watch : l.watch.failed ≡ l.fn.watch.failed;
   bytes : l.self.bytes ≡ l.fn.self.bytes;
   count : l.self.taken ≡ l.fn.self.taken + length (joined l.parts.items);
   fills : Fills (g.R.Read.remaining l.fn.input) (g.R.Read.remaining l.input) [] l.fn.self.taken (joined l.parts.items) l.self.taken None;

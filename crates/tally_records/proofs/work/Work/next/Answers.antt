@@ -1,6 +1,7 @@
 use Rattle.std.proofs.Common.{◌≡◌, ◌∙◌, sym, subst}
 use Rattle.tally_records.specs.Input.{AreAll}
 use Rattle.tally_records.specs.Pieces.{HasGivenAt}
+use Rattle.tally_records.specs.Watch.{flag_after_end}
 use Rattle.tally_records.specs.declared.end.End.{End}
 use Rattle.tally_records.proofs.WorkLemmas.{HasGiven-all}
 use Rattle.tally_records.proofs.work.Work.next.Goals as goal
@@ -24,6 +25,8 @@ pieces-preserved g c =
       reading = c.in_ok-read_on.ensures.reading;
       given = λ text given has. c.in_ok-read_on.ensures.given text given
           (subst (HasGivenAt text left given) (sym (read.same c.if-not-branch.true)) (c.pieces.invariant.given text given has));
-      tells = λ told. c.in_ok-read_on.ensures.failed;
+      tells = λ before told. subst (λ flag. c.read_on.new.watch.failed ≡ flag_after_end c.read_on.new.self.end flag)
+          (subst (λ e. c.pieces.watch.failed ≡ flag_after_end e before) (sym c.next_in_piece.ensures.end ∙ c.in_default.is) (c.pieces.invariant.tells before told))
+          c.in_ok-read_on.ensures.failed;
       sep = c.read_on.ensures.sep ∙ c.next_in_piece.ensures.sep ∙ c.pieces.invariant.sep;
     }

@@ -1,4 +1,4 @@
-use Rattle.std.proofs.Common.{◌≡◌, true, ◌++◌, ◌∷◌, [], ap, ◌∙◌, map, string_bytes, List, ℕ, Result}
+use Rattle.std.proofs.Common.{◌≡◌, ◌++◌, ◌∷◌, [], ap, ◌∙◌, map, string_bytes, List, ℕ, Result}
 use Rattle.std.proofs.lemmas.List.{map-append}
 use Rattle.std.proofs.lemmas.List.Elements.{All-push}
 use Rattle.std.proofs.lemmas.Result.{err_from_is_err_and}
@@ -6,7 +6,7 @@ use Rattle.toml.specs.Data.{Data}
 use Rattle.tally_rules.specs.Fault.{Fault}
 use Rattle.tally_rules.specs.Found.{key_name}
 use Rattle.tally_rules.specs.Reading.{candidates_of, name_from}
-use Rattle.tally_rules.specs.Text.{is_name}
+use Rattle.tally_rules.specs.Text.{IsName}
 use Rattle.tally_rules.specs.declared.read.fault.Key.TheVariants.{Candidates}
 use Rattle.tally_rules.proofs.ReadLemmas.{read-more, array-fault, array-end}
 use Rattle.tally_rules.proofs.read.entry.candidates_of.Goals as goal
@@ -24,7 +24,7 @@ pub loop-name-preserved : goal.loop-name-preserved
 loop-name-preserved c =
     let items : map string_bytes c.push.new.self.items ≡ map string_bytes c.loop-name.names.items ++ string_bytes c.in_ok-name_from.field-0 ∷ [] =
     ap (map string_bytes) c.in_ok-push.ensures.items ∙ map-append string_bytes c.loop-name.names.items (c.in_ok-name_from.field-0 ∷ []) in
-    rw items (read-more read _ _ _ _ _ c.loop-name.invariant.0 c.loop-name-test.true c.name-item.is c.in_ok-name_from.ensures.name, All-push (λ name. is_name name ≡ true) _ _ c.loop-name.invariant.1 c.in_ok-name_from.ensures.limits)
+    rw items (read-more read _ _ _ _ _ c.loop-name.invariant.0 c.loop-name-test.true c.name-item.is c.in_ok-name_from.ensures.name, All-push IsName _ _ c.loop-name.invariant.1 c.in_ok-name_from.ensures.limits)
 
 pub returns-clause-candidates : goal.returns-clause-candidates
 unfolding candidates_of

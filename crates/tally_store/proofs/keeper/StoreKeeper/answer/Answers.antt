@@ -1,10 +1,14 @@
 use Rattle.std.proofs.Common.{arith, subst}
 use Rattle.sqlite.specs.Held.{state}
 use Rattle.tally_keeper.specs.Keeper.{Happens, request}
+use Rattle.tally_requests.specs.Known.{known_of}
 use Rattle.tally_store.specs.Content.{content_of}
 use Rattle.tally_store.specs.Store.{KeepsText, Stored}
-use Rattle.tally_store.proofs.RequestLemmas.{Served, happens_after, keeps_text, shows_tables, stored_after}
+use Rattle.tally_store.proofs.RequestLemmas.{Served, happens_after, keeps_text, served_after, shows_tables, stored_after}
 use Rattle.tally_store.proofs.keeper.StoreKeeper.answer.Goals as goal
+
+pub answer_request-requires-clause-known : goal.answer_request-requires-clause-known
+answer_request-requires-clause-known g c = c.self.invariant.true_is
 
 pub invariant_of-self : goal.invariant_of-self
 invariant_of-self g c =
@@ -14,7 +18,7 @@ invariant_of-self g c =
     let told = c.answer_request.ensures in
     let r = c.answer_request.result in
     let served : Served setup old new c.args.ask.now r = record { ended = told.ended; codes = told.codes; clean = λ clean. omega (arith, clean, told.crash.clean); done = told.done; shut = told.shut; was_open = told.was_open } in
-    stored_after setup old new c.args.ask.now r c.self.invariant served
+    served_after setup old new c.args.ask.now r (known_of c.answer_request.new.known) c.a_constituency_has_a_view.ensures.lawful c.self.invariant.stored served told.known
 
 pub returns-clause-step : goal.returns-clause-step
 returns-clause-step g c clean =
@@ -25,7 +29,7 @@ returns-clause-step g c clean =
     let r = c.answer_request.result in
     let served : Served setup old new c.args.ask.now r = record { ended = told.ended; codes = told.codes; clean = λ clean. omega (arith, clean, told.crash.clean); done = told.done; shut = told.shut; was_open = told.was_open } in
     subst (λ (h : Stored _). Happens h.setup (content_of h.setup (state g.S.Store h.conn)) (request c.args.ask.now r) (content_of setup new)) c.self.view_is
-    (happens_after setup old new c.args.ask.now r c.a_constituency_has_a_view.ensures.lawful c.self.invariant served clean)
+    (happens_after setup old new c.args.ask.now r c.a_constituency_has_a_view.ensures.lawful c.self.invariant.stored served clean)
 
 pub returns-clause-tables : goal.returns-clause-tables
 returns-clause-tables g c clean =
@@ -35,7 +39,7 @@ returns-clause-tables g c clean =
     let told = c.answer_request.ensures in
     let r = c.answer_request.result in
     let served : Served setup old new c.args.ask.now r = record { ended = told.ended; codes = told.codes; clean = λ clean. omega (arith, clean, told.crash.clean); done = told.done; shut = told.shut; was_open = told.was_open } in
-    shows_tables setup new c.a_constituency_has_a_view.ensures.lawful (stored_after setup old new c.args.ask.now r c.self.invariant served) clean
+    shows_tables setup new c.a_constituency_has_a_view.ensures.lawful (stored_after setup old new c.args.ask.now r c.self.invariant.stored served) clean
 
 pub returns-clause-text : goal.returns-clause-text
 returns-clause-text g c clean now =

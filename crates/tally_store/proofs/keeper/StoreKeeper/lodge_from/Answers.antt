@@ -1,10 +1,14 @@
 use Rattle.std.proofs.Common.{arith, subst}
 use Rattle.sqlite.specs.Held.{state}
 use Rattle.tally_keeper.specs.Keeper.{Imports}
+use Rattle.tally_requests.specs.Known.{known_of}
 use Rattle.tally_store.specs.Content.{content_of}
 use Rattle.tally_store.specs.Store.{KeepsText, Stored}
-use Rattle.tally_store.proofs.RequestLemmas.{Took, imports_after, keeps_text_imported, shows_tables, stored_import}
+use Rattle.tally_store.proofs.RequestLemmas.{Took, imports_after, keeps_text_imported, served_import, shows_tables, stored_import}
 use Rattle.tally_store.proofs.keeper.StoreKeeper.lodge_from.Goals as goal
+
+pub import_rows-requires-clause-known : goal.import_rows-requires-clause-known
+import_rows-requires-clause-known g c = c.self.invariant.true_is
 
 pub invariant_of-self : goal.invariant_of-self
 invariant_of-self g c =
@@ -16,7 +20,7 @@ invariant_of-self g c =
     let told = c.import_rows.ensures in
     let r = c.import_rows.result in
     let took : Took setup old new known ending r = record { ended = told.ended; clean = λ clean. omega (arith, clean, told.crash.clean); done = told.done; came = told.came; fault = told.fault; shut = told.shut; was_open = told.was_open } in
-    stored_import setup old new known ending r c.self.invariant took
+    served_import setup old new known ending r (known_of c.import_rows.new.known) c.a_constituency_has_a_view.ensures.lawful c.self.invariant.stored took told.known
 
 pub returns-clause-imported : goal.returns-clause-imported
 returns-clause-imported g c clean =
@@ -29,7 +33,7 @@ returns-clause-imported g c clean =
     let r = c.import_rows.result in
     let took : Took setup old new known ending r = record { ended = told.ended; clean = λ clean. omega (arith, clean, told.crash.clean); done = told.done; came = told.came; fault = told.fault; shut = told.shut; was_open = told.was_open } in
     subst (λ (h : Stored _). Imports h.setup (content_of h.setup (state g.S.Store h.conn)) known ending r (content_of setup new)) c.self.view_is
-    (imports_after setup old new known ending r c.a_constituency_has_a_view.ensures.lawful c.self.invariant took clean)
+    (imports_after setup old new known ending r c.a_constituency_has_a_view.ensures.lawful c.self.invariant.stored took clean)
 
 pub returns-clause-tables : goal.returns-clause-tables
 returns-clause-tables g c clean =
@@ -41,7 +45,7 @@ returns-clause-tables g c clean =
     let told = c.import_rows.ensures in
     let r = c.import_rows.result in
     let took : Took setup old new known ending r = record { ended = told.ended; clean = λ clean. omega (arith, clean, told.crash.clean); done = told.done; came = told.came; fault = told.fault; shut = told.shut; was_open = told.was_open } in
-    shows_tables setup new c.a_constituency_has_a_view.ensures.lawful (stored_import setup old new known ending r c.self.invariant took) clean
+    shows_tables setup new c.a_constituency_has_a_view.ensures.lawful (stored_import setup old new known ending r c.self.invariant.stored took) clean
 
 pub returns-clause-text : goal.returns-clause-text
 returns-clause-text g c clean now =

@@ -12,4 +12,4 @@ returns-clause-lawful g c =
     let setup = c.self.inside.setup in
     let seen = state g.S.Store c.self.inside.conn in
     subst (λ (h : Stored _). HasCleanDisk (state g.S.Store h.conn) → IfSome (content_of h.setup (state g.S.Store h.conn)) (IsLawfulState h.setup)) c.self.view_is
-    (λ clean. shows_lawful setup seen c.a_constituency_has_a_view.ensures.lawful c.self.invariant clean)
+    (λ clean. shows_lawful setup seen c.a_constituency_has_a_view.ensures.lawful c.self.invariant.stored clean)

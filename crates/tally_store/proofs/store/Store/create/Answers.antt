@@ -1,13 +1,26 @@
+use Rattle.std.proofs.Common.{IsTrue, sym, subst, subst₂}
+use Rattle.sqlite.specs.State.{HasCleanDisk}
+use Rattle.sqlite.specs.Held.{state}
 use Rattle.tally_returns.specs.State.{opening}
 use Rattle.tally_steps.proofs.ReturnStepLemmas.{opening-lawful}
+use Rattle.tally_opening.specs.Office.{HasState}
+use Rattle.tally_store.specs.Create.{HasOpeningTables}
 use Rattle.tally_store.proofs.store.Store.create.Goals as goal
 
-pub invariant_of-result : goal.invariant_of-result
-invariant_of-result g c =
+pub store_over-requires-clause-office : goal.store_over-requires-clause-office
+store_over-requires-clause-office g c clean now =
     let told = c.in-Ok.ensures in
+    (opening c.in-Ok.setup, opening-lawful c.in-Ok.setup told.limits, record { text = c.args.text.now; reads = told.setup; has = told.made clean })
+
+pub returns-in-Ok-clause-made : goal.returns-in-Ok-clause-made
+returns-in-Ok-clause-made g c clean =
+    let told = c.store_over.ensures in
+    let done = c.in-Ok.ensures in
     let setup = c.in-Ok.setup in
-    record {
-      limits = told.limits;
-      autocommit = told.ended;
-      office = λ clean now. (opening setup, opening-lawful setup told.limits, record { text = c.args.text.now; reads = told.setup; has = told.made clean });
-    }
+    let text = c.args.text.now in
+    let new = state g.S.Store c.create_in.new.conn in
+    let early : HasCleanDisk new = subst (λ (h : _). HasCleanDisk (state g.S.Store h)) told.conn clean in
+    let now : IsTrue new.is_open = done.open early in
+    let has : HasState setup text (opening setup) new = done.made early in
+    subst₂ (λ s (h : _). HasOpeningTables s text (state g.S.Store h)) (sym told.setup) (sym told.conn)
+    (record { is_open = now; has = has; content = told.content now (opening setup) (opening-lawful setup done.limits) (record { text = text; reads = done.setup; has = has }) })

@@ -2,8 +2,8 @@ use Rattle.std.proofs.Common.{sym, subst, subst₂}
 use Rattle.sqlite.specs.State.{HasCleanDisk, KeepsCounts}
 use Rattle.sqlite.specs.Held.{state}
 use Rattle.tally_opening.specs.Crash.{IsUnwritten}
-use Rattle.tally_opening.specs.Open.{IsOpened}
 use Rattle.tally_opening.proofs.OpenedLemmas.{office_opened}
+use Rattle.tally_store.specs.Create.{ShowsFound}
 use Rattle.tally_store.proofs.store.Store.open.Goals as goal
 
 pub store_over-requires-clause-office : goal.store_over-requires-clause-office
@@ -13,7 +13,11 @@ pub returns-in-Ok-clause-opened : goal.returns-in-Ok-clause-opened
 returns-in-Ok-clause-opened g c clean =
     let told = c.store_over.ensures in
     let early : HasCleanDisk (state g.S.Store c.open_in.new.conn) = subst (λ (h : _). HasCleanDisk (state g.S.Store h)) told.conn clean in
-    subst₂ (λ s (h : _). IsOpened s (state g.S.Store c.args.conn) (state g.S.Store h)) (sym told.setup) (sym told.conn) (c.in-Ok.ensures.opened early)
+    let old = state g.S.Store c.args.conn in
+    let new = state g.S.Store c.open_in.new.conn in
+    let opened = c.in-Ok.ensures.opened early in
+    subst₂ (λ s (h : _). ShowsFound s old (state g.S.Store h)) (sym told.setup) (sym told.conn)
+    (record { opened = opened; content = λ now. told.content now opened.state opened.found.lawful (record { text = opened.text; reads = opened.found.found.0; has = opened.has now }) })
 
 pub returns-in-Ok-clause-unwritten : goal.returns-in-Ok-clause-unwritten
 returns-in-Ok-clause-unwritten g c past =

@@ -1,0 +1,121 @@
+//! Reads that fail: what was complete before comes first, and no read is made again.
+
+use crate::setups::{check, fresh};
+use std::alloc::{AllocError, Global};
+use std::io::ErrorKind;
+use std::test::*;
+use tally_core::{Book, Keeper, RowSource};
+use tally_import::{ReturnRows, Sep, check_csv};
+use tally_rules::Constituency;
+use tally_scripts::{Failing, TWIN_TOWN};
+
+const HEADER: &str = "station,slip,blank,spoiled,A,B\n";
+
+const RETURNS: &str = "station,slip,blank,spoiled,A,B\ns1,p1,0,0,10,20\n";
+
+/// Two complete rows and a piece of a third.
+const CUT: &str = "station,slip,blank,spoiled,A,B\ns1,p1,0,0,10,20\ns9,p1,0,0,10,20\ns1,p2";
+
+const CUT_ROWS: &str = "\
+Ok(Some(Lodge(Lodge { station: \"s1\", slip: \"p1\", counts: Counts { votes: [10, 20], blank: 0, spoiled: 0 } })))
+Ok(Some(Bad))
+Err(Read)
+Err(Read)
+";
+
+/// Gives a text, fails so many times, and goes on.
+fn failing<'a>(front: &'a str, failures: u32, kind: ErrorKind, back: &'a str) -> Failing<'a> {
+    Failing {
+        front: front.as_bytes(),
+        failures,
+        kind,
+        back: back.as_bytes(),
+    }
+}
+
+fn constituency(alloc: Global, book: &Book) -> Result<Constituency, Fail> {
+    let con = book.setup().cons().first().ok_or("no constituency")?;
+    Ok(con.try_copy(alloc)?)
+}
+
+/// What an import of what a reader gives comes to, as text.
+fn imported(alloc: Global, book: &mut Book, reader: Failing<'_>) -> Result<String, Fail> {
+    let con = constituency(alloc, book)?;
+    let mut rows = ReturnRows::new(alloc, reader, Sep::Comma, con);
+    let outcome = book.lodge_from(&mut rows);
+    Ok(format!(in alloc; "{outcome:?}")?)
+}
+
+/// What the check of what a reader gives comes to, as text. It has to write nothing.
+fn checked(alloc: Global, mut reader: Failing<'_>) -> Result<String, Fail> {
+    let mut output = Vec::new(alloc);
+    let outcome = check_csv(alloc, &mut reader, &mut output, Sep::Comma);
+    if !output.is_empty() {
+        return Err(Fail::from("a check with a fault has written"));
+    }
+    Ok(format!(in alloc; "{outcome:?}")?)
+}
+
+/// Fails where the import or the check of a text is answered otherwise, or where a return is
+/// recorded then. 8 is NoReturn.
+fn check_failing(
+    alloc: Global,
+    front: &str,
+    failures: u32,
+    kind: ErrorKind,
+    back: &str,
+    wanted: &str,
+) -> Result<(), Fail> {
+    let mut book = fresh(alloc, TWIN_TOWN)?;
+    let told = imported(alloc, &mut book, failing(front, failures, kind, back))?;
+    if told.as_str() != wanted {
+        return Err(Fail::from(told));
+    }
+    check(alloc, &mut book, "return s1 = refused 8")?;
+    let told = checked(alloc, failing(front, failures, kind, back))?;
+    if told.as_str() != wanted {
+        return Err(Fail::from(told));
+    }
+    Ok(())
+}
+
+#[test]
+fn reads_that_fail_once_or_for_ever(rt: HostRuntime) -> Result<(), Fail> {
+    let alloc = rt.alloc();
+    let rows = "x\n".repeat(alloc, 20_000)?;
+    let full = format!(in alloc; "{HEADER}{rows}x")?;
+    let long = format!(in alloc; "{HEADER}{rows}x\n")?;
+    for (front, back, wanted) in [
+        ("", RETURNS, "Err(Read)"),
+        ("station,sl", "ip,blank,spoiled,A,B\n", "Err(Read)"),
+        ("station,slip\n", "", "Err(BadHeader)"),
+        (CUT, ",0,0,1,1\n", "Err(Read)"),
+        (RETURNS, "", "Err(Read)"),
+        (full.as_str(), "", "Err(Read)"),
+        (long.as_str(), "", "Err(TooLong)"),
+    ] {
+        check_failing(alloc, front, 1, ErrorKind::Interrupted, back, wanted)?;
+        check_failing(alloc, front, 1, ErrorKind::BrokenPipe, back, wanted)?;
+        check_failing(alloc, front, u32::MAX, ErrorKind::Interrupted, back, wanted)?;
+    }
+    Ok(())
+}
+
+fn push_row(text: &mut String, rows: &mut ReturnRows<Failing<'_>>) -> Result<(), AllocError> {
+    let row = rows.next_row();
+    writeln!(text, "{row:?}")
+}
+
+#[test]
+fn complete_rows_come_before_a_failed_read(rt: HostRuntime) -> Result<(), Fail> {
+    let alloc = rt.alloc();
+    let con = constituency(alloc, &fresh(alloc, TWIN_TOWN)?)?;
+    let reader = failing(CUT, 1, ErrorKind::Interrupted, ",0,0,1,1\n");
+    let mut rows = ReturnRows::new(alloc, reader, Sep::Comma, con);
+    let mut text = String::new(alloc);
+    for _row in 0..4 {
+        push_row(&mut text, &mut rows)?;
+    }
+    assert!(rt; text.as_str() == CUT_ROWS, "{text}");
+    Ok(())
+}

@@ -1,0 +1,36 @@
+//! The rows that a source gave, for clauses alone.
+
+ghost use Rattle.std.specs.Prelude.{◌≡◌, []};
+ghost use Rattle.tally_keeper.specs.Given.{rows_of, with_given};
+
+use crate::import::Row;
+use crate::source::ImportFault;
+use std::snapshot::Snapshot;
+
+/// The rows that a source gave, in order, as clauses see them. The rows themselves are not kept: a
+/// program holds of them a byte, which says whether there is one.
+#[derive(Drop)]
+pub enum Given {
+    /// None.
+    Nothing,
+    /// Those before the last one, and the last one.
+    More(Snapshot<Given>, Snapshot<Row>),
+}
+
+impl Given {
+    /// No row.
+    pub fn new() -> Given
+        ensures { rows_of result ≡ [] }
+    {
+        Given::Nothing
+    }
+
+    /// Notes the row that a call gives, if it gives one.
+    pub fn note(&mut self, next: &Result<Option<Row>, ImportFault>)
+        ensures { rows_of self.new ≡ with_given (rows_of self.old) next.now }
+    {
+        if let Ok(Some(row)) = next {
+            *self = Given::More(Snapshot::of(self), Snapshot::of(row));
+        }
+    }
+}

@@ -1,0 +1,44 @@
+use Rattle.std.proofs.Common.{arith, rules}
+use Rattle.sqlite.specs.State.{HasCleanDisk, IsUnchanged}
+use Rattle.sqlite.specs.Held.{state}
+use Rattle.tally_statements.specs.Office.{HasTables}
+use Rattle.tally_opening.specs.Opening.{IsReadOf}
+use Rattle.tally_statements.specs.declared.table.KeyedTable.TheVariants.{Returns, Counts, Cons, Lots, Seats, Gone, Totals, Past}
+use Rattle.tally_opening.proofs.JudgingLemmas.{all_read, look_as, look_then, read_before, tables_still}
+use Rattle.tally_opening.proofs.judging.read_rows.Goals as goal
+
+pub returns-in_err-gone-clause-reads : goal.returns-in_err-gone-clause-reads
+returns-in_err-gone-clause-reads g c =
+    let two = look_then g.S.Store c.args.tx.now c.read_two.new.tx c.read_two-2.new.tx _ _ c.in_ok-returns.ensures.reads c.in_ok-cons.ensures.reads in
+    let three = look_then g.S.Store c.args.tx.now c.read_two-2.new.tx c.read_two-3.new.tx _ _ two c.in_ok-lots.ensures.reads in
+    let failed = look_then g.S.Store c.args.tx.now c.read_two-3.new.tx c.read_two-4.new.tx _ _ three c.in_err-gone.ensures.reads in
+    search (rules, failed)
+
+pub returns-clause-reads : goal.returns-clause-reads
+returns-clause-reads g c =
+    let two = look_then g.S.Store c.args.tx.now c.read_two.new.tx c.read_two-2.new.tx _ _ c.in_ok-returns.ensures.reads c.in_ok-cons.ensures.reads in
+    let three = look_then g.S.Store c.args.tx.now c.read_two-2.new.tx c.read_two-3.new.tx _ _ two c.in_ok-lots.ensures.reads in
+    look_as g.S.Store c.args.tx.now c.read_two-4.new.tx _ _ (look_then g.S.Store c.args.tx.now c.read_two-3.new.tx c.read_two-4.new.tx _ _ three c.in_ok-gone.ensures.reads)
+
+pub returns-clause-shown : goal.returns-clause-shown
+returns-clause-shown g c clean has =
+    let old = state g.S.Store c.args.tx.now.conn.now in
+    let first = state g.S.Store c.read_two.new.tx.conn.now in
+    let second = state g.S.Store c.read_two-2.new.tx.conn.now in
+    let third = state g.S.Store c.read_two-3.new.tx.conn.now in
+    let two = look_then g.S.Store c.args.tx.now c.read_two.new.tx c.read_two-2.new.tx _ _ c.in_ok-returns.ensures.reads c.in_ok-cons.ensures.reads in
+    let three = look_then g.S.Store c.args.tx.now c.read_two-2.new.tx c.read_two-3.new.tx _ _ two c.in_ok-lots.ensures.reads in
+    let clean_third : HasCleanDisk third = omega (arith, clean, c.read_two-4.ensures.reads.stays.survives.clean) in
+    let clean_second : HasCleanDisk second = omega (arith, clean_third, c.read_two-3.ensures.reads.stays.survives.clean) in
+    let clean_first : HasCleanDisk first = omega (arith, clean_second, c.read_two-2.ensures.reads.stays.survives.clean) in
+    let same_first : IsUnchanged old first = c.in_ok-returns.ensures.reads.same clean_first has in
+    let same_second : IsUnchanged old second = two.same clean_second has in
+    let same_third : IsUnchanged old third = three.same clean_third has in
+    let has_first : HasTables first = tables_still old first has same_first in
+    let has_second : HasTables second = tables_still old second has same_second in
+    let has_third : HasTables third = tables_still old third has same_third in
+    all_read old _ _ _ _ _ _ _ _
+    (c.in_ok-returns.ensures.first clean_first has) (c.in_ok-returns.ensures.second clean_first has)
+    (read_before Cons old first _ same_first (c.in_ok-cons.ensures.first clean_second has_first)) (read_before Totals old first _ same_first (c.in_ok-cons.ensures.second clean_second has_first))
+    (read_before Lots old second _ same_second (c.in_ok-lots.ensures.first clean_third has_second)) (read_before Seats old second _ same_second (c.in_ok-lots.ensures.second clean_third has_second))
+    (read_before Gone old third _ same_third (c.in_ok-gone.ensures.first clean has_third)) (read_before Past old third _ same_third (c.in_ok-gone.ensures.second clean has_third))

@@ -1,0 +1,84 @@
+-- A command line that is not carried out.
+use Rattle.std.proofs.Common.{◌≡◌, ℕ, List, Option, Some, None, Err, refl, sym, subst, inl, inr, codes}
+use Rattle.tally_commands.specs.Told.{Told}
+use Rattle.tally_commands.specs.Imported.{IsCountText}
+use Rattle.tally_commands.specs.Made.{IsMadeText}
+use Rattle.tally_commands.specs.Served.{IsServedText}
+use Rattle.tally_commands.specs.declared.trouble.Trouble.TheVariants as trouble
+use Rattle.tally_line.specs.Line.{CheckSeen, ImportSeen, IsRefusal, LineSeen, NewSeen, ServeSeen, ShowSeen, line_of}
+use Rattle.tally_line.specs.declared.line.LineFault.{LineFault}
+use Rattle.tally_line.specs.declared.line.LineFault.TheVariants.{Usage, NoCon, Memory}
+use Rattle.tally_line.proofs.CommandLemmas.{lacks_con_alone}
+use Rattle.tally_program.specs.Commands.{Bytes, IsAnyText}
+use Rattle.tally_program.specs.Perform.{Performs, PerformsLine, fault_status}
+use Rattle.tally_program.proofs.WrittenLemmas.{any, counted, made, served, unwritten}
+
+-- out of memory, whatever the words ask for
+pub without-memory : {R W E : Type 0} (left : Bytes R) (held : Bytes W) (told : Bytes E) (words : List (List ℕ)) (line : Option LineSeen)
+    (i : R) (o : W) (before after : E) → Told (told before) (told after) (codes "failed: memory\n")
+    → PerformsLine left held told words line (record { input = i; output = o; errors = before }) (record { input = i; output = o; errors = after }) 3
+without-memory left held told words (Some (CheckSeen sep)) i o before after so =
+    inr (record { input = refl; output = refl }, record { told_so = so; gives = refl })
+without-memory left held told words (Some (NewSeen db setup)) i o before after so = record {
+  outcome = Err trouble.Memory;
+  named = inl (inl (inl refl));
+  written = unwritten held IsMadeText made o trouble.Memory;
+  errors = so;
+  gives = refl;
+  unread = refl;
+}
+without-memory left held told words (Some (ImportSeen db con csv sep)) i o before after so = record {
+  outcome = Err trouble.Memory;
+  named = inr (inl (inl (inl refl)));
+  written = unwritten held IsCountText counted o trouble.Memory;
+  errors = so;
+  gives = refl;
+  unread = refl;
+}
+without-memory left held told words (Some (ShowSeen db name con)) i o before after so = record {
+  outcome = Err trouble.Memory;
+  named = inl (inr (inr (inr (inl refl))));
+  written = unwritten held IsAnyText any o trouble.Memory;
+  errors = so;
+  gives = refl;
+  unread = refl;
+}
+without-memory left held told words (Some (ServeSeen db port count)) i o before after so = record {
+  outcome = Err trouble.Memory;
+  named = inr (inl (inl refl));
+  written = unwritten held (IsServedText count) (served count) o trouble.Memory;
+  gives = refl;
+  unread = refl;
+}
+without-memory left held told words None i o before after so = record {
+  untouched = record { input = refl; output = refl };
+  refused = inr (record { told_so = so; gives = refl });
+  no_con = λ lacks. inr (record { told_so = so; gives = refl });
+}
+
+-- words for which there is no line, and what is told of them
+pub refused : {R W E : Type 0} (left : Bytes R) (held : Bytes W) (told : Bytes E) (words : List (List ℕ)) (fault : LineFault)
+    (i : R) (o : W) (before after : E) (status : ℕ) → IsRefusal words fault → status ≡ fault_status fault
+    → (status ≡ 3 → Told (told before) (told after) (codes "failed: memory\n"))
+    → (fault ≡ NoCon → Told (told before) (told after) (codes "missing --con\n"))
+    → Performs left held told words (record { input = i; output = o; errors = before }) (record { input = i; output = o; errors = after }) status
+refused left held told words Memory i o before after status is gives memory con =
+    subst (λ (n : ℕ). PerformsLine left held told words (line_of words) (record { input = i; output = o; errors = before }) (record { input = i; output = o; errors = after }) n)
+    (sym gives) (without-memory left held told words (line_of words) i o before after (memory gives))
+refused left held told words NoCon i o before after status is gives memory con =
+    subst (λ (l : Option LineSeen). PerformsLine left held told words l (record { input = i; output = o; errors = before }) (record { input = i; output = o; errors = after }) status)
+    (sym is.0) (record {
+      untouched = record { input = refl; output = refl };
+      refused = inl gives;
+      no_con = λ lacks. inl (record { told_so = con refl; gives = gives });
+    })
+refused left held told words (Usage e) i o before after status is gives memory con =
+    subst (λ (l : Option LineSeen). PerformsLine left held told words l (record { input = i; output = o; errors = before }) (record { input = i; output = o; errors = after }) status)
+    (sym is.0) (record {
+      untouched = record { input = refl; output = refl };
+      refused = inl gives;
+      no_con = λ lacks. elim (lacks_con_alone words (Usage e) lacks is) [
+        | inl other ↦ cc
+        | inr other ↦ cc
+      ];
+    })

@@ -1,0 +1,34 @@
+//! A reader whose reads fail.
+
+use std::io::{self, ErrorKind, Read};
+
+/// Gives a text; then so many reads fail; then, where it is read again, it gives another text and
+/// ends.
+#[derive(Drop)]
+pub struct Failing<'a> {
+    /// What comes before the reads that fail.
+    pub front: &'a [u8],
+    /// How many reads fail.
+    pub failures: u32,
+    /// How they fail.
+    pub kind: ErrorKind,
+    /// What comes after them.
+    pub back: &'a [u8],
+}
+
+impl Read for Failing<'_> {
+    fn read(&mut self, buf: &mut [u8]) -> io::Result<usize> {
+        if self.front.is_empty() {
+            if self.failures > 0 {
+                self.failures -= 1;
+                return Err(io::Error::from(self.kind));
+            }
+            self.front = self.back;
+            self.back = &[];
+        }
+        let taken = buf.len().min(self.front.len());
+        buf[..taken].copy_from_slice(&self.front[..taken]);
+        self.front = &self.front[taken..];
+        Ok(taken)
+    }
+}

@@ -1,0 +1,37 @@
+use Rattle.std.proofs.Common.{arith, sym, subst}
+use Rattle.std.proofs.lemmas.Result.{IfOk-weaker}
+use Rattle.sqlite.specs.Effect.{Database}
+use Rattle.sqlite.specs.State.{HasCleanDisk, IsUnchanged}
+use Rattle.sqlite.specs.Held.{state}
+use Rattle.tally_requests.specs.Inside.{IsLawfulInside}
+use Rattle.tally_statements.proofs.StaysLemmas.{stays-then}
+use Rattle.tally_tables.specs.TablesOfState.{AreTables}
+use Rattle.tally_store.proofs.RequestLemmas.{inside_still, lawful_still, on_ok, stays_in_state}
+use Rattle.tally_store.proofs.requests.take_open.Goals as goal
+
+pub returns-in-Ok-clause-stays : goal.returns-in-Ok-clause-stays
+returns-in-Ok-clause-stays g c =
+    let setup = c.args.setup.now in
+    let old = state g.S.Store c.args.tx.now.conn.now in
+    let mid = state g.S.Store c.see_open.new.tx.conn.now in
+    stays-then (IsLawfulInside setup) (IsLawfulInside setup) g.S.Store c.args.tx.now c.see_open.new.tx c.take_rows.new.tx (λ early at. lawful_still setup old mid (c.in-Ok.ensures.reads.same early at.inside) at)
+    (stays_in_state setup g.S.Store c.args.tx.now c.see_open.new.tx c.in-Ok.ensures.reads.stays) c.take_rows.ensures.stays
+
+pub returns-in-Ok-clause-was_open : goal.returns-in-Ok-clause-was_open
+returns-in-Ok-clause-was_open g c clean =
+    let mid = state g.S.Store c.see_open.new.tx.conn.now in
+    let early : HasCleanDisk mid = omega (arith, clean, c.take_rows.ensures.stays.survives.clean) in
+    on_ok c.take_rows.result (c.in-Ok.ensures.reads.answered_open early)
+
+pub returns-in-Ok-clause-imported : goal.returns-in-Ok-clause-imported
+returns-in-Ok-clause-imported g c clean inside =
+    let setup = c.args.setup.now in
+    let old = state g.S.Store c.args.tx.now.conn.now in
+    let mid = state g.S.Store c.see_open.new.tx.conn.now in
+    let early : HasCleanDisk mid = omega (arith, clean, c.take_rows.ensures.stays.survives.clean) in
+    let same : IsUnchanged old mid = c.in-Ok.ensures.reads.same early inside in
+    IfOk-weaker c.take_rows.result _ _ (λ r imported text s lawful tables. imported text s lawful (subst (λ (d : Database). AreTables setup text s d.trees) (sym same.0.now_is) tables))
+    (c.take_rows.ensures.imported clean (inside_still old mid same inside))
+
+pub returns-in-Err-clause-stays : goal.returns-in-Err-clause-stays
+returns-in-Err-clause-stays g c = stays_in_state c.args.setup.now g.S.Store c.args.tx.now c.see_open.new.tx c.in-Err.ensures.reads.stays
