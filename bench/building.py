@@ -10,6 +10,7 @@ measurement keep their seconds: of a crate that was taken over, or proved over w
 """
 
 import argparse
+import hashlib
 import json
 import os
 import shutil
@@ -69,6 +70,54 @@ def build_office(folder, name, libraries, modules=()):
         if not built.is_file():
             sys.exit(f"{name} is not built:\n{ran.stdout[-3000:]}{ran.stderr[-3000:]}")
         return shutil.copy(built, folder / name)
+
+
+class Kept:
+    """A program beside the office that is kept in `bench/out` with a checksum of what it is made of, so that it is built again only
+    where that changed. Libraries are named as `build_office` names them."""
+
+    def __init__(self, name, libraries, modules=()):
+        self.name, self.libraries, self.modules = name, libraries, modules
+        self.path = HERE / "out" / name
+        self.sum = self.path.with_suffix(".sum")
+
+    def crates(self):
+        """The crates that it is made of."""
+        lines = [line.partition(":") for line in (ROOT / "crates.txt").read_text().splitlines()]
+        below = {name: deps.split() for name, _, deps in lines}
+        found, left = set(), [library.rpartition("/")[2] for library in self.libraries]
+        while left:
+            name = left.pop()
+            if name in below and name not in found:
+                found.add(name)
+                left += below[name]
+        return sorted(found)
+
+    def sum_of_sources(self):
+        """A checksum of its source, of those of the crates below it, and of the toolchain, by its name."""
+        found = hashlib.sha256(subprocess.run(["rt", "version"], capture_output=True, check=True).stdout)
+        files = [HERE / f"{self.name}.rattle", *self.modules]
+        for crate in self.crates():
+            parts = [ROOT / "crates" / crate / part for part in ("src", "specs", "proofs")]
+            files += [it for part in parts for it in sorted(part.rglob("*")) if it.is_file()]
+        for file in files:
+            found.update(f"{file.relative_to(ROOT)}\n".encode() + hashlib.sha256(file.read_bytes()).digest())
+        return found.hexdigest()
+
+    def is_kept(self):
+        """Whether a program of these sources is kept."""
+        if not (shutil.which("rt") and self.sum.is_file() and self.path.is_file()):
+            return False
+        return self.sum.read_text() == self.sum_of_sources()
+
+    def built(self):
+        """The program, which is built where none of these sources is kept."""
+        if not self.is_kept():
+            sources = self.sum_of_sources()
+            self.path.parent.mkdir(exist_ok=True)
+            build_office(self.path.parent, self.name, self.libraries, self.modules)
+            self.sum.write_text(sources)
+        return self.path
 
 
 @contextmanager

@@ -19,10 +19,7 @@ needed, as `cc`. The last line is `N passed, M failed, K skipped`: scripts and t
 """
 
 import argparse
-import hashlib
 import re
-import shutil
-import subprocess
 import sys
 import tempfile
 from collections import Counter
@@ -30,20 +27,18 @@ from pathlib import Path
 
 # What is imported from here is not to be left beside it in compiled form.
 sys.dont_write_bytecode = True
-from building import build_office
+from building import Kept
 from refused_memory import WHOLE, NotPromised, Runs, each_judged, ended, has_no_compiler, library_in, told_of
 
 BENCH = Path(__file__).resolve().parent
 CRATES = BENCH.parent / "crates"
 
-LIBRARIES = ("tally_core", "tally_import", "tally_rules", "tally_scripts")
-
-# The program that was built last, and the checksum of what it was made of.
-KEPT = BENCH / "out" / "refused_office"
-KEPT_SUM = KEPT.with_suffix(".sum")
-
-# The module of the tests that the program has too.
-MODULES = [CRATES / "tally_core_tests" / "src" / "setups.rt"]
+# The program that was built last. It has a module of the tests too.
+KEPT = Kept(
+    "refused_office",
+    [f"//crates/{crate}" for crate in ("tally_core", "tally_import", "tally_rules", "tally_scripts")],
+    [CRATES / "tally_import_tests" / "src" / "setups.rt"],
+)
 
 # The answers of the program where it is refused memory itself.
 OWN_ERRORS = {
@@ -182,45 +177,6 @@ def outcome(task, answer, ample):
     return None, None
 
 
-def crates_below():
-    """The crates that the program is made of."""
-    lines = [line.partition(":") for line in (CRATES.parent / "crates.txt").read_text().splitlines()]
-    below = {name: deps.split() for name, _, deps in lines}
-    found, left = set(), list(LIBRARIES)
-    while left:
-        name = left.pop()
-        if name in below and name not in found:
-            found.add(name)
-            left += below[name]
-    return sorted(found)
-
-
-def sum_of_sources():
-    """A checksum of all that the program is made of: its source, those of the crates below it, and the toolchain, by its name."""
-    found = hashlib.sha256(subprocess.run(["rt", "version"], capture_output=True, check=True).stdout)
-    files = [BENCH / "refused_office.rattle", *MODULES]
-    for crate in crates_below():
-        files += [it for part in ("src", "specs", "proofs") for it in sorted((CRATES / crate / part).rglob("*")) if it.is_file()]
-    for file in files:
-        found.update(f"{file.relative_to(CRATES.parent)}\n".encode() + hashlib.sha256(file.read_bytes()).digest())
-    return found.hexdigest()
-
-
-def is_kept():
-    """Whether a program of these sources is kept."""
-    return shutil.which("rt") and KEPT_SUM.is_file() and KEPT.is_file() and KEPT_SUM.read_text() == sum_of_sources()
-
-
-def built():
-    """The program, which is built where none of these sources is kept."""
-    if not is_kept():
-        sources = sum_of_sources()
-        KEPT.parent.mkdir(exist_ok=True)
-        build_office(KEPT.parent, KEPT.name, [f"//crates/{crate}" for crate in LIBRARIES], MODULES)
-        KEPT_SUM.write_text(sources)
-    return KEPT
-
-
 def main():
     words = argparse.ArgumentParser(description=__doc__.splitlines()[0])
     words.add_argument("--program", type=Path, help="the program that asks, as it was built before")
@@ -229,10 +185,10 @@ def main():
     given = words.parse_args()
     if has_no_compiler():
         return ended(0, 0, 1)
-    if given.built and not given.program and not is_kept():
+    if given.built and not given.program and not KEPT.is_kept():
         print("skipped: no program of these sources is kept; bench/refused_requests.py proves and builds one")
         return ended(0, 0, 1)
-    program = (given.program or built()).resolve()
+    program = (given.program or KEPT.built()).resolve()
     with tempfile.TemporaryDirectory() as folder:
         folder = Path(folder)
         runs = Runs(library_in(folder))

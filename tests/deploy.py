@@ -1121,8 +1121,8 @@ def test_pages_that_are_written_again_and_again():
 
 # How many stations each of the 52 constituencies has. With 1154 they are a country of 60,000, which takes some minutes.
 COUNTRY_STATIONS = int(os.environ.get("COUNTRY_STATIONS", 20))
-# What a round of the pages may cost the office: so many seconds of the processor, and of few stations one request of it so
-# many times as much as the request for a return.
+# What a round of the pages may cost the office, however many stations there are: so many seconds of the processor, and one
+# request of it so many times as much as the request for a return.
 ROUND_SECONDS = 5
 BESIDE_A_RETURN = 10
 
@@ -1184,7 +1184,7 @@ def test_a_country_of_52():
               f"that of a return {of_return * 1e3:.2f} ms; {last.split(' in ')[1]} by the clock")
         look_at_country(returns, sums)
         assert took < ROUND_SECONDS, f"{took} s of the office"
-        assert COUNTRY_STATIONS > 20 or took < 469 * BESIDE_A_RETURN * of_return, f"{took} s, and a return {of_return} s"
+        assert took < 469 * BESIDE_A_RETURN * of_return, f"{took} s, and a return {of_return} s"
         # With the setup every return is published too.
         last = press(desk.port, "--setup", "setup.toml")
         assert f" pages 53 failed 0 GETs {469 + 52 * (COUNTRY_STATIONS + 1)} " in last, last

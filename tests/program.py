@@ -1333,12 +1333,19 @@ def test_the_plain_office():
         same(poll("dhondt", 1, votes, blank=100, threshold=300).eligible, eligible)
 
 
-def answered_as(plain, db, requests):
-    """Sends requests to a server: each answer is that of the plain office, which is asked first, so that requests may come of its state."""
+def answered_as(plain, db, requests, anew=()):
+    """Sends requests to a server: each answer is that of the plain office, which is asked first, so that requests may come of its state.
+    A new server is begun for each request whose path ends in one of these words."""
     steps = [(request, plain.ask(*request)) for request in requests]
-    with serving(db, len(steps)) as desk:
-        for (method, path, body), answer in steps:
-            same((path, *desk.ask(method, path, body)[::2]), (path, *answer))
+    parts = [[]]
+    for step in steps:
+        if parts[-1] and step[0][1].endswith(anew):
+            parts.append([])
+        parts[-1].append(step)
+    for part in parts:
+        with serving(db, len(part)) as desk:
+            for (method, path, body), answer in part:
+                same((path, *desk.ask(method, path, body)[::2]), (path, *answer))
     return [(path, *answer) for (_, path, _), answer in steps]
 
 
@@ -1496,11 +1503,12 @@ def requests_on_five_thousand(con):
 
 
 def test_an_office_of_five_thousand_stations():
-    """As many as a constituency may have, each with as many votes as it may have, while it is served and after it is opened again."""
+    """As many as a constituency may have, each with as many votes as it may have. It is closed, certified, imported into, opened again
+    and corrected while it is served; each certificate and each reopening is the first that an office just opened is asked."""
     setup = five_thousand_stations()
     plain = model.Office(tomllib.loads(setup))
     new(setup)
-    answers = answered_as(plain, "office.db", requests_on_five_thousand(plain.cons["c1"]))
+    answers = answered_as(plain, "office.db", requests_on_five_thousand(plain.cons["c1"]), ("/certify", "/reopen"))
     first, second = (text for path, status, text in answers if path == "/con/c1/awards" and status == 200)
     same(first.splitlines()[-1], " 500 A                500    5000000000   500    10000000")
     same([line.split()[1] for line in second.splitlines()[1:]].count("B"), 1)

@@ -1,7 +1,7 @@
 -- The rule of a method, where its divisor rule is known.
 use Rattle.std.proofs.Common.{◌≡◌, ◌+◌, ◌-◌, ◌*◌, ◌≤◌, ◌⊎◌, Option, sym, ap, ◌∙◌, inl, inr, arith}
 use Rattle.std.proofs.lemmas.Bool.{cases_eq}
-use Rattle.tally_frac.specs.DivisorLaws.{first_is, later_is}
+use Rattle.tally_frac.specs.internal.DivisorLaws.{first_is, later_is}
 use Rattle.tally_frac.specs.Divisors.{modified_sainte_lague_divisor}
 use Rattle.tally_rules.specs.declared.profile.LotRule.{LotRule}
 use Rattle.tally_rules.specs.declared.profile.Method.{Method}

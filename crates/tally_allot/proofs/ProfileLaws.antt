@@ -5,7 +5,7 @@ use Rattle.std.proofs.lemmas.List.{get_or-map, length-map, get_or_past}
 use Rattle.tally_rules.specs.Threshold.{is_eligible, base_of}
 use Rattle.tally_rules.specs.declared.profile.Base.{Base}
 use Rattle.tally_rules.specs.declared.profile.Base.TheVariants.{Valid, Lists}
-use Rattle.tally_frac.specs.DivisorLaws.{modified-positive, modified-rises}
+use Rattle.tally_frac.specs.internal.DivisorLaws.{modified-positive, modified-rises}
 use Rattle.tally_rules.specs.declared.profile.LotRule.{LotRule}
 use Rattle.tally_rules.specs.declared.profile.Method.{Method}
 use Rattle.tally_rules.specs.declared.profile.Method.TheVariants.{DHondt, SainteLague, ModifiedSainteLague, Hare}

@@ -2,8 +2,8 @@
 use Rattle.std.proofs.Common.{◌≡◌, ℕ, zero, suc, ◌+◌, ◌<◌, Bool, true, false, ◌||◌, List, [], ◌∷◌, ◌++◌, length, take, get_or, slice_index_or, refl, ap, sym, append_assoc, append-nil, ◌∙◌, arith}
 use Rattle.std.specs.List.{flat_map}
 use Rattle.tally_rules.specs.Constituency.{ListEntry}
-use Rattle.tally_answer.specs.Outcome.{marked, quoted_code, next_code, separated}
-use Rattle.tally_answer.specs.Group.{is_begun, code_of}
+use Rattle.tally_answer.specs.Outcome.{marked_lists, quoted_code, next_code, quoted_codes}
+use Rattle.tally_answer.specs.internal.Group.{is_begun, code_of}
 
 -- the list, where it is marked
 abbrev chosen : Bool → ListEntry → List ListEntry
@@ -11,7 +11,7 @@ chosen true list = list ∷ []
 chosen false list = []
 
 marked_next : (lists : List ListEntry) (marks : List Bool) (i : ℕ) (d : ListEntry) → i < length lists
-    → marked (take (suc i) lists) marks ≡ marked (take i lists) marks ++ chosen (slice_index_or marks i false) (get_or lists i d)
+    → marked_lists (take (suc i) lists) marks ≡ marked_lists (take i lists) marks ++ chosen (slice_index_or marks i false) (get_or lists i d)
 marked_next [] marks i d within = absurd (omega (arith, within))
 marked_next (list ∷ lists) [] zero d within = refl
 marked_next (list ∷ lists) [] (suc i) d within = refl
@@ -24,8 +24,8 @@ more : (xs : List ListEntry) (x : ListEntry) → flat_map next_code (xs ++ x ∷
 more [] x = append-nil (next_code x)
 more (y ∷ xs) x = ap (λ t. next_code y ++ t) (more xs x) ∙ sym (append_assoc (next_code y) (flat_map next_code xs) (next_code x))
 
-separated_next : (xs : List ListEntry) (mark : Bool) (x : ListEntry) → separated (xs ++ chosen mark x) ≡ separated xs ++ code_of (is_begun xs) mark x
-separated_next xs false x = ap separated (append-nil xs) ∙ sym (append-nil (separated xs))
+separated_next : (xs : List ListEntry) (mark : Bool) (x : ListEntry) → quoted_codes (xs ++ chosen mark x) ≡ quoted_codes xs ++ code_of (is_begun xs) mark x
+separated_next xs false x = ap quoted_codes (append-nil xs) ∙ sym (append-nil (quoted_codes xs))
 separated_next [] true x = append-nil (quoted_code x)
 separated_next (y ∷ xs) true x = ap (λ t. quoted_code y ++ t) (more xs x) ∙ sym (append_assoc (quoted_code y) (flat_map next_code xs) (next_code x))
 
@@ -39,13 +39,13 @@ one_more i = omega arith
 
 -- one more list
 pub written_next : (lists : List ListEntry) (marks : List Bool) (i : ℕ) (d : ListEntry) → i < length lists
-    → separated (marked (take (i + 1) lists) marks) ≡ separated (marked (take i lists) marks) ++ code_of (is_begun (marked (take i lists) marks)) (slice_index_or marks i false) (get_or lists i d)
+    → quoted_codes (marked_lists (take (i + 1) lists) marks) ≡ quoted_codes (marked_lists (take i lists) marks) ++ code_of (is_begun (marked_lists (take i lists) marks)) (slice_index_or marks i false) (get_or lists i d)
 written_next lists marks i d within =
-    ap (λ (n : ℕ). separated (marked (take n lists) marks)) (one_more i)
-    ∙ ap separated (marked_next lists marks i d within) ∙ separated_next (marked (take i lists) marks) (slice_index_or marks i false) (get_or lists i d)
+    ap (λ (n : ℕ). quoted_codes (marked_lists (take n lists) marks)) (one_more i)
+    ∙ ap quoted_codes (marked_next lists marks i d within) ∙ separated_next (marked_lists (take i lists) marks) (slice_index_or marks i false) (get_or lists i d)
 
 pub begun_by : (lists : List ListEntry) (marks : List Bool) (i : ℕ) (d : ListEntry) → i < length lists
-    → is_begun (marked (take (i + 1) lists) marks) ≡ (is_begun (marked (take i lists) marks) || slice_index_or marks i false)
+    → is_begun (marked_lists (take (i + 1) lists) marks) ≡ (is_begun (marked_lists (take i lists) marks) || slice_index_or marks i false)
 begun_by lists marks i d within =
-    ap (λ (n : ℕ). is_begun (marked (take n lists) marks)) (one_more i)
-    ∙ ap is_begun (marked_next lists marks i d within) ∙ begun_next (marked (take i lists) marks) (slice_index_or marks i false) (get_or lists i d)
+    ap (λ (n : ℕ). is_begun (marked_lists (take n lists) marks)) (one_more i)
+    ∙ ap is_begun (marked_next lists marks i d within) ∙ begun_next (marked_lists (take i lists) marks) (slice_index_or marks i false) (get_or lists i d)

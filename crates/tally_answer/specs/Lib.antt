@@ -1,6 +1,6 @@
+pub mod internal
 pub mod Answer
 pub mod Outcome
 pub mod Words
 pub mod Import
-pub mod Group
 pub mod Shown

@@ -39,11 +39,11 @@ status_word of_return.Corrected = codes "corrected"
 status_word of_return.Closed = codes "closed"
 
 -- the lists that are marked, in order
-abbrev pub marked : List ListEntry → List Bool → List ListEntry
-marked [] marks = []
-marked (list ∷ lists) [] = []
-marked (list ∷ lists) (true ∷ marks) = list ∷ marked lists marks
-marked (list ∷ lists) (false ∷ marks) = marked lists marks
+abbrev pub marked_lists : List ListEntry → List Bool → List ListEntry
+marked_lists [] marks = []
+marked_lists (list ∷ lists) [] = []
+marked_lists (list ∷ lists) (true ∷ marks) = list ∷ marked_lists lists marks
+marked_lists (list ∷ lists) (false ∷ marks) = marked_lists lists marks
 
 abbrev pub quoted_code : ListEntry → List ℕ
 quoted_code list = codes "\"" ++ list.code ++ codes "\""
@@ -52,13 +52,13 @@ abbrev pub next_code : ListEntry → List ℕ
 next_code list = codes "," ++ quoted_code list
 
 -- codes in quotes, with commas between them
-abbrev pub separated : List ListEntry → List ℕ
-separated [] = []
-separated (list ∷ lists) = quoted_code list ++ flat_map next_code lists
+abbrev pub quoted_codes : List ListEntry → List ℕ
+quoted_codes [] = []
+quoted_codes (list ∷ lists) = quoted_code list ++ flat_map next_code lists
 
 -- the codes of a group of lists, in order of place
 abbrev pub group_text : List ListEntry → List Bool → List ℕ
-group_text lists group = codes "[" ++ separated (marked lists group) ++ codes "]"
+group_text lists group = codes "[" ++ quoted_codes (marked_lists lists group) ++ codes "]"
 
 -- the status and the JSON of a refusal in a constituency with these lists
 abbrev pub refusal_answer : List ListEntry → Refusal → AnswerStatus × List ℕ

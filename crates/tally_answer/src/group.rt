@@ -1,8 +1,8 @@
 //! The codes of a group of lists.
 
 ghost use Rattle.std.specs.Prelude.{◌≡◌, ◌≤◌, ◌+◌, ◌++◌, ◌||◌, length, vec_len, vec_capacity};
-ghost use Rattle.tally_answer.specs.Outcome.{group_text, marked, quoted_code, separated};
-ghost use Rattle.tally_answer.specs.Group.{code_of};
+ghost use Rattle.tally_answer.specs.Outcome.{group_text, marked_lists, quoted_code, quoted_codes};
+ghost use Rattle.tally_answer.specs.internal.Group.{code_of};
 
 use crate::push::push;
 use tally_returns::ListSet;
@@ -44,7 +44,8 @@ fn push_marked(out: &mut Vec<u8>, list: &ListEntry, others: bool, mark: bool) ->
 fn push_members(out: &mut Vec<u8>, lists: &[ListEntry], group: &ListSet)
     requires few { length lists.now ≤ 60 }
     requires room { vec_len out.old + 1140 ≤ vec_capacity out.old }
-    ensures items { out.new.items ≡ out.old.items ++ separated (marked lists.now group.now) }
+    ensures items { out.new.items ≡
+        out.old.items ++ quoted_codes (marked_lists lists.now group.now) }
     ensures len { vec_len out.new ≤ vec_len out.old + 1140 }
     ensures room { vec_capacity out.old ≤ vec_capacity out.new }
 {

@@ -47,8 +47,8 @@ pub enum Word {
 }
 
 /// The answer where a request was not accepted, which takes no memory.
-const UNAVAILABLE: &[u8] =
-    b"HTTP/1.1 503 Service Unavailable\r\nContent-Type: application/json\r\nContent-Length: 22\r\nConnection: close\r\n\r\n{\"word\":\"unavailable\"}";
+const UNAVAILABLE: &[u8] = b"HTTP/1.1 503 Service Unavailable\r\nContent-Type: application/json\r\n\
+      Content-Length: 22\r\nConnection: close\r\n\r\n{\"word\":\"unavailable\"}";
 
 fn status_of_word(word: Word) -> AnswerStatus
     ensures { result ≡ (word_answer word).0 }

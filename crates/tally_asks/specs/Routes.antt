@@ -110,9 +110,9 @@ code_behind prefix target =
     option_and_then (λ rest. code_of (before_slash rest)) (rest_after prefix target)
 
 -- the station that a target names
-abbrev pub station_in : List ℕ → Option (List ℕ)
-station_in target = code_behind (codes "/station/") target
+abbrev pub station_of_target : List ℕ → Option (List ℕ)
+station_of_target target = code_behind (codes "/station/") target
 
 -- the constituency that a target names
-abbrev pub con_in : List ℕ → Option (List ℕ)
-con_in target = code_behind (codes "/con/") target
+abbrev pub con_of_target : List ℕ → Option (List ℕ)
+con_of_target target = code_behind (codes "/con/") target

@@ -8,4 +8,4 @@ mod target;
 
 pub use asks::{ask_on_con, ask_on_station};
 pub use routes::{ConCommand, Route, StationCommand, desk_router, route_of, takes, takes_get};
-pub use target::{con_in, station_in};
+pub use target::{con_of_target, station_of_target};

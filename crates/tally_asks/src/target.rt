@@ -1,7 +1,7 @@
 //! The code in a target.
 
 ghost use Rattle.std.specs.Prelude.{◌≡◌, ◌≤◌, ◌==◌, IfSome, length, position};
-ghost use Rattle.tally_asks.specs.Routes.{before_slash, code_behind, station_in, con_in};
+ghost use Rattle.tally_asks.specs.Routes.{before_slash, code_behind, station_of_target, con_of_target};
 
 use tally_rules::Code;
 
@@ -30,16 +30,16 @@ fn code_behind(target: &[u8], prefix: &[u8]) -> Option<Code>
 
 /// The station that a target names: what is between `/station/` and the next slash, if it is a
 /// code.
-pub fn station_in(target: &[u8]) -> Option<Code>
-    ensures { result ≡ station_in target.now }
+pub fn station_of_target(target: &[u8]) -> Option<Code>
+    ensures { result ≡ station_of_target target.now }
 {
     code_behind(target, b"/station/")
 }
 
 /// The constituency that a target names: what is between `/con/` and the next slash, if it is a
 /// code.
-pub fn con_in(target: &[u8]) -> Option<Code>
-    ensures { result ≡ con_in target.now }
+pub fn con_of_target(target: &[u8]) -> Option<Code>
+    ensures { result ≡ con_of_target target.now }
 {
     code_behind(target, b"/con/")
 }

@@ -5,7 +5,7 @@ use Rattle.tally_rules.specs.Setup.{constituency_with}
 use Rattle.tally_records.specs.declared.separator.Sep.{Sep}
 use Rattle.tally_returns.specs.State.{State}
 use Rattle.tally_keeper.specs.Keeper.{Imports}
-use Rattle.tally_keeper.specs.Source.{Coming, Ending}
+use Rattle.tally_keeper.specs.Source.{Coming, Delivery}
 use Rattle.tally_keeper.specs.declared.import.ImportCount.{ImportCount}
 use Rattle.tally_keeper.specs.declared.source.ImportFault.{ImportFault}
 use Rattle.tally_import.specs.Check.{count_text}
@@ -23,16 +23,24 @@ IsFindTrouble (Some con) t = t ≡ Memory
 abbrev pub IsCountText : List ℕ → Type 0
 IsCountText text = (count : ImportCount) × (text ≡ count_text count)
 
--- All rows that come were imported, where it is known what comes, and the text is the six lines of
--- their count.
-abbrev pub IsImported : List Constituency → Option State → Option Coming → List ℕ → Option State → Type 0
-IsImported setup old known text new =
-    (ended : Ending) × (count : ImportCount) × Imports setup old known ended (Ok count) new × (text ≡ count_text count)
+-- All rows that a source gave within a call were imported, and the text is the six lines of their
+-- count.
+abbrev pub IsImported : List Constituency → Option State → Delivery → List ℕ → Option State → Type 0
+IsImported setup old d text new =
+    (count : ImportCount) × Imports setup old d (Ok count) new × (text ≡ count_text count)
 
--- The import had a fault: it changed nothing, unless a disk that failed has shut the keeper.
-abbrev pub IsImportTrouble : List Constituency → Option State → Option Coming → Trouble → Option State → Type 0
-IsImportTrouble setup old known t new =
-    (ended : Ending) × (fault : ImportFault) × Imports setup old known ended (Err fault) new × (t ≡ import_trouble fault)
+-- The import had a fault, and the trouble is that of this fault. It changed nothing, unless a disk
+-- that failed has shut the keeper.
+abbrev pub IsImportTrouble : List Constituency → Option State → Delivery → Trouble → Option State → Type 0
+IsImportTrouble setup old d t new =
+    (fault : ImportFault) × Imports setup old d (Err fault) new × (t ≡ import_trouble fault)
+
+-- the same of a source of which this was known
+abbrev pub IsImportedComing : List Constituency → Option State → Option Coming → List ℕ → Option State → Type 0
+IsImportedComing setup old known text new = (d : Delivery) × (d.start.coming ≡ known) × IsImported setup old d text new
+
+abbrev pub IsTroubleComing : List Constituency → Option State → Option Coming → Trouble → Option State → Type 0
+IsTroubleComing setup old known t new = (d : Delivery) × (d.start.coming ≡ known) × IsImportTrouble setup old d t new
 
 -- ---- texts of which the bytes may be known
 
@@ -45,12 +53,12 @@ coming_of con sep bytes = option_map (text_coming con sep) bytes
 abbrev pub IsTextImported : List ℕ → Sep → Option (List ℕ) → List Constituency → Option State → List ℕ → Option State → Type 0
 IsTextImported code sep bytes setup old lines new =
     (con : Constituency) × (constituency_with code setup ≡ Some con)
-    × IsImported setup old (coming_of con sep bytes) lines new
+    × IsImportedComing setup old (coming_of con sep bytes) lines new
 
 -- No constituency has the code, and nothing was done; or the import had a fault.
 abbrev pub IsTroubleIn : Option Constituency → Sep → Option (List ℕ) → List Constituency → Option State → Trouble → Option State → Type 0
 IsTroubleIn None sep bytes setup old t new = (t ≡ NoConstituency) × (new ≡ old)
-IsTroubleIn (Some con) sep bytes setup old t new = IsImportTrouble setup old (coming_of con sep bytes) t new
+IsTroubleIn (Some con) sep bytes setup old t new = IsTroubleComing setup old (coming_of con sep bytes) t new
 
 -- Why the rows of a text were not imported into the constituency of this code.
 abbrev pub IsTextTrouble : List ℕ → Sep → Option (List ℕ) → List Constituency → Option State → Trouble → Option State → Type 0

@@ -70,6 +70,10 @@ IsProgressTrouble setup old other new = ⊥
 
 -- ---- words of private contracts
 
+-- it holds of the constituency of this code, where there is one
+abbrev pub OfCon : List Constituency → List ℕ → (Constituency → Type 0) → Type 0
+OfCon setup code Holds = (con : Constituency) → constituency_with code setup ≡ Some con → Holds con
+
 -- the trouble where a report has this fault, or none
 abbrev pub IsWithheld : Option ReportFault → Trouble → Type 0
 IsWithheld (Some why) t = t ≡ report_trouble why

@@ -2,8 +2,9 @@
 
 ghost use Rattle.std.specs.Prelude.{◌≡◌, IfErr, IfOk, Some, is_some, string_bytes};
 ghost use Rattle.tally_rules.specs.Setup.{constituency_with};
+ghost use Rattle.tally_keeper.specs.Delivery.{delivery};
 ghost use Rattle.tally_commands.specs.Imported.{IsCountText, IsFindTrouble, IsImportTrouble, IsImported};
-ghost use Rattle.tally_commands.specs.Imported.{IsTextImported, IsTextTrouble, coming_of};
+ghost use Rattle.tally_commands.specs.Imported.{IsImportedComing, IsTextImported, IsTextTrouble, IsTroubleComing, coming_of};
 ghost use Rattle.tally_commands.specs.Trouble.{IsTroubleOfText, IsTroubleOfRows};
 
 use crate::named::con_named;
@@ -12,7 +13,7 @@ use crate::trouble::Trouble;
 use std::alloc::Global;
 use std::io::Read;
 use tally_import::{ReturnRows, Sep};
-use tally_keeper::Keeper;
+use tally_keeper::{Keeper, RowSource};
 use tally_rules::{Constituency, Setup};
 
 /// The most bytes that the counts of an import have as text.
@@ -54,20 +55,20 @@ pub fn import_text<K: Keeper, R: Read + Drop>(
     ensures named { IfErr result IsTroubleOfText }
     ensures imported { K.IsTrusted keeper.new → IfOk result (λ text.
         IsTextImported code.now sep (R.remaining reader)
-        (K.constituencies keeper.old) (K.content keeper.old) (string_bytes text) (K.content keeper.new)) }
+        (K.constituencies keeper.old) (K.content keeper.old)
+        (string_bytes text) (K.content keeper.new)) }
     ensures trouble { K.IsTrusted keeper.new → IfErr result (λ trouble.
         IsTextTrouble code.now sep (R.remaining reader)
         (K.constituencies keeper.old) (K.content keeper.old) trouble (K.content keeper.new)) }
 {
     match find_con(alloc, keeper.setup(), code) {
-        Ok(con) => import_rows(alloc, keeper, con, sep, reader),
+        Ok(con) => import_constituency(alloc, keeper, con, sep, reader),
         Err(trouble) => Err(trouble),
     }
 }
 
-/// Imports the rows of a text into a constituency. The room of what it answers is reserved before:
-/// nothing takes memory once rows are lodged.
-fn import_rows<K: Keeper, R: Read + Drop>(
+/// Imports the rows of a text into a constituency.
+fn import_constituency<K: Keeper, R: Read + Drop>(
     alloc: Global,
     keeper: &mut K,
     con: Constituency,
@@ -79,17 +80,40 @@ fn import_rows<K: Keeper, R: Read + Drop>(
     ensures text { IfOk result (λ text. IsCountText (string_bytes text)) }
     ensures named { IfErr result IsTroubleOfRows }
     ensures imported { K.IsTrusted keeper.new → IfOk result (λ text.
-        IsImported (K.constituencies keeper.old) (K.content keeper.old)
+        IsImportedComing (K.constituencies keeper.old) (K.content keeper.old)
         (coming_of con sep (R.remaining reader)) (string_bytes text) (K.content keeper.new)) }
     ensures trouble { K.IsTrusted keeper.new → IfErr result (λ trouble.
-        IsImportTrouble (K.constituencies keeper.old) (K.content keeper.old)
+        IsTroubleComing (K.constituencies keeper.old) (K.content keeper.old)
         (coming_of con sep (R.remaining reader)) trouble (K.content keeper.new)) }
+{
+    let mut rows = ReturnRows::new(alloc, reader, sep, con);
+    import_from(alloc, keeper, &mut rows)
+}
+
+/// Imports the rows of a source: all that it gives, or with a trouble none, unless a disk that
+/// failed has shut the keeper. The trouble is that of the fault with which the source ended, or of
+/// the keeper's own. The room of what is answered is reserved before: nothing takes memory once
+/// rows are lodged.
+pub fn import_from<K: Keeper, R: RowSource>(
+    alloc: Global,
+    keeper: &mut K,
+    rows: &mut R,
+) -> Result<String, Trouble>
+    ensures setup { K.constituencies keeper.new ≡ K.constituencies keeper.old }
+    ensures trusted { K.IsTrusted keeper.new → K.IsTrusted keeper.old }
+    ensures text { IfOk result (λ text. IsCountText (string_bytes text)) }
+    ensures named { IfErr result IsTroubleOfRows }
+    ensures imported { K.IsTrusted keeper.new → IfOk result (λ text.
+        IsImported (K.constituencies keeper.old) (K.content keeper.old)
+        (delivery R.RowSource rows.old rows.new) (string_bytes text) (K.content keeper.new)) }
+    ensures trouble { K.IsTrusted keeper.new → IfErr result (λ trouble.
+        IsImportTrouble (K.constituencies keeper.old) (K.content keeper.old)
+        (delivery R.RowSource rows.old rows.new) trouble (K.content keeper.new)) }
 {
     let Ok(mut text) = String::with_capacity(alloc, COUNT_ROOM) else {
         return Err(Trouble::Memory);
     };
-    let mut rows = ReturnRows::new(alloc, reader, sep, con);
-    match keeper.lodge_from(&mut rows) {
+    match keeper.lodge_from(rows) {
         Ok(count) => {
             push_count(&mut text, &count);
             Ok(text)

@@ -11,7 +11,7 @@ mod show;
 mod standard_error;
 mod trouble;
 
-pub use import::{has_con, import_text};
+pub use import::{has_con, import_from, import_text};
 pub use make::{CONSTITUENCIES_ROOM, constituencies_text};
 pub use serve::{SERVED_ROOM, served_text};
 pub use show::{show_progress, show_report};

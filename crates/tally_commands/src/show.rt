@@ -4,11 +4,11 @@ ghost use Rattle.std.specs.Prelude.{◌≡◌, Err, IfErr, IfOk, None, Some, str
 ghost use Rattle.tally_steps.specs.Outcome.{IsLawfulView};
 ghost use Rattle.tally_report.specs.ProgressText.{progress_text};
 ghost use Rattle.tally_returns.specs.View.{FitsView};
-ghost use Rattle.tally_rules.specs.Constituency as value;
 ghost use Rattle.tally_rules.specs.Setup.{constituency_with};
 ghost use Rattle.tally_report.specs.Reports.{IsReport, report_fault};
 ghost use Rattle.tally_commands.specs.Trouble.{IsTroubleOfDatabase, IsTroubleOfProgress, IsTroubleOfReport};
-ghost use Rattle.tally_commands.specs.Show.{IsGiven, IsProgressShown, IsProgressTrouble, IsReportShown, IsReportTrouble, IsWithheld, refusal_trouble};
+ghost use Rattle.tally_commands.specs.Show.{IsGiven, IsProgressShown, IsProgressTrouble, IsReportShown, IsReportTrouble};
+ghost use Rattle.tally_commands.specs.Show.{IsWithheld, OfCon, refusal_trouble};
 
 use crate::named::code_named;
 use crate::trouble::Trouble;
@@ -31,9 +31,11 @@ pub fn show_report<K: Keeper>(
         → (result ≡ Err Trouble.NoConstituency) × (keeper.new ≡ keeper.old) }
     ensures named { IfErr result IsTroubleOfReport }
     ensures shown { K.IsTrusted keeper.new → IfOk result (λ text.
-        IsReportShown (K.constituencies keeper.old) (K.content keeper.old) con.now which (string_bytes text) (K.content keeper.new)) }
+        IsReportShown (K.constituencies keeper.old) (K.content keeper.old) con.now which
+        (string_bytes text) (K.content keeper.new)) }
     ensures trouble { K.IsTrusted keeper.new → IfErr result (λ trouble.
-        IsReportTrouble (K.constituencies keeper.old) (K.content keeper.old) con.now which trouble (K.content keeper.new)) }
+        IsReportTrouble (K.constituencies keeper.old) (K.content keeper.old) con.now which
+        trouble (K.content keeper.new)) }
 {
     let Some(code) = code_named(keeper.setup(), con) else {
         return Err(Trouble::NoConstituency);
@@ -50,9 +52,11 @@ pub fn show_progress<K: Keeper>(alloc: Global, keeper: &mut K) -> Result<String,
     ensures trusted { K.IsTrusted keeper.new → K.IsTrusted keeper.old }
     ensures named { IfErr result IsTroubleOfProgress }
     ensures shown { K.IsTrusted keeper.new → IfOk result (λ text.
-        IsProgressShown (K.constituencies keeper.old) (K.content keeper.old) (string_bytes text) (K.content keeper.new)) }
+        IsProgressShown (K.constituencies keeper.old) (K.content keeper.old)
+        (string_bytes text) (K.content keeper.new)) }
     ensures trouble { K.IsTrusted keeper.new → IfErr result (λ trouble.
-        IsProgressTrouble (K.constituencies keeper.old) (K.content keeper.old) trouble (K.content keeper.new)) }
+        IsProgressTrouble (K.constituencies keeper.old) (K.content keeper.old)
+        trouble (K.content keeper.new)) }
 {
     match progress_of(keeper) {
         Ok(rows) => text_of_rows(alloc, &rows),
@@ -68,12 +72,12 @@ fn text_of(
     view: &ConView,
     which: Report,
 ) -> Result<String, Trouble>
-    requires { (con : value.Constituency) → constituency_with code setup.now ≡ Some con → FitsView con view.now }
+    requires { OfCon setup.now code (λ con. FitsView con view.now) }
     ensures named { IfErr result IsTroubleOfReport }
-    ensures text { IfOk result (λ text. (con : value.Constituency) → constituency_with code setup.now ≡ Some con
-        → IsLawfulView con view.now → IsGiven con view.now which (string_bytes text)) }
-    ensures trouble { IfErr result (λ trouble. (con : value.Constituency) → constituency_with code setup.now ≡ Some con
-        → IsWithheld (report_fault con view.now which) trouble) }
+    ensures text { IfOk result (λ text. OfCon setup.now code (λ con.
+        IsLawfulView con view.now → IsGiven con view.now which (string_bytes text))) }
+    ensures trouble { IfErr result (λ trouble. OfCon setup.now code (λ con.
+        IsWithheld (report_fault con view.now which) trouble)) }
 {
     let Some(con) = setup.con(code) else {
         return Err(Trouble::NoConstituency);

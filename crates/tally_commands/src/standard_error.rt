@@ -15,7 +15,8 @@ pub fn tell<E: Write>(words: &str, errors: &mut E)
 
 /// Writes words and a name, and ends the line.
 pub(crate) fn tell_named<E: Write>(words: &str, name: &str, errors: &mut E)
-    ensures { Told (E.contents errors.old) (E.contents errors.new) (words.now ++ (name.now ++ codes "\n")) }
+    ensures { Told (E.contents errors.old) (E.contents errors.new)
+        (words.now ++ (name.now ++ codes "\n")) }
 {
     match write_text(errors, words.as_bytes()) {
         Ok(()) => tell_line(name, errors),

@@ -152,7 +152,8 @@ impl Trouble {
     /// Writes its line on standard error, where a write that fails is passed over, and answers the
     /// exit status. It takes no memory.
     pub fn report<E: Write>(&self, errors: &mut E) -> u8
-        ensures told { Told (E.contents errors.old) (E.contents errors.new) (trouble_line self.now) }
+        ensures told { Told (E.contents errors.old) (E.contents errors.new)
+            (trouble_line self.now) }
         ensures status { result ≡ trouble_status self.now }
     {
         self.tell(errors);
@@ -160,7 +161,8 @@ impl Trouble {
     }
 
     fn tell<E: Write>(&self, errors: &mut E)
-        ensures { Told (E.contents errors.old) (E.contents errors.new) (trouble_line self.now) }
+        ensures { Told (E.contents errors.old) (E.contents errors.new)
+            (trouble_line self.now) }
     {
         match self {
             Trouble::Setup(fault) => tell_setup(fault, errors),

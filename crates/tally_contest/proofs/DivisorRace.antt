@@ -3,7 +3,7 @@ use Rattle.std.proofs.Common.{◌≡◌, ℕ, ◌+◌, ◌*◌, ◌<◌, ◌≤�
 use Rattle.std.proofs.lemmas.Bool.{cases_lt, false≢true}
 use Rattle.std.proofs.Math.Nat.{mul-lt-mul_of_pos_left}
 use Rattle.tally_frac.specs.Rank.{Pair, RanksAbove, RanksAboveByVotes, TiesByVotes}
-use Rattle.tally_frac.specs.RankOrder.{tie-divisor}
+use Rattle.tally_frac.specs.internal.RankOrder.{tie-divisor}
 use Rattle.tally_frac.proofs.FractionLaws.{scaled-greater, scaled-level}
 use Rattle.tally_frac.proofs.RankLaws.{weak-decided, weak-one_way, weak-not_below, ties_if_neither, strict-decided, strict-one_way, strict-not_below}
 use Rattle.tally_rules.specs.declared.profile.LotRule.{LotRule}

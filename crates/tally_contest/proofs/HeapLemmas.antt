@@ -9,7 +9,7 @@ use Rattle.std.specs.Ordering.{nat_cmp, ordering_then, is_lt}
 use Rattle.std.specs.declared.cmp.Ordering.{Ordering}
 use Rattle.std.specs.declared.cmp.Ordering.TheVariants.{Less}
 use Rattle.tally_frac.specs.Rank.{RanksAbove}
-use Rattle.tally_frac.specs.RankOrder.{rank_cmp, rank_cmp-less}
+use Rattle.tally_frac.specs.internal.RankOrder.{rank_cmp, rank_cmp-less}
 use Rattle.tally_contest.specs.internal.NextPairs.{Keyed, keyed_pair, keyed_cmp, HaveKeys, is_of, one_if_eligible, AreNext}
 use Rattle.tally_law.specs.Poll.{Poll, IsEligible}
 use Rattle.tally_contest.specs.internal.Race.{IsHighestNext}

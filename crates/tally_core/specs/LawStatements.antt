@@ -10,7 +10,7 @@ use Rattle.tally_steps.specs.Step.{IsView}
 use Rattle.tally_steps.specs.LawfulState.{IsLawfulState}
 use Rattle.tally_steps.specs.Outcome.{IsCertificate}
 use Rattle.tally_steps.specs.Records.{IsOnRecord, IsReopenedIn}
-use Rattle.tally_steps.specs.Runs.{IsRun, is_act, IsSameCommand, kept}
+use Rattle.tally_steps.specs.Runs.{IsRun, is_act, IsSameCommand, kept_elements}
 use Rattle.tally_returns.specs.State.{State, con_state}
 use Rattle.tally_returns.specs.View.{View}
 use Rattle.tally_rules.specs.Constituency.{Constituency}
@@ -114,7 +114,7 @@ WhatDoesNotActCanBeLeftOut =
     → Happen setup (Some s) events (Some t) → (keep : ℕ → Bool)
     → ((i : ℕ) (event : Event) → slice_get events i ≡ Some event → keep i ≡ false
     → acts event ≡ false)
-    → Happen setup (Some s) (kept keep events) (Some t)
+    → Happen setup (Some s) (kept_elements keep events) (Some t)
 
 -- the rows of an import lodge nothing when they come again, whatever happened between
 abbrev pub TheSameImportLodgesNothing : Type 0

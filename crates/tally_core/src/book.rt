@@ -8,7 +8,7 @@ mod constituencies;
 mod rows;
 
 use answers::answer_in;
-use rows::{take_out, take_rows};
+use rows::{take_out, take_source};
 use std::alloc::{AllocError, Global};
 use std::marker::Model;
 use tally_keeper::{Ask, ImportCount, ImportFault, Keeper, Refusal, Reply, RowSource};
@@ -23,7 +23,8 @@ pub struct Book {
 }
 
 impl Model for Book {
-    ghost use Rattle.tally_keeper.specs.Held.{Held, IsHeld, held_code};
+    ghost use Rattle.tally_keeper.specs.Held.{Held};
+    ghost use Rattle.tally_keeper.specs.internal.Held.{IsHeld, held_code};
     ghost use Rattle.tally_ledger.specs.Kept.{state_in};
 
     ghost Value = { Held };
@@ -68,7 +69,7 @@ impl Keeper for Book {
 
     fn lodge_from<R: RowSource>(&mut self, rows: &mut R) -> Result<ImportCount, ImportFault> {
         let mut lodged = Vec::new(self.alloc);
-        match take_rows(self.alloc, &mut self.ledger, &mut lodged, rows) {
+        match take_source(self.alloc, &mut self.ledger, &mut lodged, rows) {
             Ok(count) => Ok(count),
             Err(fault) => {
                 take_out(&mut self.ledger, &lodged);

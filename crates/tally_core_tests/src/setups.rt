@@ -3,7 +3,7 @@
 use std::alloc::Global;
 use std::test::Fail;
 use tally_core::Book;
-use tally_scripts::{first_wrong, setup};
+use tally_scripts::{first_wrong, first_wrong_of_run, setup};
 
 /// A keeper of the setup of a text, in which no return is recorded.
 pub(crate) fn fresh(alloc: Global, text: &str) -> Result<Book, Fail> {
@@ -20,8 +20,15 @@ pub(crate) fn check(alloc: Global, book: &mut Book, script: &str) -> Result<(), 
     Err(Fail::from(wrong))
 }
 
-/// The same of a keeper of the setup of a text, in which no return is recorded.
+/// The same of a keeper of the setup of a text, in which no return is recorded: line by line, and
+/// of another where the commands are one run.
 pub(crate) fn check_fresh(alloc: Global, setup: &str, script: &str) -> Result<(), Fail> {
     let mut book = fresh(alloc, setup)?;
-    check(alloc, &mut book, script)
+    check(alloc, &mut book, script)?;
+    let mut other = fresh(alloc, setup)?;
+    let wrong = first_wrong_of_run(alloc, &mut other, script)?;
+    if wrong.is_empty() {
+        return Ok(());
+    }
+    Err(Fail::from(wrong))
 }

@@ -19,14 +19,14 @@ use Rattle.tally_steps.specs.Outcome.{IsLawfulView}
 use Rattle.tally_steps.specs.Step.{IsConStepSeen, con_shown}
 use Rattle.tally_keeper.specs.Keeper.{Happens, request}
 use Rattle.tally_message.specs.declared.message.Message.{Message}
-use Rattle.tally_asks.specs.Routes.{con_in, station_in}
+use Rattle.tally_asks.specs.Routes.{con_of_target, station_of_target}
 use Rattle.tally_asks.specs.Bodies.{IsBody}
 use Rattle.tally_answer.specs.Words.{word_text}
 use Rattle.tally_answer.specs.declared.word.Word.TheVariants.{BadBody}
 use Rattle.std.proofs.Common.{Vec, Global}
 use Rattle.tally_records.specs.declared.separator.Sep.{Sep}
-use Rattle.tally_desk.specs.Gives.{Gives}
-use Rattle.tally_desk.specs.Named.{lists_of_con, lists_of_station}
+use Rattle.tally_desk.specs.internal.Gives.{Gives}
+use Rattle.tally_desk.specs.internal.Named.{lists_of_con, lists_of_station}
 use Rattle.tally_desk.specs.Requests.{Commands, Imports, ImportsText, Named, AtCon, AtNamed, AtStation, Orders, OrdersOf, con_named, station_named}
 
 -- ---- what is shown
@@ -73,9 +73,9 @@ station_at setup code = option_map (λ (place : Constituency × Station). (code,
 
 con-named : (setup : List Constituency) (target code : List ℕ) → code_in (con_named setup target) ≡ Some code
     → (con : Constituency) × (con_named setup target ≡ Some (code, con)) × (constituency_with code setup ≡ Some con)
-con-named setup target code is = go (con_in target) refl is
+con-named setup target code is = go (con_of_target target) refl is
   where
-    go : (o : Option (List ℕ)) → con_in target ≡ o → code_in (option_and_then (con_at setup) o) ≡ Some code
+    go : (o : Option (List ℕ)) → con_of_target target ≡ o → code_in (option_and_then (con_at setup) o) ≡ Some code
         → (con : Constituency) × (con_named setup target ≡ Some (code, con)) × (constituency_with code setup ≡ Some con)
     go None e h = cc
     go (Some c) e h =
@@ -87,9 +87,9 @@ con-named setup target code is = go (con_in target) refl is
 
 station-named : (setup : List Constituency) (target code : List ℕ) → code_in (station_named setup target) ≡ Some code
     → (place : Constituency × Station) × (station_named setup target ≡ Some (code, place.0)) × (station_with code setup ≡ Some place)
-station-named setup target code is = go (station_in target) refl is
+station-named setup target code is = go (station_of_target target) refl is
   where
-    go : (o : Option (List ℕ)) → station_in target ≡ o → code_in (option_and_then (station_at setup) o) ≡ Some code
+    go : (o : Option (List ℕ)) → station_of_target target ≡ o → code_in (option_and_then (station_at setup) o) ≡ Some code
         → (place : Constituency × Station) × (station_named setup target ≡ Some (code, place.0)) × (station_with code setup ≡ Some place)
     go None e h = cc
     go (Some c) e h =

@@ -1,5 +1,4 @@
+pub mod internal
 pub mod Respond
 pub mod Requests
 pub mod Reports
-pub mod Gives
-pub mod Named

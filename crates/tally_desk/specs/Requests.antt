@@ -15,7 +15,7 @@ use Rattle.tally_returns.specs.declared.refusal.Refusal.TheVariants as refusal
 use Rattle.tally_returns.specs.declared.reply.Reply.{Reply}
 use Rattle.tally_returns.specs.declared.reply.Reply.TheVariants as reply
 use Rattle.tally_keeper.specs.Keeper as keeper
-use Rattle.tally_keeper.specs.Source.{Ending}
+use Rattle.tally_keeper.specs.Source.{Delivery}
 use Rattle.tally_keeper.specs.declared.import.ImportCount.{ImportCount}
 use Rattle.tally_keeper.specs.declared.source.ImportFault.{ImportFault}
 use Rattle.tally_keeper.specs.declared.source.ImportFault.TheVariants as cause
@@ -24,7 +24,7 @@ use Rattle.tally_import.specs.ReturnRows.{text_coming}
 use Rattle.tally_report.specs.ProgressText.{progress_text}
 use Rattle.tally_report.specs.declared.report.Report.{Report}
 use Rattle.tally_message.specs.declared.message.Message.{Message}
-use Rattle.tally_asks.specs.Routes.{con_in, station_in}
+use Rattle.tally_asks.specs.Routes.{con_of_target, station_of_target}
 use Rattle.tally_asks.specs.Bodies.{IsBody}
 use Rattle.tally_answer.specs.declared.status.AnswerStatus.TheVariants as status
 use Rattle.tally_answer.specs.declared.status.BodyType.TheVariants as body
@@ -60,13 +60,13 @@ Named = List ℕ × Constituency
 abbrev pub station_named : List Constituency → List ℕ → Option Named
 station_named setup target =
     option_and_then (λ code. option_map (λ place. (code, place.0)) (station_with code setup))
-    (station_in target)
+    (station_of_target target)
 
 -- the constituency that a target names
 abbrev pub con_named : List Constituency → List ℕ → Option Named
 con_named setup target =
     option_and_then (λ code. option_map (λ con. (code, con)) (constituency_with code setup))
-    (con_in target)
+    (con_of_target target)
 
 -- Which answer there is, and which state is left: a statement on the two.
 abbrev pub Answer : Type 1
@@ -170,8 +170,8 @@ imported_text (Err fault) = word_text (import_word fault)
 abbrev pub ImportsText :
     List Constituency → Option State → Constituency → Sep → List ℕ → Answer
 ImportsText setup old con sep csv text new =
-    (ended : Ending) × (r : Result ImportCount ImportFault)
-    × keeper.Imports setup old (Some (text_coming con sep csv)) ended r new
+    (d : Delivery) × (r : Result ImportCount ImportFault)
+    × keeper.ImportsComing setup old (Some (text_coming con sep csv)) d r new
     × (text ≡ imported_text r)
 
 -- the same of the body of a message

@@ -8,8 +8,8 @@ ghost use Rattle.tally_returns.specs.declared.reply.Reply.{Reply};
 ghost use Rattle.tally_returns.specs.declared.refusal.Refusal.{Refusal};
 ghost use Rattle.tally_asks.specs.declared.routes.Route.TheVariants as route;
 ghost use Rattle.tally_answer.specs.Outcome.{outcome_text};
-ghost use Rattle.tally_desk.specs.Gives.{GivesOn};
-ghost use Rattle.tally_desk.specs.Named.{lists_of_con, lists_of_station};
+ghost use Rattle.tally_desk.specs.internal.Gives.{GivesOn};
+ghost use Rattle.tally_desk.specs.internal.Named.{lists_of_con, lists_of_station};
 ghost use Rattle.tally_desk.specs.Requests.{Asks, ImportsText, imported_text};
 
 use crate::named::{con_named, lists_of_con, lists_of_station, station_named};

@@ -4,16 +4,16 @@ ghost use Rattle.std.specs.Prelude.{◌≡◌, ◌≤◌, length, option_map, op
 ghost use Rattle.tally_rules.specs.Constituency as value;
 ghost use Rattle.tally_rules.specs.Setup.{constituency_with, station_with};
 ghost use Rattle.tally_desk.specs.Requests.{con_named, station_named};
-ghost use Rattle.tally_desk.specs.Named.{lists_of_con, lists_of_station};
+ghost use Rattle.tally_desk.specs.internal.Named.{lists_of_con, lists_of_station};
 
-use tally_asks::{con_in, station_in};
+use tally_asks::{con_of_target, station_of_target};
 use tally_rules::{Code, ListEntry, Setup};
 
 /// The station of the setup that a target names.
 pub(crate) fn station_named(setup: &Setup, target: &[u8]) -> Option<Code>
     ensures { result ≡ option_map (λ named. named.0) (station_named setup.now target.now) }
 {
-    let code = station_in(target)?;
+    let code = station_of_target(target)?;
     let _place = setup.station(code)?;
     Some(code)
 }
@@ -22,7 +22,7 @@ pub(crate) fn station_named(setup: &Setup, target: &[u8]) -> Option<Code>
 pub(crate) fn con_named(setup: &Setup, target: &[u8]) -> Option<Code>
     ensures { result ≡ option_map (λ named. named.0) (con_named setup.now target.now) }
 {
-    let code = con_in(target)?;
+    let code = con_of_target(target)?;
     let _con = setup.con(code)?;
     Some(code)
 }

@@ -3,7 +3,7 @@
 ghost use Rattle.std.specs.Prelude.{◌≡◌, IfSome, Ok};
 ghost use Rattle.tally_asks.specs.Routes.{desk_rows, takes_get};
 ghost use Rattle.tally_answer.specs.Words.{word_text};
-ghost use Rattle.tally_desk.specs.Gives.{Gives, GivesOn};
+ghost use Rattle.tally_desk.specs.internal.Gives.{Gives, GivesOn};
 ghost use Rattle.tally_desk.specs.Respond.{ByRoute, IsAnswer, fault_word, other_method};
 
 use crate::command::{import, order_on_con, order_on_station};

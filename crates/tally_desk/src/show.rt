@@ -13,7 +13,7 @@ ghost use Rattle.tally_answer.specs.declared.status.BodyType.TheVariants as body
 ghost use Rattle.tally_report.specs.ProgressText.{progress_text};
 ghost use Rattle.tally_report.specs.Reports.{IsEnoughFor};
 ghost use Rattle.tally_asks.specs.declared.routes.Route.TheVariants as route;
-ghost use Rattle.tally_desk.specs.Gives.{Gives, GivesOn};
+ghost use Rattle.tally_desk.specs.internal.Gives.{Gives, GivesOn};
 ghost use Rattle.tally_desk.specs.Requests.{ShowsProgress};
 
 use crate::named::{con_named, station_named};

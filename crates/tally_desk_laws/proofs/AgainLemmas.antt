@@ -16,13 +16,13 @@ use Rattle.tally_returns.specs.declared.refusal.Refusal.TheVariants.{NoConstitue
 use Rattle.tally_returns.specs.declared.reply.Reply.{Reply}
 use Rattle.tally_steps.specs.Decisions.{StepsAreOne}
 use Rattle.tally_steps.specs.Runs.{IsRun, IsSameCommand, is_act}
-use Rattle.tally_steps.specs.Step.{IsAnswered, IsNotAccepted, IsStep, seen}
+use Rattle.tally_steps.specs.Step.{IsAnswered, IsNotAccepted, IsStep, reply_seen}
 use Rattle.tally_keeper.specs.Events.{acts, answers_of, asks_of, lodge_answers, lodges}
 use Rattle.tally_keeper.specs.Import.{RowAnswer, is_lodged}
 use Rattle.tally_keeper.specs.Keeper.{Event, Happen, Happens, failed_import, request, whole_import}
 use Rattle.tally_keeper.specs.Keeper as keeper
 use Rattle.tally_core.specs.LawStatements.{ActsAloneHappen, NoTwoEqualRequestsAct, TheSameImportLodgesNothing, WhatHappensToAKeeperIsARun}
-use Rattle.tally_keeper.specs.Source.{Coming, Ending, IsSudden}
+use Rattle.tally_keeper.specs.Source.{AreAllGiven, Coming, Delivery, IsSudden}
 use Rattle.tally_keeper.specs.declared.import.ImportCount.{ImportCount}
 use Rattle.tally_keeper.specs.declared.import.Row.{Row}
 use Rattle.tally_keeper.specs.declared.source.ImportFault.{ImportFault}
@@ -150,27 +150,31 @@ nothing-keeps laws setup (Some s) (Some t) rows answered count is none =
     (none-counted is_lodged answered (sym (ap (λ (c : ImportCount). c.lodged) is.2) ∙ none))
 
 -- an import that was not done leaves the state
-failed-keeps : Laws → (setup : List Constituency) (old new : Option State) (known : Option Coming) (ended : Ending) (fault : ImportFault)
-    → keeper.Imports setup old known ended (Err fault) new → Keeps old new
-failed-keeps laws setup old new known ended fault is = idle-keeps laws setup old new (failed_import fault) is.1 refl
+failed-keeps : Laws → (setup : List Constituency) (old new : Option State) (known : Option Coming) (came : Delivery) (fault : ImportFault)
+    → keeper.ImportsComing setup old known came (Err fault) new → Keeps old new
+failed-keeps laws setup old new known came fault is = idle-keeps laws setup old new (failed_import fault) is.1.1 refl
+
+-- all rows that came, where it is known what comes
+all-come : (coming : Coming) (d : Delivery) (rows : List Row) → d.start.coming ≡ Some coming → AreAllGiven d rows → (coming.rows ≡ rows) × (coming.fault ≡ None)
+all-come coming d rows is all = subst (λ o. IfSome o (λ (coming : Coming). (coming.rows ≡ rows) × (coming.fault ≡ None))) is all.3
 
 -- where an import was done, the same one later lodges nothing
-import-lodges : Laws → (setup : List Constituency) (old mid later new : Option State) (coming : Coming) (ended again : Ending) (count counted : ImportCount) (events : List Event)
-    → keeper.Imports setup old (Some coming) ended (Ok count) mid → Happen setup mid events later → keeper.Imports setup later (Some coming) again (Ok counted) new
+import-lodges : Laws → (setup : List Constituency) (old mid later new : Option State) (coming : Coming) (came again : Delivery) (count counted : ImportCount) (events : List Event)
+    → keeper.ImportsComing setup old (Some coming) came (Ok count) mid → Happen setup mid events later → keeper.ImportsComing setup later (Some coming) again (Ok counted) new
     → counted.lodged ≡ 0
-import-lodges laws setup old mid later new coming ended again count counted events (end, done) between (other_end, done_again) =
-    let rows_are : done_again.0 ≡ done.0 = sym done_again.2.0 ∙ done.2.0 in
+import-lodges laws setup old mid later new coming came again count counted events (known, done) between (known_again, done_again) =
+    let rows_are : done_again.0 ≡ done.0 = sym (all-come coming again done_again.0 known_again done_again.2).0 ∙ (all-come coming came done.0 known done.2).0 in
     let same : Happens setup later (whole_import done.0 done_again.1 counted) new = subst (λ rows. Happens setup later (whole_import rows done_again.1 counted) new) rows_are done_again.3 in
     laws.imports setup done.0 done.1 done_again.1 count counted old mid later new events done.3 between same
 
 -- and leaves the state
-import-keeps : Laws → (setup : List Constituency) (old mid later new : Option State) (coming : Coming) (ended again : Ending) (count : ImportCount) (q : Result ImportCount ImportFault)
-    → (events : List Event) → keeper.Imports setup old (Some coming) ended (Ok count) mid → Happen setup mid events later
-    → keeper.Imports setup later (Some coming) again q new → Keeps later new
-import-keeps laws setup old mid later new coming ended again count (Err fault) events first between second = failed-keeps laws setup later new (Some coming) again fault second
-import-keeps laws setup old mid later new coming ended again count (Ok counted) events first between second =
+import-keeps : Laws → (setup : List Constituency) (old mid later new : Option State) (coming : Coming) (came again : Delivery) (count : ImportCount) (q : Result ImportCount ImportFault)
+    → (events : List Event) → keeper.ImportsComing setup old (Some coming) came (Ok count) mid → Happen setup mid events later
+    → keeper.ImportsComing setup later (Some coming) again q new → Keeps later new
+import-keeps laws setup old mid later new coming came again count (Err fault) events first between second = failed-keeps laws setup later new (Some coming) again fault second
+import-keeps laws setup old mid later new coming came again count (Ok counted) events first between second =
     nothing-keeps laws setup later new second.1.0 second.1.1 counted second.1.3
-    (import-lodges laws setup old mid later new coming ended again count counted events first between second)
+    (import-lodges laws setup old mid later new coming came again count counted events first between second)
 
 -- ---- two answers to one message
 
@@ -189,13 +193,13 @@ pub record AreCommands (setup : List Constituency) (old mid later new : Option S
 -- both imported the same rows
 pub record AreImports (setup : List Constituency) (old mid later new : Option State) (text other : List ℕ) : Type 0 where
   pub coming : Coming
-  pub ended : Ending
-  pub ended_again : Ending
+  pub came : Delivery
+  pub came_again : Delivery
   pub outcome : Result ImportCount ImportFault
   pub outcome_again : Result ImportCount ImportFault
-  pub first : keeper.Imports setup old (Some coming) ended outcome mid
+  pub first : keeper.ImportsComing setup old (Some coming) came outcome mid
   pub said : text ≡ imported_text outcome
-  pub second : keeper.Imports setup later (Some coming) ended_again outcome_again new
+  pub second : keeper.ImportsComing setup later (Some coming) came_again outcome_again new
   pub said_again : other ≡ imported_text outcome_again
 
 -- the second answer leaves the state, and where it is to an import, it tells that nothing was imported
@@ -254,14 +258,14 @@ imports-twice : (IsImport : Type 0) (setup : List Constituency) (old mid later n
     → IsTwice IsImport setup old mid later new text other
 imports-twice IsImport setup old mid later new sep m n text other same con first second = inr (inr (record {
   coming = text_coming con sep m.body.items;
-  ended = first.0;
-  ended_again = second.0;
+  came = first.0;
+  came_again = second.0;
   outcome = first.1;
   outcome_again = second.1;
   first = first.2;
   said = first.3;
   said_again = second.3;
-  second = subst (λ b. keeper.Imports setup later (Some (text_coming con sep b)) second.0 second.1 new) same second.2;
+  second = subst (λ b. keeper.ImportsComing setup later (Some (text_coming con sep b)) second.0 second.1 new) same second.2;
 }))
 
 shown-keeps : Laws → (setup : List Constituency) (old new : Option State) → IsShown setup old new → Keeps old new
@@ -390,13 +394,13 @@ imports-acted laws setup old mid later new text other events are changed between
     never : (t : State) → later ≡ None → new ≡ Some t → ⊥
     never t none some = by are.outcome_again are.second
       where
-        by : (q : Result ImportCount ImportFault) → keeper.Imports setup later (Some are.coming) are.ended_again q new → ⊥
+        by : (q : Result ImportCount ImportFault) → keeper.ImportsComing setup later (Some are.coming) are.came_again q new → ⊥
         by (Ok count) is = subst (λ o. Happens setup None (whole_import is.1.0 is.1.1 count) o) some (subst (λ o. Happens setup o (whole_import is.1.0 is.1.1 count) new) none is.1.3)
-        by (Err fault) is = subst (λ o. Happens setup None (failed_import fault) o) some (subst (λ o. Happens setup o (failed_import fault) new) none is.1)
+        by (Err fault) is = subst (λ o. Happens setup None (failed_import fault) o) some (subst (λ o. Happens setup o (failed_import fault) new) none is.1.1)
 
-    go : (r : Result ImportCount ImportFault) → keeper.Imports setup old (Some are.coming) are.ended r mid → Keeps later new
-    go (Ok count) first = import-keeps laws setup old mid later new are.coming are.ended are.ended_again count are.outcome_again events first between are.second
-    go (Err fault) first = shut-none setup events mid later new (changed-shut old mid changed (failed-keeps laws setup old mid (Some are.coming) are.ended fault first)) between never
+    go : (r : Result ImportCount ImportFault) → keeper.ImportsComing setup old (Some are.coming) are.came r mid → Keeps later new
+    go (Ok count) first = import-keeps laws setup old mid later new are.coming are.came are.came_again count are.outcome_again events first between are.second
+    go (Err fault) first = shut-none setup events mid later new (changed-shut old mid changed (failed-keeps laws setup old mid (Some are.coming) are.came fault first)) between never
 
 twice-acted : Laws → (IsImport : Type 0) (setup : List Constituency) (old mid later new : Option State) (text other : List ℕ) (events : List Event)
     → mid ≢ old → Happen setup mid events later → IsTwice IsImport setup old mid later new text other → Keeps later new
@@ -411,12 +415,12 @@ abbrev pub IsVain : Option State → Option State → List ℕ → Type 0
 IsVain later new other = Keeps later new × (TellsNothingLodged other ⊎ TellsNoImport other)
 
 -- an import that was not done for a fault of its text is not done later
-failed-again : (setup : List Constituency) (old mid later new : Option State) (coming : Coming) (ended again : Ending) (fault : ImportFault) (count : ImportCount)
-    → (imported_text (Err fault) ≢ word_text Unavailable) → keeper.Imports setup old (Some coming) ended (Err fault) mid → keeper.Imports setup later (Some coming) again (Ok count) new → ⊥
-failed-again setup old mid later new coming ended again fault count good (is, event) second = go is
+failed-again : (setup : List Constituency) (old mid later new : Option State) (coming : Coming) (came again : Delivery) (fault : ImportFault) (count : ImportCount)
+    → (imported_text (Err fault) ≢ word_text Unavailable) → keeper.ImportsComing setup old (Some coming) came (Err fault) mid → keeper.ImportsComing setup later (Some coming) again (Ok count) new → ⊥
+failed-again setup old mid later new coming came again fault count good first second = go first.1.0
   where
     none : coming.fault ≡ None
-    none = second.1.2.1
+    none = (all-come coming again second.1.0 second.0 second.1.2).1
 
     some : coming.fault ≡ Some fault → ⊥
     some is = let k : None ≡ Some fault = sym none ∙ is in absurd (let l = k in cc)
@@ -428,16 +432,16 @@ failed-again setup old mid later new coming ended again fault count good (is, ev
     sudden cause.Memory g h = g refl
     sudden cause.Store g h = h
 
-    go : keeper.IsFault (Some coming) ended fault → ⊥
-    go (inl (inl own)) = subst (λ f. imported_text (Err f) ≢ word_text Unavailable) own good refl
-    go (inl (inr own)) = subst (λ f. imported_text (Err f) ≢ word_text Unavailable) own good refl
-    go (inr (inl (end, inl h))) = sudden fault good h
-    go (inr (inl (end, inr h))) = some h
-    go (inr (inr h)) = let k : Some coming ≡ None = h.1 in absurd (let l = k in cc)
+    go : keeper.IsFault came fault → ⊥
+    go (rows, are, inl (inl own)) = subst (λ f. imported_text (Err f) ≢ word_text Unavailable) own good refl
+    go (rows, are, inl (inr own)) = subst (λ f. imported_text (Err f) ≢ word_text Unavailable) own good refl
+    go (rows, are, inr (inl (end, inl h))) = sudden fault good h
+    go (rows, are, inr (inl (end, inr h))) = some (subst (λ o. IfSome o (λ (coming : Coming). (coming.rows ≡ rows) × (coming.fault ≡ Some fault))) first.0 h).1
+    go (rows, are, inr (inr h)) = let k : Some coming ≡ None = sym first.0 ∙ h.2 in absurd (let l = k in cc)
 
 -- what an import is answered that was not done
-fault-vain : Laws → (setup : List Constituency) (later new : Option State) (coming : Coming) (again : Ending) (fault : ImportFault) (other : List ℕ)
-    → keeper.Imports setup later (Some coming) again (Err fault) new → other ≡ imported_text (Err fault) → IsVain later new other
+fault-vain : Laws → (setup : List Constituency) (later new : Option State) (coming : Coming) (again : Delivery) (fault : ImportFault) (other : List ℕ)
+    → keeper.ImportsComing setup later (Some coming) again (Err fault) new → other ≡ imported_text (Err fault) → IsVain later new other
 fault-vain laws setup later new coming again fault other second said = (failed-keeps laws setup later new (Some coming) again fault second, inr (inl (import_word fault, said)))
 
 imports-again : Laws → (setup : List Constituency) (old mid later new : Option State) (text other : List ℕ) (events : List Event)
@@ -445,16 +449,16 @@ imports-again : Laws → (setup : List Constituency) (old mid later new : Option
 imports-again laws setup old mid later new text other events are good between =
     go are.outcome are.outcome_again are.first (subst (λ t. t ≢ word_text Unavailable) are.said good) are.second are.said_again
   where
-    go : (r q : Result ImportCount ImportFault) → keeper.Imports setup old (Some are.coming) are.ended r mid → imported_text r ≢ word_text Unavailable
-        → keeper.Imports setup later (Some are.coming) are.ended_again q new → other ≡ imported_text q → IsVain later new other
-    go (Ok count) (Err fault) first fine second said = fault-vain laws setup later new are.coming are.ended_again fault other second said
-    go (Err earlier) (Err fault) first fine second said = fault-vain laws setup later new are.coming are.ended_again fault other second said
+    go : (r q : Result ImportCount ImportFault) → keeper.ImportsComing setup old (Some are.coming) are.came r mid → imported_text r ≢ word_text Unavailable
+        → keeper.ImportsComing setup later (Some are.coming) are.came_again q new → other ≡ imported_text q → IsVain later new other
+    go (Ok count) (Err fault) first fine second said = fault-vain laws setup later new are.coming are.came_again fault other second said
+    go (Err earlier) (Err fault) first fine second said = fault-vain laws setup later new are.coming are.came_again fault other second said
     go (Ok count) (Ok counted) first fine second said = (
-      import-keeps laws setup old mid later new are.coming are.ended are.ended_again count (Ok counted) events first between second,
-      inl (counted, import-lodges laws setup old mid later new are.coming are.ended are.ended_again count counted events first between second, said),
+      import-keeps laws setup old mid later new are.coming are.came are.came_again count (Ok counted) events first between second,
+      inl (counted, import-lodges laws setup old mid later new are.coming are.came are.came_again count counted events first between second, said),
     )
     go (Err fault) (Ok counted) first fine second said =
-        absurd (failed-again setup old mid later new are.coming are.ended are.ended_again fault counted fine first second)
+        absurd (failed-again setup old mid later new are.coming are.came are.came_again fault counted fine first second)
 
 -- what was answered otherwise than with 503 was accepted
 accepted : (lists : List ListEntry) (r : Result Reply Refusal) → outcome_text lists r ≢ word_text Unavailable → IsNotAccepted r → ⊥
@@ -478,8 +482,8 @@ commands-again laws setup (Some s) (Some t) (Some u) text ok are good = go (is_a
     idle : s ≡ t → IsAnswered setup t are.again are.other u → ◌≡◌ {A = Option State} (Some t) (Some u)
     idle same (inr is) = ap (λ (x : State). Some x) (sym is.1)
     idle same (inl is) =
-        let there : IsStep setup s are.ask are.other u = same-step setup s are.ask are.again (seen are.other) u are.alike (subst (λ (x : State). IsStep setup x are.again are.other u) (sym same) is) in
-        ap (λ (x : State). Some x) (laws.one setup s t u are.ask (seen are.answer) (seen are.other) ok (step are.first) there).1
+        let there : IsStep setup s are.ask are.other u = same-step setup s are.ask are.again (reply_seen are.other) u are.alike (subst (λ (x : State). IsStep setup x are.again are.other u) (sym same) is) in
+        ap (λ (x : State). Some x) (laws.one setup s t u are.ask (reply_seen are.answer) (reply_seen are.other) ok (step are.first) there).1
 
     go : (b : Bool) → is_act are.answer ≡ b → Keeps (Some t) (Some u)
     go true acted = second-keeps laws setup s (Some t) (Some t) (Some u) are.ask are.again are.answer are.other [] are.alike are.first acted refl are.second

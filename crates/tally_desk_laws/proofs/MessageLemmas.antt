@@ -18,7 +18,7 @@ use Rattle.tally_returns.specs.declared.refusal.Refusal.TheVariants.{NoConstitue
 use Rattle.tally_keeper.specs.Events.{BringsCodes}
 use Rattle.tally_keeper.specs.Keeper.{Event, Happen, Happens, failed_import, request, whole_import}
 use Rattle.tally_keeper.specs.Keeper as keeper
-use Rattle.tally_keeper.specs.Source.{Coming, Ending}
+use Rattle.tally_keeper.specs.Source.{Coming, Delivery}
 use Rattle.tally_keeper.specs.declared.import.ImportCount.{ImportCount}
 use Rattle.tally_keeper.specs.declared.source.ImportFault.{ImportFault}
 use Rattle.tally_import.specs.ReturnRows.{text_coming}
@@ -208,10 +208,10 @@ order-came setup old new read m text con codes is = at-value is.0 is.2
     at-value None said = none-came setup old new said.1
     at-value (Some value) done = by (read value) (codes value) done
 
-import-came : (setup : List Constituency) (old new : Option State) (known : Option Coming) (ended : Ending) (r : Result ImportCount ImportFault)
-    → keeper.Imports setup old known ended r new → IsEvent setup old new
-import-came setup old new known ended (Ok count) is = one-came setup old new (whole_import is.1.0 is.1.1 count) tt is.1.3
-import-came setup old new known ended (Err why) is = one-came setup old new (failed_import why) tt is.1
+import-came : (setup : List Constituency) (old new : Option State) (known : Option Coming) (d : Delivery) (r : Result ImportCount ImportFault)
+    → keeper.ImportsComing setup old known d r new → IsEvent setup old new
+import-came setup old new known d (Ok count) is = one-came setup old new (whole_import is.1.0 is.1.1 count) tt is.1.3
+import-came setup old new known d (Err why) is = one-came setup old new (failed_import why) tt is.1.1
 
 kind-came : (k : Kind) (setup : List Constituency) (old new : Option State) (m : Message) (text : List ℕ) → IsOfKind k setup old m text new → IsEvent setup old new
 kind-came shown setup old new m text is = shown-came setup old new is

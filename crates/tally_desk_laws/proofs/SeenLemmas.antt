@@ -6,9 +6,9 @@ use Rattle.tally_rules.specs.Constituency.{Constituency}
 use Rattle.tally_rules.specs.Setup.{constituency_with}
 use Rattle.tally_returns.specs.AskSeen.{AskSeen, ask_seen}
 use Rattle.tally_returns.specs.AskSeen as of_seen
-use Rattle.tally_returns.specs.Decide.{decided_move}
+use Rattle.tally_returns.specs.Decide.{move_change}
 use Rattle.tally_returns.specs.GoneCandidate.{GoneCandidate}
-use Rattle.tally_returns.specs.Moves.{query_checks, queried}
+use Rattle.tally_returns.specs.Moves.{query_checks, queried_return}
 use Rattle.tally_returns.specs.PastSeats.{PastSeats}
 use Rattle.tally_returns.specs.State.{State, stations_of}
 use Rattle.tally_returns.specs.View.{View}
@@ -18,14 +18,14 @@ use Rattle.tally_returns.specs.declared.change.Change.{Change}
 use Rattle.tally_returns.specs.declared.change.Change.TheVariants.{PutReturn}
 use Rattle.tally_returns.specs.declared.refusal.Refusal.{Refusal}
 use Rattle.tally_returns.specs.declared.refusal.Refusal.TheVariants.{NoConstituency}
-use Rattle.tally_steps.specs.Certification.{Draws, reopened, vacates}
+use Rattle.tally_steps.specs.Certification.{Draws, reopen_result, vacate_result}
 use Rattle.tally_steps.specs.Runs.{IsSameCommand}
-use Rattle.tally_steps.specs.Step.{Answer, ConChange, Decides, IsConStepSeen, IsStepSeen, IsView, after, after_change, changed_by, con_answer, con_of_station, gone_for_good, is_certified, lot_set, move_reply, open_again, with_return, without_lot}
+use Rattle.tally_steps.specs.Step.{Answer, ConChange, Decides, IsConStepSeen, IsStepSeen, IsView, state_after, after_change, change_of_result, con_answer, con_of_station, gone_for_good, is_certified, lot_set, move_reply, open_again, with_return, without_lot}
 
 -- what is decided of a query, and the state after it
 abbrev decided_query : List Constituency → State → List ℕ → ℕ → List ℕ → Result Change Refusal
 decided_query setup s station rev note =
-    decided_move (query_checks (stations_of setup station) (is_certified setup s station) (get s.returns station) rev note) (get s.returns station) (queried note)
+    move_change (query_checks (stations_of setup station) (is_certified setup s station) (get s.returns station) rev note) (get s.returns station) (queried_return note)
 
 abbrev after_query : List Constituency → State → List ℕ → Result Change Refusal → State
 after_query setup s station (Ok (PutReturn standing)) = with_return (without_lot s (con_of_station setup station)) (Some station) standing
@@ -47,20 +47,20 @@ IsStepBy setup s (of_seen.correct station rev slip counts) x t = IsStepSeen setu
 IsStepBy setup s (of_seen.close station rev) x t = IsStepSeen setup s (ask.Close station rev) x t
 IsStepBy setup s (of_seen.show_return station) x t = IsStepSeen setup s (ask.ShowReturn station) x t
 IsStepBy setup s (of_seen.draw con edition order) x t =
-    IsConStepBy (constituency_with con setup) s (λ c view decided. (places : Result (List ℕ) Refusal) × Draws c view edition order places × (decided ≡ changed_by lot_set places)) x t
+    IsConStepBy (constituency_with con setup) s (λ c view decided. (places : Result (List ℕ) Refusal) × Draws c view edition order places × (decided ≡ change_of_result lot_set places)) x t
 IsStepBy setup s (of_seen.certify con edition) x t = IsStepSeen setup s (ask.Certify con edition) x t
 IsStepBy setup s (of_seen.reopen con edition note) x t =
     IsConStepBy (constituency_with con setup) s
-    (λ c view decided. decided ≡ changed_by (λ (r : List ℕ × PastSeats). open_again r.0 r.1) (reopened view edition note)) x t
+    (λ c view decided. decided ≡ change_of_result (λ (r : List ℕ × PastSeats). open_again r.0 r.1) (reopen_result view edition note)) x t
 IsStepBy setup s (of_seen.vacate con list place note) x t =
     IsConStepBy (constituency_with con setup) s
-    (λ c view decided. decided ≡ changed_by (λ (v : GoneCandidate × Option ℕ). gone_for_good v.0 v.1) (vacates c view list place note)) x t
+    (λ c view decided. decided ≡ change_of_result (λ (v : GoneCandidate × Option ℕ). gone_for_good v.0 v.1) (vacate_result c view list place note)) x t
 IsStepBy setup s (of_seen.show_con con) x t = IsStepSeen setup s (ask.ShowCon con) x t
 IsStepBy setup s of_seen.show_progress x t = IsStepSeen setup s ask.ShowProgress x t
 
 -- the two ways to say the same of a query
 after-same : (setup : List Constituency) (s : State) (station : List ℕ) (rev : ℕ) (note : String Global) (d : Result Change Refusal)
-    → after setup s (ask.Query station rev note) d ≡ after_query setup s station d
+    → state_after setup s (ask.Query station rev note) d ≡ after_query setup s station d
 after-same setup s station rev note (Ok (PutReturn standing)) = refl
 after-same setup s station rev note (Ok other) = refl
 after-same setup s station rev note (Err why) = refl

@@ -12,6 +12,8 @@ mod imports;
 #[cfg(test)]
 mod lines;
 #[cfg(test)]
+mod loopback;
+#[cfg(test)]
 mod offices;
 #[cfg(test)]
 mod outcomes;

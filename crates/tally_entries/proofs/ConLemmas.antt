@@ -24,7 +24,7 @@ use Rattle.tally_schema.specs.Cells.{flag}
 use Rattle.tally_statements.specs.declared.table.KeyedTable.{KeyedTable}
 use Rattle.tally_statements.specs.declared.table.KeyedTable.TheVariants.{Cons, Lots, Seats, Gone, Totals, Past}
 use Rattle.tally_statements.specs.Office.{rows_in, HasRows}
-use Rattle.tally_tables.specs.Cells.{item_row, items_of, numbered, con_rows, lot_rows, seat_rows, gone_row, gone_rows, past_row, past_rows, record_rows}
+use Rattle.tally_tables.specs.Cells.{item_row, items_of, numbers_with_places, con_rows, lot_rows, seat_rows, gone_row, gone_rows, past_row, past_rows, record_rows}
 use Rattle.tally_entries.specs.Constituencies.{ChangesOnly, MovesRows, MovesSeats, HasLot, HasGone, HasRecord, IsAt, sum_rows}
 use Rattle.tally_entries.specs.Entries.{Adds, HasItems, stored_in}
 use Rattle.tally_entries.proofs.LotLemmas.{lot_put}
@@ -36,7 +36,7 @@ changes_only t rows old new has = record { inside = has.inside; others = has.oth
 
 -- ---- lots and seats
 
-pub lot_written : (con lot : List ℕ) (old new : State) → HasRows Lots (map (item_row con) (numbered 1 lot) ++ others con (rows_in Lots old)) old new
+pub lot_written : (con lot : List ℕ) (old new : State) → HasRows Lots (map (item_row con) (numbers_with_places 1 lot) ++ others con (rows_in Lots old)) old new
     → ChangesOnly Lots old new × MovesRows Lots lot_rows con (HasLot lot) old new
 lot_written con lot old new put = (changes_only Lots _ old new put, λ cons before standing is becomes held. lot_put con lot cons standing old new becomes held put)
 
@@ -72,17 +72,17 @@ module _ {X : Type 0} (rows_of rows_to : List ℕ × X → List Row) (keyed : Ar
 pub apart_key : (k other : List ℕ) → eq_by_cmp text_cmp k other ≡ false → other ≢ k
 apart_key k other apart same = true≢false (sym (text_same k) ∙ ap (eq_by_cmp text_cmp k) (sym same) ∙ apart)
 
-seats_moved : (con seats : List ℕ) (old new : State) → HasRows Seats (map (item_row con) (numbered 1 seats) ++ others con (rows_in Seats old)) old new → MovesSeats con seats old new
+seats_moved : (con seats : List ℕ) (old new : State) → HasRows Seats (map (item_row con) (numbers_with_places 1 seats) ++ others con (rows_in Seats old)) old new → MovesSeats con seats old new
 seats_moved con seats old new put cons before standing some is same held = go (get cons con) refl some
   where
     go : (o : Option ConState) → get cons con ≡ o → IsSome o → AreRowsOf (seat_rows standing) cons (stored_in Seats new)
     go None found none = absurd (true≢false (sym none))
     go (Some v) found some =
-        turn_rows (seat_rows before) (seat_rows standing) (λ e. items_keyed e.0 (numbered 1 (before e.0))) cons con v (stored_in Seats old) (stored_in Seats new) found
-        (λ e apart. ap (λ ns. map (item_row e.0) (numbered 1 ns)) (same e.0 (apart_key con e.0 apart))) held
-        (subst (λ ns. IsPermutation (map (item_row con) (numbered 1 ns) ++ others con (rows_in Seats old)) (rows_in Seats new)) (sym is) put.rows)
+        turn_rows (seat_rows before) (seat_rows standing) (λ e. items_keyed e.0 (numbers_with_places 1 (before e.0))) cons con v (stored_in Seats old) (stored_in Seats new) found
+        (λ e apart. ap (λ ns. map (item_row e.0) (numbers_with_places 1 ns)) (same e.0 (apart_key con e.0 apart))) held
+        (subst (λ ns. IsPermutation (map (item_row con) (numbers_with_places 1 ns) ++ others con (rows_in Seats old)) (rows_in Seats new)) (sym is) put.rows)
 
-pub seats_written : (con seats : List ℕ) (old new : State) → HasRows Seats (map (item_row con) (numbered 1 seats) ++ others con (rows_in Seats old)) old new → ChangesOnly Seats old new × MovesSeats con seats old new
+pub seats_written : (con seats : List ℕ) (old new : State) → HasRows Seats (map (item_row con) (numbers_with_places 1 seats) ++ others con (rows_in Seats old)) old new → ChangesOnly Seats old new × MovesSeats con seats old new
 seats_written con seats old new put = (changes_only Seats _ old new put, seats_moved con seats old new put)
 
 -- ---- one entry more in a map of a constituency
@@ -114,7 +114,7 @@ more_rows rows_of keyed s k v w extra old new is more held added =
 gone_keyed : AreKeyedBy gone_rows
 gone_keyed e = all-map (λ c. column c 0 ≡ Text e.0) (gone_row e.0) (λ _. refl) (entries e.1.gone)
 
-gone_moved : (con : List ℕ) (list place : ℕ) (note : List ℕ) (old new : State) → HasRows Gone (gone_row con (list ∷ place ∷ [], note) ∷ rows_in Gone old) old new → MovesRows Gone gone_rows con (HasGone list place note) old new
+gone_moved : (con : List ℕ) (list place : ℕ) (note : List ℕ) (old new : State) → HasRows Gone (gone_row con (list ∷ place ∷ [], note) ∷ rows_in Gone old) old new → MovesRows Gone gone_rows con (HasGone (record { list = list; place = place; note = note })) old new
 gone_moved con list place note old new put cons before standing is becomes held =
     more_rows gone_rows gone_keyed cons con before standing (gone_row con (list ∷ place ∷ [], note) ∷ []) (stored_in Gone old) (stored_in Gone new) is
     (subst (λ m. IsPermutation (gone_row con (list ∷ place ∷ [], note) ∷ gone_rows (con, before)) (map (gone_row con) (entries m))) (sym becomes.1)
@@ -122,30 +122,30 @@ gone_moved con list place note old new put cons before standing is becomes held 
     held put.rows
 
 pub gone_written : (con : List ℕ) (list place : ℕ) (note : List ℕ) (old new : State) → HasRows Gone (gone_row con (list ∷ place ∷ [], note) ∷ rows_in Gone old) old new
-    → ChangesOnly Gone old new × MovesRows Gone gone_rows con (HasGone list place note) old new
+    → ChangesOnly Gone old new × MovesRows Gone gone_rows con (HasGone (record { list = list; place = place; note = note })) old new
 gone_written con list place note old new put = (changes_only Gone _ old new put, gone_moved con list place note old new put)
 
 -- ---- certificates on record
 
 past_keyed : AreKeyedBy past_rows
 past_keyed e = all-flat_map (λ c. column c 0 ≡ Text e.0) (record_rows e.0) (entries e.1.past)
-    (all_of (λ r. AllByRecursion (λ c. column c 0 ≡ Text e.0) (record_rows e.0 r)) (λ r. all-map (λ c. column c 0 ≡ Text e.0) (past_row e.0 r.0) (λ _. refl) (numbered 1 r.1)) (entries e.1.past))
+    (all_of (λ r. AllByRecursion (λ c. column c 0 ≡ Text e.0) (record_rows e.0 r)) (λ r. all-map (λ c. column c 0 ≡ Text e.0) (past_row e.0 r.0) (λ _. refl) (numbers_with_places 1 r.1)) (entries e.1.past))
 
-record_moved : (con : List ℕ) (edition : ℕ) (seats : List ℕ) (old new : State) → Adds Past (record_rows con (edition, seats)) old new → MovesRows Past past_rows con (HasRecord edition seats) old new
+record_moved : (con : List ℕ) (edition : ℕ) (seats : List ℕ) (old new : State) → Adds Past (record_rows con (edition, seats)) old new → MovesRows Past past_rows con (HasRecord (record { edition = edition; seats = seats })) old new
 record_moved con edition seats old new put cons before standing is becomes held =
     more_rows past_rows past_keyed cons con before standing (record_rows con (edition, seats)) (stored_in Past old) (stored_in Past new) is
     (subst (λ m. IsPermutation (record_rows con (edition, seats) ++ past_rows (con, before)) (flat_map (record_rows con) (entries m))) (sym becomes.1)
     (IsPermutation-flat_map (record_rows con) ((edition, seats) ∷ entries before.past) (entries (insert before.past edition seats)) (one_more nat_cmp_total nat_cmp-IsAntisymmetric before.past edition seats becomes.0)))
     held put.rows
 
-pub record_written : (con : List ℕ) (edition : ℕ) (seats : List ℕ) (old new : State) → Adds Past (record_rows con (edition, seats)) old new → ChangesOnly Past old new × MovesRows Past past_rows con (HasRecord edition seats) old new
+pub record_written : (con : List ℕ) (edition : ℕ) (seats : List ℕ) (old new : State) → Adds Past (record_rows con (edition, seats)) old new → ChangesOnly Past old new × MovesRows Past past_rows con (HasRecord (record { edition = edition; seats = seats })) old new
 record_written con edition seats old new put = (changes_only Past _ old new put, record_moved con edition seats old new put)
 
 seats_more : (con : List ℕ) (edition : ℕ) (ns : List ℕ) (i d : ℕ) → i < length ns → record_rows con (edition, take (i + 1) ns) ≡ record_rows con (edition, take i ns) ++ past_row con edition (i + 1, get_or ns i d) ∷ []
 seats_more con edition ns i d low =
     let few : length (take i ns) ≡ i = omega (arith, length-take i ns) in
-    ap (λ l. map (past_row con edition) (numbered 1 l)) (take_more ns i d low) ∙ ap (map (past_row con edition)) (numbered_then 1 (take i ns) (get_or ns i d ∷ []))
-    ∙ map-append (past_row con edition) (numbered 1 (take i ns)) _ ∙ ap (λ n. map (past_row con edition) (numbered 1 (take i ns)) ++ past_row con edition (n, get_or ns i d) ∷ []) (omega (arith, few))
+    ap (λ l. map (past_row con edition) (numbers_with_places 1 l)) (take_more ns i d low) ∙ ap (map (past_row con edition)) (numbered_then 1 (take i ns) (get_or ns i d ∷ []))
+    ∙ map-append (past_row con edition) (numbers_with_places 1 (take i ns)) _ ∙ ap (λ n. map (past_row con edition) (numbers_with_places 1 (take i ns)) ++ past_row con edition (n, get_or ns i d) ∷ []) (omega (arith, few))
 
 pub adds_seats : (con : List ℕ) (edition : ℕ) (ns : List ℕ) (i list n d : ℕ) (old mid new : State) → i < length ns → list ≡ i + 1 → n ≡ get_or ns i d → Adds Past (record_rows con (edition, take i ns)) old mid
     → Adds Past (past_row con edition (list, n) ∷ []) mid new → Adds Past (record_rows con (edition, take (i + 1) ns)) old new

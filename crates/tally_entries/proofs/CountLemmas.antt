@@ -23,7 +23,7 @@ use Rattle.tally_returns.specs.Return.{StationReturn, Returns as Office}
 use Rattle.tally_statements.specs.declared.table.KeyedTable.{KeyedTable}
 use Rattle.tally_statements.specs.declared.table.KeyedTable.TheVariants.{Returns, Counts}
 use Rattle.tally_statements.specs.Office.{rows_in, IsInside, HasRows, item_cells, is_item}
-use Rattle.tally_tables.specs.Cells.{item_row, items_of, numbered, spoiled_item, return_row, return_rows, count_rows, constituency_of}
+use Rattle.tally_tables.specs.Cells.{item_row, items_of, numbers_with_places, spoiled_item, return_row, return_rows, count_rows, constituency_of}
 use Rattle.tally_entries.specs.Entries.{AreReturnsIn, HasCounts, HasItems, PutsReturn, stored_in}
 use Rattle.tally_entries.proofs.FindLemmas.{above, below}
 use Rattle.tally_entries.proofs.ReturnLemmas.{heads_keyed, counts_keyed, counts_apart, heads_apart}
@@ -102,21 +102,21 @@ module _ (t : KeyedTable) (key : List ℕ) (front back : List (ℕ × ℕ)) (ite
 -- ---- the votes of a list
 
 items_at : (blank spoiled : ℕ) (xs : List ℕ) (n : ℕ) (ys : List ℕ)
-    → items_of (record { votes = xs ++ n ∷ ys; blank = blank; spoiled = spoiled }) ≡ ((0, blank) ∷ numbered 1 xs) ++ (length xs + 1, n) ∷ (numbered (length xs + 2) ys ++ (spoiled_item, spoiled) ∷ [])
+    → items_of (record { votes = xs ++ n ∷ ys; blank = blank; spoiled = spoiled }) ≡ ((0, blank) ∷ numbers_with_places 1 xs) ++ (length xs + 1, n) ∷ (numbers_with_places (length xs + 2) ys ++ (spoiled_item, spoiled) ∷ [])
 items_at blank spoiled xs n ys =
     ap (λ l. (0, blank) ∷ l ++ (spoiled_item, spoiled) ∷ [])
-    (numbered_then 1 xs (n ∷ ys) ∙ ap (λ m. numbered 1 xs ++ (m, n) ∷ numbered (m + 1) ys) (omega arith) ∙ ap (λ m. numbered 1 xs ++ (length xs + 1, n) ∷ numbered m ys) (omega arith))
-    ∙ ap (λ l. (0, blank) ∷ l) (append_assoc (numbered 1 xs) ((length xs + 1, n) ∷ numbered (length xs + 2) ys) ((spoiled_item, spoiled) ∷ []))
+    (numbered_then 1 xs (n ∷ ys) ∙ ap (λ m. numbers_with_places 1 xs ++ (m, n) ∷ numbers_with_places (m + 1) ys) (omega arith) ∙ ap (λ m. numbers_with_places 1 xs ++ (length xs + 1, n) ∷ numbers_with_places m ys) (omega arith))
+    ∙ ap (λ l. (0, blank) ∷ l) (append_assoc (numbers_with_places 1 xs) ((length xs + 1, n) ∷ numbers_with_places (length xs + 2) ys) ((spoiled_item, spoiled) ∷ []))
 
 vote_at : (t : KeyedTable) (key : List ℕ) (c : VoteCounts) (xs : List ℕ) (o n : ℕ) (ys : List ℕ) (rest : List Row) (old mid new : State) → length xs + 1 ≤ 60 → filter (has_key key) rest ≡ []
     → HasItems t key (record c { votes = xs ++ o ∷ ys }) rest old mid → Sets t key (length xs + 1) n mid new → HasItems t key (record c { votes = xs ++ n ∷ ys }) rest old new
 vote_at t key c xs o n ys rest old mid new few none was sets =
     let item : ℕ = length xs + 1 in
-    let front : List (ℕ × ℕ) = (0, c.blank) ∷ numbered 1 xs in
-    let back : List (ℕ × ℕ) = numbered (length xs + 2) ys ++ (spoiled_item, c.spoiled) ∷ [] in
-    let low : AllByRecursion (IsApart item) front = (lower item (0, c.blank) (omega arith), all_weaker _ (IsApart item) (lower item) (numbered 1 xs) (below item 1 xs (omega arith))) in
+    let front : List (ℕ × ℕ) = (0, c.blank) ∷ numbers_with_places 1 xs in
+    let back : List (ℕ × ℕ) = numbers_with_places (length xs + 2) ys ++ (spoiled_item, c.spoiled) ∷ [] in
+    let low : AllByRecursion (IsApart item) front = (lower item (0, c.blank) (omega arith), all_weaker _ (IsApart item) (lower item) (numbers_with_places 1 xs) (below item 1 xs (omega arith))) in
     let high : AllByRecursion (IsApart item) back =
-    all-append (IsApart item) (numbered (length xs + 2) ys) ((spoiled_item, c.spoiled) ∷ []) (all_weaker _ (IsApart item) (higher item) (numbered (length xs + 2) ys) (above item (length xs + 2) ys (omega arith))) (higher item (spoiled_item, c.spoiled) (omega (arith, few)), tt) in
+    all-append (IsApart item) (numbers_with_places (length xs + 2) ys) ((spoiled_item, c.spoiled) ∷ []) (all_weaker _ (IsApart item) (higher item) (numbers_with_places (length xs + 2) ys) (above item (length xs + 2) ys (omega arith))) (higher item (spoiled_item, c.spoiled) (omega (arith, few)), tt) in
     let held : IsPermutation (map (item_row key) (front ++ (item, o) ∷ back) ++ rest) (rows_in t mid) = subst (λ l. IsPermutation (map (item_row key) l ++ rest) (rows_in t mid)) (items_at c.blank c.spoiled xs o ys) was.rows in
     subst (λ l. HasRows t (map (item_row key) l ++ rest) old new) (sym (items_at c.blank c.spoiled xs n ys))
     (back_again t key front back item rest n _ old mid new was (sets o (more t key front back item rest) (lacks t key front back item rest low high none) (at_first t key front back item rest o mid held)))
@@ -147,15 +147,15 @@ votes_all t key c votes i rest old new all same has =
 pub blank_set : (t : KeyedTable) (key : List ℕ) (c : VoteCounts) (n : ℕ) (rest : List Row) (old new : State) → IsInside old → filter (has_key key) rest ≡ [] → IsPermutation (map (item_row key) (items_of c) ++ rest) (rows_in t old) → Sets t key 0 n old new
     → HasItems t key (record c { blank = n }) rest old new
 blank_set t key c n rest old new inside none held sets =
-    let back : List (ℕ × ℕ) = numbered 1 c.votes ++ (spoiled_item, c.spoiled) ∷ [] in
-    let high : AllByRecursion (IsApart 0) back = all-append (IsApart 0) (numbered 1 c.votes) ((spoiled_item, c.spoiled) ∷ []) (all_weaker _ (IsApart 0) (higher 0) (numbered 1 c.votes) (above 0 1 c.votes (omega arith))) (higher 0 (spoiled_item, c.spoiled) (omega arith), tt) in
+    let back : List (ℕ × ℕ) = numbers_with_places 1 c.votes ++ (spoiled_item, c.spoiled) ∷ [] in
+    let high : AllByRecursion (IsApart 0) back = all-append (IsApart 0) (numbers_with_places 1 c.votes) ((spoiled_item, c.spoiled) ∷ []) (all_weaker _ (IsApart 0) (higher 0) (numbers_with_places 1 c.votes) (above 0 1 c.votes (omega arith))) (higher 0 (spoiled_item, c.spoiled) (omega arith), tt) in
     back_again t key [] back 0 rest n (rows_in t old) old old new (record { inside = inside; rows = IsPermutation-refl _; others = λ u apart. refl; setup = refl })
     (sets c.blank (more t key [] back 0 rest) (lacks t key [] back 0 rest tt high none) (at_first t key [] back 0 rest c.blank old held))
 
 pub spoiled_set : (t : KeyedTable) (key : List ℕ) (c : VoteCounts) (n : ℕ) (rest : List Row) (old mid new : State) → length c.votes ≤ 60 → filter (has_key key) rest ≡ [] → HasItems t key c rest old mid → Sets t key spoiled_item n mid new → HasItems t key (record c { spoiled = n }) rest old new
 spoiled_set t key c n rest old mid new few none was sets =
-    let front : List (ℕ × ℕ) = (0, c.blank) ∷ numbered 1 c.votes in
-    let low : AllByRecursion (IsApart spoiled_item) front = (lower spoiled_item (0, c.blank) (omega arith), all_weaker _ (IsApart spoiled_item) (lower spoiled_item) (numbered 1 c.votes) (below spoiled_item 1 c.votes (omega (arith, few)))) in
+    let front : List (ℕ × ℕ) = (0, c.blank) ∷ numbers_with_places 1 c.votes in
+    let low : AllByRecursion (IsApart spoiled_item) front = (lower spoiled_item (0, c.blank) (omega arith), all_weaker _ (IsApart spoiled_item) (lower spoiled_item) (numbers_with_places 1 c.votes) (below spoiled_item 1 c.votes (omega (arith, few)))) in
     back_again t key front [] spoiled_item rest n _ old mid new was (sets c.spoiled (more t key front [] spoiled_item rest) (lacks t key front [] spoiled_item rest low tt none) (at_first t key front [] spoiled_item rest c.spoiled mid was.rows))
 
 pub spoiled_after : (t : KeyedTable) (key : List ℕ) (c : VoteCounts) (n : ℕ) (rest : List Row) (old mid new : State) (r : Result Unit Error) → length c.votes ≤ 60 → filter (has_key key) rest ≡ [] → HasItems t key c rest old mid

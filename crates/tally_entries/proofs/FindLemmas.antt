@@ -25,7 +25,7 @@ use Rattle.tally_returns.specs.Return.{StationReturn, Returns as Office}
 use Rattle.tally_statements.specs.declared.table.KeyedTable.{KeyedTable}
 use Rattle.tally_statements.specs.declared.table.KeyedTable.TheVariants.{Returns, Counts}
 use Rattle.tally_statements.specs.Office.{tree_of, rows_in, key_cells, all_cells, AreInOrder, IsFound, IsInside}
-use Rattle.tally_tables.specs.Cells.{item_row, items_of, numbered, spoiled_item, return_rows, count_rows}
+use Rattle.tally_tables.specs.Cells.{item_row, items_of, numbers_with_places, spoiled_item, return_rows, count_rows}
 use Rattle.tally_returns.specs.Lawful.{IsLawfulAt}
 use Rattle.tally_tables.specs.Reading.{entries_in}
 use Rattle.tally_tables.proofs.EntryLemmas.{entries_again}
@@ -35,15 +35,15 @@ use Rattle.tally_entries.proofs.ReturnLemmas.{heads_keyed, counts_keyed}
 
 -- ---- the items of counts rise
 
-pub above : (m first : ℕ) (ns : List ℕ) → m < first → AllByRecursion (λ (b : ℕ × ℕ). m < b.0) (numbered first ns)
+pub above : (m first : ℕ) (ns : List ℕ) → m < first → AllByRecursion (λ (b : ℕ × ℕ). m < b.0) (numbers_with_places first ns)
 above m first [] h = tt
 above m first (n ∷ ns) h = (h, above m (first + 1) ns (omega (arith, h)))
 
-pub below : (m first : ℕ) (ns : List ℕ) → first + length ns ≤ m → AllByRecursion (λ (b : ℕ × ℕ). b.0 < m) (numbered first ns)
+pub below : (m first : ℕ) (ns : List ℕ) → first + length ns ≤ m → AllByRecursion (λ (b : ℕ × ℕ). b.0 < m) (numbers_with_places first ns)
 below m first [] h = tt
 below m first (n ∷ ns) h = (omega (arith, h), below m (first + 1) ns (omega (arith, h)))
 
-pub numbered_rise : (first : ℕ) (ns : List ℕ) → IsAscending (λ (a b : ℕ × ℕ). a.0 < b.0) (numbered first ns)
+pub numbered_rise : (first : ℕ) (ns : List ℕ) → IsAscending (λ (a b : ℕ × ℕ). a.0 < b.0) (numbers_with_places first ns)
 numbered_rise first [] = tt
 numbered_rise first (n ∷ ns) = (above first (first + 1) ns (omega arith), numbered_rise (first + 1) ns)
 
@@ -51,9 +51,9 @@ pub items_rise : (c : VoteCounts) → length c.votes ≤ 60 → IsAscending (λ 
 items_rise c few =
     let last : List (ℕ × ℕ) = (spoiled_item, c.spoiled) ∷ [] in
     let low = below spoiled_item 1 c.votes (omega (arith, few)) in (
-      all-append (λ (b : ℕ × ℕ). 0 < b.0) (numbered 1 c.votes) last (above 0 1 c.votes (omega arith)) (omega arith, tt),
-      ascending-append (λ (a b : ℕ × ℕ). a.0 < b.0) (numbered 1 c.votes) last (numbered_rise 1 c.votes) (tt, tt)
-          (all_weaker _ (λ (a : ℕ × ℕ). AllByRecursion (λ (b : ℕ × ℕ). a.0 < b.0) last) (λ a h. (h, tt)) (numbered 1 c.votes) low),
+      all-append (λ (b : ℕ × ℕ). 0 < b.0) (numbers_with_places 1 c.votes) last (above 0 1 c.votes (omega arith)) (omega arith, tt),
+      ascending-append (λ (a b : ℕ × ℕ). a.0 < b.0) (numbers_with_places 1 c.votes) last (numbered_rise 1 c.votes) (tt, tt)
+          (all_weaker _ (λ (a : ℕ × ℕ). AllByRecursion (λ (b : ℕ × ℕ). a.0 < b.0) last) (λ a h. (h, tt)) (numbers_with_places 1 c.votes) low),
     )
 
 row_less : (key : List ℕ) (a b : ℕ × ℕ) → a.0 < b.0 → row_cmp (key_cells Counts (item_row key a)) (key_cells Counts (item_row key b)) ≡ Less
@@ -107,6 +107,16 @@ pub finds_return : (setup : List Constituency) (station : List ℕ) (s : State) 
     → (entries_in setup heads counts ≡ Some [] → IfOk result (λ found. found ≡ None)) → ((e : List ℕ × StationReturn) → entries_in setup heads counts ≡ Some (e ∷ []) → IfOk result (λ found. found ≡ Some e.1)) → IfOk result (FindsReturn setup station s)
 finds_return setup station s heads counts (Err e) code with_heads with_counts none one = tt
 finds_return setup station s heads counts (Ok found) code with_heads with_counts none one = found_is setup station s heads counts found code with_heads with_counts none one
+
+-- a station without a row of `returns` has no return
+pub finds_none : (setup : List Constituency) (station : List ℕ) (s : State) (heads : List Row) → length heads ≡ 0 → IsFound Returns station s heads → FindsReturn setup station s None
+finds_none setup station s heads none with_heads returns held lawful = go (get returns station) refl
+  where
+    go : (o : Option StationReturn) → get returns station ≡ o → None ≡ o
+    go None is = refl
+    go (Some r) is =
+        let one : length heads ≡ 1 = ap length (heads_are setup returns station s held (Some r) heads is with_heads) in
+        absurd (omega (arith, none, one))
 
 -- ---- what a look-up leaves
 

@@ -12,7 +12,7 @@ use Rattle.tally_returns.specs.State.{ConState}
 use Rattle.tally_statements.specs.declared.table.KeyedTable.{KeyedTable}
 use Rattle.tally_statements.specs.declared.table.KeyedTable.TheVariants.{Lots}
 use Rattle.tally_statements.specs.Office.{rows_in, HasRows}
-use Rattle.tally_tables.specs.Cells.{item_row, numbered, lot_rows}
+use Rattle.tally_tables.specs.Cells.{item_row, numbers_with_places, lot_rows}
 use Rattle.tally_entries.specs.Entries.{Adds, stored_in}
 use Rattle.tally_entries.proofs.ReturnLemmas.{items_keyed}
 
@@ -25,9 +25,9 @@ added_beside t rows rest old mid new was now = record {
 }
 
 lots_keyed : AreKeyedBy lot_rows
-lots_keyed e = items_keyed e.0 (numbered 1 e.1.lot)
+lots_keyed e = items_keyed e.0 (numbers_with_places 1 e.1.lot)
 
 pub lot_put : (con lot : List ℕ) (cons : FinMap code_cmp ConState) (standing : ConState) (old new : State) → standing.lot ≡ lot → AreRowsOf lot_rows cons (stored_in Lots old)
-    → HasRows Lots (map (item_row con) (numbered 1 lot) ++ others con (rows_in Lots old)) old new → AreRowsOf lot_rows (insert cons con standing) (stored_in Lots new)
+    → HasRows Lots (map (item_row con) (numbers_with_places 1 lot) ++ others con (rows_in Lots old)) old new → AreRowsOf lot_rows (insert cons con standing) (stored_in Lots new)
 lot_put con lot cons standing old new is held put =
-    put_rows lot_rows lots_keyed cons con standing (stored_in Lots old) (stored_in Lots new) held (subst (λ l. IsPermutation (map (item_row con) (numbered 1 l) ++ others con (rows_in Lots old)) (rows_in Lots new)) (sym is) put.rows)
+    put_rows lot_rows lots_keyed cons con standing (stored_in Lots old) (stored_in Lots new) held (subst (λ l. IsPermutation (map (item_row con) (numbers_with_places 1 l) ++ others con (rows_in Lots old)) (rows_in Lots new)) (sym is) put.rows)

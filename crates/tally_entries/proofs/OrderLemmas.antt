@@ -20,7 +20,7 @@ use Rattle.tally_returns.specs.Counts.{VoteCounts}
 use Rattle.tally_statements.specs.declared.table.KeyedTable.{KeyedTable}
 use Rattle.tally_statements.specs.declared.table.KeyedTable.TheVariants.{Lots, Seats, Gone, Totals, Past}
 use Rattle.tally_statements.specs.Office.{AreInOrder, all_cells, key_cells}
-use Rattle.tally_tables.specs.Cells.{gone_row, item_row, items_of, numbered, past_row, record_rows}
+use Rattle.tally_tables.specs.Cells.{gone_row, item_row, items_of, numbers_with_places, past_row, record_rows}
 use Rattle.tally_entries.proofs.FindLemmas.{items_rise, numbered_rise}
 
 -- the key of a row is below that of another
@@ -75,8 +75,8 @@ items_in_order t has key items rise = record { whole = each items; rising = go i
     go [] h = tt
     go (i ∷ items) h = (over i items h.0, go items h.1)
 
-pub numbers_in_order : (t : KeyedTable) → HasItems t → (key ns : List ℕ) → AreInOrder t (map (item_row key) (numbered 1 ns))
-numbers_in_order t has key ns = items_in_order t has key (numbered 1 ns) (numbered_rise 1 ns)
+pub numbers_in_order : (t : KeyedTable) → HasItems t → (key ns : List ℕ) → AreInOrder t (map (item_row key) (numbers_with_places 1 ns))
+numbers_in_order t has key ns = items_in_order t has key (numbers_with_places 1 ns) (numbered_rise 1 ns)
 
 pub totals_in_order : (key : List ℕ) (c : VoteCounts) → length c.votes ≤ 60 → AreInOrder Totals (map (item_row key) (items_of c))
 totals_in_order key c few = items_in_order Totals totals_items key (items_of c) (items_rise c few)
@@ -156,7 +156,7 @@ record_keyed key edition (i ∷ items) = (refl, record_keyed key edition items)
 
 pub past_keyed : (key : List ℕ) (es : List (ℕ × List ℕ)) → AllByRecursion (λ c. column c 0 ≡ Text key) (flat_map (record_rows key) es)
 past_keyed key [] = tt
-past_keyed key (e ∷ es) = all-append (λ c. column c 0 ≡ Text key) (record_rows key e) (flat_map (record_rows key) es) (record_keyed key e.0 (numbered 1 e.1)) (past_keyed key es)
+past_keyed key (e ∷ es) = all-append (λ c. column c 0 ≡ Text key) (record_rows key e) (flat_map (record_rows key) es) (record_keyed key e.0 (numbers_with_places 1 e.1)) (past_keyed key es)
 
 past_then : (key : List ℕ) (c d i j m n : ℕ) → value_cmp (Int (pos c)) (Int (pos d)) ≡ Less → IsBelow Past (past_row key c (i, m)) (past_row key d (j, n))
 past_then key c d i j m n less = same_then (Text key) _ ∙ first_then (Int (pos c)) (Int (pos d)) _ less
@@ -173,7 +173,7 @@ past_in_order key es rise = record { whole = each es; rising = go es rise }
 
     each : (es : List (ℕ × List ℕ)) → AllByRecursion (IsWhole Past) (flat_map (record_rows key) es)
     each [] = tt
-    each (e ∷ es) = all-append (IsWhole Past) (record_rows key e) (flat_map (record_rows key) es) (each_of e.0 (numbered 1 e.1)) (each es)
+    each (e ∷ es) = all-append (IsWhole Past) (record_rows key e) (flat_map (record_rows key) es) (each_of e.0 (numbers_with_places 1 e.1)) (each es)
 
     over_items : (c d : ℕ) (i : ℕ × ℕ) (items : List (ℕ × ℕ)) → value_cmp (Int (pos c)) (Int (pos d)) ≡ Less → AllByRecursion (IsBelow Past (past_row key c i)) (map (past_row key d) items)
     over_items c d i [] less = tt
@@ -183,7 +183,7 @@ past_in_order key es rise = record { whole = each es; rising = go es rise }
     over c i [] less = tt
     over c i (e ∷ es) less =
         all-append (IsBelow Past (past_row key c i)) (record_rows key e) (flat_map (record_rows key) es)
-        (over_items c e.0 i (numbered 1 e.1) (numbers_same c e.0 ∙ less.0)) (over c i es less.1)
+        (over_items c e.0 i (numbers_with_places 1 e.1) (numbers_same c e.0 ∙ less.0)) (over c i es less.1)
 
     over_each : (c : ℕ) (items : List (ℕ × ℕ)) (es : List (ℕ × List ℕ)) → AllByRecursion (λ b. nat_cmp c b.0 ≡ Less) es
         → AllByRecursion (λ r. AllByRecursion (IsBelow Past r) (flat_map (record_rows key) es)) (map (past_row key c) items)
@@ -201,5 +201,5 @@ past_in_order key es rise = record { whole = each es; rising = go es rise }
     go : (es : List (ℕ × List ℕ)) → IsAscending (λ a b. nat_cmp a.0 b.0 ≡ Less) es → IsAscending (IsBelow Past) (flat_map (record_rows key) es)
     go [] rise = tt
     go (e ∷ es) rise =
-        ascending-append (IsBelow Past) (record_rows key e) (flat_map (record_rows key) es) (own e.0 (numbered 1 e.1) (numbered_rise 1 e.1)) (go es rise.1)
-        (over_each e.0 (numbered 1 e.1) es rise.0)
+        ascending-append (IsBelow Past) (record_rows key e) (flat_map (record_rows key) es) (own e.0 (numbers_with_places 1 e.1) (numbered_rise 1 e.1)) (go es rise.1)
+        (over_each e.0 (numbers_with_places 1 e.1) es rise.0)

@@ -14,7 +14,7 @@ use Rattle.tally_rows.specs.Cells.{number_of}
 use Rattle.tally_rows.specs.Rows.{AreRowsOf}
 use Rattle.tally_rules.specs.Constituency.{Constituency}
 use Rattle.tally_rules.specs.declared.constituency.Station.{Station}
-use Rattle.tally_returns.specs.Progress.{is_received, is_queried, is_corrected, is_closed, progress_row, stations_in}
+use Rattle.tally_returns.specs.Progress.{is_received, is_queried, is_corrected, is_closed, progress_row, count_with_status}
 use Rattle.tally_returns.specs.Return.{StationReturn, Returns as Office}
 use Rattle.tally_returns.specs.State.{ConState, con_state, opening_con}
 use Rattle.tally_returns.specs.declared.progress.ProgressRow.{ProgressRow}
@@ -26,7 +26,7 @@ use Rattle.tally_tables.specs.Cells.{return_rows, status_number}
 use Rattle.tally_tables.specs.Reading.{status_of}
 use Rattle.tally_tables.specs.declared.views.Statuses.{Statuses}
 use Rattle.tally_entries.specs.Constituencies.{FindsProgressRow, IsKnown}
-use Rattle.tally_entries.specs.Found.{AreWithin, FindsKnown, FindsStage, FindsStatus, FindsStatuses, row_with, status_in, with_station}
+use Rattle.tally_entries.specs.internal.Found.{AreWithin, FindsKnown, FindsStage, FindsStatus, FindsStatuses, row_with, status_in, with_station}
 use Rattle.tally_entries.specs.Statuses.{statuses_in}
 use Rattle.tally_entries.proofs.ReturnLemmas.{heads_keyed}
 use Rattle.tally_entries.proofs.ViewLemmas.{found_none, found_rows}
@@ -69,17 +69,17 @@ abbrev status_at : Office → Station → Option Status
 status_at returns station = option_map (λ (standing : StationReturn). standing.status) (get returns station.code)
 
 one_more : (returns : Office) (stations : List Station) (i : ℕ) (x : Station) → i < length stations → x ≡ get_or stations i x → (p : Status → Bool)
-    → stations_in p returns (take (i + 1) stations) ≡ cond (option_map_or p (status_at returns x) false) (stations_in p returns (take i stations) + 1) (stations_in p returns (take i stations))
+    → count_with_status p returns (take (i + 1) stations) ≡ cond (option_map_or p (status_at returns x) false) (count_with_status p returns (take i stations) + 1) (count_with_status p returns (take i stations))
 one_more returns stations i x low is p =
     count_more (λ (station : Station). option_map_or (λ (standing : StationReturn). p standing.status) (get returns station.code) false) stations i x low is
-    ∙ ap (λ b. cond b (stations_in p returns (take i stations) + 1) (stations_in p returns (take i stations))) (same (get returns x.code))
+    ∙ ap (λ b. cond b (count_with_status p returns (take i stations) + 1) (count_with_status p returns (take i stations))) (same (get returns x.code))
   where
     same : (o : Option StationReturn) → option_map_or (λ (standing : StationReturn). p standing.status) o false ≡ option_map_or p (option_map (λ (standing : StationReturn). standing.status) o) false
     same None = refl
     same (Some r) = refl
 
 all_more : (returns : Office) (before after : List Station) (status : Option Status) → length after ≡ length before + 1
-    → ((p : Status → Bool) → stations_in p returns after ≡ cond (option_map_or p status false) (stations_in p returns before + 1) (stations_in p returns before)) → statuses_in returns after ≡ with_station (statuses_in returns before) status
+    → ((p : Status → Bool) → count_with_status p returns after ≡ cond (option_map_or p status false) (count_with_status p returns before + 1) (count_with_status p returns before)) → statuses_in returns after ≡ with_station (statuses_in returns before) status
 all_more returns before after None long each = λ k. record { stations = long k; received = each is_received k; queried = each is_queried k; corrected = each is_corrected k; closed = each is_closed k }
 all_more returns before after (Some Received) long each = λ k. record { stations = long k; received = each is_received k; queried = each is_queried k; corrected = each is_corrected k; closed = each is_closed k }
 all_more returns before after (Some Queried) long each = λ k. record { stations = long k; received = each is_received k; queried = each is_queried k; corrected = each is_corrected k; closed = each is_closed k }

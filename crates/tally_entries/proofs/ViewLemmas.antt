@@ -24,7 +24,7 @@ use Rattle.tally_tables.proofs.EntryLemmas.{AreRead, counts_again}
 use Rattle.tally_tables.proofs.ItemLemmas.{IsRead, map_some}
 use Rattle.tally_entries.specs.Constituencies.{FindsCertified, FindsSums}
 use Rattle.tally_entries.specs.Entries.{stored_in}
-use Rattle.tally_entries.specs.Found.{FindsStage, certified_in, stage_in}
+use Rattle.tally_entries.specs.internal.Found.{FindsStage, certified_in, stage_in}
 use Rattle.tally_entries.proofs.OrderLemmas.{totals_in_order}
 use Rattle.tally_entries.proofs.ReturnLemmas.{items_keyed}
 

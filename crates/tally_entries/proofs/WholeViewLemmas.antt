@@ -27,7 +27,7 @@ use Rattle.tally_returns.specs.Return.{Returns}
 use Rattle.tally_returns.specs.State.{State, ConState, con_state, opening_con}
 use Rattle.tally_returns.specs.View.{View, view_of, view_with, gone_candidate, gone_candidates, past_record, past_records, votes_at, votes_of_lists, closed_counts, blank_of, spoiled_of}
 use Rattle.tally_statements.specs.declared.table.KeyedTable.TheVariants.{Cons, Lots, Seats, Gone, Totals, Past}
-use Rattle.tally_tables.specs.Cells.{con_rows, gone_row, gone_rows, items_of, lot_rows, numbered, past_rows, record_rows, seat_rows, total_rows, totals_of}
+use Rattle.tally_tables.specs.Cells.{con_rows, gone_row, gone_rows, items_of, lot_rows, numbers_with_places, past_rows, record_rows, seat_rows, total_rows, totals_of}
 use Rattle.tally_tables.specs.Reading.{all_gone_of, numbers_from, past_of, standing_of, sums_of}
 use Rattle.tally_tables.specs.TablesOfState.{AreTables}
 use Rattle.tally_tables.specs.Views.{Tables, statuses_of, view_in}
@@ -35,7 +35,7 @@ use Rattle.tally_tables.specs.declared.views.Statuses.{Statuses}
 use Rattle.tally_tables.proofs.ConLemmas.{IsReadablePast, all_gone_are, all_gone_rows, all_past_again, all_past_rows, standing_row, sums_of_view}
 use Rattle.tally_tables.proofs.ItemLemmas.{IsRead, and_then_some, items_are, map_some, number_is, number_reads, number_rows}
 use Rattle.tally_entries.specs.Constituencies.{FindsView}
-use Rattle.tally_entries.specs.Found.{AreFound, FindsKnown, Rows, view_of_rows}
+use Rattle.tally_entries.specs.internal.Found.{AreFound, FindsKnown, Rows, view_of_rows}
 use Rattle.tally_entries.specs.Statuses.{statuses_in}
 use Rattle.tally_entries.proofs.OrderLemmas.{gone_in_order, gone_keyed, lots_items, numbers_in_order, past_in_order, past_keyed, seats_items, sorted_rise, totals_in_order}
 use Rattle.tally_entries.proofs.ReturnLemmas.{items_keyed}
@@ -141,9 +141,9 @@ module _ (setup : List Constituency) (con : Constituency) (s : Seen) (text : Lis
       let last : c.edition ≤ 9999 = subst (λ (x : ConState). x.edition ≤ 9999) stands own.seen.last in
       let old_past : All (IsLawfulPast con c.edition) (map past_record (entries c.past)) = subst (λ (x : ConState). All (IsLawfulPast con x.edition) (past_records x.past)) stands own.seen.past in
       let head = con_row_is key c (v.edition, v.certified, v.note) (row_of key c) refl read.standing in
-      let lot : v.lot ≡ c.lot = one_numbers key rows.lots v.lot c.lot (found_rows Lots lot_rows (λ e. items_keyed e.0 (numbered 1 e.1.lot)) of.cons key s rows.lots c there tables.lots (numbers_in_order Lots lots_items key c.lot) found.lots) read.lots in
+      let lot : v.lot ≡ c.lot = one_numbers key rows.lots v.lot c.lot (found_rows Lots lot_rows (λ e. items_keyed e.0 (numbers_with_places 1 e.1.lot)) of.cons key s rows.lots c there tables.lots (numbers_in_order Lots lots_items key c.lot) found.lots) read.lots in
       let seats : v.seats ≡ tables.given key =
-      one_numbers key rows.seats v.seats (tables.given key) (found_rows Seats (seat_rows tables.given) (λ e. items_keyed e.0 (numbered 1 (tables.given e.0))) of.cons key s rows.seats c there tables.seats (numbers_in_order Seats seats_items key (tables.given key)) found.seats) read.seats in
+      one_numbers key rows.seats v.seats (tables.given key) (found_rows Seats (seat_rows tables.given) (λ e. items_keyed e.0 (numbers_with_places 1 (tables.given e.0))) of.cons key s rows.seats c there tables.seats (numbers_in_order Seats seats_items key (tables.given key)) found.seats) read.seats in
       let gone : v.gone ≡ gone_candidates c.gone =
       one_gone key rows.gone v.gone (entries c.gone)
       (found_rows Gone gone_rows (λ e. gone_keyed e.0 (entries e.1.gone)) of.cons key s rows.gone c there tables.gone (gone_in_order key (entries c.gone) (sorted_rise text_cmp (entries c.gone) (entries_sorted c.gone)) (recursion_from_All IsUnderPlaces (entries c.gone) under)) found.gone) read.gone in

@@ -9,6 +9,8 @@ use Rattle.tally_rules.specs.Code.{code_cmp}
 use Rattle.tally_rules.specs.Constituency.{Constituency}
 use Rattle.tally_rules.specs.Setup.{constituency_with}
 use Rattle.tally_returns.specs.Counts.{VoteCounts}
+use Rattle.tally_returns.specs.GoneCandidate.{GoneCandidate}
+use Rattle.tally_returns.specs.PastSeats.{PastSeats}
 use Rattle.tally_returns.specs.Progress.{progress_row}
 use Rattle.tally_returns.specs.Return.{Returns}
 use Rattle.tally_returns.specs.State.{State, ConState}
@@ -20,7 +22,7 @@ use Rattle.tally_schema.specs.Tables.{setup_tree}
 use Rattle.tally_statements.specs.declared.table.KeyedTable.{KeyedTable}
 use Rattle.tally_statements.specs.declared.table.KeyedTable.TheVariants.{Returns as Heads, Cons, Seats, Totals}
 use Rattle.tally_statements.specs.Office.{tree_of, IsInside}
-use Rattle.tally_tables.specs.Cells.{item_row, items_of, con_rows, return_rows, seat_rows, total_rows, totals_of}
+use Rattle.tally_tables.specs.Cells.{item_row, items_of, con_rows, gone_row, return_rows, seat_rows, total_rows, totals_of}
 use Rattle.tally_tables.specs.TablesOfState.{AreTables}
 use Rattle.tally_tables.specs.declared.views.Statuses.{Statuses}
 use Rattle.tally_entries.specs.Entries.{stored_in}
@@ -60,15 +62,19 @@ IsAt edition certified note before standing = (standing.edition ≡ edition) × 
 abbrev pub HasLot : List ℕ → ConState → ConState → Type 0
 HasLot lot before standing = standing.lot ≡ lot
 
+-- the row of a candidate who is gone
+abbrev pub candidate_row : List ℕ → GoneCandidate → Row
+candidate_row con gone = gone_row con (gone.list ∷ gone.place ∷ [], gone.note)
+
 -- one candidate more is gone
-abbrev pub HasGone : ℕ → ℕ → List ℕ → ConState → ConState → Type 0
-HasGone list place note before standing =
-    (get before.gone (list ∷ place ∷ []) ≡ None) × (standing.gone ≡ insert before.gone (list ∷ place ∷ []) note)
+abbrev pub HasGone : GoneCandidate → ConState → ConState → Type 0
+HasGone gone before standing =
+    (get before.gone (gone.list ∷ gone.place ∷ []) ≡ None) × (standing.gone ≡ insert before.gone (gone.list ∷ gone.place ∷ []) gone.note)
 
 -- one certificate more is on record
-abbrev pub HasRecord : ℕ → List ℕ → ConState → ConState → Type 0
-HasRecord edition seats before standing =
-    (get before.past edition ≡ None) × (standing.past ≡ insert before.past edition seats)
+abbrev pub HasRecord : PastSeats → ConState → ConState → Type 0
+HasRecord past before standing =
+    (get before.past past.edition ≡ None) × (standing.past ≡ insert before.past past.edition past.seats)
 
 -- the rows of sums, by the code of the constituency
 abbrev pub sum_rows : (List ℕ → VoteCounts) → List ℕ × ConState → List Row

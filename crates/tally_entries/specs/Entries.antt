@@ -1,8 +1,11 @@
 -- What writing all rows of an entry does to the tables.
-use Rattle.std.specs.Prelude.{◌≡◌, ◌≢◌, ◌≤◌, ◌++◌, ℕ, List, [], length, map, filter, IsPermutation, Option, None, Some, IfSome, Result, OnOk}
+use Rattle.std.specs.Prelude.{◌≡◌, ◌≢◌, ◌≤◌, ◌++◌, ℕ, List, [], length, map, filter, IsPermutation, Option, None, Some, IfSome, Result, IfOk, OnOk}
 use Rattle.std.specs.FinMap.{get, insert}
 use Rattle.sqlite_value.specs.Order.{Row}
+use Rattle.sqlite_trees.specs.declared.store.Store.{Ghosts}
 use Rattle.sqlite.specs.declared.error.Error.{Error}
+use Rattle.sqlite.specs.declared.transaction.Transaction.{Transaction}
+use Rattle.sqlite.specs.Held.{state}
 use Rattle.sqlite.specs.State.{State as Seen, HasCleanDisk}
 use Rattle.tally_rows.specs.Rows.{AreRowsOf, has_key, others}
 use Rattle.tally_rules.specs.Constituency.{Constituency}
@@ -11,8 +14,8 @@ use Rattle.tally_returns.specs.Return.{StationReturn, Returns}
 use Rattle.tally_schema.specs.Tables.{setup_tree}
 use Rattle.tally_statements.specs.declared.table.KeyedTable.{KeyedTable}
 use Rattle.tally_statements.specs.declared.table.KeyedTable.TheVariants.{Returns as Heads, Counts, Lots, Seats}
-use Rattle.tally_statements.specs.Office.{tree_of, rows_in, IsInside, HasRows}
-use Rattle.tally_tables.specs.Cells.{constituency_of, item_row, items_of, numbered, return_rows, count_rows}
+use Rattle.tally_statements.specs.Office.{tree_of, rows_in, IsInside, HasRows, Replaces}
+use Rattle.tally_tables.specs.Cells.{constituency_of, item_row, items_of, numbers_with_places, return_row, return_rows, count_rows}
 use Rattle.tally_returns.specs.Lawful.{IsLawfulAt}
 use Rattle.tally_entries.specs.declared.items.ItemTable.{ItemTable}
 use Rattle.tally_entries.specs.declared.items.ItemTable.TheVariants as items
@@ -34,6 +37,15 @@ Adds t rows old new = HasRows t (rows ++ rows_in t old) old new
 abbrev pub AddsRows : KeyedTable → List Row → Seen → Seen → Result Unit Error → Type 0
 AddsRows t rows old new result = HasCleanDisk new → IsInside old → OnOk result (Adds t rows old new)
 
+-- What holds after a call that looks something up in tables like these, where the disk returned
+-- what was written. What it found is so of the tables as they were before.
+abbrev pub FindsFrom : (Seen → Type 0) → {S X : Type 0} (g : Ghosts S) → (Seen → X → Type 0) → Transaction S → Transaction S → Result X Error → Type 0
+FindsFrom starts g Found old new result = HasCleanDisk (state g new.conn.now) → starts (state g old.conn.now) → IfOk result (Found (state g old.conn.now))
+
+-- the same in the tables of the office
+abbrev pub Finds : {S X : Type 0} (g : Ghosts S) → (Seen → X → Type 0) → Transaction S → Transaction S → Result X Error → Type 0
+Finds g Found old new result = FindsFrom IsInside g Found old new result
+
 -- ---- returns
 
 -- the rows of `returns` and of `counts` are those of these returns
@@ -48,6 +60,11 @@ pub record PutsReturn (setup : List Constituency) (returns : Returns) (station :
   pub returns_are : AreReturnsIn setup (insert returns station standing) new
   pub others : (u : KeyedTable) → tree_of u ≢ tree_of Heads → tree_of u ≢ tree_of Counts → stored_in u new ≡ stored_in u old
   pub setup_is : new.now.trees setup_tree ≡ old.now.trees setup_tree
+
+-- the row of a return of this constituency takes the place of the row of its station
+abbrev pub ReplacesHead : List ℕ → StationReturn → Seen → Seen → Result Unit Error → Type 0
+ReplacesHead station standing old new result =
+    (con : List ℕ) (before : StationReturn) → Replaces Heads station (return_row con (station, before)) (return_row con (station, standing)) old new result
 
 -- the return is added at a station that had none
 abbrev pub AddsReturn : List ℕ → List ℕ → StationReturn → Seen → Seen → Result Unit Error → Type 0
@@ -103,4 +120,4 @@ FindsReturn setup station s found =
 -- The table has these numbers of a constituency, each with its place from 1. It has the rows of the
 -- others as they were.
 abbrev pub PutsNumbers : KeyedTable → List ℕ → List ℕ → Seen → Seen → Result Unit Error → Type 0
-PutsNumbers t con ns old new result = HasCleanDisk new → IsInside old → OnOk result (HasRows t (map (item_row con) (numbered 1 ns) ++ others con (rows_in t old)) old new)
+PutsNumbers t con ns old new result = HasCleanDisk new → IsInside old → OnOk result (HasRows t (map (item_row con) (numbers_with_places 1 ns) ++ others con (rows_in t old)) old new)

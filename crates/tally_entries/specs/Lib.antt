@@ -1,4 +1,4 @@
+pub mod internal
 pub mod Entries
 pub mod Statuses
 pub mod Constituencies
-pub mod Found

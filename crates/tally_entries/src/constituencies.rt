@@ -1,12 +1,12 @@
 //! What a constituency has in the tables `lots` and `seats`.
 
-ghost use Rattle.std.specs.Prelude.{◌≤◌, ◌∷◌, [], length};
+ghost use Rattle.std.specs.Prelude.{◌≤◌, length};
 ghost use Rattle.sqlite.specs.Held.{state};
 ghost use Rattle.tally_statements.specs.Office.{Inserts, SetsItem};
 ghost use Rattle.tally_statements.specs.declared.table.KeyedTable.TheVariants.{Cons, Lots, Seats, Totals};
 ghost use Rattle.tally_statements.specs.declared.table.KeyedTable.TheVariants as table;
-ghost use Rattle.tally_tables.specs.Cells.{con_rows, gone_row, gone_rows, lot_rows, past_rows, record_rows};
-ghost use Rattle.tally_entries.specs.Constituencies.{Changes, ChangesSums, HasGone, HasLot, HasRecord, IsAt, Writes, WritesSeats};
+ghost use Rattle.tally_tables.specs.Cells.{con_rows, gone_rows, lot_rows, past_rows, record_rows};
+ghost use Rattle.tally_entries.specs.Constituencies.{Changes, ChangesSums, HasGone, HasLot, HasRecord, IsAt, Writes, WritesSeats, candidate_row};
 ghost use Rattle.tally_entries.specs.Entries.{AddsRows, PutsNumbers, SetsItems, SetsNumbers};
 ghost use Rattle.tally_statements.specs.Inside.{Stays};
 
@@ -73,7 +73,7 @@ fn insert_candidate<S: Alter>(
     gone: &Gone,
 ) -> Result<(), Error>
     ensures stays { Stays S.Store tx.old tx.new }
-    ensures inserted { Inserts table.Gone (gone_row con.now (gone.now.list ∷ gone.now.place ∷ [], gone.now.note))
+    ensures inserted { Inserts table.Gone (candidate_row con.now gone.now)
         (state S.Store tx.old.conn.now) (state S.Store tx.new.conn.now) result }
 {
     insert_gone(tx, con, gone.list, gone.place, gone.note.as_str())
@@ -82,7 +82,7 @@ fn insert_candidate<S: Alter>(
 /// Adds a candidate of a constituency who is gone.
 pub fn put_gone<S: Alter>(tx: &mut Transaction<'_, S>, con: &str, gone: &Gone) -> Result<(), Error>
     ensures stays { Stays S.Store tx.old tx.new }
-    ensures written { Writes table.Gone gone_rows con.now (HasGone gone.now.list gone.now.place gone.now.note)
+    ensures written { Writes table.Gone gone_rows con.now (HasGone gone.now)
         (state S.Store tx.old.conn.now) (state S.Store tx.new.conn.now) result }
 {
     insert_candidate(tx, con, gone)
@@ -117,7 +117,7 @@ pub fn put_record<S: Alter>(
 ) -> Result<(), Error>
     requires few { length past.now.seats ≤ 60 }
     ensures stays { Stays S.Store tx.old tx.new }
-    ensures written { Writes table.Past past_rows con.now (HasRecord past.now.edition past.now.seats)
+    ensures written { Writes table.Past past_rows con.now (HasRecord past.now)
         (state S.Store tx.old.conn.now) (state S.Store tx.new.conn.now) result }
 {
     insert_record(tx, con, past.edition, past.seats.as_slice())

@@ -1,12 +1,10 @@
 //! Looking up the return of a station.
 
-ghost use Rattle.std.specs.Prelude.{◌≡◌, ◌∷◌, [], None, Some, IsErr, IfOk, List, ℕ};
-ghost use Rattle.sqlite.specs.State.{HasCleanDisk};
-ghost use Rattle.sqlite.specs.Held.{state};
+ghost use Rattle.std.specs.Prelude.{◌≡◌, ◌∷◌, [], None, Some, IsErr, List, ℕ};
 ghost use Rattle.tally_returns.specs.Return.{StationReturn};
-ghost use Rattle.tally_statements.specs.Office.{IsInside};
 ghost use Rattle.tally_tables.specs.Reading.{entries_in};
-ghost use Rattle.tally_entries.specs.Entries.{FindsReturn};
+ghost use Rattle.tally_entries.specs.Entries.{Finds, FindsReturn};
+ghost use Rattle.tally_entries.specs.internal.Found.{FindsNone, FindsOne};
 ghost use Rattle.tally_statements.specs.Inside.{OnlyReads};
 
 use sqlite::{Alter, Error, ErrorCode, Row, Transaction};
@@ -32,9 +30,8 @@ fn return_in(
     heads: &[Row],
     counts: &[Row],
 ) -> Result<Option<Return>, Error>
-    ensures none { entries_in setup.now heads.now counts.now ≡ Some [] → IfOk result (λ found. found ≡ None) }
-    ensures one { (e : List ℕ × StationReturn) → entries_in setup.now heads.now counts.now ≡ Some (e ∷ []) →
-        IfOk result (λ found. found ≡ Some e.1) }
+    ensures none { FindsNone (entries_in setup.now heads.now counts.now) result }
+    ensures one { FindsOne (entries_in setup.now heads.now counts.now) result }
     ensures bad { entries_in setup.now heads.now counts.now ≡ None → IsErr result }
 {
     match entries_in(alloc, setup, heads, counts) {
@@ -44,8 +41,9 @@ fn return_in(
     }
 }
 
-/// The return of a station, by its row of `returns` and its rows of `counts`, if it has one. Rows
-/// that belong to no return of the setup are an error.
+/// The return of a station, by its row of `returns` and its rows of `counts`, if it has one. Where
+/// it has no row of `returns`, those of `counts` are not looked up. Rows that belong to no return
+/// of the setup are an error.
 pub fn find_return<S: Alter>(
     alloc: Global,
     tx: &mut Transaction<'_, S>,
@@ -53,10 +51,12 @@ pub fn find_return<S: Alter>(
     station: Code,
 ) -> Result<Option<Return>, Error>
     ensures reads { OnlyReads S.Store tx.old tx.new result }
-    ensures found { HasCleanDisk (state S.Store tx.new.conn.now) → IsInside (state S.Store tx.old.conn.now) →
-        IfOk result (λ found. FindsReturn setup.now station (state S.Store tx.old.conn.now) found) }
+    ensures found { Finds S.Store (FindsReturn setup.now station) tx.old tx.new result }
 {
     let heads = rows_of_key(tx, KeyedTable::Returns, station.as_str())?;
+    if heads.is_empty() {
+        return Ok(None);
+    }
     let counts = rows_of_key(tx, KeyedTable::Counts, station.as_str())?;
     return_in(alloc, setup, &heads, &counts)
 }

@@ -3,7 +3,7 @@
 ghost use Rattle.std.specs.Prelude.{◌≤◌, map, length};
 ghost use Rattle.sqlite.specs.Held.{state};
 ghost use Rattle.tally_statements.specs.Office.{Inserts, item_cells};
-ghost use Rattle.tally_tables.specs.Cells.{item_row, items_of, numbered};
+ghost use Rattle.tally_tables.specs.Cells.{item_row, items_of, numbers_with_places};
 ghost use Rattle.tally_entries.specs.Entries.{AddsRows, SetsCounts, SetsVotes, keyed_table};
 ghost use Rattle.tally_statements.specs.Inside.{Stays};
 ghost use Rattle.tally_statements.specs.declared.table.KeyedTable.TheVariants.{Counts};
@@ -51,7 +51,8 @@ pub(crate) fn insert_numbers<S: Alter>(
 ) -> Result<(), Error>
     requires few { length numbers.now ≤ 60 }
     ensures stays { Stays S.Store tx.old tx.new }
-    ensures added { AddsRows (keyed_table table) (map (item_row key.now) (numbered 1 numbers.now))
+    ensures added { AddsRows (keyed_table table)
+        (map (item_row key.now) (numbers_with_places 1 numbers.now))
         (state S.Store tx.old.conn.now) (state S.Store tx.new.conn.now) result }
 {
     let mut item = 1u32;

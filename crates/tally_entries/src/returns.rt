@@ -1,12 +1,11 @@
 //! The return of a station in the tables `returns` and `counts`.
 
-ghost use Rattle.std.specs.Prelude.{◌≤◌, length, List, ℕ};
+ghost use Rattle.std.specs.Prelude.{◌≤◌, length};
 ghost use Rattle.sqlite.specs.Held.{state};
-ghost use Rattle.tally_statements.specs.Office.{Inserts, Replaces};
+ghost use Rattle.tally_statements.specs.Office.{Inserts};
 ghost use Rattle.tally_statements.specs.declared.table.KeyedTable.TheVariants.{Returns};
-ghost use Rattle.tally_returns.specs.Return.{StationReturn};
 ghost use Rattle.tally_tables.specs.Cells.{return_row};
-ghost use Rattle.tally_entries.specs.Entries.{AddsReturn, ChangesReturn, CorrectsReturn};
+ghost use Rattle.tally_entries.specs.Entries.{AddsReturn, ChangesReturn, CorrectsReturn, ReplacesHead};
 ghost use Rattle.tally_statements.specs.Inside.{Stays};
 
 use crate::items::{insert_counts, update_counts};
@@ -61,8 +60,7 @@ fn update_head<S: Alter>(
     standing: &Return,
 ) -> Result<(), Error>
     ensures stays { Stays S.Store tx.old tx.new }
-    ensures updated { (con : List ℕ) (before : StationReturn) →
-        Replaces Returns station.now (return_row con (station.now, before)) (return_row con (station.now, standing.now))
+    ensures updated { ReplacesHead station.now standing.now
         (state S.Store tx.old.conn.now) (state S.Store tx.new.conn.now) result }
 {
     update_return(

@@ -1,15 +1,14 @@
 //! Looking up a constituency.
 
-ghost use Rattle.std.specs.Prelude.{◌≡◌, ◌≤◌, IsTrue, IfOk, OnOk, Some, length, option_and_then};
+ghost use Rattle.std.specs.Prelude.{◌≡◌, ◌≤◌, IfOk, Some, length, option_and_then};
 ghost use Rattle.sqlite_value.specs.Order.{column};
-ghost use Rattle.sqlite.specs.State.{HasCleanDisk, IsUnchanged};
-ghost use Rattle.sqlite.specs.Held.{state};
 ghost use Rattle.tally_returns.specs.View.{FitsView};
 ghost use Rattle.tally_rows.specs.Cells.{number_of};
-ghost use Rattle.tally_statements.specs.Office.{IsFound, IsInside};
+ghost use Rattle.tally_statements.specs.Office.{IsFound};
 ghost use Rattle.tally_tables.specs.Reading.{status_of, sums_of};
 ghost use Rattle.tally_entries.specs.Constituencies.{FindsCertified, FindsProgressRow, FindsSums, FindsView};
-ghost use Rattle.tally_entries.specs.Found.{AreFound, AreWithin, FindsKnown, FindsStage, FindsStatus, FindsStatuses, certified_in, row_with, stage_in, status_in, view_of_rows, with_station};
+ghost use Rattle.tally_entries.specs.Entries.{Finds, FindsFrom};
+ghost use Rattle.tally_entries.specs.internal.Found.{AreFound, AreWithin, ChangesNothing, FindsKnown, FindsStage, FindsStatus, FindsStatuses, certified_in, row_with, stage_in, status_in, view_of_rows, with_station};
 ghost use Rattle.tally_statements.specs.Inside.{IsOpenInside, OnlyReads, StaysFrom};
 
 use sqlite::{Alter, Error, ErrorCode, Row, Transaction};
@@ -48,8 +47,7 @@ fn sums_of_rows(alloc: Global, rows: &[Row], con: &str) -> Result<Sums, Error>
 /// Whether a constituency is certified.
 pub fn find_certified<S: Alter>(tx: &mut Transaction<'_, S>, con: &str) -> Result<bool, Error>
     ensures reads { OnlyReads S.Store tx.old tx.new result }
-    ensures found { HasCleanDisk (state S.Store tx.new.conn.now) → IsInside (state S.Store tx.old.conn.now) →
-        IfOk result (λ found. FindsCertified con.now (state S.Store tx.old.conn.now) found) }
+    ensures found { Finds S.Store (FindsCertified con.now) tx.old tx.new result }
 {
     let rows = rows_of_key(tx, KeyedTable::Cons, con)?;
     certified_in(&rows, con)
@@ -62,8 +60,7 @@ pub fn find_sums<S: Alter>(
     con: &str,
 ) -> Result<Sums, Error>
     ensures reads { OnlyReads S.Store tx.old tx.new result }
-    ensures found { HasCleanDisk (state S.Store tx.new.conn.now) → IsInside (state S.Store tx.old.conn.now) →
-        IfOk result (λ found. FindsSums con.now (state S.Store tx.old.conn.now) found) }
+    ensures found { Finds S.Store (FindsSums con.now) tx.old tx.new result }
 {
     let rows = rows_of_key(tx, KeyedTable::Totals, con)?;
     sums_of_rows(alloc, &rows, con)
@@ -77,9 +74,8 @@ fn rows_of_two<S: Alter>(
     key: &str,
 ) -> Result<(Vec<Row>, Vec<Row>), Error>
     ensures reads { OnlyReads S.Store tx.old tx.new result }
-    ensures found { HasCleanDisk (state S.Store tx.new.conn.now) → IsInside (state S.Store tx.old.conn.now) →
-        IfOk result (λ rows. IsFound first key.now (state S.Store tx.old.conn.now) rows.0.items ×
-        IsFound second key.now (state S.Store tx.old.conn.now) rows.1.items) }
+    ensures found { Finds S.Store (λ seen rows. IsFound first key.now seen rows.0.items ×
+        IsFound second key.now seen rows.1.items) tx.old tx.new result }
 {
     let of_first = rows_of_key(tx, first, key)?;
     let of_second = rows_of_key(tx, second, key)?;
@@ -98,18 +94,26 @@ struct ConRows {
 }
 
 impl Model for ConRows {
-    ghost use Rattle.tally_entries.specs.Found.{Rows};
+    ghost use Rattle.tally_entries.specs.internal.Found.{Rows};
 
     ghost Value = { Rows };
 
-    ghost view = { λ r. record { cons = r.cons.items; tables = record { lots = r.lots.items; seats = r.seats.items; gone = r.gone.items; totals = r.totals.items; past = r.past.items } } };
+    ghost view = { λ r. record {
+      cons = r.cons.items;
+      tables = record {
+        lots = r.lots.items;
+        seats = r.seats.items;
+        gone = r.gone.items;
+        totals = r.totals.items;
+        past = r.past.items;
+      };
+    } };
 }
 
 /// The rows of a constituency.
 fn rows_of_con<S: Alter>(tx: &mut Transaction<'_, S>, con: &str) -> Result<ConRows, Error>
     ensures reads { OnlyReads S.Store tx.old tx.new result }
-    ensures found { HasCleanDisk (state S.Store tx.new.conn.now) → IsInside (state S.Store tx.old.conn.now) →
-        IfOk result (λ rows. AreFound con.now (state S.Store tx.old.conn.now) rows) }
+    ensures found { Finds S.Store (AreFound con.now) tx.old tx.new result }
 {
     let (cons, lots) = rows_of_two(tx, KeyedTable::Cons, KeyedTable::Lots, con)?;
     let (seats, gone) = rows_of_two(tx, KeyedTable::Seats, KeyedTable::Gone, con)?;
@@ -152,8 +156,7 @@ fn find_status<S: Alter>(
     station: &str,
 ) -> Result<Option<Status>, Error>
     ensures reads { OnlyReads S.Store tx.old tx.new result }
-    ensures found { HasCleanDisk (state S.Store tx.new.conn.now) → IsInside (state S.Store tx.old.conn.now) →
-        IfOk result (λ found. FindsStatus station.now (state S.Store tx.old.conn.now) found) }
+    ensures found { Finds S.Store (FindsStatus station.now) tx.old tx.new result }
 {
     let rows = rows_of_key(tx, KeyedTable::Returns, station)?;
     status_in(&rows)
@@ -184,12 +187,9 @@ fn find_statuses<S: Alter>(
 ) -> Result<Statuses, Error>
     requires few { length stations.now ≤ 5000 }
     ensures stays { StaysFrom IsOpenInside S.Store tx.old tx.new }
-    ensures found { HasCleanDisk (state S.Store tx.new.conn.now) → IsInside (state S.Store tx.old.conn.now) →
-        IsTrue (state S.Store tx.old.conn.now).is_open →
-        IfOk result (λ found. FindsStatuses stations.now (state S.Store tx.old.conn.now) found) }
-    ensures same { HasCleanDisk (state S.Store tx.new.conn.now) → IsInside (state S.Store tx.old.conn.now) →
-        IsTrue (state S.Store tx.old.conn.now).is_open →
-        OnOk result (IsUnchanged (state S.Store tx.old.conn.now) (state S.Store tx.new.conn.now)) }
+    ensures found { FindsFrom IsOpenInside S.Store (FindsStatuses stations.now)
+        tx.old tx.new result }
+    ensures same { ChangesNothing S.Store tx.old tx.new result }
 {
     let mut found = Statuses {
         stations: 0,
@@ -213,10 +213,8 @@ fn find_known<S: Alter>(
     known: Option<Statuses>,
 ) -> Result<Statuses, Error>
     ensures stays { StaysFrom IsOpenInside S.Store tx.old tx.new }
-    ensures found { HasCleanDisk (state S.Store tx.new.conn.now) → IsOpenInside (state S.Store tx.old.conn.now) →
-        IfOk result (λ found. FindsKnown con.now known (state S.Store tx.old.conn.now) found) }
-    ensures same { HasCleanDisk (state S.Store tx.new.conn.now) → IsOpenInside (state S.Store tx.old.conn.now) →
-        OnOk result (IsUnchanged (state S.Store tx.old.conn.now) (state S.Store tx.new.conn.now)) }
+    ensures found { FindsFrom IsOpenInside S.Store (FindsKnown con.now known) tx.old tx.new result }
+    ensures same { ChangesNothing S.Store tx.old tx.new result }
 {
     match known {
         Some(statuses) => Ok(statuses),
@@ -280,8 +278,7 @@ pub fn find_view<S: Alter>(
 ) -> Result<ConView, Error>
     ensures reads { OnlyReads S.Store tx.old tx.new result }
     ensures fits { IfOk result (λ view. FitsView con.now view) }
-    ensures found { HasCleanDisk (state S.Store tx.new.conn.now) → IsInside (state S.Store tx.old.conn.now) →
-        IfOk result (λ view. FindsView setup.now con.now known (state S.Store tx.old.conn.now) view) }
+    ensures found { Finds S.Store (FindsView setup.now con.now known) tx.old tx.new result }
 {
     let rows = rows_of_con(tx, con.code.as_str())?;
     let statuses = find_known(tx, con, known)?;
@@ -305,8 +302,7 @@ fn stage_in(rows: &[Row], con: &str) -> Result<(u32, bool), Error>
 /// The edition of a constituency, and whether it is certified.
 fn find_stage<S: Alter>(tx: &mut Transaction<'_, S>, con: &str) -> Result<(u32, bool), Error>
     ensures reads { OnlyReads S.Store tx.old tx.new result }
-    ensures found { HasCleanDisk (state S.Store tx.new.conn.now) → IsInside (state S.Store tx.old.conn.now) →
-        IfOk result (λ found. FindsStage con.now (state S.Store tx.old.conn.now) found) }
+    ensures found { Finds S.Store (FindsStage con.now) tx.old tx.new result }
 {
     let rows = rows_of_key(tx, KeyedTable::Cons, con)?;
     stage_in(&rows, con)
@@ -335,8 +331,7 @@ pub fn find_progress_row<S: Alter>(
     known: Option<Statuses>,
 ) -> Result<ProgressRow, Error>
     ensures reads { OnlyReads S.Store tx.old tx.new result }
-    ensures found { HasCleanDisk (state S.Store tx.new.conn.now) → IsInside (state S.Store tx.old.conn.now) →
-        IfOk result (λ row. FindsProgressRow con.now known (state S.Store tx.old.conn.now) row) }
+    ensures found { Finds S.Store (FindsProgressRow con.now known) tx.old tx.new result }
 {
     let stage = find_stage(tx, con.code.as_str())?;
     let statuses = find_known(tx, con, known)?;

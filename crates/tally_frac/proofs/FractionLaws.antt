@@ -3,7 +3,7 @@ use Rattle.std.proofs.Common.{ℕ, ◌≡◌, ◌*◌, ◌<◌, ◌≤◌, ◌�
 use Rattle.std.proofs.Math.Nat.{lt_of_mul-lt-mul_right, le_of_mul-le-mul_right, mul-lt-mul_of_pos_right, div-mul-le_self, le-div_iff_mul-le}
 use Rattle.std.proofs.lemmas.Bool.{cases_lt}
 use Rattle.tally_frac.specs.Fraction.{Fraction, IsGreater, IsLevel, whole_part}
-use Rattle.tally_frac.specs.FractionOrder.{chain_lt_le, chain_le_le}
+use Rattle.tally_frac.specs.internal.FractionOrder.{chain_lt_le, chain_le_le}
 
 pub greater-chain : (x y z : Fraction) → 1 ≤ x.den → IsGreater x y → IsGreater y z → IsGreater x z
 greater-chain x y z p h k = chain_lt_le z.num z.den y.num y.den x.num x.den p k (omega arith)

@@ -5,7 +5,7 @@ use Rattle.std.specs.declared.cmp.Ordering.TheVariants.{Less, Equal, Greater}
 use Rattle.std.specs.Ordering.{ordering_reverse, is_lt, is_gt}
 use Rattle.std.specs.Cmp.{IsTotalOrder, alike_right}
 use Rattle.tally_frac.specs.Rank.{Pair, RanksAboveByVotes, TiesByVotes, RanksAbove, IsWithinLimits}
-use Rattle.tally_frac.specs.RankOrder.{weak_cmp-total, weak_cmp-greater, weak_cmp-equal, strict_cmp-total, strict_cmp-greater, rank_cmp, rank_cmp-equal, rank_cmp-greater}
+use Rattle.tally_frac.specs.internal.RankOrder.{weak_cmp-total, weak_cmp-greater, weak_cmp-equal, strict_cmp-total, strict_cmp-greater, rank_cmp, rank_cmp-equal, rank_cmp-greater}
 
 greater-chain : {K : Type 0} {R : K → K → Ordering} → IsTotalOrder R → (x y z : K) → R x y ≡ Greater → R y z ≡ Greater → R x z ≡ Greater
 greater-chain {K} {R} o x y z h k =

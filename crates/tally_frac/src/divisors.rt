@@ -2,7 +2,7 @@
 
 ghost use Rattle.std.specs.Prelude.{◌≡◌, ℕ, ◌<◌, ◌≤◌};
 ghost use Rattle.std.proofs.Common.{arith};
-ghost use Rattle.tally_frac.specs.DivisorLaws.{modified-at_most, modified-positive, modified-rises};
+ghost use Rattle.tally_frac.specs.internal.DivisorLaws.{modified-at_most, modified-positive, modified-rises};
 ghost use Rattle.tally_frac.specs.Divisors.{dhondt_divisor, modified_sainte_lague_divisor};
 ghost use Rattle.tally_frac.specs.Divisors.{sainte_lague_divisor};
 ghost use Rattle.tally_frac.specs.Limits.{greatest_divisor, last_divisor};

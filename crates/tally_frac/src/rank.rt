@@ -3,8 +3,8 @@
 ghost use Rattle.std.specs.Prelude.{◌≡◌, ◌↔◌, Some, IsSome, IfSome, refl};
 ghost use Rattle.std.specs.Cmp.{partial_equiv_from_equiv, po};
 ghost use Rattle.tally_frac.specs.Rank.{IsWithinLimits};
-ghost use Rattle.tally_frac.specs.RankOrder.{rank_cmp, same_pair, rank_cmp-total, same_pair-equiv};
-ghost use Rattle.tally_frac.specs.RankOrder.{same_pair-ties};
+ghost use Rattle.tally_frac.specs.internal.RankOrder.{rank_cmp, same_pair, rank_cmp-total, same_pair-equiv};
+ghost use Rattle.tally_frac.specs.internal.RankOrder.{same_pair-ties};
 
 use crate::limits::{GREATEST_DIVISOR, MOST_LISTS, MOST_VOTES};
 use std::cmp::Ordering;

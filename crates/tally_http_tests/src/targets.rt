@@ -4,7 +4,7 @@ use crate::asked::check_each;
 use http::Method;
 use std::alloc::Global;
 use std::test::*;
-use tally_asks::{Route, con_in, desk_router, route_of, station_in, takes};
+use tally_asks::{Route, con_of_target, desk_router, route_of, station_of_target, takes};
 use tally_rules::Code;
 
 /// The route of a target.
@@ -26,8 +26,8 @@ fn is_taken(alloc: Global, route: Route, method: &str) -> Result<bool, Fail> {
 fn code(route: Route, target: &[u8]) -> Option<Code> {
     match route {
         Route::Progress => None,
-        Route::Return | Route::OnStation(_) => station_in(target),
-        _ => con_in(target),
+        Route::Return | Route::OnStation(_) => station_of_target(target),
+        _ => con_of_target(target),
     }
 }
 
@@ -137,7 +137,7 @@ fn a_target_has_one_route_and_one_method(rt: HostRuntime) -> Result<(), Fail> {
     for lines in [ROUTES, OTHER_METHODS, CODES, NO_ROUTES] {
         check_each(rt.alloc(), lines)?;
     }
-    assert!(rt; station_in(b"/con/s1").is_none());
-    assert!(rt; con_in(b"/station/c1").is_none());
+    assert!(rt; station_of_target(b"/con/s1").is_none());
+    assert!(rt; con_of_target(b"/station/c1").is_none());
     Ok(())
 }

@@ -5,8 +5,8 @@ use Rattle.std.specs.Io.KnownBytes.{Appends, Keeps}
 use Rattle.tally_keeper.specs.Source.{row_limit}
 use Rattle.tally_import.specs.Header.{header_lists}
 use Rattle.tally_records.specs.Input.{Gave, complete_records}
-use Rattle.tally_import.specs.Check.{Checks, Found, check_fault, checked, examined, no_header, under_header, ended}
-use Rattle.tally_import.specs.Rounds.{IsOfReading}
+use Rattle.tally_import.specs.Check.{Checks, Found, check_fault, check_result, records_result, no_header, under_header, result_at_end}
+use Rattle.tally_import.specs.internal.Rounds.{IsOfReading}
 use Rattle.tally_records.specs.Watch.{flag_after_stop}
 use Rattle.tally_records.specs.declared.end.Stop.{Stop}
 use Rattle.tally_records.specs.declared.end.Stop.TheVariants as stopped
@@ -15,14 +15,14 @@ use Rattle.tally_import.specs.declared.check.CheckFault.TheVariants.{BadHeader, 
 use Rattle.tally_records.specs.declared.separator.Sep.{Sep}
 
 -- a fault of writing is found nowhere
-not-write : (records : List (List (List ℕ))) (stop : Option Stop) → ◌≡◌ {A = Result (List ℕ) CheckFault} (examined records stop) (Err Write) → ⊥
+not-write : (records : List (List (List ℕ))) (stop : Option Stop) → ◌≡◌ {A = Result (List ℕ) CheckFault} (records_result records stop) (Err Write) → ⊥
 not-write records stop e = go records e
   where
     own : (s : Stop) → check_fault s ≢ Write
     own stopped.TooLong same = cc
     own stopped.Read same = cc
 
-    after : (lists : List (List ℕ)) (behind : List (List (List ℕ))) (s : Option Stop) → ◌≡◌ {A = Result (List ℕ) CheckFault} (ended lists behind s) (Err Write) → ⊥
+    after : (lists : List (List ℕ)) (behind : List (List (List ℕ))) (s : Option Stop) → ◌≡◌ {A = Result (List ℕ) CheckFault} (result_at_end lists behind s) (Err Write) → ⊥
     after lists behind None same = cc
     after lists behind (Some s) same = own s (let is : ◌≡◌ {A = CheckFault} (check_fault s) Write = cc in is)
 
@@ -31,7 +31,7 @@ not-write records stop e = go records e
     none (Some s) same = own s (let is : ◌≡◌ {A = CheckFault} (check_fault s) Write = cc in is)
 
     many : (b : Bool) (lists : List (List ℕ)) (behind : List (List (List ℕ)))
-        → ◌≡◌ {A = Result (List ℕ) CheckFault} (if b then Err TooLong else ended lists behind stop) (Err Write) → ⊥
+        → ◌≡◌ {A = Result (List ℕ) CheckFault} (if b then Err TooLong else result_at_end lists behind stop) (Err Write) → ⊥
     many true lists behind same = cc
     many false lists behind same = after lists behind stop same
 
@@ -39,21 +39,21 @@ not-write records stop e = go records e
     under None behind same = cc
     under (Some lists) behind same = many (nat_lt row_limit (length behind)) lists behind same
 
-    go : (all : List (List (List ℕ))) → ◌≡◌ {A = Result (List ℕ) CheckFault} (examined all stop) (Err Write) → ⊥
+    go : (all : List (List (List ℕ))) → ◌≡◌ {A = Result (List ℕ) CheckFault} (records_result all stop) (Err Write) → ⊥
     go [] same = none stop same
     go (header ∷ behind) same = under (header_lists header) behind same
 
 -- a text is found only where nothing stopped it
-pub found-text : (records : List (List (List ℕ))) (stop : Option Stop) (t : List ℕ) → examined records stop ≡ Ok t → stop ≡ None
+pub found-text : (records : List (List (List ℕ))) (stop : Option Stop) (t : List ℕ) → records_result records stop ≡ Ok t → stop ≡ None
 found-text [] None t e = refl
 found-text [] (Some stop) t e = cc
 found-text (header ∷ records) stop t e = under (header_lists header) e
   where
-    after : (lists : List (List ℕ)) (s : Option Stop) → ended lists records s ≡ Ok t → s ≡ None
+    after : (lists : List (List ℕ)) (s : Option Stop) → result_at_end lists records s ≡ Ok t → s ≡ None
     after lists None e = refl
     after lists (Some s) e = cc
 
-    many : (b : Bool) (lists : List (List ℕ)) → (if b then Err TooLong else ended lists records stop) ≡ Ok t → stop ≡ None
+    many : (b : Bool) (lists : List (List ℕ)) → (if b then Err TooLong else result_at_end lists records stop) ≡ Ok t → stop ≡ None
     many true lists e = cc
     many false lists e = after lists stop e
 
@@ -80,12 +80,12 @@ Keeps-same (Some bytes) = refl
 -- the check text that was found is that of the whole text
 pub written-text : (sep : Sep) (text left old new : Option (List ℕ)) (found : List ℕ)
     → IfSome text (λ t. Found sep t left (λ f. f ≡ Ok found)) → Appends old new found
-    → IfSome text (λ t. (u : List ℕ) × (checked sep t None ≡ Ok u) × Appends old new u)
+    → IfSome text (λ t. (u : List ℕ) × (check_result sep t None ≡ Ok u) × Appends old new u)
 written-text sep None left old new found is appends = tt
 written-text sep (Some t) left old new found is appends =
     let none = found-text (complete_records sep is.0 is.1) is.1 found is.3 in
     let whole = subst (Gave t left is.0) none is.2 in
-    (found, subst (λ b. checked sep b None ≡ Ok found) whole.0 (subst (λ stop. checked sep is.0 stop ≡ Ok found) none is.3), appends)
+    (found, subst (λ b. check_result sep b None ≡ Ok found) whole.0 (subst (λ stop. check_result sep is.0 stop ≡ Ok found) none is.3), appends)
 
 pub OnOk-then : {T E : Type 0} {P Q : Type 0} (r : Result T E) → OnOk r P → (P → Q) → OnOk r Q
 OnOk-then (Ok x) p more = more p

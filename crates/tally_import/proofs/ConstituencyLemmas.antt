@@ -14,7 +14,7 @@ use Rattle.tally_rules.specs.Constituency.{Constituency, ListEntry, list_codes, 
 use Rattle.tally_rules.specs.declared.constituency.Station.{Station}
 use Rattle.tally_returns.specs.Decide.{station_in, limits_of}
 use Rattle.tally_import.specs.Header.{same_text}
-use Rattle.tally_import.specs.ReturnRows.{header_of, is_header, stations_in}
+use Rattle.tally_import.specs.ReturnRows.{header_of, is_header, station_limits_in}
 use Rattle.tally_import.proofs.HeaderLemmas.{drop-at, has_names}
 
 -- ---- the header
@@ -88,7 +88,7 @@ some-map : {X Y : Type 0} (f : X → Y) (o : Option X) → is_some (option_map f
 some-map f None = refl
 some-map f (Some x) = refl
 
-pub is_some-stations : (con : Constituency) (code : List ℕ) → list_any (bytes_eq code) (station_codes con.stations) ≡ is_some (stations_in con code)
+pub is_some-stations : (con : Constituency) (code : List ℕ) → list_any (bytes_eq code) (station_codes con.stations) ≡ is_some (station_limits_in con code)
 is_some-stations con code =
     any-map (λ (station : Station). station.code) code con.stations
     ∙ sym (any-find (λ (station : Station). bytes_eq code station.code) con.stations)

@@ -6,10 +6,10 @@ use Rattle.std.proofs.lemmas.Bool.{lt-ltb}
 use Rattle.std.proofs.lemmas.Bool.Decides.{nat_tests}
 use Rattle.tally_keeper.specs.Source.{row_limit}
 use Rattle.tally_import.specs.Header.{header_lists}
-use Rattle.tally_import.specs.Check.{Found, check_fault, check_text, examined, ended, under_header, rows_of_records}
+use Rattle.tally_import.specs.Check.{Found, check_fault, check_text, records_result, result_at_end, under_header, rows_of_records}
 use Rattle.tally_records.specs.Input.{AreAll}
-use Rattle.tally_import.specs.Progress.{HasTaken}
-use Rattle.tally_import.specs.Rounds.{Finds, Imports, ended_import}
+use Rattle.tally_import.specs.internal.Progress.{HasTaken}
+use Rattle.tally_import.specs.internal.Rounds.{Finds, Imports, ended_import}
 use Rattle.tally_import.specs.declared.import.Import.{Import}
 use Rattle.tally_records.specs.declared.end.Stop.{Stop}
 use Rattle.tally_import.specs.declared.check.CheckFault.{CheckFault}
@@ -19,9 +19,9 @@ use Rattle.tally_import.proofs.RoundsLemmas.{examined-whole}
 
 -- where these are all records that came, what they are examined to be is found
 pub Found-all : (sep : Sep) (text left : Option (List ℕ)) (records : List (List (List ℕ))) (stop : Option Stop) (result : Result (List ℕ) CheckFault)
-    → AreAll sep text left records stop → examined records stop ≡ result → IfSome text (λ t. Found sep t left (λ f. f ≡ result))
+    → AreAll sep text left records stop → records_result records stop ≡ result → IfSome text (λ t. Found sep t left (λ f. f ≡ result))
 Found-all sep None left records stop result all is = tt
-Found-all sep (Some t) left records stop result all is = (all.0, stop, all.1, ap (λ r. examined r stop) all.2 ∙ is)
+Found-all sep (Some t) left records stop result all is = (all.0, stop, all.1, ap (λ r. records_result r stop) all.2 ∙ is)
 
 pub Found-memory : (sep : Sep) (text left : Option (List ℕ)) (fault : CheckFault) → fault ≡ Memory
     → IfSome text (λ t. (fault ≡ Memory) ⊎ Found sep t left (λ f. f ≡ Err fault))
@@ -29,28 +29,28 @@ Found-memory sep None left fault is = tt
 Found-memory sep (Some t) left fault is = inl is
 
 pub Found-fault : (sep : Sep) (text left : Option (List ℕ)) (records : List (List (List ℕ))) (stop : Option Stop) (fault : CheckFault)
-    → AreAll sep text left records stop → ◌≡◌ {A = Result (List ℕ) CheckFault} (examined records stop) (Err fault)
+    → AreAll sep text left records stop → ◌≡◌ {A = Result (List ℕ) CheckFault} (records_result records stop) (Err fault)
     → IfSome text (λ t. (fault ≡ Memory) ⊎ Found sep t left (λ f. f ≡ Err fault))
 Found-fault sep None left records stop fault all is = tt
-Found-fault sep (Some t) left records stop fault all is = inr (all.0, stop, all.1, ap (λ r. examined r stop) all.2 ∙ is)
+Found-fault sep (Some t) left records stop fault all is = inr (all.0, stop, all.1, ap (λ r. records_result r stop) all.2 ∙ is)
 
 -- a first record that is no header
 pub no-lists : (header : List (List ℕ)) (records : List (List (List ℕ))) (stop : Option Stop) → header_lists header ≡ None
-    → ◌≡◌ {A = Result (List ℕ) CheckFault} (examined (header ∷ records) stop) (Err BadHeader)
+    → ◌≡◌ {A = Result (List ℕ) CheckFault} (records_result (header ∷ records) stop) (Err BadHeader)
 no-lists header records stop none = ap (λ o. under_header o records stop) none
 
 -- rows under a header: too many, or stopped
 pub under-fault : (header : List (List ℕ)) (lists : List (List ℕ)) (records : List (List (List ℕ))) (stop : Option Stop) (fault : CheckFault)
     → Some lists ≡ header_lists header → ((fault ≡ TooLong) × (row_limit < length records)) ⊎ ((option_map check_fault stop ≡ Some fault) × (length records ≤ row_limit))
-    → ◌≡◌ {A = Result (List ℕ) CheckFault} (examined (header ∷ records) stop) (Err fault)
+    → ◌≡◌ {A = Result (List ℕ) CheckFault} (records_result (header ∷ records) stop) (Err fault)
 under-fault header lists records stop fault named (inl many) =
     ap (λ o. under_header o records stop) (sym named)
-    ∙ ap (λ b. if b then Err TooLong else ended lists records stop) (lt-ltb row_limit (length records) many.1) ∙ ap Err (sym many.0)
+    ∙ ap (λ b. if b then Err TooLong else result_at_end lists records stop) (lt-ltb row_limit (length records) many.1) ∙ ap Err (sym many.0)
 under-fault header lists records stop fault named (inr stopped) =
     ap (λ o. under_header o records stop) (sym named)
-    ∙ ap (λ b. if b then Err TooLong else ended lists records stop) (not_more (length records) stopped.1) ∙ end stop stopped.0
+    ∙ ap (λ b. if b then Err TooLong else result_at_end lists records stop) (not_more (length records) stopped.1) ∙ end stop stopped.0
   where
-    end : (s : Option Stop) → option_map check_fault s ≡ Some fault → ◌≡◌ {A = Result (List ℕ) CheckFault} (ended lists records s) (Err fault)
+    end : (s : Option Stop) → option_map check_fault s ≡ Some fault → ◌≡◌ {A = Result (List ℕ) CheckFault} (result_at_end lists records s) (Err fault)
     end None same = cc
     end (Some s) same = ap Err (let is : ◌≡◌ {A = CheckFault} (check_fault s) fault = cc in is)
 
@@ -82,5 +82,5 @@ pub Found-text : (sep : Sep) (text left : Option (List ℕ)) (header : List (Lis
     → IfSome text (λ t. Finds sep t left result)
 Found-text sep None left header lists rows result named all few shown fault = tt
 Found-text sep (Some t) left header lists rows (Ok s) named all few shown fault =
-    (all.0, None, all.1, ap (λ r. examined r None) all.2 ∙ examined-whole (header ∷ rows) header rows lists (string_bytes s) refl named few shown)
+    (all.0, None, all.1, ap (λ r. records_result r None) all.2 ∙ examined-whole (header ∷ rows) header rows lists (string_bytes s) refl named few shown)
 Found-text sep (Some t) left header lists rows (Err f) named all few shown fault = inl fault

@@ -11,16 +11,16 @@ use Rattle.tally_rules.specs.Code.{code_cmp}
 use Rattle.tally_returns.specs.Return.{StationReturn, Returns}
 use Rattle.tally_returns.specs.Counts.{VoteCounts}
 use Rattle.tally_returns.specs.Return.{first_return}
-use Rattle.tally_returns.specs.Lodge.{Stations, lodge, lodge_answer, after_lodge, decided_at}
-use Rattle.tally_keeper.specs.Import.{row_answer, after_row, imported, count_of, lodged_counts}
+use Rattle.tally_returns.specs.Lodge.{Stations, lodge, lodge_answer, after_lodge, reply_at_station}
+use Rattle.tally_keeper.specs.Import.{row_answer, after_row, returns_after_import, count_of, lodged_counts}
 use Rattle.tally_keeper.specs.declared.import.Row.{Row}
 use Rattle.tally_returns.specs.declared.refusal.Refusal.{Refusal}
 use Rattle.tally_returns.specs.declared.reply.LodgeReply.{LodgeReply}
 use Rattle.tally_returns.specs.declared.reply.LodgeReply.TheVariants.{Lodged}
 use Rattle.tally_keeper.proofs.RowsLemmas.{imported-push, answers-push, length-answers, lodged_counts-push, length-lodged_counts}
 use Rattle.tally_import.specs.Check.{every_code}
-use Rattle.tally_import.specs.Totals.{AreTotals}
-use Rattle.tally_import.specs.Progress.{Table, Holds, Taken, HasTaken, stations, answered}
+use Rattle.tally_import.specs.internal.Totals.{AreTotals}
+use Rattle.tally_import.specs.internal.Progress.{Table, Holds, Taken, HasTaken, stations, taken_answers}
 use Rattle.tally_import.specs.declared.import.Import.{Import}
 
 -- the two tests of codes agree
@@ -47,18 +47,18 @@ lodge-lodged stations s station slip counts rev is = ap (after_lodge s station s
 -- what is answered at every code, by what the table holds
 pub answer-held : (lists : ℕ) (held : Table) (s : Returns) (station slip : List ℕ) (counts : VoteCounts) (found : Option StationReturn) (result : Result LodgeReply Refusal)
     → Holds held s → found ≡ table.get (pointwise nat_eq) held station
-    → result ≡ decided_at (record { lists = lists; electors = 1000000 }) found slip counts
+    → result ≡ reply_at_station (record { lists = lists; electors = 1000000 }) found slip counts
     → lodge_answer (every_code lists) s station slip counts ≡ result
 answer-held lists held s station slip counts found result holds is decided =
-    sym (decided ∙ ap (λ f. decided_at (record { lists = lists; electors = 1000000 }) f slip counts) (is ∙ holds station))
+    sym (decided ∙ ap (λ f. reply_at_station (record { lists = lists; electors = 1000000 }) f slip counts) (is ∙ holds station))
 
 -- one row more
 pub HasTaken-push : (taken : Taken) (old new : Import) (r : Row)
     → HasTaken taken old → new.lists ≡ old.lists
-    → Holds new.returns (after_row (stations taken) (imported (stations taken) map.empty taken.rows) r)
-    → new.count ≡ count_of (answered taken ++ row_answer (stations taken) (imported (stations taken) map.empty taken.rows) r ∷ [])
-    → AreTotals taken.lists (lodged_counts taken.rows (answered taken)
-    ++ lodged_counts (r ∷ []) (row_answer (stations taken) (imported (stations taken) map.empty taken.rows) r ∷ [])) new.totals
+    → Holds new.returns (after_row (stations taken) (returns_after_import (stations taken) map.empty taken.rows) r)
+    → new.count ≡ count_of (taken_answers taken ++ row_answer (stations taken) (returns_after_import (stations taken) map.empty taken.rows) r ∷ [])
+    → AreTotals taken.lists (lodged_counts taken.rows (taken_answers taken)
+    ++ lodged_counts (r ∷ []) (row_answer (stations taken) (returns_after_import (stations taken) map.empty taken.rows) r ∷ [])) new.totals
     → HasTaken (record taken { rows = taken.rows ++ r ∷ [] }) new
 HasTaken-push taken old new r h lists held count totals =
     let s = stations taken in
@@ -70,12 +70,12 @@ HasTaken-push taken old new r h lists held count totals =
       count = count ∙ ap count_of (sym answers);
       totals = subst (λ l. AreTotals taken.lists l new.totals)
           (sym (ap (lodged_counts (taken.rows ++ r ∷ [])) answers
-          ∙ lodged_counts-push taken.rows (answered taken) r _ (length-answers s map.empty taken.rows))) totals;
+          ∙ lodged_counts-push taken.rows (taken_answers taken) r _ (length-answers s map.empty taken.rows))) totals;
     }
 
 -- fewer returns were lodged than rows taken
-pub lodged-few : (taken : Taken) → length (lodged_counts taken.rows (answered taken)) ≤ length taken.rows
-lodged-few taken = length-lodged_counts taken.rows (answered taken)
+pub lodged-few : (taken : Taken) → length (lodged_counts taken.rows (taken_answers taken)) ≤ length taken.rows
+lodged-few taken = length-lodged_counts taken.rows (taken_answers taken)
 
-pub length-answered : (taken : Taken) → length (answered taken) ≡ length taken.rows
+pub length-answered : (taken : Taken) → length (taken_answers taken) ≡ length taken.rows
 length-answered taken = length-answers (stations taken) map.empty taken.rows

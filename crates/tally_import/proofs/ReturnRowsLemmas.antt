@@ -15,7 +15,7 @@ use Rattle.tally_keeper.specs.declared.source.ImportFault.{ImportFault}
 use Rattle.tally_keeper.specs.declared.source.ImportFault.TheVariants as cause
 use Rattle.tally_records.specs.Input.{AreAll, complete_records, text_records, text_stop}
 use Rattle.tally_records.specs.Given.{HasGiven, IsReadingOn, sep_of}
-use Rattle.tally_import.specs.ReturnRows.{Advances, AllRowsCame, GivesRow, IsAt, IsNext, IsReadingRows, behind, bytes_coming, coming_of, import_fault, is_header, no_header, came_by, ending, only, rows_coming, stations_in, still_coming, text_coming}
+use Rattle.tally_import.specs.ReturnRows.{Advances, AllRowsCame, GivesRow, IsAt, IsNext, IsReadingRows, coming_after, bytes_coming, coming_of, import_fault, is_header, no_header, came_by, ending, fault_alone, rows_coming, station_limits_in, still_coming, text_coming}
 use Rattle.tally_import.specs.ReturnRowsValue.{coming_at, own_fault}
 use Rattle.tally_import.specs.Rows.{row_of}
 use Rattle.tally_records.specs.declared.end.Stop.{Stop}
@@ -57,11 +57,11 @@ rows-full f (suc l) (x ∷ xs) = rows-full f l xs
 
 pub header-coming : (con : Constituency) (header : List (List ℕ)) (records : List (List (List ℕ))) (stop : Option Stop)
     → is_header (list_codes con.lists) header ≡ true → coming_of con (header ∷ records) stop ≡ rows_coming con records stop
-header-coming con header records stop is = ap (λ b. if b then rows_coming con records stop else only (Some cause.BadHeader)) is
+header-coming con header records stop is = ap (λ b. if b then rows_coming con records stop else fault_alone (Some cause.BadHeader)) is
 
 pub other-coming : (con : Constituency) (header : List (List ℕ)) (records : List (List (List ℕ))) (stop : Option Stop)
-    → is_header (list_codes con.lists) header ≡ false → coming_of con (header ∷ records) stop ≡ only (Some cause.BadHeader)
-other-coming con header records stop is = ap (λ b. if b then rows_coming con records stop else only (Some cause.BadHeader)) is
+    → is_header (list_codes con.lists) header ≡ false → coming_of con (header ∷ records) stop ≡ fault_alone (Some cause.BadHeader)
+other-coming con header records stop is = ap (λ b. if b then rows_coming con records stop else fault_alone (Some cause.BadHeader)) is
 
 -- ---- what is given next
 
@@ -75,26 +75,26 @@ not-long n stop within = ap (λ b. if b then Some cause.TooLong else option_map 
 -- what comes of a text whose records are the header and these
 whole-coming : (con : Constituency) (sep : Sep) (text : List ℕ) (header : List (List ℕ)) (given : List (List (List ℕ))) (stop : Option Stop) (came : ℕ)
     → is_header (list_codes con.lists) header ≡ true → length given ≡ came → came ≤ row_limit
-    → text_records sep text ≡ header ∷ given → text_stop text ≡ stop → behind came (text_coming con sep text) ≡ only (option_map import_fault stop)
+    → text_records sep text ≡ header ∷ given → text_stop text ≡ stop → coming_after came (text_coming con sep text) ≡ fault_alone (option_map import_fault stop)
 whole-coming con sep text header given stop came good count within records how =
-    let f = row_of (stations_in con) (length con.lists) in
+    let f = row_of (station_limits_in con) (length con.lists) in
     let coming : text_coming con sep text ≡ rows_coming con given stop =
     ap (λ l. coming_of con l (text_stop text)) records ∙ ap (coming_of con (header ∷ given)) how ∙ header-coming con header given stop good in
-    ap (behind came) coming
+    ap (coming_after came) coming
     ∙ ap (λ (rows : List Row). record { rows = rows; fault = (rows_coming con given stop).fault }) (rows-over f row_limit came given (omega (arith, count)))
-    ∙ ap only (not-long (length given) stop (omega (arith, count, within)))
+    ∙ ap fault_alone (not-long (length given) stop (omega (arith, count, within)))
 
 -- what comes of bytes whose complete records are the header and these
 pub bytes-coming : (con : Constituency) (sep : Sep) (bytes : List ℕ) (header : List (List ℕ)) (given : List (List (List ℕ))) (stop : Option Stop) (came : ℕ)
     → is_header (list_codes con.lists) header ≡ true → length given ≡ came → came ≤ row_limit
-    → complete_records sep bytes stop ≡ header ∷ given → behind came (bytes_coming con sep bytes stop) ≡ only (option_map import_fault stop)
+    → complete_records sep bytes stop ≡ header ∷ given → coming_after came (bytes_coming con sep bytes stop) ≡ fault_alone (option_map import_fault stop)
 bytes-coming con sep bytes header given stop came good count within records =
-    let f = row_of (stations_in con) (length con.lists) in
+    let f = row_of (station_limits_in con) (length con.lists) in
     let coming : bytes_coming con sep bytes stop ≡ rows_coming con given stop =
     ap (λ l. coming_of con l stop) records ∙ header-coming con header given stop good in
-    ap (behind came) coming
+    ap (coming_after came) coming
     ∙ ap (λ (rows : List Row). record { rows = rows; fault = (rows_coming con given stop).fault }) (rows-over f row_limit came given (omega (arith, count)))
-    ∙ ap only (not-long (length given) stop (omega (arith, count, within)))
+    ∙ ap fault_alone (not-long (length given) stop (omega (arith, count, within)))
 
 -- all rows that were complete before a failed read came
 pub rows-read : (con : Constituency) (sep : Sep) (text left : Option (List ℕ)) (header : List (List ℕ)) (given : List (List (List ℕ))) (came : ℕ)
@@ -110,11 +110,11 @@ pub header-read : (con : Constituency) (sep : Sep) (text left : Option (List ℕ
 header-read con sep text left None all is = cc
 header-read con sep text left (Some TooLong) all is = cc
 header-read con sep None left (Some Read) all is = tt
-header-read con sep (Some text) left (Some Read) all is = (all.0, all.1, ap (λ l. behind 0 (coming_of con l (Some Read))) all.2)
+header-read con sep (Some text) left (Some Read) all is = (all.0, all.1, ap (λ l. coming_after 0 (coming_of con l (Some Read))) all.2)
 
 pub rows-end : (con : Constituency) (sep : Sep) (text left : Option (List ℕ)) (header : List (List ℕ)) (given : List (List (List ℕ))) (came : ℕ)
     → is_header (list_codes con.lists) header ≡ true → length given ≡ came → came ≤ row_limit
-    → AreAll sep text left (header ∷ given) None → IfSome text (λ t. behind came (text_coming con sep t) ≡ only None)
+    → AreAll sep text left (header ∷ given) None → IfSome text (λ t. coming_after came (text_coming con sep t) ≡ fault_alone None)
 rows-end con sep None left header given came good count within all = tt
 rows-end con sep (Some text) left header given came good count within all =
     let h = AreAll-text sep text left (header ∷ given) None all (λ e. cc) in
@@ -122,7 +122,7 @@ rows-end con sep (Some text) left header given came good count within all =
 
 pub rows-stop : (con : Constituency) (sep : Sep) (text left : Option (List ℕ)) (header : List (List ℕ)) (given : List (List (List ℕ))) (came : ℕ) (stop : Stop)
     → is_header (list_codes con.lists) header ≡ true → length given ≡ came → came ≤ row_limit
-    → AreAll sep text left (header ∷ given) (Some stop) → IsNext text (λ t. behind came (text_coming con sep t)) (import_fault stop)
+    → AreAll sep text left (header ∷ given) (Some stop) → IsNext text (λ t. coming_after came (text_coming con sep t)) (import_fault stop)
 rows-stop con sep text left header given came Read good count within all = (import_fault-own Read, inl tt)
 rows-stop con sep None left header given came TooLong good count within all = (import_fault-own TooLong, inr tt)
 rows-stop con sep (Some text) left header given came TooLong good count within all =
@@ -141,11 +141,11 @@ front-coming con r text left header given good has =
 pub rows-next : (con : Constituency) (r : Records) (text left : Option (List ℕ)) (header fields : List (List ℕ)) (given : List (List (List ℕ))) (came : ℕ)
     → is_header (list_codes con.lists) header ≡ true → length given ≡ came → came < row_limit
     → HasGiven text left (header ∷ (given ++ fields ∷ [])) r
-    → IfSome text (λ t. (rest : List Row) × (drop came (text_coming con (sep_of r) t).rows ≡ row_of (stations_in con) (length con.lists) fields ∷ rest)
+    → IfSome text (λ t. (rest : List Row) × (drop came (text_coming con (sep_of r) t).rows ≡ row_of (station_limits_in con) (length con.lists) fields ∷ rest)
     × (drop (came + 1) (text_coming con (sep_of r) t).rows ≡ rest))
 rows-next con r None left header fields given came good count within has = tt
 rows-next con r (Some text) left header fields given came good count within has =
-    let f = row_of (stations_in con) (length con.lists) in
+    let f = row_of (station_limits_in con) (length con.lists) in
     let front = front-coming con r text left header (given ++ fields ∷ []) good has in
     let rows : (text_coming con (sep_of r) text).rows ≡ map f (take row_limit (given ++ fields ∷ front.0)) =
     ap (λ c. c.rows) front.1 ∙ ap (λ l. map f (take row_limit l)) (append_assoc given (fields ∷ []) front.0) in
@@ -154,10 +154,10 @@ rows-next con r (Some text) left header fields given came good count within has 
 
 pub rows-many : (con : Constituency) (r : Records) (text left : Option (List ℕ)) (header fields : List (List ℕ)) (given : List (List (List ℕ)))
     → is_header (list_codes con.lists) header ≡ true → length given ≡ row_limit
-    → HasGiven text left (header ∷ (given ++ fields ∷ [])) r → IsNext text (λ t. behind row_limit (text_coming con (sep_of r) t)) cause.TooLong
+    → HasGiven text left (header ∷ (given ++ fields ∷ [])) r → IsNext text (λ t. coming_after row_limit (text_coming con (sep_of r) t)) cause.TooLong
 rows-many con r None left header fields given good count has = ((λ e. cc), inr tt)
 rows-many con r (Some text) left header fields given good count has =
-    let f = row_of (stations_in con) (length con.lists) in
+    let f = row_of (station_limits_in con) (length con.lists) in
     let front = front-coming con r text left header (given ++ fields ∷ []) good has in
     let all = (given ++ fields ∷ []) ++ front.0 in
     let many : row_limit < length all = omega (arith, count, length-append (given ++ fields ∷ []) front.0, length-append given (fields ∷ [])) in (
@@ -175,13 +175,13 @@ pub header-stop : (con : Constituency) (sep : Sep) (text left : Option (List ℕ
 header-stop con sep None left None all = ((λ e. cc), inr tt)
 header-stop con sep (Some text) left None all =
     let h = AreAll-text sep text left [] None all (λ e. cc) in
-    let is : text_coming con sep text ≡ only (Some cause.BadHeader) = ap (λ l. coming_of con l (text_stop text)) h.0 ∙ ap (coming_of con []) h.1 in
+    let is : text_coming con sep text ≡ fault_alone (Some cause.BadHeader) = ap (λ l. coming_of con l (text_stop text)) h.0 ∙ ap (coming_of con []) h.1 in
     ((λ e. cc), inr (ap (λ c. c.rows) is, ap (λ c. c.fault) is))
 header-stop con sep text left (Some Read) all = (import_fault-own Read, inl tt)
 header-stop con sep None left (Some TooLong) all = (import_fault-own TooLong, inr tt)
 header-stop con sep (Some text) left (Some TooLong) all =
     let h = AreAll-text sep text left [] (Some TooLong) all (λ e. cc) in
-    let is : text_coming con sep text ≡ only (Some cause.TooLong) = ap (λ l. coming_of con l (text_stop text)) h.0 ∙ ap (coming_of con []) h.1 in
+    let is : text_coming con sep text ≡ fault_alone (Some cause.TooLong) = ap (λ l. coming_of con l (text_stop text)) h.0 ∙ ap (coming_of con []) h.1 in
     (import_fault-own TooLong, inr (ap (λ c. c.rows) is, ap (λ c. c.fault) is))
 
 pub header-bad : (con : Constituency) (r : Records) (text left : Option (List ℕ)) (header : List (List ℕ))
@@ -189,7 +189,7 @@ pub header-bad : (con : Constituency) (r : Records) (text left : Option (List �
 header-bad con r None left header bad has = ((λ e. cc), inr tt)
 header-bad con r (Some text) left header bad has =
     let front = HasGiven-front text left (header ∷ []) r has in
-    let is : text_coming con (sep_of r) text ≡ only (Some cause.BadHeader) =
+    let is : text_coming con (sep_of r) text ≡ fault_alone (Some cause.BadHeader) =
     ap (λ l. coming_of con l (text_stop text)) front.1 ∙ other-coming con header front.0 (text_stop text) bad in
     ((λ e. cc), inr (ap (λ c. c.rows) is, ap (λ c. c.fault) is))
 
@@ -234,8 +234,8 @@ pub rows-too_many : (text old_left left : Option (List ℕ)) (con : Constituency
     → GivesRow text left con sep old (Err cause.TooLong) new
 rows-too_many text old_left left con sep old new records fields at step same full =
     let come = at.come.2 in
-    subst (λ n. IsNext text (λ t. behind n (text_coming con sep t)) cause.TooLong) (sym full)
-    (subst (λ s. IsNext text (λ t. behind row_limit (text_coming con s t)) cause.TooLong) (same ∙ at.separator)
+    subst (λ n. IsNext text (λ t. coming_after n (text_coming con sep t)) cause.TooLong) (sym full)
+    (subst (λ s. IsNext text (λ t. coming_after row_limit (text_coming con s t)) cause.TooLong) (same ∙ at.separator)
     (rows-many con records text left at.come.0 fields at.come.1 come.good (come.count ∙ full) (step text (at.come.0 ∷ at.come.1) come.given)))
 
 -- one row more
@@ -248,13 +248,13 @@ rows-row text old_left left con sep old new fields row at step same reading list
     let come = at.come.2 in
     let header = at.come.0 in
     let given = at.come.1 in
-    let is : row ≡ row_of (stations_in con) (length con.lists) fields = found (stations_in con) at.stations ∙ ap (λ n. row_of (stations_in con) n fields) at.lists in (
+    let is : row ≡ row_of (station_limits_in con) (length con.lists) fields = found (station_limits_in con) at.stations ∙ ap (λ n. row_of (station_limits_in con) n fields) at.lists in (
       record {
         reading = reading;
         separator = same ∙ at.separator;
         lists = lists ∙ at.lists;
         few = at.few;
-        stations = subst (λ set. (code : List ℕ) → contains code_cmp set code ≡ is_some (stations_in con code)) (sym stations) at.stations;
+        stations = subst (λ set. (code : List ℕ) → contains code_cmp set code ≡ is_some (station_limits_in con code)) (sym stations) at.stations;
         within = omega (arith, one, room);
         come = (
           header,
@@ -266,8 +266,8 @@ rows-row text old_left left con sep old new fields row at step same reading list
           },
         );
       },
-      subst (First sep new.came) (sym is) (subst (λ n. First sep n (row_of (stations_in con) (length con.lists) fields)) (sym one)
-          (subst (λ s. First s (old.came + 1) (row_of (stations_in con) (length con.lists) fields)) (same ∙ at.separator)
+      subst (First sep new.came) (sym is) (subst (λ n. First sep n (row_of (station_limits_in con) (length con.lists) fields)) (sym one)
+          (subst (λ s. First s (old.came + 1) (row_of (station_limits_in con) (length con.lists) fields)) (same ∙ at.separator)
           (rows-next con new.records text left header fields given old.came come.good come.count room (step text (header ∷ given) come.given)))),
     )
   where
@@ -306,8 +306,8 @@ advanced-end (Some t) old_left left con sep old new given =
     ((λ e. cc), ((ap (λ c. c.rows) given, ap (λ c. c.fault) given), ap Some (sym given)))
 
 -- what comes of no row and a fault is that alone
-only-is : (c : Coming) (fault : Option ImportFault) → c.rows ≡ [] → c.fault ≡ fault → c ≡ only fault
-only-is c fault rows is = ap (λ (r : List Row). record { rows = r; fault = c.fault }) rows ∙ ap only is
+only-is : (c : Coming) (fault : Option ImportFault) → c.rows ≡ [] → c.fault ≡ fault → c ≡ fault_alone fault
+only-is c fault rows is = ap (λ (r : List Row). record { rows = r; fault = c.fault }) rows ∙ ap fault_alone is
 
 own-some : (fault : ImportFault) → fault ≢ cause.Store → Some fault ≢ Some cause.Store
 own-some fault own e = own (let is : fault ≡ cause.Store = cc in is)
@@ -337,7 +337,7 @@ advanced-first text old_left mid_left left con sep rows result new none given =
   where
     same : (text : Option (List ℕ)) → option_map (still_coming con sep (Reading rows)) text ≡ option_map (still_coming con sep Unread) text
     same None = refl
-    same (Some t) = ap (λ n. Some (behind n (text_coming con sep t))) none
+    same (Some t) = ap (λ n. Some (coming_after n (text_coming con sep t))) none
 
 pub advanced-next : (text old_left left : Option (List ℕ)) (con : Constituency) (sep : Sep) (old new : Rows) (fault : ImportFault)
     → GivesRow text left con sep old (Err fault) new → Advances text con sep old_left (Reading old) (Err fault) left (Ended (Some fault))
@@ -364,7 +364,7 @@ still-shown None left con sep stage at = refl
 still-shown (Some t) left con sep Unread at = refl
 still-shown (Some t) left con sep (Reading rows) at = refl
 still-shown (Some t) left con sep (Ended None) at = refl
-still-shown (Some t) left con sep (Ended (Some fault)) at = ap (λ f. Some (only (Some f))) (own-same fault (λ e. at (ap Some e)))
+still-shown (Some t) left con sep (Ended (Some fault)) at = ap (λ f. Some (fault_alone (Some f))) (own-same fault (λ e. at (ap Some e)))
 
 pub advanced-shown : (text old_left left : Option (List ℕ)) (con : Constituency) (sep : Sep) (old new : Stage) (result : Result (Option Row) ImportFault)
     → IsAt text old_left con sep old → Advances text con sep old_left old result left new

@@ -9,9 +9,9 @@ use Rattle.std.specs.Prelude.{is_some, option_map, nat_lt}
 use Rattle.tally_keeper.specs.Source.{row_limit}
 use Rattle.tally_import.specs.Header.{header_lists}
 use Rattle.tally_import.specs.declared.check.CheckFault.TheVariants.{TooLong}
-use Rattle.tally_import.specs.Check.{rows_of_records, every_code, examined, under_header, check_text}
+use Rattle.tally_import.specs.Check.{rows_of_records, every_code, records_result, under_header, check_text}
 use Rattle.tally_import.specs.Rows.{row_of}
-use Rattle.tally_import.specs.Progress.{HasTaken}
+use Rattle.tally_import.specs.internal.Progress.{HasTaken}
 use Rattle.tally_import.specs.declared.import.Import.{Import}
 
 -- the rows of one record more
@@ -34,9 +34,9 @@ more-taken lists records new fields row is h =
 pub examined-whole : (records : List (List (List ℕ))) (header : List (List ℕ)) (rest : List (List (List ℕ))) (lists : List (List ℕ)) (text : List ℕ)
     → records ≡ header ∷ rest → Some lists ≡ header_lists header → length rest ≤ row_limit
     → text ≡ check_text lists (rows_of_records (length lists) rest)
-    → examined records None ≡ Ok text
+    → records_result records None ≡ Ok text
 examined-whole records header rest lists text is named few shown =
-    ap (λ rs. examined rs None) is
+    ap (λ rs. records_result rs None) is
     ∙ ap (λ o. under_header o rest None) (sym named)
     ∙ ap (λ b. if b then Err TooLong else Ok (check_text lists (rows_of_records (length lists) rest))) (not_more (length rest) few)
     ∙ ap Ok (sym shown)

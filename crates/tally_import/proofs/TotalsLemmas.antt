@@ -11,7 +11,7 @@ use Rattle.std.proofs.Common.{inl, inr, slice_index}
 use Rattle.std.proofs.lemmas.Bool.{cases_lt}
 use Rattle.std.proofs.lemmas.List.{get_or_past}
 use Rattle.tally_keeper.specs.Source.{row_limit}
-use Rattle.tally_import.specs.Totals.{AreTotals}
+use Rattle.tally_import.specs.internal.Totals.{AreTotals}
 use Rattle.tally_import.specs.declared.totals.Totals.{Totals}
 
 -- the numbers of counts that pass their check

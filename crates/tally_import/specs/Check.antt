@@ -75,13 +75,13 @@ check_fault stopped.Read = Read
 abbrev pub rows_of_records : ℕ → List (List (List ℕ)) → List Row
 rows_of_records lists records = map (row_of (every_code lists) lists) records
 
-abbrev pub ended : List (List ℕ) → List (List (List ℕ)) → Option Stop → Result (List ℕ) CheckFault
-ended lists records None = Ok (check_text lists (rows_of_records (length lists) records))
-ended lists records (Some stop) = Err (check_fault stop)
+abbrev pub result_at_end : List (List ℕ) → List (List (List ℕ)) → Option Stop → Result (List ℕ) CheckFault
+result_at_end lists records None = Ok (check_text lists (rows_of_records (length lists) records))
+result_at_end lists records (Some stop) = Err (check_fault stop)
 
 abbrev pub under_header : Option (List (List ℕ)) → List (List (List ℕ)) → Option Stop → Result (List ℕ) CheckFault
 under_header None records stop = Err BadHeader
-under_header (Some lists) records stop = if nat_lt row_limit (length records) then Err TooLong else ended lists records stop
+under_header (Some lists) records stop = if nat_lt row_limit (length records) then Err TooLong else result_at_end lists records stop
 
 abbrev pub no_header : Option Stop → Result (List ℕ) CheckFault
 no_header None = Err BadHeader
@@ -89,18 +89,18 @@ no_header (Some stop) = Err (check_fault stop)
 
 -- the check text of a text's complete records, or the fault that comes first: the header is looked
 -- at first, then the rows, and then what stopped the text
-abbrev pub examined : List (List (List ℕ)) → Option Stop → Result (List ℕ) CheckFault
-examined [] stop = no_header stop
-examined (header ∷ records) stop = under_header (header_lists header) records stop
+abbrev pub records_result : List (List (List ℕ)) → Option Stop → Result (List ℕ) CheckFault
+records_result [] stop = no_header stop
+records_result (header ∷ records) stop = under_header (header_lists header) records stop
 
 -- the same of the bytes that came, and what stopped them
-abbrev pub checked : Sep → List ℕ → Option Stop → Result (List ℕ) CheckFault
-checked sep bytes stop = examined (complete_records sep bytes stop) stop
+abbrev pub check_result : Sep → List ℕ → Option Stop → Result (List ℕ) CheckFault
+check_result sep bytes stop = records_result (complete_records sep bytes stop) stop
 
 -- What is found in the bytes that came of a text, of which `left` is not read, before its end or
 -- before what stopped it: the check text or the first fault.
 abbrev pub Found : Sep → List ℕ → Option (List ℕ) → (Result (List ℕ) CheckFault → Type 0) → Type 0
-Found sep text left P = (bytes : List ℕ) × (stop : Option Stop) × Gave text left bytes stop × P (checked sep bytes stop)
+Found sep text left P = (bytes : List ℕ) × (stop : Option Stop) × Gave text left bytes stop × P (check_result sep bytes stop)
 
 -- What the check of a text answers, and what it leaves on its writer: the check text is written, or
 -- the first fault is answered and nothing written. A write that failed leaves a prefix of the text.

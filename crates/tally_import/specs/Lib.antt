@@ -1,10 +1,6 @@
+pub mod internal
 pub mod Header
 pub mod Rows
 pub mod Check
-pub mod Totals
-pub mod Progress
-pub mod Rounds
-pub mod Notes
 pub mod ReturnRows
 pub mod ReturnRowsValue
-pub mod ReturnRowsWithin

@@ -22,8 +22,8 @@ use Rattle.tally_import.specs.declared.return_rows.Stage.TheVariants.{Unread, Re
 use Rattle.tally_records.specs.declared.separator.Sep.{Sep}
 
 -- the stations of a constituency
-abbrev pub stations_in : Constituency → Stations
-stations_in con code = option_map (limits_of con) (station_in con code)
+abbrev pub station_limits_in : Constituency → Stations
+station_limits_in con code = option_map (limits_of con) (station_in con code)
 
 -- the header of these lists, and nothing else
 abbrev pub header_of : List (List ℕ) → List (List ℕ)
@@ -38,8 +38,8 @@ import_fault stopped.TooLong = cause.TooLong
 import_fault stopped.Read = cause.Read
 
 -- no row, and this fault
-abbrev pub only : Option ImportFault → Coming
-only fault = record { rows = []; fault = fault }
+abbrev pub fault_alone : Option ImportFault → Coming
+fault_alone fault = record { rows = []; fault = fault }
 
 -- the fault of a text that has no complete record
 abbrev pub no_header : Option Stop → ImportFault
@@ -50,15 +50,15 @@ no_header (Some stop) = import_fault stop
 -- stopped the text
 abbrev pub rows_coming : Constituency → List (List (List ℕ)) → Option Stop → Coming
 rows_coming con records stop = record {
-  rows = map (row_of (stations_in con) (length con.lists)) (take row_limit records);
+  rows = map (row_of (station_limits_in con) (length con.lists)) (take row_limit records);
   fault = if nat_lt row_limit (length records) then Some cause.TooLong else option_map import_fault stop;
 }
 
 -- What comes of a text's complete records, and of what stopped it: the header is looked at first,
 -- then the rows, and then what stopped the text.
 abbrev pub coming_of : Constituency → List (List (List ℕ)) → Option Stop → Coming
-coming_of con [] stop = only (Some (no_header stop))
-coming_of con (header ∷ records) stop = if is_header (list_codes con.lists) header then rows_coming con records stop else only (Some cause.BadHeader)
+coming_of con [] stop = fault_alone (Some (no_header stop))
+coming_of con (header ∷ records) stop = if is_header (list_codes con.lists) header then rows_coming con records stop else fault_alone (Some cause.BadHeader)
 
 -- what comes of the bytes that came, and of what stopped them
 abbrev pub bytes_coming : Constituency → Sep → List ℕ → Option Stop → Coming
@@ -71,24 +71,24 @@ text_coming con sep text = coming_of con (text_records sep text) (text_stop text
 -- ---- how far the rows have come
 
 -- what is left after so many rows
-abbrev pub behind : ℕ → Coming → Coming
-behind came coming = record { rows = drop came coming.rows; fault = coming.fault }
+abbrev pub coming_after : ℕ → Coming → Coming
+coming_after came coming = record { rows = drop came coming.rows; fault = coming.fault }
 
 -- A read of this text failed, and all that was complete before it was given first: of the bytes
 -- that came, nothing comes after so many rows but the failed read.
 abbrev pub AllRowsCame : Constituency → Sep → ℕ → List ℕ → Option (List ℕ) → Type 0
 AllRowsCame con sep came text left = (bytes : List ℕ) × Gave text left bytes (Some stopped.Read)
-    × (behind came (bytes_coming con sep bytes (Some stopped.Read)) ≡ only (Some cause.Read))
+    × (coming_after came (bytes_coming con sep bytes (Some stopped.Read)) ≡ fault_alone (Some cause.Read))
 
 -- what still comes of a text
 abbrev pub still_coming : Constituency → Sep → Stage → List ℕ → Coming
 still_coming con sep Unread text = text_coming con sep text
-still_coming con sep (Reading rows) text = behind rows.came (text_coming con sep text)
-still_coming con sep (Ended fault) text = only fault
+still_coming con sep (Reading rows) text = coming_after rows.came (text_coming con sep text)
+still_coming con sep (Ended fault) text = fault_alone fault
 
 -- the set has the stations of the constituency
 abbrev pub HasStations : Constituency → BTreeSet (List ℕ) → Type 0
-HasStations con set = (code : List ℕ) → contains code_cmp set code ≡ is_some (stations_in con code)
+HasStations con set = (code : List ℕ) → contains code_cmp set code ≡ is_some (station_limits_in con code)
 
 -- The header and these records of this text were given.
 pub record HasCome (text left : Option (List ℕ)) (rows : Rows) (lists header : List (List ℕ)) (records : List (List (List ℕ))) : Type 0 where
@@ -120,8 +120,8 @@ IsNext text coming fault = (fault ≢ cause.Store) × (IsSudden fault ⊎ IfSome
 abbrev pub GivesRow : Option (List ℕ) → Option (List ℕ) → Constituency → Sep → Rows → Result (Option Row) ImportFault → Rows → Type 0
 GivesRow text left con sep old (Ok (Some row)) new = IsReadingRows text left con sep new
     × IfSome text (λ t. (rest : List Row) × (drop old.came (text_coming con sep t).rows ≡ row ∷ rest) × (drop new.came (text_coming con sep t).rows ≡ rest))
-GivesRow text left con sep old (Ok None) new = IfSome text (λ t. behind old.came (text_coming con sep t) ≡ only None)
-GivesRow text left con sep old (Err fault) new = IsNext text (λ t. behind old.came (text_coming con sep t)) fault
+GivesRow text left con sep old (Ok None) new = IfSome text (λ t. coming_after old.came (text_coming con sep t) ≡ fault_alone None)
+GivesRow text left con sep old (Err fault) new = IsNext text (λ t. coming_after old.came (text_coming con sep t)) fault
 
 -- What a call gives from one stage to the next.
 abbrev pub Advances : Option (List ℕ) → Constituency → Sep → Option (List ℕ) → Stage → Result (Option Row) ImportFault → Option (List ℕ) → Stage → Type 0

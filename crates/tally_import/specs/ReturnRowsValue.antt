@@ -5,7 +5,7 @@ use Rattle.tally_keeper.specs.Source.{Coming, Ending}
 use Rattle.tally_keeper.specs.declared.import.Row.{Row}
 use Rattle.tally_keeper.specs.declared.source.ImportFault.{ImportFault}
 use Rattle.tally_keeper.specs.declared.source.ImportFault.TheVariants as cause
-use Rattle.tally_import.specs.ReturnRows.{AllRowsCame, behind, only, text_coming}
+use Rattle.tally_import.specs.ReturnRows.{AllRowsCame, coming_after, fault_alone, text_coming}
 use Rattle.tally_records.specs.declared.separator.Sep.{Sep}
 
 -- The constituency and the separator, the text that the reader would give and what is left of it,
@@ -40,8 +40,8 @@ own_fault cause.Store = cause.Memory
 
 -- what still comes of a text, by how the rows ended
 abbrev pub coming_at : Constituency → Sep → ℕ → Ending → List ℕ → Coming
-coming_at con sep came None text = behind came (text_coming con sep text)
-coming_at con sep came (Some fault) text = only (option_map own_fault fault)
+coming_at con sep came None text = coming_after came (text_coming con sep text)
+coming_at con sep came (Some fault) text = fault_alone (option_map own_fault fault)
 
 -- What still comes, where the text is known.
 abbrev pub coming : ReturnRows → Option Coming

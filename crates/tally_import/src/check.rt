@@ -2,11 +2,11 @@
 
 ghost use Rattle.std.specs.Prelude.{◌≡◌, ◌≤◌, Bool, List, ℕ, None, true, Ok, Err, IfErr, IfSome, OnOk};
 ghost use Rattle.std.specs.Io.KnownBytes.{Appends};
-ghost use Rattle.tally_import.specs.Check.{Checks, IsSilent, checked, no_header};
+ghost use Rattle.tally_import.specs.Check.{Checks, IsSilent, check_result, no_header};
 ghost use Rattle.tally_records.specs.Given.{IsReadingOn, TellsTrue};
 ghost use Rattle.tally_records.specs.Watch.{flag_after_stop, has_failed};
 ghost use Rattle.tally_import.specs.declared.check.CheckFault.TheVariants as cause;
-ghost use Rattle.tally_import.specs.Rounds.{AreBehind, Finds, Imports, IsOfReading, ended_import};
+ghost use Rattle.tally_import.specs.internal.Rounds.{AreBehind, Finds, Imports, IsOfReading, ended_import};
 
 use crate::header::lists_of;
 use crate::import::Import;
@@ -89,9 +89,11 @@ pub fn check_csv<R: Read, W: Write>(
     sep: Sep,
 ) -> Result<(), CheckFault>
     ensures written { OnOk result (IfSome (R.remaining reader.old) (λ text.
-        (t : List ℕ) × (checked sep text None ≡ Ok t) × Appends (W.contents writer.old) (W.contents writer.new) t)) }
+        (t : List ℕ) × (check_result sep text None ≡ Ok t)
+        × Appends (W.contents writer.old) (W.contents writer.new) t)) }
     ensures answered { IfSome (R.remaining reader.old) (λ text.
-        Checks sep text (R.remaining reader.new) (W.contents writer.old) (W.contents writer.new) result) }
+        Checks sep text (R.remaining reader.new)
+        (W.contents writer.old) (W.contents writer.new) result) }
     ensures silent { IsSilent (W.contents writer.old) (W.contents writer.new) result }
 {
     let (mut reads, mut writes) = (Watch::new(), Watch::new());
@@ -110,9 +112,11 @@ pub fn check_watched<R: Read, W: Write>(
     sep: Sep,
 ) -> Result<(), CheckFault>
     ensures written { OnOk result (IfSome (R.remaining reader.old) (λ text.
-        (t : List ℕ) × (checked sep text None ≡ Ok t) × Appends (W.contents writer.old) (W.contents writer.new) t)) }
+        (t : List ℕ) × (check_result sep text None ≡ Ok t)
+        × Appends (W.contents writer.old) (W.contents writer.new) t)) }
     ensures answered { IfSome (R.remaining reader.old) (λ text.
-        Checks sep text (R.remaining reader.new) (W.contents writer.old) (W.contents writer.new) result) }
+        Checks sep text (R.remaining reader.new)
+        (W.contents writer.old) (W.contents writer.new) result) }
     ensures silent { IsSilent (W.contents writer.old) (W.contents writer.new) result }
     ensures read { result ≡ Err cause.Read → has_failed reads.new ≡ true }
     ensures all_read { OnOk result (has_failed reads.new ≡ has_failed reads.old) }
@@ -132,7 +136,8 @@ fn checked_text<R: Read>(
     watch: &mut Watch<R>,
     sep: Sep,
 ) -> Result<String, CheckFault>
-    ensures finds { IfSome (R.remaining reader.old) (λ text. Finds sep text (R.remaining reader.new) result) }
+    ensures finds { IfSome (R.remaining reader.old) (λ text.
+        Finds sep text (R.remaining reader.new) result) }
     ensures read { IfErr result (λ fault. IsOfReading fault (has_failed watch.new)) }
     ensures all_read { OnOk result (has_failed watch.new ≡ has_failed watch.old) }
 {
@@ -144,7 +149,7 @@ fn checked_text<R: Read>(
     let Some(lists) = lists_of(alloc, &header)? else {
         return Err(CheckFault::BadHeader);
     };
-    match import_rows(alloc, reader, watch, &mut records, lists.len()) {
+    match check_rows(alloc, reader, watch, &mut records, lists.len()) {
         Ok(import) => import_text(alloc, lists.as_slice(), &import),
         Err(fault) => Err(fault),
     }
@@ -153,7 +158,8 @@ fn checked_text<R: Read>(
 /// The fault of a text that ended before its header did.
 fn no_header(end: End) -> CheckFault
     ensures fault { no_header end.stop ≡ Err result }
-    ensures read { (before failed : Bool) → failed ≡ flag_after_stop end.stop before → IsOfReading result failed }
+    ensures read { (before failed : Bool) → failed ≡ flag_after_stop end.stop before
+        → IsOfReading result failed }
 {
     match end.stop {
         None => CheckFault::BadHeader,
@@ -162,7 +168,7 @@ fn no_header(end: End) -> CheckFault
 }
 
 /// Imports the records that are left, under a header of so many lists.
-fn import_rows<R: Read>(
+fn check_rows<R: Read>(
     alloc: Global,
     reader: &mut R,
     watch: &mut Watch<R>,
@@ -171,7 +177,8 @@ fn import_rows<R: Read>(
 ) -> Result<Import, CheckFault>
     requires reading { IsReadingOn records.old }
     requires lists { lists ≤ 60 }
-    ensures imports { Imports lists (AreBehind (R.remaining reader.old) (R.remaining reader.new) records.old) result }
+    ensures imports { Imports lists
+        (AreBehind (R.remaining reader.old) (R.remaining reader.new) records.old) result }
     ensures read { (before : Bool) → TellsTrue before records.old (has_failed watch.old)
         → IfErr result (λ fault. IsOfReading fault (has_failed watch.new)) }
     ensures all_read { (before : Bool) → TellsTrue before records.old (has_failed watch.old)

@@ -17,7 +17,8 @@ const MOST_LISTS: usize = 60;
 
 /// The lists that a record names, if it is a header.
 pub(crate) fn lists_of(alloc: Global, fields: &ByteRecord) -> Result<Option<Vec<Code>>, AllocError>
-    ensures { IfOk result (λ lists. option_map (λ l. l.items) lists ≡ header_lists (fields_of fields.now)) }
+    ensures { IfOk result (λ lists.
+        option_map (λ l. l.items) lists ≡ header_lists (fields_of fields.now)) }
 {
     if fields.len() <= FIXED_NAMES || fields.len() > FIXED_NAMES + MOST_LISTS {
         return Ok(None);

@@ -1,6 +1,6 @@
 //! An import into the empty map, in which every code is a station.
 
-ghost use Rattle.std.specs.Prelude.{◌≡◌, ◌+◌, ◌<◌, ◌≤◌, ◌++◌, List, [], ◌∷◌, length, Some, IfOk, OnOk};
+ghost use Rattle.std.specs.Prelude.{◌≡◌, ◌+◌, ◌≤◌, ◌++◌, List, [], ◌∷◌, length, Some, IfOk, OnOk};
 ghost use Rattle.tally_keeper.specs.Import.{row_answer, after_row, lodged_counts};
 ghost use Rattle.tally_returns.specs.Counts.{VoteCounts};
 ghost use Rattle.tally_keeper.specs.Import.{RowAnswer, count_of, or_else};
@@ -9,7 +9,7 @@ ghost use Rattle.tally_returns.specs.Lodge.{lodge, lodge_answer};
 ghost use Rattle.tally_returns.specs.Return.{Returns};
 ghost use Rattle.tally_keeper.specs.declared.import.Row.{Row};
 ghost use Rattle.tally_import.specs.Check.{every_code};
-ghost use Rattle.tally_import.specs.Notes.{with_row};
+ghost use Rattle.tally_import.specs.internal.Notes.{with_row};
 
 use crate::totals::{Totals, add_return, no_totals};
 use std::alloc::{AllocError, Global};
@@ -36,8 +36,8 @@ pub(crate) struct Import {
 }
 
 impl Import {
-    ghost use Rattle.tally_import.specs.Progress.{HasTaken, Holds, Taken, lodged_of};
-    ghost use Rattle.tally_import.specs.Totals.{AreTotals};
+    ghost use Rattle.tally_import.specs.internal.Progress.{HasTaken, Holds, Taken, lodged_of};
+    ghost use Rattle.tally_import.specs.internal.Totals.{AreTotals, AreTotalsOfFew};
 
     /// An import that has taken no row, of so many lists.
     pub(crate) fn new(alloc: Global, lists: usize) -> Result<Import, AllocError>
@@ -54,9 +54,11 @@ impl Import {
 
     /// Takes the next row, by its number. Once it is out of memory the import is of no further use.
     pub(crate) fn take(&mut self, alloc: Global, number: u32, row: Row) -> Result<(), AllocError>
-        requires so_far { (taken : Taken) × HasTaken taken self.old × (number ≡ length taken.rows + 1) }
+        requires so_far { (taken : Taken) × HasTaken taken self.old
+            × (number ≡ length taken.rows + 1) }
         requires few { number ≤ row_limit }
-        ensures { OnOk result ((taken : Taken) → HasTaken taken self.old → number ≡ length taken.rows + 1
+        ensures { OnOk result ((taken : Taken) → HasTaken taken self.old
+            → number ≡ length taken.rows + 1
             → HasTaken (record taken { rows = taken.rows ++ row ∷ [] }) self.new) }
     {
         let Row::Lodge(ask) = row else {
@@ -75,13 +77,16 @@ impl Import {
         ask: Ask,
     ) -> Result<Option<Result<LodgeReply, Refusal>>, AllocError>
         requires lists { self.old.lists ≤ 60 }
-        requires totals { (lodged : List VoteCounts) × AreTotals self.old.lists lodged self.old.totals × (length lodged < row_limit) }
+        requires totals { AreTotalsOfFew self.old.lists self.old.totals }
         ensures answer { IfOk result (λ answer. (returns : Returns) → Holds self.old.returns returns
             → row_answer (every_code self.old.lists) returns (Row.Lodge ask) ≡ answer) }
         ensures table { OnOk result ((returns : Returns) → Holds self.old.returns returns
-            → Holds self.new.returns (after_row (every_code self.old.lists) returns (Row.Lodge ask))) }
-        ensures totals { IfOk result (λ answer. (lodged : List VoteCounts) → AreTotals self.old.lists lodged self.old.totals
-            → AreTotals self.old.lists (lodged ++ lodged_counts (Row.Lodge ask ∷ []) (answer ∷ [])) self.new.totals) }
+            → Holds self.new.returns
+            (after_row (every_code self.old.lists) returns (Row.Lodge ask))) }
+        ensures totals { IfOk result (λ answer. (lodged : List VoteCounts)
+            → AreTotals self.old.lists lodged self.old.totals
+            → AreTotals self.old.lists
+            (lodged ++ lodged_counts (Row.Lodge ask ∷ []) (answer ∷ [])) self.new.totals) }
         ensures lists { self.new.lists ≡ self.old.lists }
         ensures count { self.new.count ≡ self.old.count }
     {
@@ -106,12 +111,14 @@ impl Import {
         counts: Counts,
     ) -> Result<Result<LodgeReply, Refusal>, AllocError>
         requires lists { self.old.lists ≤ 60 }
-        requires totals { (lodged : List VoteCounts) × AreTotals self.old.lists lodged self.old.totals × (length lodged < row_limit) }
+        requires totals { AreTotalsOfFew self.old.lists self.old.totals }
         ensures answer { IfOk result (λ answer. (returns : Returns) → Holds self.old.returns returns
             → answer ≡ lodge_answer (every_code self.old.lists) returns station slip counts) }
         ensures table { OnOk result ((returns : Returns) → Holds self.old.returns returns
-            → Holds self.new.returns (lodge (every_code self.old.lists) returns station slip counts)) }
-        ensures totals { IfOk result (λ answer. (lodged : List VoteCounts) → AreTotals self.old.lists lodged self.old.totals
+            → Holds self.new.returns
+            (lodge (every_code self.old.lists) returns station slip counts)) }
+        ensures totals { IfOk result (λ answer. (lodged : List VoteCounts)
+            → AreTotals self.old.lists lodged self.old.totals
             → AreTotals self.old.lists (lodged ++ lodged_of counts answer) self.new.totals) }
         ensures lists { self.new.lists ≡ self.old.lists }
         ensures count { self.new.count ≡ self.old.count }
@@ -131,9 +138,11 @@ impl Import {
 // Counts one more row, by its number and what it was answered. A count of this row alone shows what
 // it adds.
 fn count_row(count: &mut ImportCount, number: u32, answer: Option<Result<LodgeReply, Refusal>>)
-    requires before { (answered : List RowAnswer) × (count.old ≡ count_of answered) × (number ≡ length answered + 1) }
+    requires before { (answered : List RowAnswer) × (count.old ≡ count_of answered)
+        × (number ≡ length answered + 1) }
     requires few { number ≤ row_limit }
-    ensures { (answered : List RowAnswer) → count.old ≡ count_of answered → number ≡ length answered + 1 → count.new ≡ count_of (answered ++ answer ∷ []) }
+    ensures { (answered : List RowAnswer) → count.old ≡ count_of answered
+        → number ≡ length answered + 1 → count.new ≡ count_of (answered ++ answer ∷ []) }
 {
     let mut one = ImportCount::new();
     one.add(1, answer);

@@ -12,7 +12,8 @@ use tally_records::Watch;
 /// prefix of the text.
 pub fn write_text<W: Write>(writer: &mut W, text: &[u8]) -> Result<(), CheckFault>
     ensures ok { OnOk result (Appends (W.contents writer.old) (W.contents writer.new) text.now) }
-    ensures err { OnErr result ((n : ℕ) × Appends (W.contents writer.old) (W.contents writer.new) (take n text.now)) }
+    ensures err { OnErr result ((n : ℕ)
+        × Appends (W.contents writer.old) (W.contents writer.new) (take n text.now)) }
     ensures fault { OnErr result (result ≡ Err CheckFault.Write) }
 {
     write_watched(writer, &mut Watch::new(), text)
@@ -26,7 +27,8 @@ pub fn write_watched<W: Write>(
     text: &[u8],
 ) -> Result<(), CheckFault>
     ensures ok { OnOk result (Appends (W.contents writer.old) (W.contents writer.new) text.now) }
-    ensures err { OnErr result ((n : ℕ) × Appends (W.contents writer.old) (W.contents writer.new) (take n text.now)) }
+    ensures err { OnErr result ((n : ℕ)
+        × Appends (W.contents writer.old) (W.contents writer.new) (take n text.now)) }
     ensures fault { OnErr result (result ≡ Err CheckFault.Write) }
     ensures failed { OnErr result (has_failed watch.new ≡ true) }
     ensures all_written { OnOk result (has_failed watch.new ≡ has_failed watch.old) }

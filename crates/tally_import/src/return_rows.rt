@@ -18,7 +18,7 @@ ghost use Rattle.tally_import.specs.Rows.{row_of};
 ghost use Rattle.tally_import.specs.declared.return_rows.Stage.TheVariants.{Ended};
 ghost use Rattle.tally_records.specs.declared.separator.Sep.{Sep};
 ghost use Rattle.tally_import.specs.ReturnRowsValue.{HasGivenAll, coming, unread_rows};
-ghost use Rattle.tally_import.specs.ReturnRowsWithin.{coming-within};
+ghost use Rattle.tally_import.specs.internal.ReturnRowsWithin.{coming-within};
 ghost use Rattle.tally_import.specs.ReturnRows.{Advances, AllRowsCame, GivesRow, IsAt, IsBegun, IsNext, IsReadingRows, IsStarted, IsTrueAt, IsTrueFault, IsTrueResult, came_by, ending, import_fault, is_header, no_header, still_coming, text_coming};
 
 use crate::header::{FIXED_NAMES, has_fixed_names};
@@ -67,7 +67,8 @@ impl<R: Read> Model for ReturnRows<R> {
       failed = has_failed s.watch;
     } };
 
-    ghost invariant = { λ s. IsAt (R.remaining s.unread.value) (R.remaining s.reader) s.con s.sep s.stage
+    ghost invariant = { λ s.
+        IsAt (R.remaining s.unread.value) (R.remaining s.reader) s.con s.sep s.stage
         × IsTrueAt s.stage (has_failed s.watch) };
 }
 
@@ -137,7 +138,8 @@ impl<R: Read> RowSource for ReturnRows<R> {
             → (result ≡ at_end fault) × (self.new ≡ self.old) }
         ensures read { result ≡ Err cause.Read → self.new.failed ≡ true }
         ensures all_read { result ≡ Ok None → self.new.failed ≡ false }
-        ensures before { self.old.ended ≡ None → result ≡ Err cause.Read → HasGivenAll self.old self.new.left }
+        ensures before { self.old.ended ≡ None → result ≡ Err cause.Read
+            → HasGivenAll self.old self.new.left }
         ensures same { (self.new.con ≡ self.old.con) × (self.new.sep ≡ self.old.sep)
             × (self.new.text ≡ self.old.text) }
     {
@@ -166,14 +168,19 @@ fn next_row<R: Read>(
     stage: &mut Stage,
 ) -> Result<Option<Row>, ImportFault>
     requires { IsAt (R.remaining unread.now.value) (R.remaining reader.old) con.now sep stage.old }
-    ensures advances { Advances (R.remaining unread.now.value) con.now sep (R.remaining reader.old) stage.old result (R.remaining reader.new) stage.new }
+    ensures advances { Advances (R.remaining unread.now.value) con.now sep
+        (R.remaining reader.old) stage.old result (R.remaining reader.new) stage.new }
     ensures row { IfOk result (λ row. IfSome row IsLodgeOrBad) }
     ensures ends { ending stage.new ≡ ends_by result }
     ensures again { (fault : Option ImportFault) → ending stage.old ≡ Some fault
-        → (result ≡ at_end fault) × (reader.new ≡ reader.old) × (stage.new ≡ stage.old) × (watch.new ≡ watch.old) }
-    ensures true_at { IsTrueAt stage.old (has_failed watch.old) → IsTrueAt stage.new (has_failed watch.new) }
-    ensures read { IsTrueAt stage.old (has_failed watch.old) → IsTrueResult result (has_failed watch.new) }
-    ensures before { ending stage.old ≡ None → result ≡ Err cause.Read → IfSome (R.remaining unread.now.value)
+        → (result ≡ at_end fault)
+        × (reader.new ≡ reader.old) × (stage.new ≡ stage.old) × (watch.new ≡ watch.old) }
+    ensures true_at { IsTrueAt stage.old (has_failed watch.old)
+        → IsTrueAt stage.new (has_failed watch.new) }
+    ensures read { IsTrueAt stage.old (has_failed watch.old)
+        → IsTrueResult result (has_failed watch.new) }
+    ensures before { ending stage.old ≡ None → result ≡ Err cause.Read
+        → IfSome (R.remaining unread.now.value)
         (λ text. AllRowsCame con.now sep (came_by stage.old) text (R.remaining reader.new)) }
 {
     let Stage::Unread = stage else {
@@ -198,9 +205,11 @@ fn start<R: Read>(
     con: &Constituency,
     stage: &mut Stage,
 ) -> Result<(), ImportFault>
-    ensures begun { OnOk result (IsBegun (R.remaining reader.old) (R.remaining reader.new) con.now sep stage.new) }
+    ensures begun { OnOk result
+        (IsBegun (R.remaining reader.old) (R.remaining reader.new) con.now sep stage.new) }
     ensures fault { IfErr result (IsNext (R.remaining reader.old) (text_coming con.now sep)) }
-    ensures true_at { has_failed watch.old ≡ false → OnOk result (IsTrueAt stage.new (has_failed watch.new)) }
+    ensures true_at { has_failed watch.old ≡ false
+        → OnOk result (IsTrueAt stage.new (has_failed watch.new)) }
     ensures read { IfErr result (λ fault. IsTrueFault fault (has_failed watch.new)) }
     ensures before { result ≡ Err cause.Read → IfSome (R.remaining reader.old)
         (λ text. AllRowsCame con.now sep 0 text (R.remaining reader.new)) }
@@ -224,16 +233,22 @@ fn next_started<R: Read>(
     stage: &mut Stage,
 ) -> Result<Option<Row>, ImportFault>
     requires { IsStarted stage.old }
-    ensures advances { (text : Option (List ℕ)) (con : Constituency) (sep : Sep) → IsAt text (R.remaining reader.old) con sep stage.old
-        → Advances text con sep (R.remaining reader.old) stage.old result (R.remaining reader.new) stage.new }
+    ensures advances { (text : Option (List ℕ)) (con : Constituency) (sep : Sep)
+        → IsAt text (R.remaining reader.old) con sep stage.old
+        → Advances text con sep (R.remaining reader.old) stage.old result
+        (R.remaining reader.new) stage.new }
     ensures row { IfOk result (λ row. IfSome row IsLodgeOrBad) }
     ensures ends { ending stage.new ≡ ends_by result }
     ensures again { (fault : Option ImportFault) → ending stage.old ≡ Some fault
-        → (result ≡ at_end fault) × (reader.new ≡ reader.old) × (stage.new ≡ stage.old) × (watch.new ≡ watch.old) }
-    ensures true_at { IsTrueAt stage.old (has_failed watch.old) → IsTrueAt stage.new (has_failed watch.new) }
-    ensures read { IsTrueAt stage.old (has_failed watch.old) → IsTrueResult result (has_failed watch.new) }
+        → (result ≡ at_end fault)
+        × (reader.new ≡ reader.old) × (stage.new ≡ stage.old) × (watch.new ≡ watch.old) }
+    ensures true_at { IsTrueAt stage.old (has_failed watch.old)
+        → IsTrueAt stage.new (has_failed watch.new) }
+    ensures read { IsTrueAt stage.old (has_failed watch.old)
+        → IsTrueResult result (has_failed watch.new) }
     ensures before { (text : Option (List ℕ)) (con : Constituency) (sep : Sep)
-        → IsAt text (R.remaining reader.old) con sep stage.old → ending stage.old ≡ None → result ≡ Err cause.Read
+        → IsAt text (R.remaining reader.old) con sep stage.old
+        → ending stage.old ≡ None → result ≡ Err cause.Read
         → IfSome text (λ t. AllRowsCame con sep (came_by stage.old) t (R.remaining reader.new)) }
 {
     let rows = match stage {
@@ -264,10 +279,12 @@ impl Rows {
         sep: Sep,
         con: &Constituency,
     ) -> Result<Rows, ImportFault>
-        ensures reading { IfOk result (IsReadingRows (R.remaining reader.old) (R.remaining reader.new) con.now sep) }
+        ensures reading { IfOk result
+            (IsReadingRows (R.remaining reader.old) (R.remaining reader.new) con.now sep) }
         ensures came { IfOk result (λ rows. rows.came ≡ 0) }
         ensures fault { IfErr result (IsNext (R.remaining reader.old) (text_coming con.now sep)) }
-        ensures true_at { IfOk result (λ rows. TellsTrue (has_failed watch.old) rows.records (has_failed watch.new)) }
+        ensures true_at { IfOk result (λ rows.
+            TellsTrue (has_failed watch.old) rows.records (has_failed watch.new)) }
         ensures read { IfErr result (λ fault. IsTrueFault fault (has_failed watch.new)) }
         ensures before { result ≡ Err cause.Read → IfSome (R.remaining reader.old)
             (λ text. AllRowsCame con.now sep 0 text (R.remaining reader.new)) }
@@ -300,7 +317,8 @@ impl Rows {
         requires reading { IsReadingOn self.old.records }
         requires few { self.old.lists ≤ 60 }
         requires within { self.old.came ≤ row_limit }
-        ensures gives { (text : Option (List ℕ)) (con : Constituency) (sep : Sep) → IsReadingRows text (R.remaining reader.old) con sep self.old
+        ensures gives { (text : Option (List ℕ)) (con : Constituency) (sep : Sep)
+            → IsReadingRows text (R.remaining reader.old) con sep self.old
             → GivesRow text (R.remaining reader.new) con sep self.old result self.new }
         ensures row { IfOk result (λ row. IfSome row IsLodgeOrBad) }
         ensures true_at { TellsTrue false self.old.records (has_failed watch.old)
@@ -336,7 +354,8 @@ fn import_fault(stop: Stop) -> ImportFault
 /// The fault of a text that has no complete record.
 fn header_fault(end: End) -> ImportFault
     ensures fault { result ≡ no_header end.stop }
-    ensures read { (before failed : Bool) → failed ≡ flag_after_stop end.stop before → IsTrueFault result failed }
+    ensures read { (before failed : Bool) → failed ≡ flag_after_stop end.stop before
+        → IsTrueFault result failed }
 {
     match end.stop {
         None => ImportFault::BadHeader,
@@ -347,7 +366,8 @@ fn header_fault(end: End) -> ImportFault
 /// What comes after the last row of a text.
 fn rows_end(end: End) -> Result<Option<Row>, ImportFault>
     ensures end { result ≡ at_end (option_map import_fault end.stop) }
-    ensures read { (failed : Bool) → failed ≡ flag_after_stop end.stop false → IsTrueResult result failed }
+    ensures read { (failed : Bool) → failed ≡ flag_after_stop end.stop false
+        → IsTrueResult result failed }
 {
     match end.stop {
         None => Ok(None),
@@ -376,7 +396,8 @@ fn is_header(lists: &[ListEntry], fields: &ByteRecord) -> bool
 
 /// The codes of stations, in which each is found in logarithmic time.
 fn station_codes(alloc: Global, stations: &[Station]) -> Result<BTreeSet<Code>, AllocError>
-    ensures { IfOk result (λ codes. (code : List ℕ) → contains code_cmp codes code ≡ list_any (bytes_eq code) (station_codes stations.now)) }
+    ensures { IfOk result (λ codes. (code : List ℕ)
+        → contains code_cmp codes code ≡ list_any (bytes_eq code) (station_codes stations.now)) }
 {
     let mut codes = BTreeSet::new(alloc);
     for station in stations {
@@ -393,7 +414,8 @@ fn station_row(
     fields: &ByteRecord,
 ) -> Result<Row, AllocError>
     requires { lists ≤ 60 }
-    ensures is { IfOk result (λ row. (limits : Stations) → ((code : List ℕ) → contains code_cmp stations.now code ≡ is_some (limits code))
+    ensures is { IfOk result (λ row. (limits : Stations)
+        → ((code : List ℕ) → contains code_cmp stations.now code ≡ is_some (limits code))
         → row ≡ row_of limits lists (fields_of fields.now)) }
     ensures row { IfOk result IsLodgeOrBad }
 {

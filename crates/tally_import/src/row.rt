@@ -58,7 +58,8 @@ fn votes_of(
     lists: usize,
     fields: &ByteRecord,
 ) -> Result<Option<Vec<u32>>, AllocError>
-    ensures { IfOk result (λ votes. option_map (λ v. v.items) votes ≡ numbers_of (drop 4 (fields_of fields.now))) }
+    ensures { IfOk result (λ votes.
+        option_map (λ v. v.items) votes ≡ numbers_of (drop 4 (fields_of fields.now))) }
 {
     let mut votes = Vec::with_capacity(alloc, lists)?;
     for place in FIXED_NAMES..fields.len() {

@@ -3,8 +3,8 @@
 ghost use Rattle.std.specs.Prelude.{◌≡◌, ◌++◌, List, length, string_bytes, IfOk, IfErr, OnOk};
 ghost use Rattle.tally_returns.specs.Counts.{VoteCounts};
 ghost use Rattle.tally_import.specs.Check.{check_text, count_text, named_number, totals_text};
-ghost use Rattle.tally_import.specs.Progress.{HasTaken, Taken};
-ghost use Rattle.tally_import.specs.Totals.{AreTotals};
+ghost use Rattle.tally_import.specs.internal.Progress.{HasTaken, Taken};
+ghost use Rattle.tally_import.specs.internal.Totals.{AreTotals};
 
 use crate::check::CheckFault;
 use crate::import::Import;
@@ -21,7 +21,8 @@ pub(crate) fn import_text(
 ) -> Result<String, CheckFault>
     requires lists { import.now.lists ≡ length lists.now }
     requires totals { length import.now.totals.votes.items ≡ length lists.now }
-    ensures text { IfOk result (λ text. (taken : Taken) → HasTaken taken import.now → string_bytes text ≡ check_text lists.now taken.rows) }
+    ensures text { IfOk result (λ text. (taken : Taken) → HasTaken taken import.now
+        → string_bytes text ≡ check_text lists.now taken.rows) }
     ensures fault { IfErr result (λ fault. fault ≡ CheckFault.Memory) }
 {
     match check_text(alloc, lists, import) {
@@ -33,7 +34,8 @@ pub(crate) fn import_text(
 fn check_text(alloc: Global, lists: &[Code], import: &Import) -> Result<String, AllocError>
     requires lists { import.now.lists ≡ length lists.now }
     requires totals { length import.now.totals.votes.items ≡ length lists.now }
-    ensures { IfOk result (λ text. (taken : Taken) → HasTaken taken import.now → string_bytes text ≡ check_text lists.now taken.rows) }
+    ensures { IfOk result (λ text. (taken : Taken) → HasTaken taken import.now
+        → string_bytes text ≡ check_text lists.now taken.rows) }
 {
     let mut text = String::new(alloc);
     push_count(&mut text, &import.count)?;
@@ -43,7 +45,8 @@ fn check_text(alloc: Global, lists: &[Code], import: &Import) -> Result<String, 
 
 fn push_totals(text: &mut String, lists: &[Code], totals: &Totals) -> Result<(), AllocError>
     requires { length totals.now.votes.items ≡ length lists.now }
-    ensures { OnOk result ((returns : List VoteCounts) → AreTotals (length lists.now) returns totals.now
+    ensures { OnOk result ((returns : List VoteCounts)
+        → AreTotals (length lists.now) returns totals.now
         → string_bytes text.new ≡ string_bytes text.old ++ totals_text lists.now returns) }
 {
     push_number(text, "blank", totals.blank)?;
@@ -70,7 +73,8 @@ fn push_count(text: &mut String, count: &ImportCount) -> Result<(), AllocError>
 
 /// A line of a name and a number.
 fn push_number(text: &mut String, name: &str, n: u64) -> Result<(), AllocError>
-    ensures { OnOk result (string_bytes text.new ≡ string_bytes text.old ++ named_number name.now n) }
+    ensures { OnOk result
+        (string_bytes text.new ≡ string_bytes text.old ++ named_number name.now n) }
 {
     writeln!(text, "{name} {n}")
 }

@@ -1,9 +1,8 @@
 //! The totals of returns.
 
 ghost use Rattle.std.specs.Prelude.{◌≡◌, ◌+◌, ◌<◌, ◌≤◌, ◌^◌, ◌++◌, ℕ, true, List, [], ◌∷◌, length, slice_index, IfOk};
-ghost use Rattle.tally_keeper.specs.Source.{row_limit};
 ghost use Rattle.tally_returns.specs.Counts.{VoteCounts, are_counts};
-ghost use Rattle.tally_import.specs.Totals.{AreTotals};
+ghost use Rattle.tally_import.specs.internal.Totals.{AreTotals, AreTotalsOfFew};
 
 use std::alloc::{AllocError, Global};
 use tally_keeper::Counts;
@@ -29,7 +28,7 @@ pub(crate) fn no_totals(alloc: Global, lists: usize) -> Result<Totals, AllocErro
 
 /// Adds a return to the totals of others.
 pub(crate) fn add_return(totals: &mut Totals, counts: &Counts)
-    requires totals { (returns : List VoteCounts) × AreTotals (length counts.now.votes) returns totals.old × (length returns < row_limit) }
+    requires totals { AreTotalsOfFew (length counts.now.votes) totals.old }
     requires counts { are_counts (length counts.now.votes) counts.now ≡ true }
     ensures { (returns : List VoteCounts) → AreTotals (length counts.now.votes) returns totals.old
         → AreTotals (length counts.now.votes) (returns ++ counts.now ∷ []) totals.new }
@@ -42,8 +41,10 @@ pub(crate) fn add_return(totals: &mut Totals, counts: &Counts)
 /// Adds votes to the totals of the same lists.
 fn add_votes(totals: &mut [u64], votes: &[u32])
     requires same { length totals.old ≡ length votes.now }
-    requires room { (place : ℕ) → slice_index totals.old place + slice_index votes.now place < 2 ^ 64 }
-    ensures { (place : ℕ) → slice_index totals.new place ≡ slice_index totals.old place + slice_index votes.now place }
+    requires room { (place : ℕ)
+        → slice_index totals.old place + slice_index votes.now place < 2 ^ 64 }
+    ensures { (place : ℕ) → slice_index totals.new place
+        ≡ slice_index totals.old place + slice_index votes.now place }
 {
     for place in 0..totals.len() {
         totals[place] += u64::from(votes[place]);

@@ -14,7 +14,7 @@ use Rattle.tally_rules.specs.Code.{is_code}
 use Rattle.tally_rules.specs.Constituency.{Constituency}
 use Rattle.tally_returns.specs.Return.{StationReturn, Returns}
 use Rattle.tally_tables.specs.Cells.{return_rows, count_rows}
-use Rattle.tally_judge.specs.Entries.{IsLawfulEntry, AreReturnsOf, rises}
+use Rattle.tally_judge.specs.internal.Entries.{IsLawfulEntry, AreReturnsOf, rises}
 use Rattle.tally_tables.specs.Reading.{entries_in}
 use Rattle.tally_tables.proofs.EntryLemmas.{IsPlaced, entries_are, entries_again}
 use Rattle.tally_tables.proofs.LawfulLemmas.{lawful_is_placed}

@@ -10,7 +10,7 @@ use Rattle.tally_rows.proofs.RowsLemmas.{text_total, text_exact, keys_rise}
 use Rattle.tally_rules.specs.Constituency.{Constituency}
 use Rattle.tally_returns.specs.Return.{StationReturn, Returns}
 use Rattle.tally_ledger.specs.Kept.{Kept, opening_kept}
-use Rattle.tally_judge.specs.Entries.{rises}
+use Rattle.tally_judge.specs.internal.Entries.{rises}
 use Rattle.tally_judge.proofs.OrderLemmas.{sorted_from_rises}
 
 module _ {X : Type 0} where

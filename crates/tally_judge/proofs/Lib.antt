@@ -8,4 +8,5 @@ pub mod OfficeLemmas
 pub mod MustPassLemmas
 pub mod StateLemmas
 pub mod VerdictLemmas
+pub mod NumberLemmas
 pub mod OneStateLemmas

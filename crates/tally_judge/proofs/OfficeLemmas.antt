@@ -29,8 +29,8 @@ use Rattle.tally_steps.proofs.ViewLemmas.{constituency-code}
 use Rattle.tally_rows.specs.Rows.{text_cmp}
 use Rattle.tally_rows.proofs.RowsLemmas.{text_total, keys_rise}
 use Rattle.tally_tables.specs.Cells.{item_row, items_of, con_rows, lot_rows, seat_rows, gone_row, gone_rows, record_rows, total_rows, past_rows}
-use Rattle.tally_judge.specs.Found.{IsLawfulFound, gone_places, past_edition, same_numbers}
-use Rattle.tally_judge.specs.Entries.{rises, rises_on, key_of, AreReturnsOf}
+use Rattle.tally_judge.specs.internal.Found.{IsLawfulFound, gone_places, past_edition, same_numbers}
+use Rattle.tally_judge.specs.internal.Entries.{rises, rises_on, key_of, AreReturnsOf}
 use Rattle.tally_judge.specs.OfficeRows.{Rows, AreOfficeRows}
 use Rattle.tally_tables.specs.Views.{Tables}
 use Rattle.tally_tables.proofs.ConLemmas.{gone_entry, past_entry, sums_of_view, row_of_view, tables_of_view}

@@ -15,7 +15,7 @@ use Rattle.tally_steps.specs.LawfulState.{IsUnderPlaces, IsLawfulState}
 use Rattle.tally_steps.specs.LawStatements.{ViewsAreLawful}
 use Rattle.tally_rows.specs.Rows.{text_cmp}
 use Rattle.tally_tables.proofs.ConLemmas.{gone_entry, past_entry}
-use Rattle.tally_judge.specs.Found.{HasCodes}
+use Rattle.tally_judge.specs.internal.Found.{HasCodes}
 use Rattle.tally_judge.specs.OfficeRows.{Rows, AreOfficeRows, AreLawfulRows, AreRowsOfOneState}
 use Rattle.tally_judge.proofs.LedgerLemmas.{kept_of}
 use Rattle.tally_judge.proofs.OfficeLemmas.{con_of, state_entry}

@@ -7,7 +7,7 @@ use Rattle.std.proofs.lemmas.Bool.{and_parts}
 use Rattle.std.proofs.lemmas.List.{drop_more}
 use Rattle.tally_rows.specs.Rows.{text_cmp}
 use Rattle.tally_rows.proofs.RowsLemmas.{text_total}
-use Rattle.tally_judge.specs.Entries.{rises_on, key_of, rises}
+use Rattle.tally_judge.specs.internal.Entries.{rises_on, key_of, rises}
 
 both : (a b : Bool) → T a → T b → T (a && b)
 both true b p q = q

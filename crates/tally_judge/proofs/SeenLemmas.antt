@@ -13,7 +13,7 @@ use Rattle.tally_returns.specs.Lawful.{is_kept_note, may_stand}
 use Rattle.tally_returns.specs.View.{View}
 use Rattle.tally_rules.specs.Constituency.{Constituency}
 use Rattle.tally_rules.specs.Text.{is_note}
-use Rattle.tally_judge.specs.Seen.{HasLawfulFrame, IsCertified, IsLotRight, IsOpen, is_in_range}
+use Rattle.tally_judge.specs.internal.Seen.{HasLawfulFrame, IsCertified, IsLotRight, IsOpen, is_in_range}
 
 -- a text is a note that is kept where it may stand as a note
 pub kept_is : (note : List ℕ) → IsUtf8 note → is_note note ≡ is_kept_note note

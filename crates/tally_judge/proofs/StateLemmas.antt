@@ -26,8 +26,8 @@ use Rattle.tally_steps.proofs.ViewLemmas.{constituency-code, constituency-limits
 use Rattle.tally_rows.specs.Rows.{text_cmp}
 use Rattle.tally_rows.proofs.RowsLemmas.{keys_rise}
 use Rattle.tally_tables.specs.Cells.{item_row, items_of, con_rows, lot_rows, seat_rows, gone_row, gone_rows, record_rows, total_rows, past_rows}
-use Rattle.tally_judge.specs.Found.{IsLawfulFound, HasCodes, gone_places, past_edition, same_numbers}
-use Rattle.tally_judge.specs.Entries.{rises_on}
+use Rattle.tally_judge.specs.internal.Found.{IsLawfulFound, HasCodes, gone_places, past_edition, same_numbers}
+use Rattle.tally_judge.specs.internal.Entries.{rises_on}
 use Rattle.tally_judge.specs.OfficeRows.{Rows, AreOfficeRows}
 use Rattle.tally_tables.specs.TablesOfState.{AreSeats}
 use Rattle.tally_tables.specs.Views.{statuses_of}

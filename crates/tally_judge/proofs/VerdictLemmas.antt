@@ -29,8 +29,8 @@ use Rattle.tally_returns.specs.State.{State, ConState}
 use Rattle.tally_returns.specs.View.{View}
 use Rattle.tally_rows.specs.Rows.{text_cmp}
 use Rattle.tally_rows.proofs.RowsLemmas.{text_total, text_exact, keys_rise}
-use Rattle.tally_judge.specs.Found.{AreAllLawful, AreLawfulCons, IsLawfulFound, HasCodes}
-use Rattle.tally_judge.specs.Entries.{IsLawfulEntry, AreReturnsOf, rises, key_of}
+use Rattle.tally_judge.specs.internal.Found.{AreAllLawful, AreLawfulCons, IsLawfulFound, HasCodes}
+use Rattle.tally_judge.specs.internal.Entries.{IsLawfulEntry, AreReturnsOf, rises, key_of}
 use Rattle.tally_judge.specs.OfficeRows.{Rows, AreOfficeRows, AreLawfulRows}
 use Rattle.tally_tables.specs.Reading.{entries_in}
 use Rattle.tally_tables.specs.Views.{Tables, views_from}
@@ -206,6 +206,12 @@ must_read_some setup rows codes is h = let read = must_read setup rows h.0 codes
 
 same_read : (setup : List Constituency) (rows : Rows) (es : List (List ℕ × StationReturn)) → All HasCodes setup → Some es ≡ entries_in setup rows.returns rows.counts → (h : AreLawfulRows setup rows) → entries h.0.returns ≡ es
 same_read setup rows es codes is h = let read = must_read setup rows h.0 codes h.1 h.2 in let k = sym read.0 ∙ sym is in cc
+
+-- the returns that are kept are those of each lawful state with these rows
+pub returns_back : (setup : List Constituency) (rows : Rows) (es : List (List ℕ × StationReturn)) (kept : Kept) (s : State) → All HasCodes setup → kept ≡ record (opening_kept setup) { returns = from_entries es }
+    → Some es ≡ entries_in setup rows.returns rows.counts → IsLawfulState setup s → AreOfficeRows setup s rows → kept.returns ≡ s.returns
+returns_back setup rows es kept s codes is read lawful of_rows =
+    ap (λ (k : Kept). k.returns) is ∙ ap (from_entries {R = text_cmp}) (sym (same_read setup rows es codes read (s, lawful, of_rows))) ∙ entries_back s.returns
 
 pub must_rise : (setup : List Constituency) (rows : Rows) (es : List (List ℕ × StationReturn)) → All HasCodes setup → Some es ≡ entries_in setup rows.returns rows.counts → AreLawfulRows setup rows
     → (rises es ≡ true) × All (IsLawfulEntry setup) es

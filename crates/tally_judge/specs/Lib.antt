@@ -1,4 +1,3 @@
-pub mod Entries
-pub mod Found
-pub mod Seen
+pub mod internal
 pub mod OfficeRows
+pub mod Numbers

@@ -2,9 +2,9 @@
 
 ghost use Rattle.std.specs.Prelude.{◌≡◌, All, IfOk, IsTrue};
 ghost use Rattle.std.specs.Ordering.{is_lt, nat_cmp};
-ghost use Rattle.tally_judge.specs.Entries.{is_below, rises, rises_on};
-ghost use Rattle.tally_judge.specs.Found.{AreAllLawful, AreLawfulCons, IsLawfulFound, gone_places};
-ghost use Rattle.tally_judge.specs.Found.{is_as_counted, past_edition, same_numbers};
+ghost use Rattle.tally_judge.specs.internal.Entries.{is_below, rises, rises_on};
+ghost use Rattle.tally_judge.specs.internal.Found.{AreAllLawful, AreLawfulCons, IsLawfulFound, gone_places};
+ghost use Rattle.tally_judge.specs.internal.Found.{is_as_counted, past_edition, same_numbers};
 ghost use Rattle.tally_rows.specs.Rows.{text_cmp};
 ghost use Rattle.tally_tables.specs.Views.{tables_in};
 

@@ -2,7 +2,7 @@
 
 ghost use Rattle.std.specs.Prelude.{◌≡◌, IfOk, option_map};
 ghost use Rattle.tally_ledger.specs.Kept.{view_in};
-ghost use Rattle.tally_tables.specs.Views.{con_counted, found_at, statuses_of, tables_in};
+ghost use Rattle.tally_tables.specs.Views.{con_counted, view_with_code, statuses_of, tables_in};
 ghost use Rattle.tally_tables.specs.Views.{views_from};
 
 use sqlite::Row;
@@ -41,7 +41,8 @@ fn con_at<'a>(ledger: &'a Ledger, row: &Row) -> Option<(&'a Constituency, &'a Co
     Some((con, counted))
 }
 
-fn statuses_of(view: &ConView) -> Statuses
+/// The numbers of stations and of returns in each status, of what is seen of a constituency.
+pub(crate) fn statuses_of(view: &ConView) -> Statuses
     ensures { result ≡ statuses_of view.now }
 {
     Statuses {
@@ -62,7 +63,7 @@ fn found_at(
     tables: ConTables<'_>,
 ) -> Result<Option<ConFound>, AllocError>
     ensures { IfOk result (λ found.
-        found ≡ found_at counted.now row.now (tables_in tables.entry) con.now) }
+        found ≡ view_with_code counted.now row.now (tables_in tables.entry) con.now) }
 {
     let found = view_in(alloc, con, statuses_of(counted), row, tables)?;
     Ok(found.map(|view| ConFound {

@@ -3,6 +3,7 @@
 
 mod cons;
 mod found;
+mod numbers;
 mod office;
 mod returns;
 mod view;

@@ -2,18 +2,21 @@
 
 ghost use Rattle.std.specs.Prelude.{◌≡◌, All, IfOk, IfSome, IsSome, OnOk, OnSome, true};
 ghost use Rattle.std.specs.FinMap.{from_entries, insert};
-ghost use Rattle.tally_judge.specs.Entries.{IsLawfulEntry, rises};
+ghost use Rattle.tally_judge.specs.internal.Entries.{IsLawfulEntry, rises};
+ghost use Rattle.tally_judge.specs.Numbers.{HasNumbersOfRows, numbers_of};
 ghost use Rattle.tally_judge.specs.OfficeRows.{AreLawfulRows, AreRowsOfOneState, rows_in};
 ghost use Rattle.tally_ledger.specs.Kept.{opening_kept};
 
 use crate::cons::are_lawful_cons;
+use crate::numbers::put_all;
 use crate::returns::{are_lawful, stations_rise};
 use sqlite::Row;
 use std::alloc::{AllocError, Global};
+use std::collections::BTreeMap;
 use tally_ledger::Ledger;
 use tally_machine::laws;
-use tally_rules::Setup;
-use tally_tables::{ConTables, Entry, entries_in};
+use tally_rules::{Code, Setup};
+use tally_tables::{ConTables, Entry, Statuses, entries_in};
 
 /// The rows of all tables but `setup`, without their rowids, those of each table in the order of
 /// its key.
@@ -26,17 +29,21 @@ pub struct OfficeRows<'a> {
 }
 
 /// The setup again, where these are the rows of the tables of a lawful state over it, and `None`
-/// where they are those of no lawful state. It costs n log n in the rows.
+/// where they are those of no lawful state. The numbers of each constituency are put into a tree.
+/// It costs n log n in the rows.
 pub fn accept_rows(
     alloc: Global,
     setup: Setup,
     rows: OfficeRows<'_>,
+    known: &mut BTreeMap<Code, Statuses>,
 ) -> Result<Option<Setup>, AllocError>
     ensures passed { IfOk result (λ found.
         OnSome found (AreRowsOfOneState setup (rows_in rows.entry))) }
     ensures must_pass { IfOk result (λ found.
         AreLawfulRows setup (rows_in rows.entry) → IsSome found) }
     ensures setup { IfOk result (λ found. IfSome found (λ again. again ≡ setup)) }
+    ensures numbers { IfOk result (λ found.
+        OnSome found (HasNumbersOfRows setup (rows_in rows.entry) (numbers_of known.new))) }
 {
     // Called for what its contract says: the setup is within its limits.
     let _cons = setup.cons();
@@ -55,6 +62,7 @@ pub fn accept_rows(
     if !are_lawful_cons(alloc, &ledger, rows.cons, rows.tables)? {
         return Ok(None);
     }
+    put_all(&ledger, known)?;
     Ok(Some(ledger.into_setup()))
 }
 

@@ -1,7 +1,7 @@
 //! Which returns that were read are those of a lawful state.
 
 ghost use Rattle.std.specs.Prelude.{◌≡◌, All, IsTrue};
-ghost use Rattle.tally_judge.specs.Entries.{IsLawfulEntry, is_below, rises};
+ghost use Rattle.tally_judge.specs.internal.Entries.{IsLawfulEntry, is_below, rises};
 ghost use Rattle.tally_returns.specs.Decide.{limits_of};
 ghost use Rattle.tally_returns.specs.Lawful.{IsLawful};
 

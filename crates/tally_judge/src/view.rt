@@ -4,8 +4,8 @@ ghost use Rattle.std.specs.Prelude.{◌≡◌, ◌≢◌, ◌≤◌, All, IfOk, 
 ghost use Rattle.tally_steps.specs.Outcome.{IsLawfulGone, IsLawfulPast, IsLawfulView, is_candidate};
 ghost use Rattle.tally_returns.specs.Lawful.{is_kept_note, may_stand};
 ghost use Rattle.tally_returns.specs.View.{FitsView, HasEachList};
-ghost use Rattle.tally_judge.specs.Seen.{HasLawfulFrame, IsCertified, IsLotRight, IsOpen};
-ghost use Rattle.tally_judge.specs.Seen.{is_in_range};
+ghost use Rattle.tally_judge.specs.internal.Seen.{HasLawfulFrame, IsCertified, IsLotRight, IsOpen};
+ghost use Rattle.tally_judge.specs.internal.Seen.{is_in_range};
 
 use std::alloc::{AllocError, Global};
 use tally_allot::{AllotFault, allot, is_allotment};

@@ -2,6 +2,7 @@
 
 use sqlite::{Connection, Error, ErrorCode, MemStore, Row};
 use std::alloc::Global;
+use std::collections::BTreeMap;
 use std::test::Fail;
 use tally_judge::{OfficeRows, accept_rows};
 use tally_rules::{Setup, read_setup};
@@ -121,7 +122,8 @@ fn are_accepted(alloc: Global, conn: &mut Connection<MemStore>) -> Result<bool, 
         cons: &cons,
         tables,
     };
-    Ok(accept_rows(alloc, setup(alloc)?, rows)?.is_some())
+    let mut known = BTreeMap::new(alloc);
+    Ok(accept_rows(alloc, setup(alloc)?, rows, &mut known)?.is_some())
 }
 
 /// What is said of the office after these statements: `refused` by its tables, `accepted` as the

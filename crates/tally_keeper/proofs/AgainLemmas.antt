@@ -11,7 +11,7 @@ use Rattle.tally_returns.specs.declared.reply.LodgeReply.{LodgeReply}
 use Rattle.tally_returns.specs.declared.reply.LodgeReply.TheVariants.{Lodged, Same}
 use Rattle.tally_steps.proofs.StayLemmas.{Stay, run-stays, lodge-stays, not_lodged-again}
 use Rattle.tally_keeper.specs.Events.{answers_of, asks_of}
-use Rattle.tally_keeper.specs.Import.{RowAnswer, row_answer, after_row, answers, imported, is_lodged}
+use Rattle.tally_keeper.specs.Import.{RowAnswer, row_answer, after_row, answers, returns_after_import, is_lodged}
 use Rattle.tally_keeper.specs.Keeper.{Event, Happen, Happens, IsImport, whole_import}
 use Rattle.tally_keeper.specs.declared.import.ImportCount.{ImportCount}
 use Rattle.tally_keeper.specs.declared.import.Row.{Row}
@@ -22,7 +22,7 @@ row-stays : (stations : Stations) (m : Returns) (r : Row) → Stay m (after_row 
 row-stays stations m (row.Lodge (Lodge station slip counts)) = lodge-stays stations m station slip counts
 row-stays stations m other = λ q there. there
 
-imported-stays : (stations : Stations) (m : Returns) (rows : List Row) → Stay m (imported stations m rows)
+imported-stays : (stations : Stations) (m : Returns) (rows : List Row) → Stay m (returns_after_import stations m rows)
 imported-stays stations m [] = λ q there. there
 imported-stays stations m (r ∷ rows) = λ q there. imported-stays stations (after_row stations m r) rows q (row-stays stations m r q there)
 
@@ -41,7 +41,7 @@ abbrev AreSettled : Stations → Returns → List Row → Type 0
 AreSettled stations m [] = Unit {0}
 AreSettled stations m (r ∷ rows) = ((n : Returns) → Stay m n → is_lodged (row_answer stations n r) ≡ false) × AreSettled stations m rows
 
-imported-settled : (stations : Stations) (m : Returns) (rows : List Row) → AreSettled stations (imported stations m rows) rows
+imported-settled : (stations : Stations) (m : Returns) (rows : List Row) → AreSettled stations (returns_after_import stations m rows) rows
 imported-settled stations m [] = tt
 imported-settled stations m (r ∷ rows) =
     (λ n stay. row-settled stations m n r (λ q there. stay q (imported-stays stations (after_row stations m r) rows q there)), imported-settled stations (after_row stations m r) rows)

@@ -4,7 +4,7 @@ use Rattle.std.specs.Prelude.{IsSome, IfErr, IfOk, IfSome, OnErr, OnOk, is_some,
 use Rattle.std.specs.FinMap as fin
 use Rattle.tally_rules.specs.Constituency.{Constituency}
 use Rattle.tally_rules.specs.Setup.{constituency_with}
-use Rattle.tally_steps.specs.Step.{ConChange, Decides, after_change, certified_with, changed, con_change, gone_for_good, lot_set, no_change, open_again, IsConStep, answer_seen, con_answer, con_shown, edition_now, seen}
+use Rattle.tally_steps.specs.Step.{ConChange, Decides, after_change, certified_with, con_state_after, con_change, gone_for_good, lot_set, no_change, open_again, IsConStep, answer_seen, con_answer, con_shown, edition_now, reply_seen}
 use Rattle.tally_returns.specs.GoneCandidate.{GoneCandidate}
 use Rattle.tally_returns.specs.Named.{con_named}
 use Rattle.tally_returns.specs.PastSeats.{PastSeats}
@@ -23,7 +23,7 @@ use Rattle.tally_steps.proofs.DecisionLemmas.{edition-within, gone-once}
 use Rattle.tally_steps.proofs.RecordLemmas.{records-last}
 use Rattle.tally_steps.proofs.ViewLemmas.{view-lawful}
 use Rattle.tally_ledger.specs.Kept.{AreEarlier, Kept, state_in, view_in, with_change}
-use Rattle.tally_keeper.specs.Held.{CanCarryOut, CanRise, IsAnsweredOn, IsHeld, carried_reply}
+use Rattle.tally_keeper.specs.internal.Held.{CanCarryOut, CanRise, IsAnsweredOn, IsHeld, carried_reply}
 use Rattle.tally_keeper.proofs.HeldLemmas.{change-state, con-kept, held-change}
 use Rattle.tally_keeper.proofs.StepLemmas.{memory-or}
 
@@ -50,9 +50,9 @@ new-last k code con ask note past held found named decides =
 
 -- the edition after a change is one that a constituency can have
 next-edition : (k : Kept) (code : List ℕ) (con : Constituency) (ask : Ask) (decided : ConChange) → IsHeld k → constituency_with code k.setup ≡ Some con → con_named ask ≡ Some code
-    → Decides con (view_in k con) ask (Ok decided) → (changed (con_state (state_in k) code) decided).edition ≤ last_edition
+    → Decides con (view_in k con) ask (Ok decided) → (con_state_after (con_state (state_in k) code) decided).edition ≤ last_edition
 next-edition k code con ask decided held found named decides =
-    subst (λ q. (changed (con_state (state_in k) q) decided).edition ≤ last_edition) (constituency_with-code k.setup code con found)
+    subst (λ q. (con_state_after (con_state (state_in k) q) decided).edition ≤ last_edition) (constituency_with-code k.setup code con found)
     (edition-within k.setup (state_in k) con code (view_in k con) ask decided held.limits held.lawful (named, found) (held.seats code con found) decides)
 
 known-some : (setup : List Constituency) (code : List ℕ) (con : Constituency) → constituency_with code setup ≡ Some con → IsSome (constituency_with code setup)
@@ -65,7 +65,7 @@ can-carry-out k code con ask edition change decided held found named edition_is 
     stands : edition ≡ (con_state (state_in k) code).edition
     stands = edition_is ∙ ap (λ q. (con_state (state_in k) q).edition) (constituency_with-code k.setup code con found)
 
-    next : (d : ConChange) → d ≡ decided → (changed (con_state (state_in k) code) d).edition ≤ last_edition
+    next : (d : ConChange) → d ≡ decided → (con_state_after (con_state (state_in k) code) d).edition ≤ last_edition
     next d same = next-edition k code con ask d held found named (subst (λ x. Decides con (view_in k con) ask (Ok x)) (sym same) decides)
 
     rises : (con_state (state_in k) code).edition + 1 ≤ last_edition → CanRise k code edition
@@ -112,7 +112,7 @@ pub record IsDone (k new : Kept) (code : List ℕ) (ask : Ask) (r : Result Reply
 -- a change was carried out, or memory was wanting and nothing has changed
 abbrev pub IsCarriedOut : Kept → List ℕ → ℕ → ConChange → Result Reply Refusal → Kept → Type 0
 IsCarriedOut k code edition decided r new =
-    ((seen r ≡ Ok (carried_reply edition decided)) × (new ≡ with_change k code decided)) ⊎ ((r ≡ Err Memory) × (new ≡ k))
+    ((reply_seen r ≡ Ok (carried_reply edition decided)) × (new ≡ with_change k code decided)) ⊎ ((r ≡ Err Memory) × (new ≡ k))
 
 pub carried : (k new : Kept) (code : List ℕ) (edition : ℕ) (change : Change) (decided : ConChange) (r : Result Reply Refusal) → con_change change ≡ Some decided
     → IfOk r (λ reply. IfSome (con_change change) (λ d. answer_seen reply ≡ carried_reply edition d)) → OnOk r (IfSome (con_change change) (λ d. new ≡ with_change k code d))
@@ -133,7 +133,7 @@ carried-done k new code con ask edition change decided r held found named editio
 }
 carried-done k new code con ask edition change decided r held found named edition_is is decides not_same (inl done) =
     let now : new ≡ with_change k code decided = done.1 in
-    let answer : seen r ≡ con_answer (view_in k con) (Ok decided) = done.0 ∙ reply-is (view_in k con) edition change decided is not_same edition_is in
+    let answer : reply_seen r ≡ con_answer (view_in k con) (Ok decided) = done.0 ∙ reply-is (view_in k con) edition change decided is not_same edition_is in
     let state : state_in new ≡ after_change (state_in k) con.code (Ok decided) =
     ap state_in now ∙ change-state k code decided (con-kept k code con held found) ∙ ap (λ q. after_change (state_in k) q (Ok decided)) (sym (constituency_with-code k.setup code con found)) in
     let step : IsConStep (Some con) (state_in k) ask r (state_in new) = (view_in k con, Ok decided, held.seats code con found, decides, answer, state) in

@@ -9,7 +9,7 @@ use Rattle.tally_rules.specs.Limits.{IsSetup}
 use Rattle.tally_returns.specs.Named.{BringsCode}
 use Rattle.tally_returns.specs.State.{State}
 use Rattle.tally_steps.specs.LawfulState.{IsLawfulState}
-use Rattle.tally_steps.specs.Runs.{IsRun, is_act, IsSameCommand, kept}
+use Rattle.tally_steps.specs.Runs.{IsRun, is_act, IsSameCommand, kept_elements}
 use Rattle.tally_returns.specs.declared.ask.Ask.{Ask}
 use Rattle.tally_returns.specs.declared.ask.Ask.TheVariants.{Lodge}
 use Rattle.tally_returns.specs.declared.refusal.Refusal.{Refusal}
@@ -111,14 +111,14 @@ happen-acting setup s t (event ∷ events) is = go is.0 is.1 is.2 (λ next rest.
 
 pub happen-kept : (setup : List Constituency) (s t : State) (events : List Event) → Happen setup (Some s) events (Some t) → (keep : ℕ → Bool)
     → ((i : ℕ) (event : Event) → slice_get events i ≡ Some event → keep i ≡ false → acts event ≡ false)
-    → Happen setup (Some s) (kept keep events) (Some t)
+    → Happen setup (Some s) (kept_elements keep events) (Some t)
 happen-kept setup s t [] is keep idle = is
 happen-kept setup s t (event ∷ events) is keep idle =
     go is.0 is.1 is.2
     (λ next rest. happen-kept setup next t events rest (λ i. keep (i + 1)) (λ i e at out. idle (i + 1) e (ap (slice_get (event ∷ events)) (add-one i) ∙ at) out)) (keep 0) refl
   where
     left : List Event
-    left = kept (λ i. keep (i + 1)) events
+    left = kept_elements (λ i. keep (i + 1)) events
 
     go : (mid : Option State) → Happens setup (Some s) event mid → Happen setup mid events (Some t)
         → ((next : State) → Happen setup (Some next) events (Some t) → Happen setup (Some next) left (Some t))

@@ -11,15 +11,15 @@ use Rattle.tally_rules.specs.Limits.{IsSetup}
 use Rattle.tally_rules.specs.Setup.{constituency_with, station_with}
 use Rattle.tally_rules.specs.Text.{is_note}
 use Rattle.tally_rules.specs.declared.constituency.Station.{Station}
-use Rattle.tally_steps.specs.Certification.{Certifies, Draws, vacates, reopened}
+use Rattle.tally_steps.specs.Certification.{Certifies, Draws, vacate_result, reopen_result}
 use Rattle.tally_returns.specs.Checks.{check, first_refusal, refused_or}
-use Rattle.tally_steps.specs.Step.{ConChange, Decides, IsView, after_change, certified_with, changed, gone_for_good, lot_set, no_change, open_again, con_answer, seen, after, after_put, after_return, con_of_station, decided_at_station, decided_in, is_certified, with_return, without_lot}
+use Rattle.tally_steps.specs.Step.{ConChange, Decides, IsView, after_change, certified_with, con_state_after, gone_for_good, lot_set, no_change, open_again, con_answer, reply_seen, state_after, after_put, after_return, con_of_station, change_at_station, change_in_state, is_certified, with_return, without_lot}
 use Rattle.tally_returns.specs.Counts.{VoteCounts, same_counts}
-use Rattle.tally_returns.specs.Decide.{decided_return, limits_of, lodge_change, decided_move, put_next}
+use Rattle.tally_returns.specs.Decide.{return_change, limits_of, lodge_change, move_change, put_next}
 use Rattle.tally_returns.specs.GoneCandidate.{GoneCandidate}
 use Rattle.tally_steps.specs.LawfulState.{IsLawfulState}
-use Rattle.tally_returns.specs.Lodge.{StationLimits, admitted, after_lodge, counts_checks, lodge, lodge_answer}
-use Rattle.tally_returns.specs.Moves.{close_checks, closed, correct_checks, corrected, counts_checks_at, may_close, may_correct, may_query, move_checks, queried, query_checks}
+use Rattle.tally_returns.specs.Lodge.{StationLimits, reply_after_checks, after_lodge, counts_checks, lodge, lodge_answer}
+use Rattle.tally_returns.specs.Moves.{close_checks, closed_return, correct_checks, corrected_return, counts_checks_at, may_close, may_correct, may_query, move_checks, queried_return, query_checks}
 use Rattle.tally_returns.specs.Named.{BringsCode, con_named, station_named}
 use Rattle.tally_steps.specs.Outcome.{HasSeats}
 use Rattle.tally_returns.specs.PastSeats.{PastSeats}
@@ -46,7 +46,7 @@ use Rattle.tally_steps.proofs.LawfulViewLemmas.{certified-seats, drawn-open}
 use Rattle.tally_steps.proofs.LifeLemmas.{after_put-returns}
 use Rattle.tally_steps.proofs.ReturnStepLemmas.{open-station, opening-lawful, put-placed, return-step-lawful}
 use Rattle.tally_ledger.specs.Kept.{Kept, opening_kept, seats_in, state_in, view_in, with_change}
-use Rattle.tally_keeper.specs.Held.{IsHeld, IsLodged, IsMoved, with_state}
+use Rattle.tally_keeper.specs.internal.Held.{IsHeld, IsLodged, IsMoved, with_state}
 
 -- ---- the seats that are kept of a constituency
 
@@ -100,7 +100,7 @@ append-rest (Some e ∷ xs) ys none = cc
 
 move-open : (certified : Bool) (found : Option StationReturn) (rev : ℕ) (may_start : Status → Bool) (checks : List (Option Refusal)) (next : StationReturn → StationReturn) (r : StationReturn)
     → (first_refusal checks ≡ None → first_refusal (move_checks certified found rev may_start) ≡ None)
-    → decided_move checks found next ≡ Ok (PutReturn r) → certified ≡ false
+    → move_change checks found next ≡ Ok (PutReturn r) → certified ≡ false
 move-open certified found rev may_start checks next r rest is = go (first_refusal checks) refl is
   where
     go : (refused : Option Refusal) → first_refusal checks ≡ refused → refused_or refused (Ok (put_next found next)) ≡ Ok (PutReturn r) → certified ≡ false
@@ -111,29 +111,29 @@ move-open certified found rev may_start checks next r rest is = go (first_refusa
         not-true certified (passed-first (not certified) Certified _ third)
 
 lodge-open : (limits : StationLimits) (found : Option StationReturn) (slip : List ℕ) (counts : VoteCounts) (r : StationReturn)
-    → lodge_change slip counts (refused_or (first_refusal (counts_checks limits counts)) (admitted found slip counts)) ≡ Ok (PutReturn r) → closed_now found ≡ false
+    → lodge_change slip counts (refused_or (first_refusal (counts_checks limits counts)) (reply_after_checks found slip counts)) ≡ Ok (PutReturn r) → closed_now found ≡ false
 lodge-open limits found slip counts r is = go (first_refusal (counts_checks limits counts)) found is
   where
     again : (same : Bool) (rev : ℕ) (e : Refusal) → lodge_change slip counts (if same then Ok (reply.Same rev) else Err e) ≢ Ok (PutReturn r)
     again true rev e ok = cc
     again false rev e ok = cc
 
-    go : (refused : Option Refusal) (f : Option StationReturn) → lodge_change slip counts (refused_or refused (admitted f slip counts)) ≡ Ok (PutReturn r) → closed_now f ≡ false
+    go : (refused : Option Refusal) (f : Option StationReturn) → lodge_change slip counts (refused_or refused (reply_after_checks f slip counts)) ≡ Ok (PutReturn r) → closed_now f ≡ false
     go (Some e) f ok = cc
     go None None ok = refl
     go None (Some standing) ok = absurd (again (pointwise nat_eq standing.slip slip && same_counts standing.counts counts) standing.rev (Differs standing.rev) ok)
 
 -- where a return is put, its constituency is not certified, or the one that stood was not closed
 put-open : (limits : StationLimits) (certified : Bool) (found : Option StationReturn) (ask : Ask) (r : StationReturn)
-    → decided_return (Some limits) certified found ask ≡ Ok (PutReturn r) → (certified ≡ false) ⊎ (closed_now found ≡ false)
+    → return_change (Some limits) certified found ask ≡ Ok (PutReturn r) → (certified ≡ false) ⊎ (closed_now found ≡ false)
 put-open limits certified found (Lodge code slip counts) r is = inr (lodge-open limits found slip counts r is)
 put-open limits certified found (Query code rev note) r is =
-    inl (move-open certified found rev may_query (query_checks (Some limits) certified found rev (string_bytes note)) (queried (string_bytes note)) r
+    inl (move-open certified found rev may_query (query_checks (Some limits) certified found rev (string_bytes note)) (queried_return (string_bytes note)) r
     (λ none. passed-rest (is_note (string_bytes note)) BadNote (move_checks certified found rev may_query) none) is)
 put-open limits certified found (Correct code rev slip counts) r is =
-    inl (move-open certified found rev may_correct (correct_checks (Some limits) certified found rev counts) (corrected slip counts) r
+    inl (move-open certified found rev may_correct (correct_checks (Some limits) certified found rev counts) (corrected_return slip counts) r
     (append-rest (counts_checks_at (Some limits) counts) (move_checks certified found rev may_correct)) is)
-put-open limits certified found (Close code rev) r is = inl (move-open certified found rev may_close (close_checks (Some limits) certified found rev) closed r (λ none. none) is)
+put-open limits certified found (Close code rev) r is = inl (move-open certified found rev may_close (close_checks (Some limits) certified found rev) closed_return r (λ none. none) is)
 put-open limits certified found (ShowReturn code) r is = shown (first_refusal (check (is_some found) NoReturn ∷ [])) is
   where
     shown : (refused : Option Refusal) → refused_or refused (Ok Same) ≡ Ok (PutReturn r) → (certified ≡ false) ⊎ (closed_now found ≡ false)
@@ -184,7 +184,7 @@ IsLeft con s t =
 
 put-left : (setup : List Constituency) (s : State) (ask : Ask) (station : List ℕ) (r : StationReturn) (code : List ℕ) (con : Constituency) → BringsCode ask → IsSetup setup → IsLawfulState setup s
     → constituency_with code setup ≡ Some con → station_named ask ≡ Some station
-    → decided_return (stations_of setup station) (is_certified setup s station) (fin.get s.returns station) ask ≡ Ok (PutReturn r)
+    → return_change (stations_of setup station) (is_certified setup s station) (fin.get s.returns station) ask ≡ Ok (PutReturn r)
     → IsLeft con s (with_return (after_put setup s ask) (Some station) r)
 put-left setup s ask station r code con brings is_setup lawful found named decision =
     let placed = put-placed setup s station (is_certified setup s station) ask r brings lawful decision in
@@ -215,16 +215,16 @@ put-left setup s ask station r code con brings is_setup lawful found named decis
 
 return-left : (setup : List Constituency) (s : State) (ask : Ask) (code : List ℕ) (con : Constituency) → BringsCode ask → IsSetup setup → IsLawfulState setup s → constituency_with code setup ≡ Some con
     → IsLeft con s (after_return setup s ask)
-return-left setup s ask code con brings is_setup lawful found = go (decided_in setup s ask) refl
+return-left setup s ask code con brings is_setup lawful found = go (change_in_state setup s ask) refl
   where
     stays : IsLeft con s s
     stays = inl (refl, λ k d lt. refl)
 
-    named : (r : StationReturn) → decided_in setup s ask ≡ Ok (PutReturn r) → (station : Option (List ℕ)) → station_named ask ≡ station → IsLeft con s (with_return (after_put setup s ask) station r)
-    named r is None none = let no : Ok Same ≡ Ok (PutReturn r) = ap (decided_at_station setup s ask) (sym none) ∙ is in cc
-    named r is (Some station) some = put-left setup s ask station r code con brings is_setup lawful found some (ap (decided_at_station setup s ask) (sym some) ∙ is)
+    named : (r : StationReturn) → change_in_state setup s ask ≡ Ok (PutReturn r) → (station : Option (List ℕ)) → station_named ask ≡ station → IsLeft con s (with_return (after_put setup s ask) station r)
+    named r is None none = let no : Ok Same ≡ Ok (PutReturn r) = ap (change_at_station setup s ask) (sym none) ∙ is in cc
+    named r is (Some station) some = put-left setup s ask station r code con brings is_setup lawful found some (ap (change_at_station setup s ask) (sym some) ∙ is)
 
-    go : (d : Result Change Refusal) → decided_in setup s ask ≡ d → IsLeft con s (after setup s ask d)
+    go : (d : Result Change Refusal) → change_in_state setup s ask ≡ d → IsLeft con s (state_after setup s ask d)
     go (Ok Same) is = stays
     go (Ok (PutReturn r)) is = named r is (station_named ask) refl
     go (Ok (SetLot places)) is = stays
@@ -252,7 +252,7 @@ pub lodge-step : (setup : List Constituency) (s : State) (station slip : List �
     → after_return setup s (Lodge station slip counts) ≡ record s { returns = lodge (stations_of setup) s.returns station slip counts }
 lodge-step setup s station slip counts = go (lodge_answer (stations_of setup) s.returns station slip counts)
   where
-    go : (d : Result LodgeReply Refusal) → after setup s (Lodge station slip counts) (lodge_change slip counts d) ≡ record s { returns = after_lodge s.returns station slip counts d }
+    go : (d : Result LodgeReply Refusal) → state_after setup s (Lodge station slip counts) (lodge_change slip counts d) ≡ record s { returns = after_lodge s.returns station slip counts d }
     go (Ok (reply.Lodged rev)) = refl
     go (Ok (reply.Same rev)) = refl
     go (Err e) = refl
@@ -291,7 +291,7 @@ seats-reopened k code note past = ap (λ found. unwrap_or found []) (get-put k.s
 -- the seats that are kept of a constituency are right after a change
 abbrev AreRight : Kept → Constituency → ConChange → Type 0
 AreRight k con decided =
-    HasSeats con (view_with con (changed (con_state (state_in k) con.code) decided) k.returns (seats_in (with_change k con.code decided) con.code)) (changed (con_state (state_in k) con.code) decided).certified
+    HasSeats con (view_with con (con_state_after (con_state (state_in k) con.code) decided) k.returns (seats_in (with_change k con.code decided) con.code)) (con_state_after (con_state (state_in k) con.code) decided).certified
 
 -- one who goes takes no seats
 gone-right : (con : Constituency) (c : ConState) (returns : Returns) (seats key note : List ℕ) (b : Bool) → HasSeats con (view_with con c returns seats) b
@@ -305,18 +305,18 @@ change-right k con (Draw code edition order) decided is decides =
     let is_open : (con_state (state_in k) con.code).certified ≡ false =
     drawn-open con (view_in k con) edition order.items by.0 (subst (Draws con (view_in k con) edition order.items) by.1 decides.1) in
     subst (AreRight k con) (sym by.2)
-    (subst (λ (b : Bool). HasSeats con (view_with con (changed (con_state (state_in k) con.code) (lot_set by.0)) k.returns (seats_in k con.code)) b) (sym is_open)
+    (subst (λ (b : Bool). HasSeats con (view_with con (con_state_after (con_state (state_in k) con.code) (lot_set by.0)) k.returns (seats_in k con.code)) b) (sym is_open)
     (open-none con (state_in k) (seats_in k con.code) is_open is))
 change-right k con (Certify code edition) decided is decides =
     let by = given-by certified_with decides.0 decided decides.2 in
     subst (AreRight k con) (sym by.2)
-    (subst (λ (seats : List ℕ). HasSeats con (view_with con (changed (con_state (state_in k) con.code) (certified_with by.0)) k.returns seats) true) (sym (seats-certified k con.code by.0))
+    (subst (λ (seats : List ℕ). HasSeats con (view_with con (con_state_after (con_state (state_in k) con.code) (certified_with by.0)) k.returns seats) true) (sym (seats-certified k con.code by.0))
     (certified-seats con (view_in k con) edition by.0 (subst (Certifies con (view_in k con) edition) by.1 decides.1)))
 change-right k con (Reopen code edition note) decided is decides =
-    let by = given-by (λ (r : List ℕ × PastSeats). open_again r.0 r.1) (reopened (view_in k con) edition (string_bytes note)) decided decides in
+    let by = given-by (λ (r : List ℕ × PastSeats). open_again r.0 r.1) (reopen_result (view_in k con) edition (string_bytes note)) decided decides in
     subst (AreRight k con) (sym by.2) (seats-reopened k con.code by.0.0 by.0.1)
 change-right k con (Vacate code list place note) decided is decides =
-    let by = given-by (λ (v : GoneCandidate × Option ℕ). gone_for_good v.0 v.1) (vacates con (view_in k con) list place (string_bytes note)) decided decides in
+    let by = given-by (λ (v : GoneCandidate × Option ℕ). gone_for_good v.0 v.1) (vacate_result con (view_in k con) list place (string_bytes note)) decided decides in
     let c = con_state (state_in k) con.code in
     subst (AreRight k con) (sym by.2) (gone-right con c k.returns (seats_in k con.code) (by.0.0.list ∷ by.0.0.place ∷ []) by.0.0.note c.certified is.1)
 change-right k con (ShowCon code) decided is decides =
@@ -357,7 +357,7 @@ reply_to view no_change = Con view
 reply_to view (gone_for_good candidate next) = Vacated next
 reply_to view other = Edition (view.edition + 1)
 
-reply_to-seen : (view : View) (decided : ConChange) → seen (Ok (reply_to view decided)) ≡ con_answer view (Ok decided)
+reply_to-seen : (view : View) (decided : ConChange) → reply_seen (Ok (reply_to view decided)) ≡ con_answer view (Ok decided)
 reply_to-seen view no_change = refl
 reply_to-seen view (gone_for_good candidate next) = refl
 reply_to-seen view (lot_set places) = refl
@@ -384,7 +384,7 @@ change-seats k con decided held own right q other found = go (eq_by_cmp code_cmp
     new = with_change k con.code decided
 
     now : ConState
-    now = changed (con_state (state_in k) con.code) decided
+    now = con_state_after (con_state (state_in k) con.code) decided
 
     go : (b : Bool) → eq_by_cmp code_cmp other.code con.code ≡ b → IsView other (state_in new) (view_in new other)
     go true tied =

@@ -3,7 +3,7 @@ use Rattle.std.proofs.Common.{◌≡◌, ◌↔◌, ◌++◌, List, [], ◌∷�
 use Rattle.tally_rules.specs.Constituency.{Constituency}
 use Rattle.tally_returns.specs.State.{State, stations_of}
 use Rattle.tally_returns.specs.Lodge.{lodge, lodge_answer}
-use Rattle.tally_steps.specs.Step.{seen, lodge_reply}
+use Rattle.tally_steps.specs.Step.{reply_seen, lodge_reply}
 use Rattle.tally_steps.specs.Runs.{IsRun}
 use Rattle.tally_returns.specs.declared.ask.Ask.{Ask}
 use Rattle.tally_returns.specs.declared.ask.Ask.TheVariants.{Lodge}
@@ -12,7 +12,7 @@ use Rattle.tally_returns.specs.declared.reply.LodgeReply.{LodgeReply}
 use Rattle.tally_returns.specs.declared.reply.LodgeReply.TheVariants.{Lodged, Same}
 use Rattle.tally_returns.specs.declared.reply.Reply.{Reply}
 use Rattle.tally_keeper.specs.Events.{answers_of, as_answer, asks_of, lodge_answers, lodges}
-use Rattle.tally_keeper.specs.Import.{RowAnswer, answers, count_of, imported}
+use Rattle.tally_keeper.specs.Import.{RowAnswer, answers, count_of, returns_after_import}
 use Rattle.tally_keeper.specs.Keeper.{Event, Happen, Happens, IsImport, IsNotTaken, IsTaken, Runs, failed_import, request, requests, whole_import}
 use Rattle.tally_keeper.specs.declared.import.ImportCount.{ImportCount}
 use Rattle.tally_keeper.specs.declared.import.Row.{Row}
@@ -30,14 +30,14 @@ shut-stays setup (event ∷ events) t is = go is.0 is.1 is.2 (shut-stays setup e
 
 -- ---- an import
 
-seen-lodge : (a : Result LodgeReply Refusal) → seen (as_answer a) ≡ lodge_reply a
+seen-lodge : (a : Result LodgeReply Refusal) → reply_seen (as_answer a) ≡ lodge_reply a
 seen-lodge (Ok (Lodged rev)) = refl
 seen-lodge (Ok (Same rev)) = refl
 seen-lodge (Err refusal) = refl
 
 -- rows are the run of their Lodge commands
 rows-run : (setup : List Constituency) (s : State) (rows : List Row)
-    → IsRun setup s (lodges rows) (lodge_answers (answers (stations_of setup) s.returns rows)) (record s { returns = imported (stations_of setup) s.returns rows })
+    → IsRun setup s (lodges rows) (lodge_answers (answers (stations_of setup) s.returns rows)) (record s { returns = returns_after_import (stations_of setup) s.returns rows })
 rows-run setup s [] = refl
 rows-run setup s (row.Lodge (Lodge station slip counts) ∷ rows) =
     let next = record s { returns = lodge (stations_of setup) s.returns station slip counts } in

@@ -5,7 +5,7 @@ use Rattle.std.specs.Cmp.Lexicographic.{pointwise}
 use Rattle.std.specs.FinMap.{get}
 use Rattle.tally_returns.specs.Checks.{first_refusal, refused_or}
 use Rattle.tally_returns.specs.Counts.{VoteCounts, same_counts}
-use Rattle.tally_returns.specs.Lodge.{StationLimits, Stations, counts_checks, decided_at_code, lodge_answer}
+use Rattle.tally_returns.specs.Lodge.{StationLimits, Stations, counts_checks, reply_at_code, lodge_answer}
 use Rattle.tally_returns.specs.Return.{StationReturn, Returns}
 use Rattle.tally_returns.specs.declared.refusal.Refusal.{Refusal}
 use Rattle.tally_returns.specs.declared.refusal.Refusal.TheVariants.{Differs}
@@ -27,7 +27,7 @@ lodged-none stations m station slip counts rev is = go (stations station) (get m
     standing-lodged (Some e) standing ok = cc
     standing-lodged None standing ok = again (pointwise nat_eq standing.slip slip && same_counts standing.counts counts) standing.rev (Differs standing.rev) ok
 
-    go : (limits : Option StationLimits) (found : Option StationReturn) → get m station ≡ found → decided_at_code limits found slip counts ≡ Ok (Lodged rev) → get m station ≡ None
+    go : (limits : Option StationLimits) (found : Option StationReturn) → get m station ≡ found → reply_at_code limits found slip counts ≡ Ok (Lodged rev) → get m station ≡ None
     go None found at ok = cc
     go (Some limits) None at ok = at
     go (Some limits) (Some standing) at ok = standing-lodged (first_refusal (counts_checks limits counts)) standing ok

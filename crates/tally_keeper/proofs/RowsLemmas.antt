@@ -2,19 +2,19 @@
 use Rattle.std.proofs.Common.{◌≡◌, ◌≤◌, ◌++◌, ◌∷◌, suc, List, [], Some, Ok, length, refl, ap, arith}
 use Rattle.tally_returns.specs.Return.{Returns}
 use Rattle.tally_returns.specs.Lodge.{Stations}
-use Rattle.tally_keeper.specs.Import.{RowAnswer, row_answer, after_row, answers, imported, lodged_counts}
+use Rattle.tally_keeper.specs.Import.{RowAnswer, row_answer, after_row, answers, returns_after_import, lodged_counts}
 use Rattle.tally_returns.specs.declared.ask.Ask.TheVariants.{Lodge}
 use Rattle.tally_returns.specs.declared.reply.LodgeReply.TheVariants.{Lodged}
 use Rattle.tally_keeper.specs.declared.import.Row.{Row}
 use Rattle.tally_keeper.specs.declared.import.Row.TheVariants as row
 
 pub imported-push : (stations : Stations) (s : Returns) (rows : List Row) (r : Row)
-    → imported stations s (rows ++ r ∷ []) ≡ after_row stations (imported stations s rows) r
+    → returns_after_import stations s (rows ++ r ∷ []) ≡ after_row stations (returns_after_import stations s rows) r
 imported-push stations s [] r = refl
 imported-push stations s (q ∷ rows) r = imported-push stations (after_row stations s q) rows r
 
 pub answers-push : (stations : Stations) (s : Returns) (rows : List Row) (r : Row)
-    → answers stations s (rows ++ r ∷ []) ≡ answers stations s rows ++ row_answer stations (imported stations s rows) r ∷ []
+    → answers stations s (rows ++ r ∷ []) ≡ answers stations s rows ++ row_answer stations (returns_after_import stations s rows) r ∷ []
 answers-push stations s [] r = refl
 answers-push stations s (q ∷ rows) r = ap (λ l. row_answer stations s q ∷ l) (answers-push stations (after_row stations s q) rows r)
 

@@ -11,13 +11,13 @@ use Rattle.tally_rules.specs.Setup.{constituency_with, station_with}
 use Rattle.tally_rules.specs.declared.constituency.Station.{Station}
 use Rattle.tally_returns.specs.Checks.{check, first_refusal, refused_or}
 use Rattle.tally_returns.specs.Counts.{VoteCounts, all_votes, are_counts, same_counts}
-use Rattle.tally_returns.specs.Decide.{IsUnlessMemory, decided_return, limits_of}
+use Rattle.tally_returns.specs.Decide.{IsUnlessMemory, return_change, limits_of}
 use Rattle.tally_returns.specs.Lawful.{IsLawful}
 use Rattle.tally_steps.specs.LawfulState.{IsLawfulState}
-use Rattle.tally_returns.specs.Lodge.{StationLimits, Stations, admitted, counts_checks, decided_at_code, lodge_answer}
+use Rattle.tally_returns.specs.Lodge.{StationLimits, Stations, reply_after_checks, counts_checks, reply_at_code, lodge_answer}
 use Rattle.tally_returns.specs.Named.{station_named}
-use Rattle.tally_steps.specs.Decisions.{told}
-use Rattle.tally_steps.specs.Step.{Answer, move_reply, after, after_put, con_of_station, decided_in, is_certified, with_return, without_lot}
+use Rattle.tally_steps.specs.Decisions.{answer_to_change}
+use Rattle.tally_steps.specs.Step.{Answer, move_reply, state_after, after_put, con_of_station, change_in_state, is_certified, with_return, without_lot}
 use Rattle.tally_returns.specs.Return.{StationReturn, Returns, first_return}
 use Rattle.tally_returns.specs.State.{State, con_state, stations_of}
 use Rattle.tally_returns.specs.View.{View}
@@ -33,7 +33,7 @@ use Rattle.tally_returns.specs.declared.reply.Reply.TheVariants.{Moved}
 use Rattle.tally_returns.proofs.ClosedLemmas.{station_with-con}
 use Rattle.tally_returns.proofs.DecideLemmas.{passed-first, passed-rest}
 use Rattle.tally_ledger.specs.Kept.{Kept, state_in, view_in, with_no_lot}
-use Rattle.tally_keeper.specs.Held.{IsAnsweredInMemory, IsHeld, IsLodged, IsMoved, is_query, moves_return, with_state}
+use Rattle.tally_keeper.specs.internal.Held.{IsAnsweredInMemory, IsHeld, IsLodged, IsMoved, is_query, moves_return, with_state}
 use Rattle.tally_steps.proofs.DecisionLemmas.{certified-found, changed-step, con_of-found, decided-named, decided-none}
 use Rattle.tally_keeper.proofs.HeldLemmas.{lodge-step}
 
@@ -59,11 +59,11 @@ limits-known setup station con place is = ap (option_map (λ (p : Constituency �
 
 -- what is decided at the station that was looked up
 pub decided-found : (setup : List Constituency) (s : State) (ask : Ask) (station : List ℕ) (con : Constituency) (place : Station) → station_named ask ≡ Some station
-    → station_with station setup ≡ Some (con, place) → decided_in setup s ask ≡ decided_return (Some (limits_of con place)) (con_state s con.code).certified (fin.get s.returns station) ask
+    → station_with station setup ≡ Some (con, place) → change_in_state setup s ask ≡ return_change (Some (limits_of con place)) (con_state s con.code).certified (fin.get s.returns station) ask
 decided-found setup s ask station con place named is =
     decided-named setup s ask station named
-    ∙ ap (λ limits. decided_return limits (is_certified setup s station) (fin.get s.returns station) ask) (limits-known setup station con place is)
-    ∙ ap (λ b. decided_return (Some (limits_of con place)) b (fin.get s.returns station) ask) (certified-found setup s station con place is)
+    ∙ ap (λ limits. return_change limits (is_certified setup s station) (fin.get s.returns station) ask) (limits-known setup station con place is)
+    ∙ ap (λ b. return_change (Some (limits_of con place)) b (fin.get s.returns station) ask) (certified-found setup s station con place is)
 
 -- a refusal is want of memory or another
 pub memory-or : (e : Refusal) → (e ≡ Memory) ⊎ (e ≢ Memory)
@@ -126,11 +126,11 @@ looked-up k station con place code found view certified returns held is code_is 
 
 -- what is decided by what was looked up
 looked_up-decided : (k : Kept) (ask : Ask) (station : List ℕ) (con : Constituency) (place : Station) (certified : Bool) (found : Option StationReturn) → IsLookedUp k station con place certified found
-    → station_named ask ≡ Some station → decided_in k.setup (state_in k) ask ≡ decided_return (Some (limits_of con place)) certified found ask
+    → station_named ask ≡ Some station → change_in_state k.setup (state_in k) ask ≡ return_change (Some (limits_of con place)) certified found ask
 looked_up-decided k ask station con place certified found is named =
     decided-found k.setup (state_in k) ask station con place named is.place_is
-    ∙ ap (λ b. decided_return (Some (limits_of con place)) b (fin.get k.returns station) ask) (sym is.certified_is)
-    ∙ ap (λ f. decided_return (Some (limits_of con place)) certified f ask) (sym is.found_is)
+    ∙ ap (λ b. return_change (Some (limits_of con place)) b (fin.get k.returns station) ask) (sym is.certified_is)
+    ∙ ap (λ f. return_change (Some (limits_of con place)) certified f ask) (sym is.found_is)
 
 -- the return that was looked up is lawful
 pub looked_up-lawful : (k : Kept) (station : List ℕ) (con : Constituency) (place : Station) (found : Option StationReturn) → IsHeld k → station_with station k.setup ≡ Some (con, place)
@@ -140,19 +140,19 @@ looked_up-lawful k station con place found held is stands =
     (lawful-at k.setup (state_in k) station (limits_of con place) held.lawful (limits-known k.setup station con place is))
 
 -- a command on a return that was refused
-moved-err : (k : Kept) (ask : Ask) (e : Refusal) → decided_in k.setup (state_in k) ask ≡ Err e → IsMoved k ask (Err e) k
-moved-err k ask e is = inl (sym (ap move_reply is), ap (λ d. with_state k (after k.setup (state_in k) ask d)) (sym is))
+moved-err : (k : Kept) (ask : Ask) (e : Refusal) → change_in_state k.setup (state_in k) ask ≡ Err e → IsMoved k ask (Err e) k
+moved-err k ask e is = inl (sym (ap move_reply is), ap (λ d. with_state k (state_after k.setup (state_in k) ask d)) (sym is))
 
 pub moved-no_station : (k : Kept) (ask : Ask) (station : List ℕ) → station_named ask ≡ Some station → station_with station k.setup ≡ None → IsMoved k ask (Err NoStation) k
 moved-no_station k ask station named none =
     let s = state_in k in
     let certified = is_certified k.setup s station in
     moved-err k ask NoStation (decided-named k.setup s ask station named
-    ∙ ap (λ found. decided_return (option_map (λ (p : Constituency × Station). limits_of p.0 p.1) found) certified (fin.get k.returns station) ask) none
+    ∙ ap (λ found. return_change (option_map (λ (p : Constituency × Station). limits_of p.0 p.1) found) certified (fin.get k.returns station) ask) none
     ∙ decided-none certified (fin.get k.returns station) ask station named)
 
 pub moved-refused : (k : Kept) (ask : Ask) (station : List ℕ) (con : Constituency) (place : Station) (certified : Bool) (found : Option StationReturn) (e : Refusal)
-    → IsLookedUp k station con place certified found → station_named ask ≡ Some station → IsUnlessMemory (Err e) (decided_return (Some (limits_of con place)) certified found ask) → IsMoved k ask (Err e) k
+    → IsLookedUp k station con place certified found → station_named ask ≡ Some station → IsUnlessMemory (Err e) (return_change (Some (limits_of con place)) certified found ask) → IsMoved k ask (Err e) k
 moved-refused k ask station con place certified found e looked named is = go (memory-or e)
   where
     go : (e ≡ Memory) ⊎ (e ≢ Memory) → IsMoved k ask (Err e) k
@@ -160,7 +160,7 @@ moved-refused k ask station con place certified found e looked named is = go (me
     go (inr other) = moved-err k ask e (looked_up-decided k ask station con place certified found looked named ∙ is other)
 
 -- a command that moves a return changes nothing else
-told-put : (ask : Ask) (found : Option StationReturn) (d : Change) (a : Answer) → moves_return ask ≡ true → told ask found d ≡ Some a → ((r : StationReturn) → d ≢ change.PutReturn r) → ⊥
+told-put : (ask : Ask) (found : Option StationReturn) (d : Change) (a : Answer) → moves_return ask ≡ true → answer_to_change ask found d ≡ Some a → ((r : StationReturn) → d ≢ change.PutReturn r) → ⊥
 told-put ask found (change.PutReturn r) a moves is never = never r refl
 told-put (Query code rev note) found d a moves is never = cc
 told-put (Correct code rev slip counts) found d a moves is never = cc
@@ -168,7 +168,7 @@ told-put (Close code rev) found d a moves is never = cc
 told-put ask found d a moves is never = cc
 
 pub moves-put : (k : Kept) (ask : Ask) (station : List ℕ) (con : Constituency) (place : Station) (certified : Bool) (found : Option StationReturn) (other : Change)
-    → IsLookedUp k station con place certified found → station_named ask ≡ Some station → moves_return ask ≡ true → decided_return (Some (limits_of con place)) certified found ask ≡ Ok other
+    → IsLookedUp k station con place certified found → station_named ask ≡ Some station → moves_return ask ≡ true → return_change (Some (limits_of con place)) certified found ask ≡ Ok other
     → ((r : StationReturn) → other ≢ change.PutReturn r) → ⊥
 moves-put k ask station con place certified found other looked named moves is never =
     let by = changed-step k.setup (state_in k) ask station other named (looked_up-decided k ask station con place certified found looked named ∙ is) in
@@ -179,7 +179,7 @@ abbrev pub with_put : Kept → List ℕ → StationReturn → Kept
 with_put k station r = record k { returns = fin.insert k.returns station r }
 
 moved-put : (k new : Kept) (ask : Ask) (station : List ℕ) (con : Constituency) (place : Station) (certified : Bool) (found : Option StationReturn) (r : StationReturn)
-    → IsLookedUp k station con place certified found → station_named ask ≡ Some station → decided_return (Some (limits_of con place)) certified found ask ≡ Ok (change.PutReturn r)
+    → IsLookedUp k station con place certified found → station_named ask ≡ Some station → return_change (Some (limits_of con place)) certified found ask ≡ Ok (change.PutReturn r)
     → new ≡ with_state k (with_return (after_put k.setup (state_in k) ask) (Some station) r) → IsMoved k ask (Ok (Moved r.rev)) new
 moved-put k new ask station con place certified found r looked named is now =
     let put = looked_up-decided k ask station con place certified found looked named ∙ is in
@@ -187,7 +187,7 @@ moved-put k new ask station con place certified found r looked named is now =
       sym (ap move_reply put),
       now
           ∙ ap (λ n. with_state k (with_return (after_put k.setup (state_in k) ask) n r)) (sym named)
-          ∙ ap (λ d. with_state k (after k.setup (state_in k) ask d)) (sym put),
+          ∙ ap (λ d. with_state k (state_after k.setup (state_in k) ask d)) (sym put),
     )
 
 pub not_query : (ask : Ask) → ((code : List ℕ) (rev : ℕ) (note : String Global) → ask ≢ Query code rev note) → is_query ask ≡ false
@@ -217,7 +217,7 @@ other-put k other query = refl
 
 -- a query that moved a return, with which the lot went
 moved-query : (k new : Kept) (ask : Ask) (station : List ℕ) (con : Constituency) (place : Station) (certified : Bool) (found : Option StationReturn) (r : StationReturn)
-    → IsLookedUp k station con place certified found → station_named ask ≡ Some station → decided_return (Some (limits_of con place)) certified found ask ≡ Ok (change.PutReturn r)
+    → IsLookedUp k station con place certified found → station_named ask ≡ Some station → return_change (Some (limits_of con place)) certified found ask ≡ Ok (change.PutReturn r)
     → is_query ask ≡ true → new ≡ with_no_lot (with_put k station r) con.code → IsMoved k ask (Ok (Moved r.rev)) new
 moved-query k new ask station con place certified found r looked named is query now =
     moved-put k new ask station con place certified found r looked named is
@@ -225,14 +225,14 @@ moved-query k new ask station con place certified found r looked named is query 
 
 -- another command that moved a return
 moved-kept : (k new : Kept) (ask : Ask) (station : List ℕ) (con : Constituency) (place : Station) (certified : Bool) (found : Option StationReturn) (r : StationReturn)
-    → IsLookedUp k station con place certified found → station_named ask ≡ Some station → decided_return (Some (limits_of con place)) certified found ask ≡ Ok (change.PutReturn r)
+    → IsLookedUp k station con place certified found → station_named ask ≡ Some station → return_change (Some (limits_of con place)) certified found ask ≡ Ok (change.PutReturn r)
     → is_query ask ≡ false → new ≡ with_put k station r → IsMoved k ask (Ok (Moved r.rev)) new
 moved-kept k new ask station con place certified found r looked named is query now =
     moved-put k new ask station con place certified found r looked named is (now ∙ ap (λ s. with_state k (with_return s (Some station) r)) (sym (other-put k ask query)))
 
 -- a command that moved a return
 pub moved-on : (k new : Kept) (ask : Ask) (station : List ℕ) (con : Constituency) (place : Station) (certified : Bool) (found : Option StationReturn) (r : StationReturn)
-    → IsLookedUp k station con place certified found → station_named ask ≡ Some station → decided_return (Some (limits_of con place)) certified found ask ≡ Ok (change.PutReturn r)
+    → IsLookedUp k station con place certified found → station_named ask ≡ Some station → return_change (Some (limits_of con place)) certified found ask ≡ Ok (change.PutReturn r)
     → (is_query ask ≡ true → new ≡ with_no_lot (with_put k station r) con.code) → (is_query ask ≡ false → new ≡ with_put k station r) → IsMoved k ask (Ok (Moved r.rev)) new
 moved-on k new ask station con place certified found r looked named is query other = go (is_query ask) refl
   where
@@ -252,7 +252,7 @@ first-lawful stations m station slip counts rev code is = go (stations station) 
     again false now e ok = cc
 
     at : (limits : StationLimits) (refused : Option Refusal) (found : Option StationReturn) → first_refusal (counts_checks limits counts) ≡ refused
-        → refused_or refused (admitted found slip counts) ≡ Ok (reply.Lodged rev) → IsLawful limits (first_return slip counts)
+        → refused_or refused (reply_after_checks found slip counts) ≡ Ok (reply.Lodged rev) → IsLawful limits (first_return slip counts)
     at limits (Some e) found none ok = cc
     at limits None (Some standing) none ok = absurd (again (pointwise nat_eq standing.slip slip && same_counts standing.counts counts) standing.rev (Differs standing.rev) ok)
     at limits None None none ok =
@@ -265,7 +265,7 @@ first-lawful stations m station slip counts rev code is = go (stations station) 
           votes = leb-true (all_votes counts) limits.electors (passed-first (nat_le (all_votes counts) limits.electors) TooManyVotes [] (passed-rest (are_counts limits.lists counts) BadCounts votes none));
         }
 
-    go : (known : Option StationLimits) → stations station ≡ known → decided_at_code known (fin.get m station) slip counts ≡ Ok (reply.Lodged rev)
+    go : (known : Option StationLimits) → stations station ≡ known → reply_at_code known (fin.get m station) slip counts ≡ Ok (reply.Lodged rev)
         → (limits : StationLimits) × (stations station ≡ Some limits) × IsLawful limits (first_return slip counts)
     go None there ok = cc
     go (Some limits) there ok = (limits, there, at limits (first_refusal (counts_checks limits counts)) (fin.get m station) refl ok)

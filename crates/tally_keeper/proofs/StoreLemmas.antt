@@ -13,7 +13,7 @@ use Rattle.tally_steps.specs.LawfulState.{IsLawfulState}
 use Rattle.tally_steps.specs.Step.{IsAnswered, IsStep, answer_seen}
 use Rattle.tally_steps.proofs.KindLemmas.{step-kind}
 use Rattle.tally_steps.proofs.OwnLemmas.{steps-own}
-use Rattle.tally_keeper.specs.Held.{IsAnsweredInMemory}
+use Rattle.tally_keeper.specs.internal.Held.{IsAnsweredInMemory}
 
 -- a keeper in memory answers requests as the machine does, and never Store
 pub memory-answered : (setup : List Constituency) (s : State) (ask : Ask) (r : Result Reply Refusal) (t : State) → IsAnsweredInMemory setup s ask r t → IsAnswered setup s ask r t

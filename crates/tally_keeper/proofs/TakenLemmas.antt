@@ -1,5 +1,5 @@
 -- An import, so far.
-use Rattle.std.proofs.Common.{◌≡◌, ◌≤◌, ◌<◌, ◌⊎◌, inl, inr, ◌+◌, ◌++◌, ◌∷◌, ◌∙◌, ℕ, List, [], Option, Some, None, Ok, Err, length, refl, sym, ap, subst, arith, append-nil, append_assoc, length-append}
+use Rattle.std.proofs.Common.{◌≡◌, ◌≤◌, ◌<◌, ◌⊎◌, inl, inr, ◌+◌, ◌++◌, ◌∷◌, ◌∙◌, ℕ, List, [], Option, Some, None, Result, Ok, Err, length, refl, sym, ap, subst, arith, append-nil, append_assoc, length-append}
 use Rattle.std.specs.Prelude.{All, IfSome}
 use Rattle.std.proofs.lemmas.List.Elements.{All-head, All-nil, All-push, All-tail}
 use Rattle.tally_ledger.specs.Kept.{Kept, state_in}
@@ -7,10 +7,11 @@ use Rattle.tally_returns.specs.Lodge.{Stations, lodge}
 use Rattle.tally_returns.specs.Return.{Returns}
 use Rattle.tally_returns.specs.State.{State, stations_of}
 use Rattle.tally_returns.specs.declared.ask.Ask.TheVariants.{Lodge}
-use Rattle.tally_keeper.specs.Held.{IsHeld}
-use Rattle.tally_keeper.specs.Import.{RowAnswer, IsBelow, IsCodedRow, row_answer, after_row, answers, imported, count_of, counted}
-use Rattle.tally_keeper.specs.Keeper.{IsFault, IsImportOf}
-use Rattle.tally_keeper.specs.Source.{Coming, Ending, IsSudden, IsWithin, GivesNext, row_limit}
+use Rattle.tally_keeper.specs.internal.Held.{IsHeld}
+use Rattle.tally_keeper.specs.Import.{RowAnswer, IsBelow, IsCodedRow, row_answer, after_row, answers, returns_after_import, count_of, count_with_row}
+use Rattle.tally_keeper.specs.Given.{with_given}
+use Rattle.tally_keeper.specs.Keeper.{IsFault, IsImportOf, IsOwnFault}
+use Rattle.tally_keeper.specs.Source.{AreAllGiven, AreGiven, Coming, Delivery, GaveAll, IsSudden, IsWithin, GivesNext, SourceAt, ends_by, row_limit}
 use Rattle.tally_keeper.specs.declared.import.ImportCount.{ImportCount}
 use Rattle.tally_keeper.specs.declared.import.Row.{Row}
 use Rattle.tally_keeper.specs.declared.import.Row.TheVariants as row
@@ -20,25 +21,31 @@ use Rattle.tally_keeper.proofs.HeldLemmas.{held-lodge}
 use Rattle.tally_keeper.proofs.ImportLemmas.{count_of-below, count_of-push}
 use Rattle.tally_keeper.proofs.RowsLemmas.{imported-push, answers-push, length-answers}
 
+-- what a source answers to a call, how it stands before it and after it
+abbrev pub GivesAt : SourceAt → Result (Option Row) ImportFault → SourceAt → Type 0
+GivesAt left r next = GivesNext left.coming r next.coming × (next.given ≡ with_given left.given r) × (next.ended ≡ ends_by r)
+
 -- these rows came of all that are known, and this is left
 abbrev pub AreTaken : Option Coming → List Row → Option Coming → Type 0
 AreTaken all rows left = IfSome all (λ known. (rest : List Row) × (left ≡ Some (record known { rows = rest })) × (known.rows ≡ rows ++ rest))
 
 -- so many rows came; they were answered what was counted, and left these returns
-pub record SoFar (stations : Stations) (old now : Returns) (all left : Option Coming) (count : ImportCount) (many : ℕ) : Type 0 where
+pub record SoFar (stations : Stations) (old now : Returns) (all left : SourceAt) (count : ImportCount) (many : ℕ) : Type 0 where
   pub rows : List Row
   pub many_are : length rows ≡ many
   pub count_is : count ≡ count_of (answers stations old rows)
-  pub now_is : now ≡ imported stations old rows
-  pub taken : AreTaken all rows left
+  pub now_is : now ≡ returns_after_import stations old rows
+  pub given : left.given ≡ all.given ++ rows
+  pub taken : AreTaken all.coming rows left.coming
   pub codes : All IsCodedRow rows
 
 none-taken : (all : Option Coming) → AreTaken all [] all
 none-taken None = tt
 none-taken (Some known) = (known.rows, refl, refl)
 
-pub SoFar-start : (stations : Stations) (old : Returns) (all : Option Coming) (count : ImportCount) → count ≡ count_of [] → SoFar stations old old all all count 0
-SoFar-start stations old all count is = record { rows = []; many_are = refl; count_is = is; now_is = refl; taken = none-taken all; codes = All-nil IsCodedRow }
+pub SoFar-start : (stations : Stations) (old : Returns) (all : SourceAt) (count : ImportCount) → count ≡ count_of [] → SoFar stations old old all all count 0
+SoFar-start stations old all count is =
+    record { rows = []; many_are = refl; count_is = is; now_is = refl; given = sym (append-nil all.given); taken = none-taken all.coming; codes = All-nil IsCodedRow }
 
 -- one row more is taken
 taken-push : (all left next : Option Coming) (rows : List Row) (r : Row) → AreTaken all rows left
@@ -48,24 +55,28 @@ taken-push (Some known) left next rows r taken given =
     let at = subst (λ l. IfSome l (λ (coming : Coming). (rest : List Row) × (coming.rows ≡ r ∷ rest) × (next ≡ Some (record coming { rows = rest })))) taken.1 given in
     (at.0, at.2, taken.2 ∙ ap (λ l. rows ++ l) at.1 ∙ sym (append_assoc rows (r ∷ []) at.0))
 
-pub SoFar-next : (stations : Stations) (old now new : Returns) (all left next : Option Coming) (count more : ImportCount) (many : ℕ) (r : Row) (answer : RowAnswer)
-    → SoFar stations old now all left count many → IsCodedRow r → GivesNext left (Ok (Some r)) next
-    → row_answer stations now r ≡ answer → new ≡ after_row stations now r → more ≡ counted count (many + 1) answer
+given-push : (had left next rows : List Row) (r : Row) → left ≡ had ++ rows → next ≡ left ++ r ∷ [] → next ≡ had ++ (rows ++ r ∷ [])
+given-push had left next rows r was is = is ∙ ap (λ l. l ++ r ∷ []) was ∙ append_assoc had rows (r ∷ [])
+
+pub SoFar-next : (stations : Stations) (old now new : Returns) (all left next : SourceAt) (count more : ImportCount) (many : ℕ) (r : Row) (answer : RowAnswer)
+    → SoFar stations old now all left count many → IsCodedRow r → GivesAt left (Ok (Some r)) next
+    → row_answer stations now r ≡ answer → new ≡ after_row stations now r → more ≡ count_with_row count (many + 1) answer
     → SoFar stations old new all next more (many + 1)
 SoFar-next stations old now new all left next count more many r answer h coded given answered changed counted_is = record {
   rows = h.rows ++ r ∷ [];
   many_are = length-append h.rows (r ∷ []) ∙ ap (λ n. n + 1) h.many_are;
   count_is =
-      counted_is ∙ ap (λ c. counted c (many + 1) answer) h.count_is
+      counted_is ∙ ap (λ c. count_with_row c (many + 1) answer) h.count_is
       ∙ sym (count_of-push (answers stations old h.rows) answer (many + 1) (ap (λ n. n + 1) (sym (length-answers stations old h.rows ∙ h.many_are))))
       ∙ ap (λ a. count_of (answers stations old h.rows ++ a ∷ [])) (sym answered ∙ ap (λ m. row_answer stations m r) h.now_is)
       ∙ ap count_of (sym (answers-push stations old h.rows r));
   now_is = changed ∙ ap (λ m. after_row stations m r) h.now_is ∙ sym (imported-push stations old h.rows r);
-  taken = taken-push all left next h.rows r h.taken given;
+  given = given-push all.given left.given next.given h.rows r h.given given.1;
+  taken = taken-push all.coming left.coming next.coming h.rows r h.taken given.0;
   codes = All-push IsCodedRow h.rows r h.codes coded;
 }
 
-pub SoFar-below : (stations : Stations) (old now : Returns) (all left : Option Coming) (count : ImportCount) (many : ℕ) → SoFar stations old now all left count many → IsBelow count (many + 1)
+pub SoFar-below : (stations : Stations) (old now : Returns) (all left : SourceAt) (count : ImportCount) (many : ℕ) → SoFar stations old now all left count many → IsBelow count (many + 1)
 SoFar-below stations old now all left count many h =
     subst (λ c. IsBelow c (many + 1)) (sym h.count_is)
     (count_of-below (answers stations old h.rows) (many + 1) (ap (λ n. n + 1) (sym (length-answers stations old h.rows ∙ h.many_are))))
@@ -78,9 +89,9 @@ all-taken (Some known) left rows taken ended =
     (taken.2 ∙ ap (λ l. rows ++ l) none.0 ∙ append-nil rows, none.1)
 
 -- the same of a keeper that has changed its returns alone
-pub SoFar-taken : (old mid : Kept) (new : Returns) (all left next : Option Coming) (count more : ImportCount) (many : ℕ) (r : Row) (answer : RowAnswer)
-    → SoFar (stations_of old.setup) old.returns mid.returns all left count many → mid ≡ record old { returns = mid.returns } → IsCodedRow r → GivesNext left (Ok (Some r)) next
-    → row_answer (stations_of mid.setup) mid.returns r ≡ answer → new ≡ after_row (stations_of mid.setup) mid.returns r → more ≡ counted count (many + 1) answer
+pub SoFar-taken : (old mid : Kept) (new : Returns) (all left next : SourceAt) (count more : ImportCount) (many : ℕ) (r : Row) (answer : RowAnswer)
+    → SoFar (stations_of old.setup) old.returns mid.returns all left count many → mid ≡ record old { returns = mid.returns } → IsCodedRow r → GivesAt left (Ok (Some r)) next
+    → row_answer (stations_of mid.setup) mid.returns r ≡ answer → new ≡ after_row (stations_of mid.setup) mid.returns r → more ≡ count_with_row count (many + 1) answer
     → SoFar (stations_of old.setup) old.returns new all next more (many + 1)
 SoFar-taken old mid new all left next count more many r answer h kept coded given answered changed counted_is =
     let same = ap (λ (k : Kept). stations_of k.setup) (sym kept) in
@@ -91,38 +102,88 @@ SoFar-taken old mid new all left next count more many r answer h kept coded give
 pub kept-next : (old mid new : Kept) → mid ≡ record old { returns = mid.returns } → new ≡ record mid { returns = new.returns } → new ≡ record old { returns = new.returns }
 kept-next old mid new was is = is ∙ ap (λ (k : Kept). record k { returns = new.returns }) was
 
+-- a source that ends leaves its rows as they were given
+pub all-given : (all left next : SourceAt) (rows : List Row) → left.given ≡ all.given ++ rows → AreTaken all.coming rows left.coming → length rows ≤ row_limit
+    → GivesAt left (Ok None) next → AreAllGiven (record { start = all; finish = next }) rows
+all-given all left next rows given taken few ended = (ended.1 ∙ given, few, ended.2, all-taken all.coming left.coming rows taken ended.0.0)
+
 -- the import is done where its source ends
-pub SoFar-end : (old now : Kept) (all left next : Option Coming) (count : ImportCount) (many : ℕ)
+pub SoFar-end : (old now : Kept) (all left next : SourceAt) (count : ImportCount) (many : ℕ)
     → SoFar (stations_of old.setup) old.returns now.returns all left count many → now ≡ record old { returns = now.returns } → many ≤ row_limit
-    → GivesNext left (Ok None) next → IsImportOf old.setup (Some (state_in old)) all count (Some (state_in now))
-SoFar-end old now all left next count many h kept few given = (
-  h.rows,
-  answers (stations_of old.setup) old.returns h.rows,
-  all-taken all left h.rows h.taken given.0,
-  (omega (arith, h.many_are), refl, h.count_is, ap state_in kept ∙ ap (λ m. state_in (record old { returns = m })) h.now_is, h.codes),
-)
+    → GivesAt left (Ok None) next → IsImportOf old.setup (Some (state_in old)) (record { start = all; finish = next }) count (Some (state_in now))
+SoFar-end old now all left next count many h kept few given =
+    let short : length h.rows ≤ row_limit = omega (arith, few, h.many_are) in (
+      h.rows,
+      answers (stations_of old.setup) old.returns h.rows,
+      all-given all left next h.rows h.given h.taken short given,
+      (short, refl, h.count_is, ap state_in kept ∙ ap (λ m. state_in (record old { returns = m })) h.now_is, h.codes),
+    )
+
+-- the rows that were taken are the first of those that come
+first-taken : (all left : Option Coming) (rows : List Row) → AreTaken all rows left → IfSome all (λ known. (rest : List Row) × (known.rows ≡ rows ++ rest))
+first-taken None left rows taken = tt
+first-taken (Some known) left rows taken = (taken.0, taken.2)
+
+-- the rows so far are those that the source gave
+given-so_far : (stations : Stations) (old now : Returns) (all left next : SourceAt) (count : ImportCount) (many : ℕ) → (h : SoFar stations old now all left count many) → next.given ≡ left.given
+    → AreGiven (record { start = all; finish = next }) h.rows
+given-so_far stations old now all left next count many h same = (same ∙ h.given, first-taken all.coming left.coming h.rows h.taken)
 
 -- a fault of the source is one of the import
-pub SoFar-fault : (stations : Stations) (old now : Returns) (all left next : Option Coming) (ended : Ending) (count : ImportCount) (many : ℕ) (fault : ImportFault)
-    → SoFar stations old now all left count many → GivesNext left (Err fault) next → ended ≡ Some (Some fault) → IsFault all ended fault
-SoFar-fault stations old now all left next ended count many fault h given ends = inr (inl (ends, go all h.taken given.1))
+pub SoFar-fault : (stations : Stations) (old now : Returns) (all left next : SourceAt) (count : ImportCount) (many : ℕ) (fault : ImportFault)
+    → SoFar stations old now all left count many → GivesAt left (Err fault) next → IsFault (record { start = all; finish = next }) fault
+SoFar-fault stations old now all left next count many fault h given =
+    (h.rows, given-so_far stations old now all left next count many h given.1, inr (inl (given.2, go all.coming h.taken given.0.1)))
   where
-    go : (known : Option Coming) → AreTaken known h.rows left
-        → IsSudden fault ⊎ (IfSome left (λ (coming : Coming). (coming.rows ≡ []) × (coming.fault ≡ Some fault)) × (next ≡ left))
-        → IsSudden fault ⊎ IfSome known (λ coming. coming.fault ≡ Some fault)
+    go : (known : Option Coming) → AreTaken known h.rows left.coming
+        → IsSudden fault ⊎ (IfSome left.coming (λ (coming : Coming). (coming.rows ≡ []) × (coming.fault ≡ Some fault)) × (next.coming ≡ left.coming))
+        → IsSudden fault ⊎ IfSome known (λ coming. (coming.rows ≡ h.rows) × (coming.fault ≡ Some fault))
     go known taken (inl sudden) = inl sudden
     go None taken (inr behind) = inr tt
-    go (Some known) taken (inr behind) = inr (subst (λ l. IfSome l (λ (coming : Coming). (coming.rows ≡ []) × (coming.fault ≡ Some fault))) taken.1 behind.0).1
+    go (Some known) taken (inr behind) =
+        let none = subst (λ l. IfSome l (λ (coming : Coming). (coming.rows ≡ []) × (coming.fault ≡ Some fault))) taken.1 behind.0 in
+        inr (taken.2 ∙ ap (λ l. h.rows ++ l) none.0 ∙ append-nil h.rows, none.1)
 
--- more rows than the limit come only of a source of which nothing is known
-pub SoFar-many : (stations : Stations) (old now : Returns) (all left : Option Coming) (ended : Ending) (count : ImportCount) (many : ℕ)
-    → SoFar stations old now all left count many → row_limit < many → IfSome all IsWithin → IsFault all ended TooLong
-SoFar-many stations old now None left ended count many h over within = inr (inr (refl, refl))
-SoFar-many stations old now (Some known) left ended count many h over within =
-    absurd (omega (arith, over, within.0, h.many_are, ap length h.taken.2, length-append h.rows h.taken.0))
+-- a fault of the keeper's own comes after a row that the source gave
+pub SoFar-own : (stations : Stations) (old now : Returns) (all left next : SourceAt) (count : ImportCount) (many : ℕ) (r : Row) (fault : ImportFault)
+    → SoFar stations old now all left count many → GivesAt left (Ok (Some r)) next → IsOwnFault fault → IsFault (record { start = all; finish = next }) fault
+SoFar-own stations old now all left next count many r fault h given own = (
+  h.rows ++ r ∷ [],
+  (
+    given-push all.given left.given next.given h.rows r h.given given.1,
+    first-taken all.coming next.coming (h.rows ++ r ∷ []) (taken-push all.coming left.coming next.coming h.rows r h.taken given.0),
+  ),
+  inl own,
+)
+
+-- a fault of the keeper's own before any row
+pub own-first : (at : SourceAt) (fault : ImportFault) → IsOwnFault fault → IsFault (record { start = at; finish = at }) fault
+own-first at fault own = ([], (sym (append-nil at.given), all at.coming), inl own)
+  where
+    all : (known : Option Coming) → IfSome known (λ coming. (rest : List Row) × (coming.rows ≡ rest))
+    all None = tt
+    all (Some coming) = (coming.rows, refl)
+
+-- a fault of the keeper's own after all that the source gave
+pub own-last : (d : Delivery) (fault : ImportFault) → GaveAll d → IsOwnFault fault → IsFault d fault
+own-last d fault gave own = (gave.0, (gave.1.0, all d.start.coming gave.1.3), inl own)
+  where
+    all : (known : Option Coming) → IfSome known (λ coming. (coming.rows ≡ gave.0) × (coming.fault ≡ None)) → IfSome known (λ coming. (rest : List Row) × (coming.rows ≡ gave.0 ++ rest))
+    all None are = tt
+    all (Some coming) are = ([], are.0 ∙ sym (append-nil gave.0))
+
+-- one row more than the limit comes only of a source of which nothing is known
+pub SoFar-many : (stations : Stations) (old now : Returns) (all left : SourceAt) (count : ImportCount) (many : ℕ)
+    → SoFar stations old now all left count many → many ≡ row_limit + 1 → IfSome all.coming IsWithin → IsFault (record { start = all; finish = left }) TooLong
+SoFar-many stations old now all left count many h over within =
+    (h.rows, given-so_far stations old now all left left count many h refl, inr (inr (refl, h.many_are ∙ over, none all.coming h.taken within)))
+  where
+    none : (known : Option Coming) → AreTaken known h.rows left.coming → IfSome known IsWithin → known ≡ None
+    none None taken within = refl
+    none (Some known) taken within = absurd (omega (arith, over, within.0, h.many_are, ap length taken.2, length-append h.rows taken.0))
 
 -- an import leaves what a keeper in memory holds as it has to be
-imported-held : (k : Kept) (rows : List Row) → All IsCodedRow rows → IsHeld k → IsHeld (record k { returns = imported (stations_of k.setup) k.returns rows })
+imported-held : (k : Kept) (rows : List Row) → All IsCodedRow rows → IsHeld k → IsHeld (record k { returns = returns_after_import (stations_of k.setup) k.returns rows })
 imported-held k [] codes held = held
 imported-held k (row.Lodge (Lodge station slip counts) ∷ rows) codes held =
     let code = All-head IsCodedRow (row.Lodge (Lodge station slip counts)) rows codes in
@@ -130,7 +191,7 @@ imported-held k (row.Lodge (Lodge station slip counts) ∷ rows) codes held =
     (held-lodge k station slip counts code held)
 imported-held k (other ∷ rows) codes held = imported-held k rows (All-tail IsCodedRow other rows codes) held
 
-pub import-held : (old new : Kept) (known : Option Coming) (count : ImportCount) → IsHeld old → new ≡ record old { returns = new.returns }
-    → IsImportOf old.setup (Some (state_in old)) known count (Some (state_in new)) → IsHeld new
-import-held old new known count held kept is =
+pub import-held : (old new : Kept) (d : Delivery) (count : ImportCount) → IsHeld old → new ≡ record old { returns = new.returns }
+    → IsImportOf old.setup (Some (state_in old)) d count (Some (state_in new)) → IsHeld new
+import-held old new d count held kept is =
     subst IsHeld (sym (kept ∙ ap (λ (s : State). record old { returns = s.returns }) is.3.3)) (imported-held old is.0 is.3.4 held)

@@ -8,7 +8,7 @@ use Rattle.std.specs.List.{list_any}
 use Rattle.std.specs.Ordering.{eq_by_cmp}
 use Rattle.tally_rules.specs.Code.{code_cmp}
 use Rattle.tally_returns.specs.Return.{StationReturn, Returns}
-use Rattle.tally_keeper.specs.Held.{without}
+use Rattle.tally_keeper.specs.internal.Held.{returns_without}
 
 -- returns that are the same at each station are the same
 same_returns : (m n : Returns) → ((q : List ℕ) → get m q ≡ get n q) → m ≡ n
@@ -18,7 +18,7 @@ same_returns m n is = same_map nat_list_cmp_total (slice_cmp-IsAntisymmetric nat
 abbrev among : List ℕ → List (List ℕ) → Bool
 among q stations = list_any (eq_by_cmp code_cmp q) stations
 
-get-without : (stations : List (List ℕ)) (m : Returns) (q : List ℕ) → get (without stations m) q ≡ cond (among q stations) None (get m q)
+get-without : (stations : List (List ℕ)) (m : Returns) (q : List ℕ) → get (returns_without stations m) q ≡ cond (among q stations) None (get m q)
 get-without [] m q = refl
 get-without (k ∷ stations) m q =
     get-without stations (remove m k) q ∙ ap (cond (among q stations) None) (get-remove nat_list_cmp_total m k q) ∙ both (eq_by_cmp code_cmp q k) (among q stations)
@@ -39,8 +39,8 @@ among-push q k (s ∷ stations) = ap (λ b. eq_by_cmp code_cmp q s || b) (among-
 
 -- a return that was put at a station that had none, and taken out again
 pub without-push : (stations : List (List ℕ)) (m : Returns) (k : List ℕ) (r : StationReturn) → get m k ≡ None
-    → without (stations ++ k ∷ []) (insert m k r) ≡ without stations m
-without-push stations m k r none = same_returns (without (stations ++ k ∷ []) (insert m k r)) (without stations m) (λ q.
+    → returns_without (stations ++ k ∷ []) (insert m k r) ≡ returns_without stations m
+without-push stations m k r none = same_returns (returns_without (stations ++ k ∷ []) (insert m k r)) (returns_without stations m) (λ q.
     get-without (stations ++ k ∷ []) (insert m k r) q
     ∙ ap (λ b. cond b None (get (insert m k r) q)) (among-push q k stations)
     ∙ ap (cond (eq_by_cmp code_cmp q k || among q stations) None) (get-insert nat_list_cmp_total m k r q)

@@ -42,9 +42,9 @@ answers stations returns [] = []
 answers stations returns (r ∷ rows) = row_answer stations returns r ∷ answers stations (after_row stations returns r) rows
 
 -- the returns after all rows
-abbrev pub imported : Stations → Returns → List Row → Returns
-imported stations returns [] = returns
-imported stations returns (r ∷ rows) = imported stations (after_row stations returns r) rows
+abbrev pub returns_after_import : Stations → Returns → List Row → Returns
+returns_after_import stations returns [] = returns
+returns_after_import stations returns (r ∷ rows) = returns_after_import stations (after_row stations returns r) rows
 
 -- one thing of a row that was lodged, another of one that was there already, of a refused one, of a
 -- bad one
@@ -78,8 +78,8 @@ is_bad = by_answer false false (λ e. false) true
 
 -- what is noted of a row that was neither lodged nor there already: its refusal's number, or 0 of a
 -- bad one
-abbrev pub noted : RowAnswer → Option ℕ
-noted = by_answer None None (λ e. Some (number e)) (Some 0)
+abbrev pub note_number : RowAnswer → Option ℕ
+note_number = by_answer None None (λ e. Some (number e)) (Some 0)
 
 abbrev pub or_else : {X : Type 0} → Option X → Option X → Option X
 or_else (Some x) later = Some x
@@ -93,7 +93,7 @@ note_at at None = None
 -- the first note, where the first row of the list has this number
 abbrev pub first_note : ℕ → List RowAnswer → Option FirstRow
 first_note at [] = None
-first_note at (a ∷ rest) = or_else (note_at at (noted a)) (first_note (at + 1) rest)
+first_note at (a ∷ rest) = or_else (note_at at (note_number a)) (first_note (at + 1) rest)
 
 -- the count with one more refused row
 abbrev pub with_refusal : ImportCount → ℕ → Refusal → ImportCount
@@ -104,14 +104,14 @@ with_refusal c row refusal = record c {
 }
 
 -- the count with one more row
-abbrev pub counted : ImportCount → ℕ → RowAnswer → ImportCount
-counted c row a = record {
+abbrev pub count_with_row : ImportCount → ℕ → RowAnswer → ImportCount
+count_with_row c row a = record {
   lodged = c.lodged + (if is_lodged a then 1 else 0);
   same = c.same + (if is_same a then 1 else 0);
   differs = c.differs + (if is_differing a then 1 else 0);
   refused = c.refused + (if is_refused a then 1 else 0);
   bad = c.bad + (if is_bad a then 1 else 0);
-  first = or_else c.first (note_at row (noted a));
+  first = or_else c.first (note_at row (note_number a));
 }
 
 -- none of its numbers is as high as that of the row that comes

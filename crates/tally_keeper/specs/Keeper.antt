@@ -1,13 +1,13 @@
 -- What happens to a keeper of the office's state.
-use Rattle.std.specs.Prelude.{◌≡◌, ◌≤◌, ◌⊎◌, All, List, [], ◌∷◌, length, Option, Some, None, Result, Ok, Err, IfSome}
+use Rattle.std.specs.Prelude.{◌≡◌, ◌≤◌, ◌⊎◌, ◌+◌, All, List, [], ◌∷◌, length, Option, Some, None, Result, Ok, Err, IfSome}
 use Rattle.tally_rules.specs.Constituency.{Constituency}
 use Rattle.tally_returns.specs.State.{State, stations_of}
 use Rattle.tally_steps.specs.Step.{IsAnswered, IsNotAccepted}
 use Rattle.tally_returns.specs.declared.ask.Ask.{Ask}
 use Rattle.tally_returns.specs.declared.refusal.Refusal.{Refusal}
 use Rattle.tally_returns.specs.declared.reply.Reply.{Reply}
-use Rattle.tally_keeper.specs.Import.{RowAnswer, IsCodedRow, answers, imported, count_of}
-use Rattle.tally_keeper.specs.Source.{Coming, Ending, IsSudden, row_limit}
+use Rattle.tally_keeper.specs.Import.{RowAnswer, IsCodedRow, answers, returns_after_import, count_of}
+use Rattle.tally_keeper.specs.Source.{AreAllGiven, AreGiven, Coming, Delivery, IsSudden, row_limit}
 use Rattle.tally_keeper.specs.declared.import.ImportCount.{ImportCount}
 use Rattle.tally_keeper.specs.declared.import.Row.{Row}
 use Rattle.tally_keeper.specs.declared.source.ImportFault.{ImportFault}
@@ -26,7 +26,7 @@ abbrev pub IsImport : List Constituency → State → List Row → List RowAnswe
 IsImport setup s rows answered count t = (length rows ≤ row_limit)
     × (answered ≡ answers (stations_of setup) s.returns rows)
     × (count ≡ count_of answered)
-    × (t ≡ record s { returns = imported (stations_of setup) s.returns rows })
+    × (t ≡ record s { returns = returns_after_import (stations_of setup) s.returns rows })
     × All IsCodedRow rows
 
 -- a keeper that is not shut: a request is answered, an import is done, or it has a fault and
@@ -74,29 +74,32 @@ Runs setup old asks rs new = (length rs ≡ length asks) × Happen setup old (re
 abbrev pub IsOwnFault : ImportFault → Type 0
 IsOwnFault fault = (fault ≡ Memory) ⊎ (fault ≡ Store)
 
--- the fault with which the source ended; where it is known what comes, that is the fault after the
--- rows, or a sudden one
-abbrev pub IsFaultOfSource : Option Coming → Ending → ImportFault → Type 0
-IsFaultOfSource known ended fault = (ended ≡ Some (Some fault)) × (IsSudden fault ⊎ IfSome known (λ coming. coming.fault ≡ Some fault))
+-- the fault with which the source ended, after these rows: a sudden one, or where it is known what
+-- comes, the fault that comes after just these rows
+abbrev pub IsFaultOfSource : Delivery → List Row → ImportFault → Type 0
+IsFaultOfSource d rows fault = (d.finish.ended ≡ Some (Some fault))
+    × (IsSudden fault ⊎ IfSome d.start.coming (λ coming. (coming.rows ≡ rows) × (coming.fault ≡ Some fault)))
 
--- a keeper counts too many rows only where it is not known what comes
-abbrev pub IsCountedTooLong : Option Coming → ImportFault → Type 0
-IsCountedTooLong known fault = (fault ≡ TooLong) × (known ≡ None)
+-- A keeper counts too many rows at the first one above the limit, and only where it is not known
+-- what comes.
+abbrev pub IsCountedTooLong : Delivery → List Row → ImportFault → Type 0
+IsCountedTooLong d rows fault = (fault ≡ TooLong) × (length rows ≡ row_limit + 1) × (d.start.coming ≡ None)
 
--- a fault of an import, by what was known of its source and by how the source ended
-abbrev pub IsFault : Option Coming → Ending → ImportFault → Type 0
-IsFault known ended fault = IsOwnFault fault ⊎ (IsFaultOfSource known ended fault ⊎ IsCountedTooLong known fault)
+-- a fault of an import, after the rows that its source gave
+abbrev pub IsFault : Delivery → ImportFault → Type 0
+IsFault d fault = (rows : List Row) × AreGiven d rows
+    × (IsOwnFault fault ⊎ (IsFaultOfSource d rows fault ⊎ IsCountedTooLong d rows fault))
 
--- where it is known what comes, these are all of its rows, and nothing but the end comes after them
-abbrev pub AreAllOf : Option Coming → List Row → Type 0
-AreAllOf known rows = IfSome known (λ coming. (coming.rows ≡ rows) × (coming.fault ≡ None))
+-- an import of all rows that a source gave, of any source, and what it leaves
+abbrev pub IsImportOf : List Constituency → Option State → Delivery → ImportCount → Option State → Type 0
+IsImportOf setup old d count new =
+    (rows : List Row) × (answered : List RowAnswer) × AreAllGiven d rows × Happens setup old (whole_import rows answered count) new
 
--- an import of all rows of a source, and what it leaves
-abbrev pub IsImportOf : List Constituency → Option State → Option Coming → ImportCount → Option State → Type 0
-IsImportOf setup old known count new =
-    (rows : List Row) × (answered : List RowAnswer) × AreAllOf known rows × Happens setup old (whole_import rows answered count) new
+-- What an import comes to, by what its source gave.
+abbrev pub Imports : List Constituency → Option State → Delivery → Result ImportCount ImportFault → Option State → Type 0
+Imports setup old d (Ok count) new = IsImportOf setup old d count new
+Imports setup old d (Err fault) new = IsFault d fault × Happens setup old (failed_import fault) new
 
--- What an import comes to, by what was known of its source and by how the source ended.
-abbrev pub Imports : List Constituency → Option State → Option Coming → Ending → Result ImportCount ImportFault → Option State → Type 0
-Imports setup old known ended (Ok count) new = (ended ≡ Some None) × IsImportOf setup old known count new
-Imports setup old known ended (Err fault) new = IsFault known ended fault × Happens setup old (failed_import fault) new
+-- the same where this was known of what comes
+abbrev pub ImportsComing : List Constituency → Option State → Option Coming → Delivery → Result ImportCount ImportFault → Option State → Type 0
+ImportsComing setup old known d r new = (d.start.coming ≡ known) × Imports setup old d r new

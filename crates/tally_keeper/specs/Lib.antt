@@ -1,3 +1,5 @@
+pub mod internal
+pub mod Delivery
 pub mod Events
 pub mod Given
 pub mod Held

@@ -1,5 +1,5 @@
 -- What a source of rows gives.
-use Rattle.std.specs.Prelude.{◌≡◌, ◌≢◌, ◌≤◌, ◌⊎◌, ℕ, List, [], ◌∷◌, length, Option, Some, None, Result, Ok, Err, IfSome}
+use Rattle.std.specs.Prelude.{◌≡◌, ◌≢◌, ◌≤◌, ◌⊎◌, ◌++◌, ℕ, List, [], ◌∷◌, length, Option, Some, None, Result, Ok, Err, IfSome}
 use Rattle.tally_returns.specs.declared.ask.Ask.TheVariants.{Lodge}
 use Rattle.tally_keeper.specs.declared.import.Row.{Row}
 use Rattle.tally_keeper.specs.declared.import.Row.TheVariants as row
@@ -56,3 +56,35 @@ ends_by (Err fault) = Some (Some fault)
 abbrev pub at_end : Option ImportFault → Result (Option Row) ImportFault
 at_end None = Ok None
 at_end (Some fault) = Err fault
+
+-- ---- what it gives within a call
+
+-- How a source stands: what is known of what it still gives, the rows that it gave so far, and how
+-- it ended, once it did.
+pub record SourceAt : Type 0 where
+  pub coming : Option Coming
+  pub given : List Row
+  pub ended : Ending
+
+-- how a source stood at the start of a call, and how it stands at its end
+pub record Delivery : Type 0 where
+  pub start : SourceAt
+  pub finish : SourceAt
+
+-- These are the rows that a source gave within a call, in order. Where it is known what comes, they
+-- are the first of that.
+abbrev pub AreGiven : Delivery → List Row → Type 0
+AreGiven d rows = (d.finish.given ≡ d.start.given ++ rows)
+    × IfSome d.start.coming (λ coming. (rest : List Row) × (coming.rows ≡ rows ++ rest))
+
+-- These are the rows that a source gave within a call, at most 20,000, and it is at its end. Where
+-- it is known what comes, these are all of its rows, and no fault comes after them.
+abbrev pub AreAllGiven : Delivery → List Row → Type 0
+AreAllGiven d rows = (d.finish.given ≡ d.start.given ++ rows)
+    × (length rows ≤ row_limit)
+    × (d.finish.ended ≡ Some None)
+    × IfSome d.start.coming (λ coming. (coming.rows ≡ rows) × (coming.fault ≡ None))
+
+-- it gave all that it had, whichever rows these are
+abbrev pub GaveAll : Delivery → Type 0
+GaveAll d = (rows : List Row) × AreAllGiven d rows

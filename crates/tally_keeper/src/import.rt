@@ -37,7 +37,7 @@ pub struct ImportCount {
 }
 
 impl ImportCount {
-    ghost use Rattle.tally_keeper.specs.Import.{RowAnswer, IsBelow, count_of, counted, note_at, or_else, with_refusal};
+    ghost use Rattle.tally_keeper.specs.Import.{RowAnswer, IsBelow, count_of, count_with_row, note_at, or_else, with_refusal};
 
     /// The count of no row.
     pub fn new() -> ImportCount
@@ -66,7 +66,7 @@ impl ImportCount {
     /// The same, for a caller who does not know the answers so far.
     pub fn add_row(&mut self, row: u32, answer: Option<Result<LodgeReply, Refusal>>)
         requires below { IsBelow self.old row }
-        ensures { self.new ≡ counted self.old row answer }
+        ensures { self.new ≡ count_with_row self.old row answer }
     {
         match answer {
             Some(Ok(LodgeReply::Lodged { .. })) => self.lodged += 1,

@@ -5,6 +5,7 @@ ghost use Rattle.tally_rules.specs.Constituency.{Constituency};
 ghost use Rattle.tally_returns.specs.State.{State};
 ghost use Rattle.tally_steps.specs.Kinds.{IsReplyTo};
 ghost use Rattle.tally_steps.specs.LawfulState.{IsLawfulState};
+ghost use Rattle.tally_keeper.specs.Delivery.{delivery};
 ghost use Rattle.tally_keeper.specs.Keeper.{Happens, Runs, Imports, request};
 ghost use Rattle.tally_keeper.specs.declared.source.ImportFault.TheVariants as fault;
 ghost use Rattle.tally_returns.specs.declared.refusal.Refusal.TheVariants as refusal;
@@ -36,7 +37,8 @@ pub trait Keeper {
     /// The setup, which never changes. What the keeper has is a lawful state of it.
     fn setup(&self) -> &Setup
         ensures setup { result.now ≡ constituencies self.now }
-        ensures lawful { IsTrusted self.now → IfSome (content self.now) (IsLawfulState (constituencies self.now)) };
+        ensures lawful { IsTrusted self.now →
+            IfSome (content self.now) (IsLawfulState (constituencies self.now)) };
 
     /// Answers a request. One that is refused has changed nothing, unless a failed disk shut the
     /// keeper at it. Then it was not accepted, though its commit may have been made, which only the
@@ -47,21 +49,22 @@ pub trait Keeper {
         ensures trusted { IsTrusted self.new → IsTrusted self.old }
         ensures kind { IfOk result (IsReplyTo (constituencies self.old) ask.now) }
         ensures step { IsTrusted self.new →
-            Happens (constituencies self.old) (content self.old) (request ask.now result) (content self.new) }
+            Happens (constituencies self.old) (content self.old) (request ask.now result)
+            (content self.new) }
         ensures store { IfErr result (λ e. e ≡ refusal.Store → HasDatabase self.old) }
         ensures shut { content self.new ≡ None → (content self.old ≡ None) ⊎ HasDatabase self.old }
         ensures database { HasDatabase self.new → HasDatabase self.old };
 
-    /// Lodges the rows of a source one by one; refused and bad ones are passed over. With a fault
-    /// nothing has changed, unless a failed disk shut the keeper at it. The fault is that with
-    /// which the source ended, or the keeper's own: out of memory, a database that refuses, or more
-    /// than 20,000 rows of a source of unknown content.
+    /// Lodges the rows of a source one by one, all that it gives until its end and no others;
+    /// refused and bad ones are passed over. With a fault nothing has changed, unless a failed disk
+    /// shut the keeper at it. The fault is that with which the source ended, or the keeper's own:
+    /// out of memory, a database that refuses, or the 20,001st row of a source of unknown content.
     fn lodge_from<R: RowSource>(&mut self, rows: &mut R) -> Result<ImportCount, ImportFault>
         ensures setup { constituencies self.new ≡ constituencies self.old }
         ensures trusted { IsTrusted self.new → IsTrusted self.old }
         ensures imported { IsTrusted self.new →
             Imports (constituencies self.old) (content self.old)
-            (R.coming rows.old) (R.ended rows.new) result (content self.new) }
+            (delivery R.RowSource rows.old rows.new) result (content self.new) }
         ensures store { IfErr result (λ e. e ≡ fault.Store → HasDatabase self.old) }
         ensures shut { content self.new ≡ None → (content self.old ≡ None) ⊎ HasDatabase self.old }
         ensures database { HasDatabase self.new → HasDatabase self.old };
@@ -77,9 +80,12 @@ pub fn run<K: Keeper>(
     ensures setup { K.constituencies keeper.new ≡ K.constituencies keeper.old }
     ensures trusted { K.IsTrusted keeper.new → K.IsTrusted keeper.old }
     ensures runs { K.IsTrusted keeper.new → IfOk result (λ answers.
-        Runs (K.constituencies keeper.old) (K.content keeper.old) asks.now answers.items (K.content keeper.new)) }
-    ensures store { IfOk result (λ answers. All (λ r. r ≡ Err refusal.Store → K.HasDatabase keeper.old) answers.items) }
-    ensures shut { K.content keeper.new ≡ None → (K.content keeper.old ≡ None) ⊎ K.HasDatabase keeper.old }
+        Runs (K.constituencies keeper.old) (K.content keeper.old) asks.now answers.items
+        (K.content keeper.new)) }
+    ensures store { IfOk result (λ answers.
+        All (λ r. r ≡ Err refusal.Store → K.HasDatabase keeper.old) answers.items) }
+    ensures shut { K.content keeper.new ≡ None →
+        (K.content keeper.old ≡ None) ⊎ K.HasDatabase keeper.old }
     ensures database { K.HasDatabase keeper.new → K.HasDatabase keeper.old }
     ensures kept { OnErr result (keeper.new ≡ keeper.old) }
 {

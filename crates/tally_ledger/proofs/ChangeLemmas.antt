@@ -8,7 +8,7 @@ use Rattle.tally_rules.specs.Code.{code_cmp}
 use Rattle.tally_rules.specs.Constituency.{Constituency}
 use Rattle.tally_rules.specs.Limits.{IsSetup}
 use Rattle.tally_rules.specs.Setup.{constituency_with}
-use Rattle.tally_steps.specs.Step.{ConChange, certified_with, changed, gone_for_good, lot_set, open_again}
+use Rattle.tally_steps.specs.Step.{ConChange, certified_with, con_state_after, gone_for_good, lot_set, open_again}
 use Rattle.tally_returns.specs.GoneCandidate.{GoneCandidate}
 use Rattle.tally_returns.specs.PastSeats.{PastSeats}
 use Rattle.tally_returns.specs.Progress.{progress_row}
@@ -16,7 +16,7 @@ use Rattle.tally_returns.specs.Return.{Returns}
 use Rattle.tally_returns.specs.State.{ConState, con_state, opening_con}
 use Rattle.tally_returns.specs.View.{View, gone_candidates, past_records, view_with}
 use Rattle.tally_ledger.specs.Kept.{AreEarlier, Kept, seats_after, state_in, view_in, with_change, with_no_lot}
-use Rattle.tally_ledger.specs.Rows.{IsTallied, Views, con_of, cons_of, gone_by_places, past_of, row_of, seats_of, with_gone, with_reopening, with_view}
+use Rattle.tally_ledger.specs.internal.Rows.{IsTallied, Views, con_of, cons_of, gone_by_places, past_of, row_of, seats_of, with_gone, with_reopening, with_view}
 use Rattle.tally_ledger.proofs.GoneLemmas.{gone-stays, gone_of-insert, key_of}
 use Rattle.tally_ledger.proofs.PastLemmas.{AreBefore, past-stays, past_of-insert}
 use Rattle.tally_ledger.proofs.SetupLemmas.{Has, con-found, con-only}
@@ -75,14 +75,14 @@ edition-room returns views code room = λ view there. subst (λ (c : ConState). 
 
 -- what is kept after a change
 pub kept-changed : (setup : List Constituency) (returns : Returns) (views : Views) (code : List ℕ) (change : ConChange) (f : View → View) → IsTallied setup returns views
-    → IsSome (constituency_with code setup) → ((view : View) → get views code ≡ Some view → con_of (f view) ≡ changed (con_of view) change)
+    → IsSome (constituency_with code setup) → ((view : View) → get views code ≡ Some view → con_of (f view) ≡ con_state_after (con_of view) change)
     → ((view : View) → get views code ≡ Some view → seats_of (with_view views code f) ≡ seats_after (seats_of views) code change)
     → kept setup returns (with_view views code f) ≡ with_change (kept setup returns views) code change
 kept-changed setup returns views code change f tallied known con seats =
     let found = held setup returns views code tallied known in
-    let state : con_of (f found.0) ≡ changed (con_state (record { returns = returns; cons = cons_of views }) code) change =
-    con found.0 found.1 ∙ ap (λ (c : ConState). changed c change) (sym (con_state-is returns views code found.0 found.1)) in
-    let cons = cons_of-changed views code f found.0 (changed (con_state (record { returns = returns; cons = cons_of views }) code) change) found.1 state in
+    let state : con_of (f found.0) ≡ con_state_after (con_state (record { returns = returns; cons = cons_of views }) code) change =
+    con found.0 found.1 ∙ ap (λ (c : ConState). con_state_after c change) (sym (con_state-is returns views code found.0 found.1)) in
+    let cons = cons_of-changed views code f found.0 (con_state_after (con_state (record { returns = returns; cons = cons_of views }) code) change) found.1 state in
     λ i. record { setup = setup; returns = returns; cons = cons i; seats = seats found.0 found.1 i }
 
 -- ---- each of the changes

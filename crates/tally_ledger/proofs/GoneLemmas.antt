@@ -11,7 +11,7 @@ use Rattle.std.proofs.lemmas.Cmp.{ranked}
 use Rattle.tally_rules.specs.Code.{code_cmp}
 use Rattle.tally_returns.specs.GoneCandidate.{GoneCandidate}
 use Rattle.tally_returns.specs.View.{gone_candidate, gone_candidates}
-use Rattle.tally_ledger.specs.Rows.{gone_by_places, gone_place, is_before, with_gone}
+use Rattle.tally_ledger.specs.internal.Rows.{gone_by_places, gone_place, is_before, with_gone}
 use Rattle.tally_ledger.proofs.MapLemmas.{rows-insert}
 
 -- the place of a candidate's list, and its own place there

@@ -12,13 +12,13 @@ use Rattle.tally_rules.specs.Constituency.{Constituency}
 use Rattle.tally_rules.specs.Limits.{IsSetup}
 use Rattle.tally_rules.specs.Setup.{constituency_with}
 use Rattle.tally_rules.specs.declared.constituency.Station.{Station}
-use Rattle.tally_returns.specs.Progress.{is_received, is_queried, is_corrected, is_closed, stations_in}
+use Rattle.tally_returns.specs.Progress.{is_received, is_queried, is_corrected, is_closed, count_with_status}
 use Rattle.tally_returns.specs.Return.{StationReturn}
 use Rattle.tally_returns.specs.State.{opening_con, opening_cons}
 use Rattle.tally_returns.specs.View.{View, blank_of, closed_counts, counts_if_closed, gone_candidate, past_record, spoiled_of, view_with, votes_at, votes_of_lists}
 use Rattle.tally_returns.specs.declared.returns.Status.{Status}
 use Rattle.tally_ledger.specs.Kept.{opening_kept}
-use Rattle.tally_ledger.specs.Rows.{IsTallied, con_of, cons_of, opening_view, opening_views, seats_of}
+use Rattle.tally_ledger.specs.internal.Rows.{IsTallied, con_of, cons_of, opening_view, opening_views, seats_of}
 use Rattle.tally_ledger.proofs.ChangeLemmas.{kept}
 use Rattle.tally_ledger.proofs.GoneLemmas.{entries-empty}
 use Rattle.tally_ledger.proofs.SetupLemmas.{Apart, Differ, bytes_flipped, differ-from}
@@ -37,7 +37,7 @@ none-total g least (x ∷ stations) =
     let rest = none-total g least stations in
     omega (arith, here, rest)
 
-none-in : (is_status : Status → Bool) (stations : List Station) → stations_in is_status empty stations ≡ 0
+none-in : (is_status : Status → Bool) (stations : List Station) → count_with_status is_status empty stations ≡ 0
 none-in is_status stations = stations_in-total is_status empty stations ∙ none-total (one_if is_status) refl stations
 
 no-votes : (lists : ℕ) → replicate lists 0 ≡ votes_of_lists lists []

@@ -10,7 +10,7 @@ use Rattle.std.proofs.lemmas.Cmp.{nat_cmp_total, ranked}
 use Rattle.std.proofs.lemmas.List.{map-append}
 use Rattle.tally_returns.specs.PastSeats.{PastSeats}
 use Rattle.tally_returns.specs.View.{past_record, past_records}
-use Rattle.tally_ledger.specs.Rows.{past_of}
+use Rattle.tally_ledger.specs.internal.Rows.{past_of}
 use Rattle.tally_ledger.proofs.MapLemmas.{rows-insert}
 
 abbrev entry_of : PastSeats → ℕ × List ℕ

@@ -11,12 +11,13 @@ use Rattle.std.proofs.lemmas.List.Sums.{count_by-le-length, sum_by-append, sum_b
 use Rattle.tally_rules.specs.Constituency.{Constituency}
 use Rattle.tally_rules.specs.declared.constituency.Station.{Station}
 use Rattle.tally_returns.specs.Counts.{VoteCounts}
-use Rattle.tally_returns.specs.Progress.{is_received, is_queried, is_corrected, is_closed, stations_in}
+use Rattle.tally_returns.specs.Progress.{is_received, is_queried, is_corrected, is_closed, count_with_status}
 use Rattle.tally_returns.specs.Return.{StationReturn, Returns}
 use Rattle.tally_returns.specs.State.{ConState}
 use Rattle.tally_returns.specs.View.{View, view_with, counts_if_closed, closed_counts, votes_at, votes_of_lists}
 use Rattle.tally_returns.specs.declared.returns.Status.{Status}
-use Rattle.tally_ledger.specs.Sums.{moved_sum, CanMove, CanMoveOne, CanMoveCounts, CanCount, moved_where, with_status, with_counts, with_return_counted}
+use Rattle.tally_ledger.specs.Sums.{moved_sum, CanMove}
+use Rattle.tally_ledger.specs.internal.Sums.{CanMoveOne, CanMoveCounts, CanCount, moved_count, with_status, with_counts, with_return_counted}
 use Rattle.tally_ledger.proofs.SetupLemmas.{Has, Apart, Differ, apart-has, bytes_flipped, code_of_station}
 
 -- a list that has at each place what a function gives
@@ -47,7 +48,7 @@ one_if is_status found = cond (option_map_or (λ (standing : StationReturn). is_
 abbrev pub if_closed : (VoteCounts → ℕ) → Option StationReturn → ℕ
 if_closed f found = sum_by f (counts_if_closed found)
 
-pub stations_in-total : (is_status : Status → Bool) (returns : Returns) (stations : List Station) → stations_in is_status returns stations ≡ total (one_if is_status) returns stations
+pub stations_in-total : (is_status : Status → Bool) (returns : Returns) (stations : List Station) → count_with_status is_status returns stations ≡ total (one_if is_status) returns stations
 stations_in-total is_status returns [] = refl
 stations_in-total is_status returns (x ∷ stations) =
     sum_by-cons (λ (station : Station). one_if is_status (get returns station.code)) x stations
@@ -136,12 +137,12 @@ moved-zero n m by false zero is = omega (arith, zero, is)
 
 -- how many returns have a status
 count-moved : (is_status : Status → Bool) (stations : List Station) (old new : Returns) (standing : StationReturn) (add : Bool) → IsMoved stations old new standing add
-    → moved_where (is_status standing.status) (stations_in is_status old stations) add ≡ stations_in is_status new stations
+    → moved_count (is_status standing.status) (count_with_status is_status old stations) add ≡ count_with_status is_status new stations
 count-moved is_status stations old new standing add moves =
-    ap (λ n. moved_where (is_status standing.status) n add) (stations_in-total is_status old stations)
+    ap (λ n. moved_count (is_status standing.status) n add) (stations_in-total is_status old stations)
     ∙ by_status (is_status standing.status) refl ∙ sym (stations_in-total is_status new stations)
   where
-    by_status : (b : Bool) → is_status standing.status ≡ b → moved_where b (total (one_if is_status) old stations) add ≡ total (one_if is_status) new stations
+    by_status : (b : Bool) → is_status standing.status ≡ b → moved_count b (total (one_if is_status) old stations) add ≡ total (one_if is_status) new stations
     by_status true is = ap (λ c. moved_sum (total (one_if is_status) old stations) (cond c 1 0) add) (sym is) ∙ moves.moves (one_if is_status) refl
     by_status false is =
         moved-zero (total (one_if is_status) old stations) (total (one_if is_status) new stations) (one_if is_status (Some standing)) add (ap (λ c. cond c 1 0) is) (moves.moves (one_if is_status) refl)
@@ -171,10 +172,10 @@ pub view-moved : (con : Constituency) (c : ConState) (old new : Returns) (seats 
 view-moved con c old new seats standing add moves = by_closed (is_closed standing.status) refl
   where
     status : with_status (view_with con c old seats) standing.status add ≡ record (view_with con c old seats) {
-      received = stations_in is_received new con.stations;
-      queried = stations_in is_queried new con.stations;
-      corrected = stations_in is_corrected new con.stations;
-      closed = stations_in is_closed new con.stations;
+      received = count_with_status is_received new con.stations;
+      queried = count_with_status is_queried new con.stations;
+      corrected = count_with_status is_corrected new con.stations;
+      closed = count_with_status is_closed new con.stations;
     }
     status = λ i. record (view_with con c old seats) {
       received = count-moved is_received con.stations old new standing add moves i;
@@ -221,7 +222,7 @@ view-same con c old new seats same = λ i. record (view_with con c old seats) {
   spoiled = votes (λ (n : VoteCounts). n.spoiled) i;
 }
   where
-    count : (is_status : Status → Bool) → stations_in is_status old con.stations ≡ stations_in is_status new con.stations
+    count : (is_status : Status → Bool) → count_with_status is_status old con.stations ≡ count_with_status is_status new con.stations
     count is_status = stations_in-total is_status old con.stations ∙ same (one_if is_status) ∙ sym (stations_in-total is_status new con.stations)
 
     votes : (f : VoteCounts → ℕ) → sum_by f (closed_counts old con.stations) ≡ sum_by f (closed_counts new con.stations)
@@ -234,7 +235,7 @@ abbrev pub AreFew : List Station → Returns → (VoteCounts → ℕ) → Type 0
 AreFew stations returns f = (station : Station) → Has station stations → if_closed f (get returns station.code) ≤ 1000000
 
 can-one : (is_status : Status → Bool) (stations : List Station) (old new : Returns) (standing : StationReturn) (add : Bool) → IsMoved stations old new standing add
-    → length stations ≤ 5000 → CanMoveOne (is_status standing.status) (stations_in is_status old stations) add
+    → length stations ≤ 5000 → CanMoveOne (is_status standing.status) (count_with_status is_status old stations) add
 can-one is_status stations old new standing add moves few = record {
   few = most old;
   can = λ is.
@@ -242,9 +243,9 @@ can-one is_status stations old new standing add moves few = record {
       subst (λ n. CanMove n 1 add) (sym (stations_in-total is_status old stations)) (subst (λ b. CanMove (total (one_if is_status) old stations) (cond b 1 0) add) is here);
 }
   where
-    most : (returns : Returns) → stations_in is_status returns stations ≤ 5000
+    most : (returns : Returns) → count_with_status is_status returns stations ≤ 5000
     most returns =
-        let all : stations_in is_status returns stations ≤ length stations = count_by-le-length (λ (station : Station). option_map_or (λ (standing : StationReturn). is_status standing.status) (get returns station.code) false) stations in
+        let all : count_with_status is_status returns stations ≤ length stations = count_by-le-length (λ (station : Station). option_map_or (λ (standing : StationReturn). is_status standing.status) (get returns station.code) false) stations in
         omega (arith, all, few)
 
     at_most : {n : ℕ} → n ≤ 5000 → n ≤ 5000000000

@@ -21,8 +21,8 @@ use Rattle.tally_returns.specs.Return.{StationReturn, Returns}
 use Rattle.tally_returns.specs.State.{stations_of}
 use Rattle.tally_returns.specs.View.{View, view_with}
 use Rattle.tally_returns.proofs.CountsLemmas.{length-counts}
-use Rattle.tally_ledger.specs.Rows.{AreLawfulReturns, IsTallied, Views, con_of, cons_of, seats_of, with_view, without_former}
-use Rattle.tally_ledger.specs.Sums.{CanCount, with_counts, with_return_counted, with_status}
+use Rattle.tally_ledger.specs.internal.Rows.{AreLawfulReturns, IsTallied, Views, con_of, cons_of, seats_of, with_view, without_former}
+use Rattle.tally_ledger.specs.internal.Sums.{CanCount, with_counts, with_return_counted, with_status}
 use Rattle.tally_ledger.proofs.SetupLemmas.{Apart, Has, all-has, code_of_station, con-found, con-limits, con-only, has_or_apart, not_apart, station-found, station-only, stations-differ}
 use Rattle.tally_ledger.proofs.SumLemmas.{AreFew, IsMoved, IsPut, at_place, can-count, if_closed, is_moved-put, is_moved-taken, total, total-apart, view-moved, view-same}
 use Rattle.tally_ledger.proofs.TreeLemmas.{cons_of-kept, get-with_view, same_code, same_maps, seats_of-kept, tied_itself}

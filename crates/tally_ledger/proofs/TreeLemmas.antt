@@ -12,7 +12,7 @@ use Rattle.std.specs.Ordering.{eq_by_cmp}
 use Rattle.tally_rules.specs.Code.{code_cmp}
 use Rattle.tally_returns.specs.State.{ConState}
 use Rattle.tally_returns.specs.View.{View}
-use Rattle.tally_ledger.specs.Rows.{Views, con_of, cons_of, seats_of, views_of, with_changed, with_view}
+use Rattle.tally_ledger.specs.internal.Rows.{Views, con_of, cons_of, seats_of, views_of, with_changed, with_view}
 
 -- codes that tie are the same
 pub same_code : (q k : List ℕ) → eq_by_cmp code_cmp q k ≡ true → q ≡ k

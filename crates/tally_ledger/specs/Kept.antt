@@ -3,7 +3,7 @@ use Rattle.std.specs.Prelude.{◌<◌, ℕ, All, List, [], unwrap_or}
 use Rattle.std.specs.FinMap.{FinMap, get, empty, insert}
 use Rattle.tally_rules.specs.Code.{code_cmp}
 use Rattle.tally_rules.specs.Constituency.{Constituency}
-use Rattle.tally_steps.specs.Step.{ConChange, certified_with, open_again, changed}
+use Rattle.tally_steps.specs.Step.{ConChange, certified_with, open_again, con_state_after}
 use Rattle.tally_returns.specs.PastSeats.{PastSeats}
 use Rattle.tally_returns.specs.Return.{Returns}
 use Rattle.tally_returns.specs.State.{State, ConState, Records, con_state, opening_cons}
@@ -54,7 +54,7 @@ seats_after seats code other = seats
 -- a change of the constituency of a code
 abbrev pub with_change : Kept → List ℕ → ConChange → Kept
 with_change k code change = record k {
-  cons = insert k.cons code (changed (con_state (state_in k) code) change);
+  cons = insert k.cons code (con_state_after (con_state (state_in k) code) change);
   seats = seats_after k.seats code change;
 }
 

@@ -1,5 +1,4 @@
+pub mod internal
 pub mod MapOf
 pub mod Kept
-pub mod KeptCode
-pub mod Rows
 pub mod Sums

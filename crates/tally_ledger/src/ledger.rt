@@ -34,8 +34,8 @@ pub struct Ledger {
 
 impl Model for Ledger {
     ghost use Rattle.tally_ledger.specs.Kept.{Kept};
-    ghost use Rattle.tally_ledger.specs.Rows.{IsTallied, cons_of, returns_of, seats_of, views_of};
-    ghost use Rattle.tally_ledger.specs.KeptCode.{kept_code};
+    ghost use Rattle.tally_ledger.specs.internal.Rows.{IsTallied, cons_of, returns_of, seats_of, views_of};
+    ghost use Rattle.tally_ledger.specs.internal.KeptCode.{kept_code};
 
     ghost Value = { Kept };
 
@@ -176,7 +176,8 @@ impl Ledger {
     /// The candidate, who was not gone, is gone now.
     pub fn set_gone(&mut self, con: Code, gone: Gone) -> Result<(), AllocError>
         requires known { IsSome (constituency_with con self.now.setup) }
-        requires new { get (con_state (state_in self.now) con).gone (gone.list ∷ gone.place ∷ []) ≡ None }
+        requires new { get (con_state (state_in self.now) con).gone
+            (gone.list ∷ gone.place ∷ []) ≡ None }
         ensures gone { OnOk result (self.new ≡ with_change self.old con (gone_for_good gone None)) }
         ensures kept { OnErr result (self.new ≡ self.old) }
     {

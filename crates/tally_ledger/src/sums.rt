@@ -1,7 +1,8 @@
 //! Sums of closed votes, and numbers of returns in each status.
 
 ghost use Rattle.std.specs.Prelude.{◌≡◌, ◌≤◌, length};
-ghost use Rattle.tally_ledger.specs.Sums.{CanCount, CanCountOne, CanMove, CanMoveCounts, CanMoveEach, moved_sum, moved_sums, with_counts, with_return_counted, with_status};
+ghost use Rattle.tally_ledger.specs.Sums.{CanMove, moved_sum};
+ghost use Rattle.tally_ledger.specs.internal.Sums.{CanCount, CanCountOne, CanMoveCounts, CanMoveEach, moved_sums, with_counts, with_return_counted, with_status};
 
 use tally_returns::{ConView, Counts, Return, Status};
 

@@ -3,8 +3,8 @@
 ghost use Rattle.std.specs.Prelude.{◌≡◌, ◌<◌, ◌+◌, ◌^◌, [], IfOk, OnErr, OnOk, false, true, string_bytes};
 ghost use Rattle.std.specs.FinMap.{empty, get};
 ghost use Rattle.std.specs.Option.{ForSome, option_copied};
-ghost use Rattle.tally_ledger.specs.Rows.{gone_place, is_before, opening_view, opening_views, row_of, views_of, with_certificate, with_gone, with_lot, with_one_gone, with_reopening, with_view};
-ghost use Rattle.tally_ledger.specs.Sums.{CanCount, with_return_counted};
+ghost use Rattle.tally_ledger.specs.internal.Rows.{gone_place, is_before, opening_view, opening_views, row_of, views_of, with_certificate, with_gone, with_lot, with_one_gone, with_reopening, with_view};
+ghost use Rattle.tally_ledger.specs.internal.Sums.{CanCount, with_return_counted};
 ghost use Rattle.tally_returns.specs.View.{View};
 ghost use Rattle.tally_rules.specs.Limits.{IsSetup};
 

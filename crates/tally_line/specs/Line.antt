@@ -1,6 +1,6 @@
 -- The command line of the program: what it offers, and what the words that it is given ask for, as
 -- clap reads them.
-use Rattle.std.specs.Prelude.{◌≡◌, ◌≤◌, ◌&&◌, ℕ, Bool, true, false, not, List, [], ◌∷◌, Option, Some, None, is_some}
+use Rattle.std.specs.Prelude.{◌≡◌, ◌≤◌, ◌&&◌, ℕ, Bool, true, false, not, List, [], ◌∷◌, Option, Some, None, is_some, Result, IfOk}
 use Rattle.std.specs.Prelude.{codes, if◌then◌else◌, option_and_then, option_map, string_bytes}
 use Rattle.std.specs.Option.{option_map_or}
 use Rattle.std.specs.Str.{bytes_eq}
@@ -21,8 +21,8 @@ use Rattle.tally_line.specs.declared.line.Line.{Line}
 use Rattle.tally_line.specs.declared.line.Line.TheVariants as line
 use Rattle.tally_line.specs.declared.line.LineFault.{LineFault}
 use Rattle.tally_line.specs.declared.line.LineFault.TheVariants.{Usage, NoCon, Memory}
-use Rattle.tally_line.specs.declared.line.ReportName.{ReportName}
-use Rattle.tally_line.specs.declared.line.ReportName.TheVariants as report
+use Rattle.tally_report.specs.Reports.{report_named}
+use Rattle.tally_report.specs.declared.report.Report.{Report}
 
 -- ---- what the program offers
 
@@ -53,29 +53,50 @@ check_app = with_rule (new_app (codes "check")) semicolon_rule
 abbrev pub new_office_app : App
 new_office_app = with_rule (with_rule (new_app (codes "new")) (wanted_rule (codes "db"))) (wanted_rule (codes "setup"))
 
+-- `--csv FILE [--semicolon]`, beside what there is
+abbrev pub with_csv : App → App
+with_csv app = with_rule (with_rule app (wanted_rule (codes "csv"))) semicolon_rule
+
 -- `import --db FILE --con CODE --csv FILE [--semicolon]`
 abbrev pub import_app : App
-import_app = with_rule (with_rule (with_rule (with_rule (new_app (codes "import"))
-    (wanted_rule (codes "db"))) (wanted_rule (codes "con"))) (wanted_rule (codes "csv"))) semicolon_rule
+import_app = with_csv (with_rule (with_rule (new_app (codes "import"))
+    (wanted_rule (codes "db"))) (wanted_rule (codes "con")))
 
 -- `show --db FILE --report NAME [--con CODE]`
 abbrev pub show_app : App
 show_app = with_rule (with_rule (with_rule (new_app (codes "show"))
     (wanted_rule (codes "db"))) (wanted_rule (codes "report"))) (value_rule (codes "con"))
 
+-- the highest port
+abbrev pub most_port : ℕ
+most_port = 65535
+
+-- the most connections that are served
+abbrev pub most_count : ℕ
+most_count = 1000000
+
 -- `serve --db FILE --port N --count N`
 abbrev pub serve_app : App
 serve_app = with_rule (with_rule (with_rule (new_app (codes "serve"))
-    (wanted_rule (codes "db"))) (number_rule (codes "port") 1 65535)) (number_rule (codes "count") 1 1000000)
+    (wanted_rule (codes "db"))) (number_rule (codes "port") 1 most_port))
+    (number_rule (codes "count") 1 most_count)
+
+-- with two commands more
+abbrev pub with_commands : App → App → App → App
+with_commands app first second = with_subcommand (with_subcommand app first.top) second.top
 
 -- `office COMMAND`, where a command is required, and help is the answer to nothing at all; it has a
 -- version
-abbrev pub office_app : App
-office_app = with_subcommand (with_subcommand (with_subcommand (with_subcommand (with_subcommand (on_top (λ s. record s {
+abbrev pub bare_office_app : App
+bare_office_app = on_top (λ s. record s {
   has_version = true;
   subcommand_required = true;
   arg_required_else_help = true;
-}) (new_app (codes "office"))) check_app.top) new_office_app.top) import_app.top) show_app.top) serve_app.top
+}) (new_app (codes "office"))
+
+abbrev pub office_app : App
+office_app = with_commands (with_commands (with_subcommand bare_office_app check_app.top)
+    new_office_app import_app) show_app serve_app
 
 -- ---- what the values of a command are
 
@@ -93,27 +114,17 @@ number_in low high text = if is_unsigned_in low high text then Some (digits_valu
 abbrev pub number_of : Text → ℕ → ℕ → List Row → Option ℕ
 number_of id low high rows = option_and_then (number_in low high) (first_of id rows)
 
--- the report of a name
-abbrev pub report_named : Text → Option ReportName
-report_named name =
-    if bytes_eq name (codes "tally") then Some report.Tally
-    else if bytes_eq name (codes "seats") then Some report.Seats
-    else if bytes_eq name (codes "quotients") then Some report.Quotients
-    else if bytes_eq name (codes "awards") then Some report.Awards
-    else if bytes_eq name (codes "quota") then Some report.Quota
-    else if bytes_eq name (codes "holders") then Some report.Holders
-    else if bytes_eq name (codes "past") then Some report.Past
-    else if bytes_eq name (codes "short") then Some report.Short
-    else if bytes_eq name (codes "progress") then Some report.Progress
-    else None
+-- what is to be shown under a name: a report of a constituency, or the progress of all
+abbrev pub shown_named : Text → Option (Option Report)
+shown_named name =
+    if bytes_eq name (codes "progress") then Some None else option_map Some (report_named name)
 
-abbrev pub report_of : List Row → Option ReportName
-report_of rows = option_and_then report_named (first_of (codes "report") rows)
+abbrev pub report_of : List Row → Option (Option Report)
+report_of rows = option_and_then shown_named (first_of (codes "report") rows)
 
--- the report is of one constituency; the progress alone is of all
-abbrev pub needs_con : ReportName → Bool
-needs_con report.Progress = false
-needs_con name = true
+-- a report is of one constituency; the progress is of all
+abbrev pub needs_con : Option Report → Bool
+needs_con report = is_some report
 
 -- ---- lines
 
@@ -122,7 +133,7 @@ pub data LineSeen : Type 0 where
   CheckSeen : Sep → LineSeen
   NewSeen : Text → Text → LineSeen
   ImportSeen : Text → Text → Text → Sep → LineSeen
-  ShowSeen : Text → ReportName → Option Text → LineSeen
+  ShowSeen : Text → Option Report → Option Text → LineSeen
   ServeSeen : Text → ℕ → ℕ → LineSeen
 
 abbrev pub line_seen : Line → LineSeen
@@ -131,6 +142,10 @@ line_seen (line.New db setup) = NewSeen (string_bytes db) (string_bytes setup)
 line_seen (line.Import db con csv sep) = ImportSeen (string_bytes db) (string_bytes con) (string_bytes csv) sep
 line_seen (line.Show db name con) = ShowSeen (string_bytes db) name (option_map string_bytes con)
 line_seen (line.Serve db port count) = ServeSeen (string_bytes db) port count
+
+-- The call gives this line, where it gives one.
+abbrev pub GivesLine : {E : Type 0} → Result Line E → Option LineSeen → Type 0
+GivesLine result seen = IfOk result (λ line. seen ≡ Some (line_seen line))
 
 -- one value after another, where each is there
 infixl 10 ◌>>=◌
@@ -151,20 +166,20 @@ import_line rows = do
   Some (ImportSeen db con csv (sep_of rows))
 
 -- a report, of the constituency that is named, where the report needs one
-abbrev pub shown : Text → ReportName → Option Text → Option LineSeen
-shown db name con = if needs_con name && not (is_some con) then None else Some (ShowSeen db name con)
+abbrev pub show_seen : Text → Option Report → Option Text → Option LineSeen
+show_seen db name con = if needs_con name && not (is_some con) then None else Some (ShowSeen db name con)
 
 abbrev pub show_line : List Row → Option LineSeen
 show_line rows = do
   db ← first_of (codes "db") rows
   name ← report_of rows
-  shown db name (first_of (codes "con") rows)
+  show_seen db name (first_of (codes "con") rows)
 
 abbrev pub serve_line : List Row → Option LineSeen
 serve_line rows = do
   db ← first_of (codes "db") rows
-  port ← number_of (codes "port") 1 65535 rows
-  count ← number_of (codes "count") 1 1000000 rows
+  port ← number_of (codes "port") 1 most_port rows
+  count ← number_of (codes "count") 1 most_count rows
   Some (ServeSeen db port count)
 
 -- the line that a subcommand and the matches of its arguments are
@@ -190,7 +205,7 @@ line_of words = unless_fault (fault_of office_app words)
 
 -- The numbers are within their limits, and there is a constituency where the report needs one.
 abbrev pub IsWithinLimits : Line → Type 0
-IsWithinLimits (line.Serve db port count) = (1 ≤ port) × (port ≤ 65535) × (1 ≤ count) × (count ≤ 1000000)
+IsWithinLimits (line.Serve db port count) = (1 ≤ port) × (port ≤ most_port) × (1 ≤ count) × (count ≤ most_count)
 IsWithinLimits (line.Show db name con) = needs_con name ≡ true → is_some con ≡ true
 IsWithinLimits _ = Unit {0}
 

@@ -4,4 +4,4 @@
 mod help;
 mod line;
 
-pub use line::{Line, LineFault, ReportName, read_line};
+pub use line::{Line, LineFault, read_line};

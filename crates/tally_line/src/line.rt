@@ -1,13 +1,13 @@
 //! The command line.
 
 ghost use Rattle.std.specs.Prelude.{◌≡◌, ◌≤◌, IfOk, IfErr, Some, true, false, codes, is_some, map, option_map, string_bytes};
-ghost use Rattle.clap.specs.Words.{app_of, first_of, found_of, kind_of, new_app, rows_of, rule_of, with_rule, with_subcommand};
+ghost use Rattle.clap.specs.Words.{app_of, first_of, kind_of, new_app, rule_of};
 ghost use Rattle.clap.specs.declared.builder.command.Command.TheViews.{out-Command};
 ghost use Rattle.clap.specs.declared.error.ErrorKind.TheVariants.{InvalidValue};
-ghost use Rattle.tally_line.specs.Line.{IsRefusal, IsWithinLimits, check_app, import_app, import_line, is_set, line_of, line_of_command};
-ghost use Rattle.tally_line.specs.Line.{line_seen, needs_con, new_line, new_office_app, number_of, number_rule, office_app, report_named};
-ghost use Rattle.tally_line.specs.Line.{semicolon_rule, sep_of, serve_app, serve_line, show_app, show_line, value_rule, wanted_rule};
-ghost use Rattle.tally_line.specs.internal.Arguments.{IsCommandFault, IsShowFault, has, has_arguments};
+ghost use Rattle.tally_line.specs.Line.{GivesLine, IsRefusal, IsWithinLimits, check_app, import_app, import_line, is_set, line_of, line_of_command};
+ghost use Rattle.tally_line.specs.Line.{new_line, new_office_app, number_of, number_rule, office_app, semicolon_rule, sep_of};
+ghost use Rattle.tally_line.specs.Line.{serve_app, serve_line, show_app, show_line, shown_named, value_rule, wanted_rule, with_commands, with_csv};
+ghost use Rattle.tally_line.specs.internal.Arguments.{IsCommandFault, IsShowFault, given_rows, has, has_arguments, has_count, has_port};
 
 use crate::help;
 use clap::builder::ValueParser;
@@ -15,6 +15,7 @@ use clap::error::ErrorKind;
 use clap::{Arg, ArgAction, ArgMatches, Command};
 use std::alloc::{AllocError, Global};
 use tally_records::Sep;
+use tally_report::Report;
 
 const CHECK: &str = "check";
 
@@ -37,6 +38,8 @@ const CON: &str = "con";
 const CSV: &str = "csv";
 
 const REPORT: &str = "report";
+
+const PROGRESS: &str = "progress";
 
 const PORT: &str = "port";
 
@@ -65,10 +68,10 @@ pub enum Line {
         csv: String,
         sep: Sep,
     },
-    /// Show a report, of a constituency where the report is of one.
+    /// Show a report of a constituency, or with no report the progress of all.
     Show {
         db: String,
-        report: ReportName,
+        report: Option<Report>,
         con: Option<String>,
     },
     /// Serve `count` connections, 1 to 1,000,000, on a port from 1.
@@ -77,20 +80,6 @@ pub enum Line {
         port: u16,
         count: u32,
     },
-}
-
-/// The reports, by their names on the command line.
-#[derive(Clone, Copy, Debug, PartialEq, Eq)]
-pub enum ReportName {
-    Tally,
-    Seats,
-    Quotients,
-    Awards,
-    Quota,
-    Holders,
-    Past,
-    Short,
-    Progress,
 }
 
 /// Why a command line asks for nothing that can be done.
@@ -129,7 +118,7 @@ impl From<AllocError> for LineFault {
 
 /// Reads a command line, the program's name first.
 pub fn read_line(alloc: Global, words: &[String]) -> Result<Line, LineFault>
-    ensures line { IfOk result (λ line. line_of (map string_bytes words.now) ≡ Some (line_seen line)) }
+    ensures line { GivesLine result (line_of (map string_bytes words.now)) }
     ensures limits { IfOk result IsWithinLimits }
     ensures fault { IfErr result (IsRefusal (map string_bytes words.now)) }
 {
@@ -142,9 +131,9 @@ pub fn read_line(alloc: Global, words: &[String]) -> Result<Line, LineFault>
 
 // The line that a command and its arguments are.
 fn read_command(alloc: Global, name: &str, arguments: &ArgMatches<'_>) -> Result<Line, LineFault>
-    requires { has_arguments (name.now, rows_of (found_of arguments.now)) ≡ true }
-    ensures line { IfOk result (λ line. line_of_command (name.now, rows_of (found_of arguments.now)) ≡ Some (line_seen line)) }
-    ensures fault { IfErr result (IsCommandFault (name.now, rows_of (found_of arguments.now))) }
+    requires { has_arguments (name.now, given_rows arguments.now) ≡ true }
+    ensures line { GivesLine result (line_of_command (name.now, given_rows arguments.now)) }
+    ensures fault { IfErr result (IsCommandFault (name.now, given_rows arguments.now)) }
 {
     match name {
         CHECK => Ok(Line::Check {
@@ -159,9 +148,9 @@ fn read_command(alloc: Global, name: &str, arguments: &ArgMatches<'_>) -> Result
 }
 
 fn read_new(alloc: Global, arguments: &ArgMatches<'_>) -> Result<Line, AllocError>
-    requires db { has (codes "db") (rows_of (found_of arguments.now)) ≡ true }
-    requires setup { has (codes "setup") (rows_of (found_of arguments.now)) ≡ true }
-    ensures { IfOk result (λ line. new_line (rows_of (found_of arguments.now)) ≡ Some (line_seen line)) }
+    requires db { has (codes "db") (given_rows arguments.now) ≡ true }
+    requires setup { has (codes "setup") (given_rows arguments.now) ≡ true }
+    ensures { GivesLine result (new_line (given_rows arguments.now)) }
 {
     Ok(Line::New {
         db: read_text(alloc, arguments, DB)?,
@@ -170,10 +159,10 @@ fn read_new(alloc: Global, arguments: &ArgMatches<'_>) -> Result<Line, AllocErro
 }
 
 fn read_import(alloc: Global, arguments: &ArgMatches<'_>) -> Result<Line, AllocError>
-    requires db { has (codes "db") (rows_of (found_of arguments.now)) ≡ true }
-    requires con { has (codes "con") (rows_of (found_of arguments.now)) ≡ true }
-    requires csv { has (codes "csv") (rows_of (found_of arguments.now)) ≡ true }
-    ensures { IfOk result (λ line. import_line (rows_of (found_of arguments.now)) ≡ Some (line_seen line)) }
+    requires db { has (codes "db") (given_rows arguments.now) ≡ true }
+    requires con { has (codes "con") (given_rows arguments.now) ≡ true }
+    requires csv { has (codes "csv") (given_rows arguments.now) ≡ true }
+    ensures { GivesLine result (import_line (given_rows arguments.now)) }
 {
     Ok(Line::Import {
         db: read_text(alloc, arguments, DB)?,
@@ -184,19 +173,19 @@ fn read_import(alloc: Global, arguments: &ArgMatches<'_>) -> Result<Line, AllocE
 }
 
 fn read_show(alloc: Global, arguments: &ArgMatches<'_>) -> Result<Line, LineFault>
-    requires db { has (codes "db") (rows_of (found_of arguments.now)) ≡ true }
-    requires report { has (codes "report") (rows_of (found_of arguments.now)) ≡ true }
-    ensures line { IfOk result (λ line. show_line (rows_of (found_of arguments.now)) ≡ Some (line_seen line)) }
-    ensures fault { IfErr result (IsShowFault (rows_of (found_of arguments.now))) }
+    requires db { has (codes "db") (given_rows arguments.now) ≡ true }
+    requires report { has (codes "report") (given_rows arguments.now) ≡ true }
+    ensures line { GivesLine result (show_line (given_rows arguments.now)) }
+    ensures fault { IfErr result (IsShowFault (given_rows arguments.now)) }
 {
     let Some(name) = text_of(arguments, REPORT) else {
         unreachable!();
     };
-    let Some(report) = report_named(name) else {
+    let Some(report) = shown_named(name) else {
         return Err(LineFault::Usage(no_report(alloc, name)?));
     };
     let con = read_con(alloc, arguments)?;
-    if needs_con(report) && con.is_none() {
+    if report.is_some() && con.is_none() {
         return Err(LineFault::NoCon);
     }
     Ok(Line::Show {
@@ -207,10 +196,10 @@ fn read_show(alloc: Global, arguments: &ArgMatches<'_>) -> Result<Line, LineFaul
 }
 
 fn read_serve(alloc: Global, arguments: &ArgMatches<'_>) -> Result<Line, AllocError>
-    requires db { has (codes "db") (rows_of (found_of arguments.now)) ≡ true }
-    requires port { is_some (number_of (codes "port") 1 65535 (rows_of (found_of arguments.now))) ≡ true }
-    requires count { is_some (number_of (codes "count") 1 1000000 (rows_of (found_of arguments.now))) ≡ true }
-    ensures { IfOk result (λ line. serve_line (rows_of (found_of arguments.now)) ≡ Some (line_seen line)) }
+    requires db { has (codes "db") (given_rows arguments.now) ≡ true }
+    requires port { has_port (given_rows arguments.now) ≡ true }
+    requires count { has_count (given_rows arguments.now) ≡ true }
+    ensures { GivesLine result (serve_line (given_rows arguments.now)) }
 {
     Ok(Line::Serve {
         db: read_text(alloc, arguments, DB)?,
@@ -221,8 +210,9 @@ fn read_serve(alloc: Global, arguments: &ArgMatches<'_>) -> Result<Line, AllocEr
 
 // The text of an argument that was given.
 fn read_text(alloc: Global, arguments: &ArgMatches<'_>, id: &str) -> Result<String, AllocError>
-    requires { has id.now (rows_of (found_of arguments.now)) ≡ true }
-    ensures { IfOk result (λ text. first_of id.now (rows_of (found_of arguments.now)) ≡ Some (string_bytes text)) }
+    requires { has id.now (given_rows arguments.now) ≡ true }
+    ensures { IfOk result (λ text.
+        first_of id.now (given_rows arguments.now) ≡ Some (string_bytes text)) }
 {
     match text_of(arguments, id) {
         Some(text) => text.to_string(alloc),
@@ -232,8 +222,8 @@ fn read_text(alloc: Global, arguments: &ArgMatches<'_>, id: &str) -> Result<Stri
 
 // The number of an argument that was given, from 1 to `most`.
 fn read_number(arguments: &ArgMatches<'_>, id: &str, most: u64) -> u64
-    requires { is_some (number_of id.now 1 most (rows_of (found_of arguments.now))) ≡ true }
-    ensures number { number_of id.now 1 most (rows_of (found_of arguments.now)) ≡ Some result }
+    requires { is_some (number_of id.now 1 most (given_rows arguments.now)) ≡ true }
+    ensures number { number_of id.now 1 most (given_rows arguments.now) ≡ Some result }
     ensures bound { result ≤ most }
 {
     match text_of(arguments, id) {
@@ -246,7 +236,8 @@ fn read_number(arguments: &ArgMatches<'_>, id: &str, most: u64) -> u64
 }
 
 fn read_con(alloc: Global, arguments: &ArgMatches<'_>) -> Result<Option<String>, AllocError>
-    ensures { IfOk result (λ con. option_map string_bytes con ≡ first_of (codes "con") (rows_of (found_of arguments.now))) }
+    ensures { IfOk result (λ con.
+        option_map string_bytes con ≡ first_of (codes "con") (given_rows arguments.now)) }
 {
     match text_of(arguments, CON) {
         Some(text) => Ok(Some(text.to_string(alloc)?)),
@@ -255,7 +246,7 @@ fn read_con(alloc: Global, arguments: &ArgMatches<'_>) -> Result<Option<String>,
 }
 
 fn read_sep(arguments: &ArgMatches<'_>) -> Sep
-    ensures { result ≡ sep_of (rows_of (found_of arguments.now)) }
+    ensures { result ≡ sep_of (given_rows arguments.now) }
 {
     if is_given(arguments, SEMICOLON) {
         Sep::Semicolon
@@ -266,39 +257,26 @@ fn read_sep(arguments: &ArgMatches<'_>) -> Sep
 
 // The first text of an argument, where it was given.
 fn text_of<'a>(arguments: &ArgMatches<'a>, id: &str) -> Option<&'a str>
-    ensures { option_map (λ text. text.now) result ≡ first_of id.now (rows_of (found_of arguments.now)) }
+    ensures { option_map (λ text. text.now) result ≡ first_of id.now (given_rows arguments.now) }
 {
     arguments.get_str(id)
 }
 
 // Whether a flag was given.
 fn is_given(arguments: &ArgMatches<'_>, flag: &str) -> bool
-    ensures { result ≡ is_set flag.now (rows_of (found_of arguments.now)) }
+    ensures { result ≡ is_set flag.now (given_rows arguments.now) }
 {
     arguments.get_one(flag).unwrap_or(false)
 }
 
-fn report_named(name: &str) -> Option<ReportName>
-    ensures { result ≡ report_named name.now }
+// What is to be shown under a name: a report, or with `Some(None)` the progress.
+fn shown_named(name: &str) -> Option<Option<Report>>
+    ensures { result ≡ shown_named name.now }
 {
     match name {
-        "tally" => Some(ReportName::Tally),
-        "seats" => Some(ReportName::Seats),
-        "quotients" => Some(ReportName::Quotients),
-        "awards" => Some(ReportName::Awards),
-        "quota" => Some(ReportName::Quota),
-        "holders" => Some(ReportName::Holders),
-        "past" => Some(ReportName::Past),
-        "short" => Some(ReportName::Short),
-        "progress" => Some(ReportName::Progress),
-        _ => None,
+        PROGRESS => Some(None),
+        _ => Report::named(name).map(Some),
     }
-}
-
-fn needs_con(report: ReportName) -> bool
-    ensures { result ≡ needs_con report }
-{
-    !matches!(report, ReportName::Progress)
 }
 
 // The error of a text that names no report, in the form of those of `clap`.
@@ -328,7 +306,8 @@ fn office_command<'a>(alloc: Global) -> Result<Command<'a>, AllocError>
 }
 
 fn add_new_and_import<'a>(alloc: Global, office: Command<'a>) -> Result<Command<'a>, AllocError>
-    ensures { IfOk result (λ c. app_of c ≡ with_subcommand (with_subcommand (app_of office.entry) new_office_app.top) import_app.top) }
+    ensures { IfOk result (λ c.
+        app_of c ≡ with_commands (app_of office.entry) new_office_app import_app) }
 {
     office
         .subcommand(new_command(alloc)?)?
@@ -336,7 +315,7 @@ fn add_new_and_import<'a>(alloc: Global, office: Command<'a>) -> Result<Command<
 }
 
 fn add_show_and_serve<'a>(alloc: Global, office: Command<'a>) -> Result<Command<'a>, AllocError>
-    ensures { IfOk result (λ c. app_of c ≡ with_subcommand (with_subcommand (app_of office.entry) show_app.top) serve_app.top) }
+    ensures { IfOk result (λ c. app_of c ≡ with_commands (app_of office.entry) show_app serve_app) }
 {
     office
         .subcommand(show_command(alloc)?)?
@@ -401,7 +380,7 @@ fn import_command<'a>(alloc: Global) -> Result<Command<'a>, AllocError>
 
 fn add_csv<'a>(alloc: Global, import: Command<'a>) -> Result<Command<'a>, AllocError>
     requires { (out-Command import).has_globals ≡ false }
-    ensures app { IfOk result (λ c. app_of c ≡ with_rule (with_rule (app_of import.entry) (wanted_rule (codes "csv"))) semicolon_rule) }
+    ensures app { IfOk result (λ c. app_of c ≡ with_csv (app_of import.entry)) }
     ensures local { IfOk result (λ c. (out-Command c).has_globals ≡ false) }
 {
     import

@@ -4,7 +4,7 @@ ghost use Rattle.std.specs.Prelude.{◌≡◌, ◌≢◌, ◌≤◌, ℕ, false,
 ghost use Rattle.std.specs.Prelude.{length, slice_index_or, string_bytes};
 ghost use Rattle.tally_allot.specs.AllotFault.{IsFaultOf};
 ghost use Rattle.tally_steps.specs.Certification.{Certifies, Draws, IsCertifyRefusal, IsDrawRefusal};
-ghost use Rattle.tally_steps.specs.Certification.{count_checks, drawn_places, list_places, reopened};
+ghost use Rattle.tally_steps.specs.Certification.{count_checks, drawn_places, list_places, reopen_result};
 ghost use Rattle.tally_returns.specs.Checks.{first_refusal};
 ghost use Rattle.tally_steps.specs.Outcome.{IsOutcome, allotted, rule_in, poll_in};
 ghost use Rattle.tally_returns.specs.View.{FitsView};
@@ -86,9 +86,9 @@ pub fn draw(
 /// The note of a reopening of this view and what is put on record, or why it is refused.
 pub fn reopen(alloc: Global, view: &ConView, edition: u32, note: &str) -> Result<Reopening, Refusal>
     ensures reopened { IfOk result (λ r.
-        reopened view.now edition note.now ≡ Ok (string_bytes r.note, r.past)) }
+        reopen_result view.now edition note.now ≡ Ok (string_bytes r.note, r.past)) }
     ensures refused { IfErr result (λ refusal.
-        refusal ≢ Memory → reopened view.now edition note.now ≡ Err refusal) }
+        refusal ≢ Memory → reopen_result view.now edition note.now ≡ Err refusal) }
 {
     if !good_note(note) {
         return Err(Refusal::BadNote);

@@ -3,7 +3,7 @@
 ghost use Rattle.std.specs.Prelude.{◌≡◌, ◌≤◌, ℕ, false, IfOk, option_map, length, slice_index_or};
 ghost use Rattle.std.specs.List.{list_all};
 ghost use Rattle.tally_rules.specs.ListSet.{has_place};
-ghost use Rattle.tally_steps.specs.Certification.{are_distinct, list_found, list_places, marked_from};
+ghost use Rattle.tally_steps.specs.Certification.{are_distinct, list_found, list_places, marked_places_from};
 ghost use Rattle.tally_steps.specs.Certification.{names_group};
 ghost use Rattle.tally_steps.specs.Holders.{is_among};
 
@@ -87,7 +87,8 @@ fn are_distinct(places: &[u32]) -> bool
 
 fn names_all(lists: u32, group: &ListSet, places: &[u32]) -> bool
     requires { (l : ℕ) → lists ≤ l → slice_index_or group.now l false ≡ false }
-    ensures { result ≡ list_all (λ place. is_among place places.now) (marked_from 1 group.now) }
+    ensures { result ≡
+        list_all (λ place. is_among place places.now) (marked_places_from 1 group.now) }
 {
     for list in 0..lists {
         if group.has(list + 1) && !places.contains(&(list + 1)) {

@@ -1,7 +1,7 @@
 //! What is decided of a Vacate.
 
 ghost use Rattle.std.specs.Prelude.{◌≡◌, ◌≢◌, ◌≤◌, ◌∷◌, Ok, Err, IfOk, IfErr, length};
-ghost use Rattle.tally_steps.specs.Certification.{gone_of, holders_of, vacates};
+ghost use Rattle.tally_steps.specs.Certification.{gone_of, holders_of, vacate_result};
 ghost use Rattle.tally_steps.specs.Holders.{newcomer};
 ghost use Rattle.tally_returns.specs.View.{FitsView};
 ghost use Rattle.tally_returns.specs.declared.refusal.Refusal.TheVariants.{Memory};
@@ -33,9 +33,9 @@ pub fn vacate(
 ) -> Result<Vacancy, Refusal>
     requires { FitsView con.now view.now }
     ensures vacated { IfOk result (λ v.
-        vacates con.now view.now list place note.now ≡ Ok (v.gone, v.next)) }
+        vacate_result con.now view.now list place note.now ≡ Ok (v.gone, v.next)) }
     ensures refused { IfErr result (λ e.
-        e ≢ Memory → vacates con.now view.now list place note.now ≡ Err e) }
+        e ≢ Memory → vacate_result con.now view.now list place note.now ≡ Err e) }
 {
     let Some(found) = list_found(con, list) else {
         return Err(Refusal::NoCandidate);

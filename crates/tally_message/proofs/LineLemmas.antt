@@ -4,7 +4,7 @@ use Rattle.std.proofs.lemmas.Map.Views.{exact_unsigned_eq}
 use Rattle.std.proofs.lemmas.List.{take-append-drop, length-append}
 use Rattle.httparse.specs.Grammar.{LineEnd, crlf, lf, print_end, print_blank, print_version, is_token_byte, Field, print_field, RequestHead, IsRequestHead, print_request, ReadsRequest, HasNoRequest}
 use Rattle.httparse.proofs.GrammarLemmas.{ReadsRequest-append, cons-append}
-use Rattle.tally_message.specs.Lines.{no_lines, lines_with, lines_after}
+use Rattle.tally_message.specs.internal.Lines.{no_lines, lines_with, lines_after}
 use Rattle.tally_message.specs.declared.lines.Lines.{Lines}
 use Rattle.tally_message.proofs.HeadLemmas.{shorter_front}
 

@@ -13,9 +13,9 @@ use Rattle.httparse.proofs.GrammarLemmas.{ReadsRequest-append}
 use Rattle.std.specs.List.{list_any}
 use Rattle.std.specs.Str.Parse.{digits_value}
 use Rattle.tally_door.specs.Connection.{Connection}
-use Rattle.tally_message.specs.Reading.{IsBodyOrFault}
+use Rattle.tally_message.specs.internal.Reading.{IsBodyOrFault}
 use Rattle.tally_message.specs.Message.{OnlyReads, FailsAs, is_failed_read, head_limit, field_limit, body_limit, NameAndValue, is_named, values_of, single_value, is_content_length, content_length, length_by, BeginsWithHead, Announces, IsFault, IsMessageOrFault, HasCutBody, announced_length, body_length}
-use Rattle.tally_message.specs.Start.{IsStart, IsFaultyStart}
+use Rattle.tally_message.specs.internal.Start.{IsStart, IsFaultyStart}
 use Rattle.tally_message.specs.declared.start.Start.{Start}
 use Rattle.tally_message.specs.declared.message.Message.{Message}
 use Rattle.tally_message.specs.declared.message.MessageFault.{MessageFault}

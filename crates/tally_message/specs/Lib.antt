@@ -1,6 +1,3 @@
+pub mod internal
 pub mod Message
-pub mod Reading
-pub mod Start
-pub mod Lines
-pub mod Fields
 pub mod LawStatements

@@ -3,7 +3,7 @@
 ghost use Rattle.std.specs.Prelude.{◌≡◌, ◌<◌, ◌≤◌, true, length, vec_len};
 ghost use Rattle.tally_door.specs.Connection.{ChangesCurrent};
 ghost use Rattle.tally_message.specs.Message.{TakesAtMost};
-ghost use Rattle.tally_message.specs.Reading.{ReadsBody};
+ghost use Rattle.tally_message.specs.internal.Reading.{ReadsBody};
 
 use crate::input::{Input, read_more};
 use crate::message::MessageFault;

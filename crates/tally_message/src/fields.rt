@@ -6,7 +6,7 @@ ghost use Rattle.std.specs.List.{list_all, list_any};
 ghost use Rattle.std.specs.Str.{str_eq_ignore_ascii_case};
 ghost use Rattle.httparse.specs.Spans.{IsHeaderWithin, header_bytes};
 ghost use Rattle.tally_message.specs.Message.{is_named, single_value, is_content_length, content_length, announced_length};
-ghost use Rattle.tally_message.specs.Fields.{SeenAs, values_in};
+ghost use Rattle.tally_message.specs.internal.Fields.{SeenAs, values_in};
 ghost use Rattle.tally_message.specs.declared.message.MessageFault.TheVariants.{BadLength};
 
 use crate::message::MessageFault;

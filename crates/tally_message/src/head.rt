@@ -5,8 +5,8 @@ ghost use Rattle.httparse.specs.Grammar.{HasNoRequest};
 ghost use Rattle.httparse.specs.Spans.{IsRequestWithin, IsRequestOf, RequestOverflows};
 ghost use Rattle.tally_door.specs.Connection.{ChangesCurrent};
 ghost use Rattle.tally_message.specs.Message.{head_limit, field_limit, TakesAtMost};
-ghost use Rattle.tally_message.specs.Lines.{lines_of};
-ghost use Rattle.tally_message.specs.Reading.{ReadsHead};
+ghost use Rattle.tally_message.specs.internal.Lines.{lines_of};
+ghost use Rattle.tally_message.specs.internal.Reading.{ReadsHead};
 ghost use Rattle.tally_message.specs.declared.message.MessageFault.TheVariants.{BadHead};
 
 use crate::input::{Input, read_more};

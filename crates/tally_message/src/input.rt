@@ -3,7 +3,7 @@
 ghost use Rattle.std.specs.Prelude.{◌≡◌, ◌≤◌, ◌<◌, ◌-◌, true, length, take};
 ghost use Rattle.tally_door.specs.Connection.{ChangesCurrent};
 ghost use Rattle.tally_message.specs.Message.{TakesAtMost};
-ghost use Rattle.tally_message.specs.Reading.{ReadsOnto};
+ghost use Rattle.tally_message.specs.internal.Reading.{ReadsOnto};
 ghost use Rattle.tally_message.specs.declared.input.Input.TheVariants.{Bytes};
 
 use tally_door::Door;

@@ -1,7 +1,7 @@
 //! When a head may be whole.
 
 ghost use Rattle.std.specs.Prelude.{◌≡◌, ◌==◌, ◌&&◌};
-ghost use Rattle.tally_message.specs.Lines.{no_lines, lines_with};
+ghost use Rattle.tally_message.specs.internal.Lines.{no_lines, lines_with};
 
 /// The lines of a head as they come: whether one that is not empty has begun, and whether the last
 /// one is empty so far. They say when the bytes are worth parsing, so that a head that comes byte

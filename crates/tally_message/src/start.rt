@@ -4,7 +4,7 @@ ghost use Rattle.std.specs.Prelude.{◌≡◌, ◌≤◌, length, map, take, IfO
 ghost use Rattle.http.specs.Token.{IsToken};
 ghost use Rattle.httparse.specs.Spans.{IsRequestWithin, IsRequestOf, span_bytes, header_bytes};
 ghost use Rattle.tally_message.specs.Message.{head_limit, field_limit, announced_length};
-ghost use Rattle.tally_message.specs.Start.{IsStart, IsFaultyStart};
+ghost use Rattle.tally_message.specs.internal.Start.{IsStart, IsFaultyStart};
 ghost use Rattle.tally_message.specs.declared.message.MessageFault.TheVariants.{Memory};
 
 use crate::fields::body_length;

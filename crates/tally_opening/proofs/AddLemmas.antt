@@ -13,8 +13,8 @@ use Rattle.tally_rules.specs.Constituency.{Constituency}
 use Rattle.tally_returns.specs.View.{votes_at, votes_of_lists}
 use Rattle.tally_statements.specs.declared.table.KeyedTable.TheVariants.{Cons, Totals}
 use Rattle.tally_statements.specs.Office.{IsInside, HasRows, rows_in}
-use Rattle.tally_tables.specs.Cells.{item_row, numbered}
-use Rattle.tally_opening.specs.Making.{AddsTotals, AddsCons, no_list_rows, no_vote_rows, opening_row, opening_totals}
+use Rattle.tally_tables.specs.Cells.{item_row, numbers_with_places}
+use Rattle.tally_opening.specs.internal.Making.{AddsTotals, AddsCons, no_list_rows, no_vote_rows, opening_row, opening_totals}
 
 -- rows beside others, and then more rows beside all of these
 joined : {X : Type 0} (xs ys base mid new : List X) → IsPermutation (xs ++ base) mid → IsPermutation (ys ++ mid) new → IsPermutation ((xs ++ ys) ++ base) new
@@ -36,9 +36,9 @@ totals_then xs ys old mid new p q = record {
   setup = q.setup ∙ p.setup;
 }
 
-numbered-append : (first : ℕ) (xs ys : List ℕ) → numbered first (xs ++ ys) ≡ numbered first xs ++ numbered (first + length xs) ys
-numbered-append first [] ys = let same : first ≡ first + 0 = omega arith in ap (λ n. numbered n ys) same
-numbered-append first (x ∷ xs) ys = ap (λ l. (first, x) ∷ l) (numbered-append (first + 1) xs ys ∙ ap (λ n. numbered (first + 1) xs ++ numbered n ys) next)
+numbered-append : (first : ℕ) (xs ys : List ℕ) → numbers_with_places first (xs ++ ys) ≡ numbers_with_places first xs ++ numbers_with_places (first + length xs) ys
+numbered-append first [] ys = let same : first ≡ first + 0 = omega arith in ap (λ n. numbers_with_places n ys) same
+numbered-append first (x ∷ xs) ys = ap (λ l. (first, x) ∷ l) (numbered-append (first + 1) xs ys ∙ ap (λ n. numbers_with_places (first + 1) xs ++ numbers_with_places n ys) next)
   where
     next : first + 1 + length xs ≡ first + length (x ∷ xs)
     next = omega arith
@@ -48,9 +48,9 @@ pub list_rows_more : (code : List ℕ) (n : ℕ) → no_list_rows code (n + 1) �
 list_rows_more code n =
     let votes : votes_of_lists (n + 1) [] ≡ votes_of_lists n [] ++ 0 ∷ [] = map-range_with_len_more (votes_at []) 0 n n (omega arith) in
     let long : length (votes_of_lists n []) ≡ n = length-map-range n 0 in
-    ap (λ l. map (item_row code) (numbered 1 l)) votes
+    ap (λ l. map (item_row code) (numbers_with_places 1 l)) votes
     ∙ ap (map (item_row code)) (numbered-append 1 (votes_of_lists n []) (0 ∷ []))
-    ∙ map-append (item_row code) (numbered 1 (votes_of_lists n [])) _
+    ∙ map-append (item_row code) (numbers_with_places 1 (votes_of_lists n [])) _
     ∙ ap (λ m. no_list_rows code n ++ item_row code (m, 0) ∷ []) (omega (arith, long))
   where
     length-map-range : (n a : ℕ) → length (map (votes_at []) (range_with_len a n)) ≡ n
@@ -99,7 +99,7 @@ totals_last rows row old mid new (Err e) p q = tt
 
 -- the rows of a constituency without returns, taken apart
 pub no_votes_split : (code : List ℕ) (lists : ℕ) → (item_row code (0, 0) ∷ [] ++ no_list_rows code lists) ++ item_row code (61, 0) ∷ [] ≡ no_vote_rows code lists
-no_votes_split code lists = ap (λ l. item_row code (0, 0) ∷ l) (sym (map-append (item_row code) (numbered 1 (votes_of_lists lists [])) ((61, 0) ∷ [])))
+no_votes_split code lists = ap (λ l. item_row code (0, 0) ∷ l) (sym (map-append (item_row code) (numbers_with_places 1 (votes_of_lists lists [])) ((61, 0) ∷ [])))
 
 pub opening_last : (con : Constituency) (old mid new : Seen) (r : Result Unit Error) → HasRows Cons (opening_row con ∷ rows_in Cons old) old mid → OnOk r (AddsTotals (opening_totals con) mid new) → OnOk r (AddsCons (con ∷ []) old new)
 opening_last con old mid new (Ok done) p q = con_and_totals con old mid new p q

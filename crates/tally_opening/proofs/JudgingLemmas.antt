@@ -1,6 +1,6 @@
 -- From what queries answered of the tables to the judgement of them.
-use Rattle.std.proofs.Common.{◌≡◌, ◌∙◌, List, ℕ, map, [], ◌∷◌, Result, Ok, Err, OnOk, IsTrue, inl, inr, refl, sym, ap, subst, arith}
-use Rattle.std.specs.Prelude.{◌==◌, if◌then◌else◌}
+use Rattle.std.proofs.Common.{◌≡◌, ◌∙◌, List, ℕ, map, [], ◌∷◌, Option, None, Some, Result, Ok, Err, OnOk, IsTrue, inl, inr, refl, sym, ap, subst, arith}
+use Rattle.std.specs.Prelude.{◌==◌, if◌then◌else◌, OnSome}
 use Rattle.std.specs.List.Sorted.{IsPermutation}
 use Rattle.std.proofs.lemmas.List.Sorted.{IsPermutation-sym}
 use Rattle.sqlite_value.specs.Order.{Row}
@@ -20,16 +20,18 @@ use Rattle.tally_rows.proofs.RisingRowidLemmas.{distinct_shown}
 use Rattle.tally_rows.proofs.RowidLemmas.{distinct_permuted}
 use Rattle.tally_rules.specs.Constituency.{Constituency}
 use Rattle.tally_rules.specs.Limits.{IsSetup}
+use Rattle.tally_judge.specs.Numbers.{HasNumbersOfRows, Numbers}
 use Rattle.tally_judge.specs.OfficeRows.{AreLawfulRows, AreRowsOfOneState, Rows}
 use Rattle.tally_statements.specs.declared.table.KeyedTable.{KeyedTable}
 use Rattle.tally_statements.specs.declared.table.KeyedTable.TheVariants.{Returns, Counts, Cons, Lots, Seats, Gone, Totals, Past}
 use Rattle.tally_statements.specs.Inside.{OnlyReadsFrom}
 use Rattle.tally_statements.proofs.StaysLemmas.{stays-then}
 use Rattle.tally_statements.specs.Office.{HasTables, ShowsRowids, ShowsTable, rows_in, tree_of}
-use Rattle.tally_opening.specs.Opening.{AreOfOne, AreReadOf, IsJudgedFault, IsTodayFault, AreTablesOfNone, HasDistinctRows, IsJudged, IsReadOf, ShowsOffice, with_setup}
+use Rattle.tally_opening.specs.internal.Opening.{AreOfOne, AreReadOf, IsJudgedFault, IsTodayFault, AreTablesOfNone, HasDistinctRows, HasNumbersOfTables, IsJudged, IsReadOf, ShowsOffice, with_setup}
 use Rattle.tally_faults.specs.declared.fault.OpenFault.{OpenFault}
 use Rattle.tally_faults.specs.declared.fault.OpenFault.TheVariants.{BadTables, Memory, NoTables, Setup, Store}
 use Rattle.tally_opening.proofs.JudgedLemmas.{accepted, refused}
+use Rattle.tally_opening.proofs.TableLemmas.{rows_of_tables}
 
 -- rowids that were answered and rise are those of the table
 pub rowids_differ : (t : KeyedTable) (seen : Seen) (answer : List Row) → ShowsRowids t seen answer → HaveDistinctRowids answer → HasDistinctRows seen t
@@ -129,6 +131,15 @@ judged setup seen rows limits shown distinct one = record {
 pub judged_none : (setup : List Constituency) (seen : Seen) (rows : Rows) → IsSetup setup → ShowsOffice seen rows → (AreLawfulRows setup rows → ⊥) → AreTablesOfNone setup seen
 judged_none setup seen rows limits shown none text = refused setup (with_setup text seen) rows limits (office_with text seen rows shown) none text
 
+pub on_some : {X P Q : Type 0} (found : Option X) → (P → Q) → OnSome found P → OnSome found Q
+on_some None f h = tt
+on_some (Some x) f h = f h
+
+-- numbers of rows are those of the tables that answered them
+pub numbers_judged : (setup : List Constituency) (seen : Seen) (rows : Rows) (numbers : Numbers) → IsSetup setup → ShowsOffice seen rows → HasNumbersOfRows setup rows numbers → HasNumbersOfTables setup seen numbers
+numbers_judged setup seen rows numbers limits shown told text s lawful tables =
+    told s lawful (rows_of_tables setup s limits lawful text (with_setup text seen) rows (office_with text seen rows shown) tables)
+
 abbrev trees_with : List ℕ → Database → Trees
 trees_with text d tree = if tree == setup_tree then setup_row version text ∷ [] else d.trees tree
 
@@ -152,6 +163,9 @@ judged_before setup old new same judged = judged_now setup old new same.0.now_is
 
 pub none_before : (setup : List Constituency) (old new : Seen) → IsUnchanged old new → AreTablesOfNone setup new → AreTablesOfNone setup old
 none_before setup old new same none text s lawful tables = none text s lawful (subst (λ (d : Database). AreTables setup text s (trees_with text d)) (sym same.0.now_is) tables)
+
+pub numbers_now : (setup : List Constituency) (old new : Seen) (numbers : Numbers) → new.now ≡ old.now → HasNumbersOfTables setup new numbers → HasNumbersOfTables setup old numbers
+numbers_now setup old new numbers same told text s lawful tables = told text s lawful (subst (λ (d : Database). AreTables setup text s (trees_with text d)) (sym same) tables)
 
 -- why tables of today's version are not taken, of a database that is as it was
 pub today_fault : (old new : Seen) (fault : OpenFault) → new.now ≡ old.now → IsJudgedFault version new fault → IsTodayFault old fault

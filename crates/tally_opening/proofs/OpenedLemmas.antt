@@ -9,6 +9,7 @@ use Rattle.sqlite_value.specs.declared.value.Value.TheVariants.{Int, Null, Text}
 use Rattle.tally_rows.specs.Rows.{AreRowsOf, HaveDistinctRowids}
 use Rattle.tally_rules.specs.Constituency.{Constituency}
 use Rattle.tally_rules.specs.Reading.{setup_of_text}
+use Rattle.tally_judge.specs.Numbers.{HasNumbers, Numbers}
 use Rattle.tally_steps.specs.LawfulState.{IsLawfulState}
 use Rattle.tally_returns.specs.State.{State}
 use Rattle.tally_schema.specs.Made.{has_former_tables, has_table}
@@ -20,8 +21,8 @@ use Rattle.tally_tables.specs.Cells.{return_rows, count_rows, con_rows, lot_rows
 use Rattle.tally_tables.specs.TablesOfState.{AreTables, version}
 use Rattle.tally_opening.specs.Create.{IsAsBefore}
 use Rattle.tally_opening.specs.Office.{IsOffice, IsSettled}
-use Rattle.tally_opening.specs.Open.{AreFormerTables, HasSetup, IsOfKnownVersion, IsOpenFault, IsOpened, IsSetupOf, LacksTable, former_version, taken_over}
-use Rattle.tally_opening.specs.Opening.{AreFormerOfNone, AreTablesOfNone, IsFormerFault, IsJudged, IsOfNoVersion, HasSetupRow, IsTodayFault, with_setup}
+use Rattle.tally_opening.specs.Open.{AreFormerTables, HasNumbersOfFound, HasSetup, IsOfKnownVersion, IsOpenFault, IsOpened, IsSetupOf, LacksTable, former_version, tables_taken_over}
+use Rattle.tally_opening.specs.internal.Opening.{AreFormerOfNone, AreTablesOfNone, HasNumbersOfFormer, HasNumbersOfTables, IsFormerFault, IsJudged, IsOfNoVersion, HasSetupRow, IsTodayFault, with_setup}
 use Rattle.tally_faults.specs.declared.fault.OpenFault.{OpenFault}
 use Rattle.tally_faults.specs.declared.fault.OpenFault.TheVariants.{BadTables, Memory, NoTables, Setup, Store}
 
@@ -170,7 +171,7 @@ fault_former old BadTables schema names past told = (λ setup text s lawful foun
     no_state (inr unlawful) setup text s lawful reads (inr found) =
         let own = (one_row former_version former_version text unlawful.text old.now.trees found.1.0 unlawful.row).1 in
         let is = one_setup text unlawful.text setup unlawful.setup own reads unlawful.reads in
-        unlawful.none s (subst (λ c. IsLawfulState c s) is lawful) (subst (λ c. AreTables c unlawful.text s (taken_over unlawful.text old.now.trees)) is (subst (λ t. AreTables setup t s (taken_over t old.now.trees)) own found.1.1))
+        unlawful.none s (subst (λ c. IsLawfulState c s) is lawful) (subst (λ c. AreTables c unlawful.text s (tables_taken_over unlawful.text old.now.trees)) is (subst (λ t. AreTables setup t s (tables_taken_over t old.now.trees)) own found.1.1))
 
     no_text : Told → (text : List ℕ) → IsOfKnownVersion text old.now → IsOk (setup_of_text text)
     no_text told text (inl known) = absurd (forms_differ (sym known.0 ∙ schema))
@@ -191,6 +192,22 @@ setup_opened setup old new opened = (opened.text, known opened.found.found.1, op
         → IsOfKnownVersion opened.text old.now
     known (inl found) = inl (found.0, found.1.setup_is)
     known (inr found) = inr (found.0, found.1.0)
+
+-- ---- the numbers of returns
+
+pub numbers_today : (setup : List Constituency) (old : Seen) (numbers : Numbers) → old.now.schema ≡ office_schema → HasNumbersOfTables setup old numbers → HasNumbersOfFound setup old.now numbers
+numbers_today setup old numbers schema told text s lawful found = go found.1
+  where
+    go : ((old.now.schema ≡ office_schema) × AreTables setup text s old.now.trees) ⊎ ((old.now.schema ≡ former_schema) × AreFormerTables setup text s old.now.trees) → HasNumbers setup s numbers
+    go (inl is) = told text s lawful (same_tables setup text s _ _ (same_back _ _ (stored_same old text is.1.setup_is)) is.1)
+    go (inr is) = absurd (forms_differ (sym schema ∙ is.0))
+
+pub numbers_former : (setup : List Constituency) (old : Seen) (numbers : Numbers) → old.now.schema ≡ former_schema → HasNumbersOfFormer setup old.now.trees numbers → HasNumbersOfFound setup old.now numbers
+numbers_former setup old numbers schema told text s lawful found = go found.1
+  where
+    go : ((old.now.schema ≡ office_schema) × AreTables setup text s old.now.trees) ⊎ ((old.now.schema ≡ former_schema) × AreFormerTables setup text s old.now.trees) → HasNumbers setup s numbers
+    go (inl is) = absurd (forms_differ (sym is.0 ∙ schema))
+    go (inr is) = told text s lawful is.1
 
 -- ---- what calls answered
 

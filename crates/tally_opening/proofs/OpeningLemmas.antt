@@ -30,7 +30,7 @@ use Rattle.tally_statements.specs.declared.table.KeyedTable.{KeyedTable}
 use Rattle.tally_statements.specs.declared.table.KeyedTable.TheVariants.{Returns, Counts, Cons, Lots, Seats, Gone, Totals, Past}
 use Rattle.tally_statements.specs.Office.{HasSetup, rows_in, tree_of}
 use Rattle.tally_tables.specs.Cells.{con_rows, gone_rows, item_row, items_of, lot_rows, past_rows, record_rows, seat_rows, total_rows}
-use Rattle.tally_opening.specs.Making.{AddsCons, IsMade, opening_row, opening_totals}
+use Rattle.tally_opening.specs.internal.Making.{AddsCons, IsMade, opening_row, opening_totals}
 use Rattle.tally_opening.proofs.EmptyLemmas.{tree_empty}
 use Rattle.tally_opening.proofs.WholeLemmas.{whole_inside}
 

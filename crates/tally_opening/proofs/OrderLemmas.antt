@@ -18,7 +18,7 @@ use Rattle.tally_rows.proofs.RowsLemmas.{AreKeyedBy, keys_rise}
 use Rattle.tally_statements.specs.declared.table.KeyedTable.{KeyedTable}
 use Rattle.tally_statements.specs.declared.table.KeyedTable.TheVariants.{Returns, Counts, Cons, Lots, Seats, Gone, Totals, Past}
 use Rattle.tally_statements.specs.Office.{AreInOrder, all_cells, key_cells}
-use Rattle.tally_tables.specs.Cells.{item_row, numbered}
+use Rattle.tally_tables.specs.Cells.{item_row, numbers_with_places}
 
 -- the key of a row is below that of another
 abbrev pub IsBelow : KeyedTable → Row → Row → Type 0
@@ -106,24 +106,24 @@ totals_items = (λ key i j m n less. items_below key i j less, λ key item. refl
 abbrev pub ItemsRise : List (ℕ × ℕ) → Type 0
 ItemsRise = IsAscending (λ a b. a.0 < b.0)
 
-numbered_from : (low first : ℕ) (ns : List ℕ) → low < first → AllByRecursion (λ (b : ℕ × ℕ). low < b.0) (numbered first ns)
+numbered_from : (low first : ℕ) (ns : List ℕ) → low < first → AllByRecursion (λ (b : ℕ × ℕ). low < b.0) (numbers_with_places first ns)
 numbered_from low first [] h = tt
 numbered_from low first (n ∷ ns) h = (h, numbered_from low (first + 1) ns (omega (arith, h)))
 
-pub numbered_rise : (first : ℕ) (ns : List ℕ) → ItemsRise (numbered first ns)
+pub numbered_rise : (first : ℕ) (ns : List ℕ) → ItemsRise (numbers_with_places first ns)
 numbered_rise first [] = tt
 numbered_rise first (n ∷ ns) = (numbered_from first (first + 1) ns (omega arith), numbered_rise (first + 1) ns)
 
-numbered_below : (first high : ℕ) (ns : List ℕ) → first + length ns ≤ high → AllByRecursion (λ (a : ℕ × ℕ). a.0 < high) (numbered first ns)
+numbered_below : (first high : ℕ) (ns : List ℕ) → first + length ns ≤ high → AllByRecursion (λ (a : ℕ × ℕ). a.0 < high) (numbers_with_places first ns)
 numbered_below first high [] h = tt
 numbered_below first high (n ∷ ns) h = (omega (arith, h), numbered_below (first + 1) high ns (omega (arith, h)))
 
 -- those of counts, of at most 60 lists
-pub counted_rise : (blank spoiled : ℕ) (votes : List ℕ) → length votes ≤ 60 → ItemsRise ((0, blank) ∷ numbered 1 votes ++ (61, spoiled) ∷ [])
+pub counted_rise : (blank spoiled : ℕ) (votes : List ℕ) → length votes ≤ 60 → ItemsRise ((0, blank) ∷ numbers_with_places 1 votes ++ (61, spoiled) ∷ [])
 counted_rise blank spoiled votes few = (
-  all-append (λ (b : ℕ × ℕ). 0 < b.0) (numbered 1 votes) ((61, spoiled) ∷ []) (numbered_from 0 1 votes (omega arith)) (omega arith, tt),
-  ascending-append (λ (a b : ℕ × ℕ). a.0 < b.0) (numbered 1 votes) ((61, spoiled) ∷ []) (numbered_rise 1 votes) (tt, tt)
-      (all_weaker (λ (a : ℕ × ℕ). a.0 < 61) (λ a. (a.0 < 61) × Unit {0}) (λ a h. (h, tt)) (numbered 1 votes) (numbered_below 1 61 votes (omega (arith, few)))),
+  all-append (λ (b : ℕ × ℕ). 0 < b.0) (numbers_with_places 1 votes) ((61, spoiled) ∷ []) (numbered_from 0 1 votes (omega arith)) (omega arith, tt),
+  ascending-append (λ (a b : ℕ × ℕ). a.0 < b.0) (numbers_with_places 1 votes) ((61, spoiled) ∷ []) (numbered_rise 1 votes) (tt, tt)
+      (all_weaker (λ (a : ℕ × ℕ). a.0 < 61) (λ a. (a.0 < 61) × Unit {0}) (λ a h. (h, tt)) (numbers_with_places 1 votes) (numbered_below 1 61 votes (omega (arith, few)))),
 )
 
 pub items_in_order : (t : KeyedTable) → HasItems t → (key : List ℕ) (items : List (ℕ × ℕ)) → ItemsRise items → AreInOrder t (map (item_row key) items)

@@ -14,7 +14,7 @@ use Rattle.tally_rows.specs.Rows.{text_cmp}
 use Rattle.tally_steps.specs.LawfulState.{IsUnderPlaces}
 use Rattle.tally_statements.specs.declared.table.KeyedTable.TheVariants.{Gone, Past}
 use Rattle.tally_statements.specs.Office.{AreInOrder}
-use Rattle.tally_tables.specs.Cells.{gone_row, item_row, numbered, past_row, record_rows}
+use Rattle.tally_tables.specs.Cells.{gone_row, item_row, numbers_with_places, past_row, record_rows}
 use Rattle.tally_opening.proofs.OrderLemmas.{IsBelow, IsWhole, numbered_rise, numbers_below, same_then, first_then}
 
 -- ---- the keys of the rows of an entry
@@ -33,7 +33,7 @@ record_keyed key edition (i ∷ items) = (refl, record_keyed key edition items)
 
 pub past_keyed : (key : List ℕ) (es : List (ℕ × List ℕ)) → AllByRecursion (λ c. column c 0 ≡ Text key) (flat_map (record_rows key) es)
 past_keyed key [] = tt
-past_keyed key (e ∷ es) = all-append (λ c. column c 0 ≡ Text key) (record_rows key e) (flat_map (record_rows key) es) (record_keyed key e.0 (numbered 1 e.1)) (past_keyed key es)
+past_keyed key (e ∷ es) = all-append (λ c. column c 0 ≡ Text key) (record_rows key e) (flat_map (record_rows key) es) (record_keyed key e.0 (numbers_with_places 1 e.1)) (past_keyed key es)
 
 -- ---- numbers in the order of a map
 
@@ -115,7 +115,7 @@ past_in_order key es rise = record { whole = each es; rising = go es rise }
 
     each : (es : List (ℕ × List ℕ)) → AllByRecursion (IsWhole Past) (flat_map (record_rows key) es)
     each [] = tt
-    each (e ∷ es) = all-append (IsWhole Past) (record_rows key e) (flat_map (record_rows key) es) (each_of e.0 (numbered 1 e.1)) (each es)
+    each (e ∷ es) = all-append (IsWhole Past) (record_rows key e) (flat_map (record_rows key) es) (each_of e.0 (numbers_with_places 1 e.1)) (each es)
 
     over_items : (c d : ℕ) (i : ℕ × ℕ) (items : List (ℕ × ℕ)) → value_cmp (Int (pos c)) (Int (pos d)) ≡ Less → AllByRecursion (IsBelow Past (past_row key c i)) (map (past_row key d) items)
     over_items c d i [] less = tt
@@ -125,7 +125,7 @@ past_in_order key es rise = record { whole = each es; rising = go es rise }
     over c i [] less = tt
     over c i (e ∷ es) less =
         all-append (IsBelow Past (past_row key c i)) (record_rows key e) (flat_map (record_rows key) es)
-        (over_items c e.0 i (numbered 1 e.1) (numbers_same c e.0 ∙ less.0)) (over c i es less.1)
+        (over_items c e.0 i (numbers_with_places 1 e.1) (numbers_same c e.0 ∙ less.0)) (over c i es less.1)
 
     over_each : (c : ℕ) (items : List (ℕ × ℕ)) (es : List (ℕ × List ℕ)) → AllByRecursion (λ b. nat_cmp c b.0 ≡ Less) es
         → AllByRecursion (λ r. AllByRecursion (IsBelow Past r) (flat_map (record_rows key) es)) (map (past_row key c) items)
@@ -143,5 +143,5 @@ past_in_order key es rise = record { whole = each es; rising = go es rise }
     go : (es : List (ℕ × List ℕ)) → IsAscending (λ a b. nat_cmp a.0 b.0 ≡ Less) es → IsAscending (IsBelow Past) (flat_map (record_rows key) es)
     go [] rise = tt
     go (e ∷ es) rise =
-        ascending-append (IsBelow Past) (record_rows key e) (flat_map (record_rows key) es) (own e.0 (numbered 1 e.1) (numbered_rise 1 e.1)) (go es rise.1)
-        (over_each e.0 (numbered 1 e.1) es rise.0)
+        ascending-append (IsBelow Past) (record_rows key e) (flat_map (record_rows key) es) (own e.0 (numbers_with_places 1 e.1) (numbered_rise 1 e.1)) (go es rise.1)
+        (over_each e.0 (numbers_with_places 1 e.1) es rise.0)

@@ -12,7 +12,7 @@ use Rattle.tally_rows.specs.Cells.{number_of, text_of}
 use Rattle.tally_schema.specs.Cells.{setup_row}
 use Rattle.tally_schema.specs.Tables.{setup_tree}
 use Rattle.tally_statements.specs.Office.{ShowsSetup, shown_setup, stored_setup}
-use Rattle.tally_opening.specs.Opening.{IsSetupFault, IsTextFault, setup_shown, shown_of_row}
+use Rattle.tally_opening.specs.internal.Opening.{IsSetupFault, IsTextFault, setup_shown, shown_of_row}
 use Rattle.tally_faults.specs.declared.fault.OpenFault.{OpenFault}
 use Rattle.tally_faults.specs.declared.fault.OpenFault.TheVariants.{BadTables, Memory, NoTables, Setup, Store}
 

@@ -32,11 +32,11 @@ use Rattle.tally_schema.specs.Tables.{setup_tree}
 use Rattle.tally_statements.specs.declared.table.KeyedTable.{KeyedTable}
 use Rattle.tally_statements.specs.declared.table.KeyedTable.TheVariants.{Returns as Heads, Counts, Cons, Lots, Seats, Gone, Totals, Past}
 use Rattle.tally_statements.specs.Office.{AreInOrder, ShowsTable, rows_in, tree_of}
-use Rattle.tally_tables.specs.Cells.{con_rows, count_rows, gone_rows, items_of, lot_rows, numbered, past_rows, return_rows, seat_rows, total_rows, totals_of}
+use Rattle.tally_tables.specs.Cells.{con_rows, count_rows, gone_rows, items_of, lot_rows, numbers_with_places, past_rows, return_rows, seat_rows, total_rows, totals_of}
 use Rattle.tally_tables.specs.TablesOfState.{AreTables, version}
 use Rattle.tally_judge.specs.OfficeRows.{AreOfficeRows, Rows}
 use Rattle.tally_judge.proofs.EntriesLemmas.{each_found}
-use Rattle.tally_opening.specs.Opening.{ShowsOffice}
+use Rattle.tally_opening.specs.internal.Opening.{ShowsOffice}
 use Rattle.tally_opening.proofs.OrderLemmas.{counted_rise, counts_items, in_order, items_in_order, lots_items, numbered_rise, seats_items, totals_items}
 use Rattle.tally_opening.proofs.ShownLemmas.{gone_in_order, gone_keyed, items_keyed, past_in_order, past_keyed, sorted_rise}
 
@@ -100,12 +100,12 @@ module _ (setup : List Constituency) (s : State) (limits : IsSetup setup) (lawfu
   cons_in_order = in_order Cons con_rows (λ e. (refl, tt)) s.cons (for_each _ (λ e. record { whole = (refl, tt); rising = (tt, tt) }) (entries s.cons))
 
   lots_in_order : AreInOrder Lots (flat_map lot_rows (entries s.cons))
-  lots_in_order = in_order Lots lot_rows (λ e. items_keyed e.0 (numbered 1 e.1.lot)) s.cons (for_each _ (λ e. items_in_order Lots lots_items e.0 (numbered 1 e.1.lot) (numbered_rise 1 e.1.lot)) (entries s.cons))
+  lots_in_order = in_order Lots lot_rows (λ e. items_keyed e.0 (numbers_with_places 1 e.1.lot)) s.cons (for_each _ (λ e. items_in_order Lots lots_items e.0 (numbers_with_places 1 e.1.lot) (numbered_rise 1 e.1.lot)) (entries s.cons))
 
   seats_in_order : (given : List ℕ → List ℕ) → AreInOrder Seats (flat_map (seat_rows given) (entries s.cons))
   seats_in_order given =
-      in_order Seats (seat_rows given) (λ e. items_keyed e.0 (numbered 1 (given e.0))) s.cons
-      (for_each _ (λ e. items_in_order Seats seats_items e.0 (numbered 1 (given e.0)) (numbered_rise 1 (given e.0))) (entries s.cons))
+      in_order Seats (seat_rows given) (λ e. items_keyed e.0 (numbers_with_places 1 (given e.0))) s.cons
+      (for_each _ (λ e. items_in_order Seats seats_items e.0 (numbers_with_places 1 (given e.0)) (numbered_rise 1 (given e.0))) (entries s.cons))
 
   under_places : (e : List ℕ × ConState) → get s.cons e.0 ≡ Some e.1 → All IsUnderPlaces (entries e.1.gone)
   under_places e found = go (constituency_with e.0 setup) refl (sym (lawful.known e.0) ∙ ap is_some found)

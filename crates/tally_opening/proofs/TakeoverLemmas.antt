@@ -8,6 +8,7 @@ use Rattle.sqlite_trees.specs.Tree.{Trees}
 use Rattle.sqlite_value.specs.Order.{Row}
 use Rattle.tally_rows.specs.Rows.{HaveDistinctRowids}
 use Rattle.tally_rules.specs.Constituency.{Constituency}
+use Rattle.tally_judge.specs.Numbers.{Numbers}
 use Rattle.tally_steps.specs.LawfulState.{IsLawfulState}
 use Rattle.tally_returns.specs.State.{State}
 use Rattle.tally_schema.specs.Made.{AddsTable}
@@ -17,8 +18,8 @@ use Rattle.tally_statements.specs.declared.table.KeyedTable.TheVariants.{Returns
 use Rattle.tally_statements.specs.Office.{HasSetup as SetsSetup, IsInside, ShowsSetup, tree_of}
 use Rattle.tally_tables.specs.TablesOfState.{AreTables, version}
 use Rattle.tally_opening.specs.Crash.{LeavesTakenOver}
-use Rattle.tally_opening.specs.Open.{AreFormerTables, HasSetup, IsOpened, IsTakenOver, former_version, taken_over}
-use Rattle.tally_opening.specs.Opening.{IsFormerFault, IsFormerJudgedFault, IsFormerSetupFault, IsJudged, AddsPast, IsReady, IsShownFault, IsShownSetup, HasSetupRow, IsTaken, with_setup}
+use Rattle.tally_opening.specs.Open.{AreFormerTables, HasSetup, IsOpened, IsTakenOver, former_version, tables_taken_over}
+use Rattle.tally_opening.specs.internal.Opening.{HasNumbersOfFormer, HasNumbersOfTables, IsFormerFault, IsFormerJudgedFault, IsFormerSetupFault, IsJudged, AddsPast, IsReady, IsShownFault, IsShownSetup, HasSetupRow, IsTaken, with_setup}
 use Rattle.tally_faults.specs.declared.fault.OpenFault.{OpenFault}
 use Rattle.tally_faults.specs.declared.fault.OpenFault.TheVariants.{BadTables, Memory, NoTables, Setup, Store}
 use Rattle.tally_opening.proofs.JudgingLemmas.{judged_now, tables_still}
@@ -49,7 +50,7 @@ past_added old new added = record {
   each = each;
 }
   where
-    each : (text : List ℕ) (t : KeyedTable) → new.now.trees (tree_of t) ≡ taken_over text old.now.trees (tree_of t)
+    each : (text : List ℕ) (t : KeyedTable) → new.now.trees (tree_of t) ≡ tables_taken_over text old.now.trees (tree_of t)
     each text Returns = added.others.1.0
     each text Counts = added.others.1.1.0
     each text Cons = added.others.1.1.1.0
@@ -75,8 +76,19 @@ ready setup old mid new past same stored judged = record {
 }
 
 -- with a row of today's version they are the tables as they are taken over
-over_same : (text : List ℕ) (old mid : Seen) → AddsPast old mid → AreSame (with_setup text mid).now.trees (taken_over text old.now.trees)
+over_same : (text : List ℕ) (old mid : Seen) → AddsPast old mid → AreSame (with_setup text mid).now.trees (tables_taken_over text old.now.trees)
 over_same text old mid past = record { setup = refl; tables = λ t. sym (beside_setup text mid t ∙ past.each text t) }
+
+-- the numbers of the tables with an empty `past` are those of the tables of version 1
+numbers_before : (setup : List Constituency) (old mid : Seen) (numbers : Numbers) → AddsPast old mid → HasNumbersOfTables setup mid numbers → HasNumbersOfFormer setup old.now.trees numbers
+numbers_before setup old mid numbers past told text s lawful tables =
+    told text s lawful (same_tables setup text s _ _ (same_back _ _ (over_same text old mid past)) tables.1)
+
+pub numbers_each : (r : Result (Result (List Constituency) OpenFault) Error) (old mid : Seen) (numbers : Numbers) → AddsPast old mid → IfOk r (λ told. IfOk told (λ setup. HasNumbersOfTables setup mid numbers))
+    → IfOk r (λ told. IfOk told (λ setup. HasNumbersOfFormer setup old.now.trees numbers))
+numbers_each (Ok (Ok setup)) old mid numbers past told = numbers_before setup old mid numbers past told
+numbers_each (Ok (Err fault)) old mid numbers past told = tt
+numbers_each (Err e) old mid numbers past told = tt
 
 -- why they are not taken over
 pub fault_judged : (old mid : Seen) (fault : OpenFault) → AddsPast old mid → IsFormerJudgedFault mid fault → IsFormerFault old.now.trees fault
@@ -114,10 +126,10 @@ taken setup old mid new h set = record {
   tables = same_tables setup h.stored.text (h.judged.one h.stored.text).state _ _ (record { setup = set.setup; tables = λ t. set.others t ∙ h.past.each h.stored.text t }) found;
 }
   where
-    over : AreSame (with_setup h.stored.text mid).now.trees (taken_over h.stored.text old.now.trees)
+    over : AreSame (with_setup h.stored.text mid).now.trees (tables_taken_over h.stored.text old.now.trees)
     over = over_same h.stored.text old mid h.past
 
-    found : AreTables setup h.stored.text (h.judged.one h.stored.text).state (taken_over h.stored.text old.now.trees)
+    found : AreTables setup h.stored.text (h.judged.one h.stored.text).state (tables_taken_over h.stored.text old.now.trees)
     found = same_tables setup h.stored.text (h.judged.one h.stored.text).state _ _ over (h.judged.one h.stored.text).tables
 
 -- ---- the commit

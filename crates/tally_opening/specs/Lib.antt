@@ -1,6 +1,5 @@
+pub mod internal
 pub mod Office
 pub mod Create
 pub mod Open
 pub mod Crash
-pub mod Making
-pub mod Opening

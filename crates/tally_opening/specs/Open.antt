@@ -7,6 +7,7 @@ use Rattle.tally_rules.specs.Constituency.{Constituency}
 use Rattle.tally_rules.specs.Fault.{IsFaultIn}
 use Rattle.tally_rules.specs.Reading.{setup_of_text}
 use Rattle.tally_rules.specs.declared.fault.SetupFault.TheVariants as setup_fault
+use Rattle.tally_judge.specs.Numbers.{HasNumbers, Numbers}
 use Rattle.tally_steps.specs.LawfulState.{IsLawfulState}
 use Rattle.tally_returns.specs.State.{State}
 use Rattle.tally_schema.specs.Cells.{setup_row}
@@ -29,20 +30,20 @@ HasSetup number text db = db setup_tree ≡ setup_row number text ∷ []
 
 -- the tables of version 1 once they are taken over: `setup` has the version of today, and `past` is
 -- there without rows
-abbrev pub taken_over : List ℕ → Trees → Trees
-taken_over text db tree =
+abbrev pub tables_taken_over : List ℕ → Trees → Trees
+tables_taken_over text db tree =
     if tree == setup_tree then setup_row version text ∷ []
     else (if tree == past_tree then [] else db tree)
 
 -- each table is that of version 1 once it is taken over
 pub record IsTakenOver (text : List ℕ) (found db : Trees) : Type 0 where
-  pub setup : db setup_tree ≡ taken_over text found setup_tree
-  pub tables : (t : KeyedTable) → db (tree_of t) ≡ taken_over text found (tree_of t)
+  pub setup : db setup_tree ≡ tables_taken_over text found setup_tree
+  pub tables : (t : KeyedTable) → db (tree_of t) ≡ tables_taken_over text found (tree_of t)
 
 -- the tables of version 1 of a state, which has no records
 abbrev pub AreFormerTables : List Constituency → List ℕ → State → Trees → Type 0
 AreFormerTables setup text s db =
-    HasSetup former_version text db × AreTables setup text s (taken_over text db)
+    HasSetup former_version text db × AreTables setup text s (tables_taken_over text db)
 
 -- The tables that were found are those of a state over the setup that their text is: in the version
 -- of today, or in version 1.
@@ -102,6 +103,12 @@ IsOpenFault db (Setup fault) =
     × (fault ≢ setup_fault.Memory)
 IsOpenFault db Memory = Unit {0}
 IsOpenFault db Store = Unit {0}
+
+-- the numbers of every lawful state over this setup whose tables were found
+abbrev pub HasNumbersOfFound : List Constituency → Database → Numbers → Type 0
+HasNumbersOfFound setup db numbers =
+    (text : List ℕ) (s : State) → IsLawfulState setup s → AreFound setup text s db
+    → HasNumbers setup s numbers
 
 -- the tables hold what was found, in the version of today
 abbrev pub AreLeft : List ℕ → Database → Trees → Type 0

@@ -3,6 +3,7 @@
 ghost use Rattle.std.specs.Prelude.{◌≡◌, false, IfErr, IfOk, IsTrue, OnErr};
 ghost use Rattle.sqlite.specs.State.{HasCleanDisk, Survives};
 ghost use Rattle.sqlite.specs.Held.{state};
+ghost use Rattle.tally_judge.specs.Numbers.{numbers_of};
 ghost use Rattle.tally_schema.specs.Made.{HasFirstTables};
 ghost use Rattle.tally_schema.specs.Tables.{former_schema};
 ghost use Rattle.tally_statements.specs.Inside.{OnlyReadsFrom, StaysFrom};
@@ -11,17 +12,19 @@ ghost use Rattle.tally_opening.specs.Crash.{LeavesTakenOver};
 ghost use Rattle.tally_opening.specs.Create.{IsAsBefore};
 ghost use Rattle.tally_opening.specs.Office.{IsSettled};
 ghost use Rattle.tally_opening.specs.Open.{IsOpened, former_version};
-ghost use Rattle.tally_opening.specs.Opening.{Does, HasSetupRow, IsFormerFault, IsFormerJudgedFault, IsFormerSetupFault, IsJudged, IsReady, IsShownFault, IsShownSetup, IsTaken, Sees};
+ghost use Rattle.tally_opening.specs.internal.Opening.{Does, HasNumbersOfFormer, HasNumbersOfTables, HasSetupRow, IsFormerFault, IsFormerJudgedFault, IsFormerSetupFault, IsJudged, IsReady, IsShownFault, IsShownSetup, IsTaken, Sees};
 
 use crate::judging::judge_office;
 use crate::making::VERSION;
 use crate::opening::{open_fault_of, setup_shown, stored_setup};
 use sqlite::{Alter, Connection, Error, Row, Transaction};
 use std::alloc::Global;
+use std::collections::BTreeMap;
 use tally_faults::OpenFault;
-use tally_rules::Setup;
+use tally_rules::{Code, Setup};
 use tally_schema::create_past;
 use tally_statements::{all_setup, update_version};
+use tally_tables::Statuses;
 
 /// The version of the tables before there was a table `past`.
 const FORMER_VERSION: u32 = 1;
@@ -60,10 +63,11 @@ fn read_former<S: Alter>(
 }
 
 /// The setup of version 1, where the tables beside an empty `past` are those of a lawful state over
-/// it.
+/// it. The numbers of its returns are put into a tree.
 fn judge_former<S: Alter>(
     alloc: Global,
     tx: &mut Transaction<'_, S>,
+    known: &mut BTreeMap<Code, Statuses>,
 ) -> Result<Result<Setup, OpenFault>, Error>
     ensures reads { OnlyReadsFrom HasTables S.Store tx.old tx.new result }
     ensures stored { Sees S.Store (λ seen r.
@@ -72,12 +76,15 @@ fn judge_former<S: Alter>(
         tx.old tx.new result }
     ensures fault { Sees S.Store (λ seen r. IfErr r (IsFormerJudgedFault seen))
         tx.old tx.new result }
+    ensures numbers { Sees S.Store (λ seen r.
+        IfOk r (λ setup. HasNumbersOfTables setup seen (numbers_of known.new)))
+        tx.old tx.new result }
 {
     let setup = match read_former(alloc, tx)? {
         Ok(setup) => setup,
         Err(fault) => return Ok(Err(fault)),
     };
-    match judge_office(alloc, tx, setup)? {
+    match judge_office(alloc, tx, setup, known)? {
         Some(setup) => Ok(Ok(setup)),
         None => Ok(Err(OpenFault::BadTables)),
     }
@@ -87,29 +94,37 @@ fn judge_former<S: Alter>(
 fn judge_with_past<S: Alter>(
     alloc: Global,
     tx: &mut Transaction<'_, S>,
+    known: &mut BTreeMap<Code, Statuses>,
 ) -> Result<Result<Setup, OpenFault>, Error>
     ensures stays { StaysFrom (HasFirstTables 8) S.Store tx.old tx.new }
     ensures ready { Does S.Store (λ old new r. IfOk r (λ setup. IsReady setup old new))
         tx.old tx.new result }
     ensures fault { Does S.Store (λ old _ r. IfErr r (IsFormerFault old.now.trees))
         tx.old tx.new result }
+    ensures numbers { Does S.Store (λ old _ r.
+        IfOk r (λ setup. HasNumbersOfFormer setup old.now.trees (numbers_of known.new)))
+        tx.old tx.new result }
 {
     create_past(tx)?;
-    judge_former(alloc, tx)
+    judge_former(alloc, tx, known)
 }
 
 /// Takes the tables of version 1 over, where they are those of a lawful state.
 fn take_over<S: Alter>(
     alloc: Global,
     tx: &mut Transaction<'_, S>,
+    known: &mut BTreeMap<Code, Statuses>,
 ) -> Result<Result<Setup, OpenFault>, Error>
     ensures stays { StaysFrom (HasFirstTables 8) S.Store tx.old tx.new }
     ensures taken { Does S.Store (λ old new r. IfOk r (λ setup. IsTaken setup old new))
         tx.old tx.new result }
     ensures fault { Does S.Store (λ old _ r. IfErr r (IsFormerFault old.now.trees))
         tx.old tx.new result }
+    ensures numbers { Does S.Store (λ old _ r.
+        IfOk r (λ setup. HasNumbersOfFormer setup old.now.trees (numbers_of known.new)))
+        tx.old tx.new result }
 {
-    let setup = match judge_with_past(alloc, tx)? {
+    let setup = match judge_with_past(alloc, tx, known)? {
         Ok(setup) => setup,
         Err(fault) => return Ok(Err(fault)),
     };
@@ -118,10 +133,11 @@ fn take_over<S: Alter>(
 }
 
 /// The setup of an office whose tables were of version 1. They are taken over in one transaction;
-/// on a fault they are as they were.
+/// on a fault they are as they were. The numbers of its returns are put into a tree.
 pub(crate) fn open_former<S: Alter>(
     alloc: Global,
     conn: &mut Connection<S>,
+    known: &mut BTreeMap<Code, Statuses>,
 ) -> Result<Setup, OpenFault>
     requires autocommit { conn.old.in_transaction ≡ false }
     requires schema { (state S.Store conn.old).now.schema ≡ former_schema }
@@ -135,9 +151,12 @@ pub(crate) fn open_former<S: Alter>(
         OnErr result (IsAsBefore (state S.Store conn.old) (state S.Store conn.new)) }
     ensures crash { Survives (state S.Store conn.old) (state S.Store conn.new)
         (LeavesTakenOver (state S.Store conn.old).now) }
+    ensures numbers { HasCleanDisk (state S.Store conn.new) →
+        IfOk result (λ setup.
+        HasNumbersOfFormer setup (state S.Store conn.old).now.trees (numbers_of known.new)) }
 {
     let mut tx = conn.transaction();
-    match take_over(alloc, &mut tx) {
+    match take_over(alloc, &mut tx, known) {
         Ok(Ok(setup)) => match tx.commit() {
             Ok(()) => Ok(setup),
             Err(error) => Err(open_fault_of(&error)),

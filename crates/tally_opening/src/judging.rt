@@ -1,18 +1,20 @@
 //! Whether the tables of an office are those of a lawful state.
 
 ghost use Rattle.std.specs.Prelude.{◌≡◌, None, IfOk, IfSome, IsSome, OnSome};
+ghost use Rattle.tally_judge.specs.Numbers.{HasNumbersOfRows, numbers_of};
 ghost use Rattle.tally_judge.specs.OfficeRows.{AreLawfulRows, AreRowsOfOneState};
 ghost use Rattle.tally_statements.specs.Inside.{OnlyReadsFrom};
 ghost use Rattle.tally_statements.specs.Office.{HasTables};
-ghost use Rattle.tally_opening.specs.Opening.{AreReadOf, AreTablesOfNone, HasDistinctRows, IsJudged, IsReadOf, Sees, rows_found};
+ghost use Rattle.tally_opening.specs.internal.Opening.{AreReadOf, AreTablesOfNone, HasDistinctRows, HasNumbersOfTables, IsJudged, IsReadOf, Sees, rows_found};
 
 use sqlite::{Alter, Error, ErrorCode, Row, Transaction};
 use std::alloc::Global;
+use std::collections::BTreeMap;
 use tally_judge::{OfficeRows, accept_rows};
 use tally_rows::rowids_rise;
-use tally_rules::Setup;
+use tally_rules::{Code, Setup};
 use tally_statements::{KeyedTable, all_rows, rowids};
-use tally_tables::ConTables;
+use tally_tables::{ConTables, Statuses};
 
 /// The rows of all tables but `setup`.
 #[derive(Drop)]
@@ -87,13 +89,21 @@ fn read_rows<S: Alter>(tx: &mut Transaction<'_, S>) -> Result<FoundRows, Error>
     })
 }
 
-/// The setup again, where the rows are those of a lawful state over it.
-fn accept(alloc: Global, setup: Setup, rows: &FoundRows) -> Result<Option<Setup>, Error>
+/// The setup again, where the rows are those of a lawful state over it. The numbers of its returns
+/// are put into a tree.
+fn accept(
+    alloc: Global,
+    setup: Setup,
+    rows: &FoundRows,
+    known: &mut BTreeMap<Code, Statuses>,
+) -> Result<Option<Setup>, Error>
     ensures passed { IfOk result (λ found.
         OnSome found (AreRowsOfOneState setup (rows_found rows.now))) }
     ensures must_pass { IfOk result (λ found.
         AreLawfulRows setup (rows_found rows.now) → IsSome found) }
     ensures setup { IfOk result (λ found. IfSome found (λ again. again ≡ setup)) }
+    ensures numbers { IfOk result (λ found.
+        OnSome found (HasNumbersOfRows setup (rows_found rows.now) (numbers_of known.new))) }
 {
     let rows = OfficeRows {
         returns: &rows.returns,
@@ -107,18 +117,19 @@ fn accept(alloc: Global, setup: Setup, rows: &FoundRows) -> Result<Option<Setup>
             past: &rows.past,
         },
     };
-    match accept_rows(alloc, setup, rows) {
+    match accept_rows(alloc, setup, rows, known) {
         Ok(found) => Ok(found),
         Err(_) => Err(Error::SqliteFailure(ErrorCode::OutOfMemory)),
     }
 }
 
 /// The setup again, where the tables are those of a lawful state over it, and `None` where they are
-/// those of no lawful state.
+/// those of no lawful state. The numbers of its returns are put into a tree.
 pub(crate) fn judge_office<S: Alter>(
     alloc: Global,
     tx: &mut Transaction<'_, S>,
     setup: Setup,
+    known: &mut BTreeMap<Code, Statuses>,
 ) -> Result<Option<Setup>, Error>
     ensures reads { OnlyReadsFrom HasTables S.Store tx.old tx.new result }
     ensures accepted { Sees S.Store (λ seen found. OnSome found (IsJudged setup seen))
@@ -126,7 +137,9 @@ pub(crate) fn judge_office<S: Alter>(
     ensures refused { Sees S.Store (λ seen found. found ≡ None → AreTablesOfNone setup seen)
         tx.old tx.new result }
     ensures setup { IfOk result (λ found. IfSome found (λ again. again ≡ setup)) }
+    ensures numbers { Sees S.Store (λ seen found.
+        OnSome found (HasNumbersOfTables setup seen (numbers_of known.new))) tx.old tx.new result }
 {
     let rows = read_rows(tx)?;
-    accept(alloc, setup, &rows)
+    accept(alloc, setup, &rows, known)
 }

@@ -8,7 +8,7 @@ ghost use Rattle.tally_returns.specs.State.{opening};
 ghost use Rattle.tally_schema.specs.Tables.{schema_with};
 ghost use Rattle.tally_statements.specs.Inside.{Stays};
 ghost use Rattle.tally_opening.specs.Create.{IsAsBefore};
-ghost use Rattle.tally_opening.specs.Making.{no_list_rows, no_vote_rows, Totalled, Opened, Made};
+ghost use Rattle.tally_opening.specs.internal.Making.{no_list_rows, no_vote_rows, Totalled, Opened, Made};
 ghost use Rattle.tally_opening.specs.Office.{HasState, IsSettled, IsWholeOffice};
 
 use sqlite::{Alter, Connection, Error, Transaction};

@@ -5,17 +5,20 @@ ghost use Rattle.sqlite.specs.State.{HasCleanDisk, KeepsCounts, Survives};
 ghost use Rattle.sqlite.specs.Held.{state};
 ghost use Rattle.tally_opening.specs.Crash.{HasPast, IsUnwritten, LeavesTakenOver};
 ghost use Rattle.tally_opening.specs.Create.{IsAsBefore};
-ghost use Rattle.tally_opening.specs.Open.{IsOpenFault, IsOpened};
-ghost use Rattle.tally_opening.specs.Opening.{IsFormerSchema, IsSchemaFault, IsTodaySchema};
+ghost use Rattle.tally_judge.specs.Numbers.{numbers_of};
+ghost use Rattle.tally_opening.specs.Open.{HasNumbersOfFound, IsOpenFault, IsOpened};
+ghost use Rattle.tally_opening.specs.internal.Opening.{IsFormerSchema, IsSchemaFault, IsTodaySchema};
 
 use crate::former::open_former;
 use crate::opening::{open_fault_of, open_today};
 use sqlite::{Alter, Connection};
 use sqlite_schema::schema::Schema;
 use std::alloc::Global;
+use std::collections::BTreeMap;
 use tally_faults::OpenFault;
-use tally_rules::Setup;
+use tally_rules::{Code, Setup};
 use tally_schema::{has_former_tables, has_past, is_former_schema, is_office_schema};
+use tally_tables::Statuses;
 
 /// Whether the tables are those of today, or those of version 1.
 fn is_of_today(alloc: Global, schema: &Schema) -> Result<bool, OpenFault>
@@ -41,8 +44,12 @@ fn is_of_today(alloc: Global, schema: &Schema) -> Result<bool, OpenFault>
 }
 
 /// The setup of an office whose tables are those of a lawful state. Tables of version 1 are taken
-/// over.
-pub fn open_in<S: Alter>(alloc: Global, conn: &mut Connection<S>) -> Result<Setup, OpenFault>
+/// over. The numbers of its returns are put into a tree.
+pub fn open_in<S: Alter>(
+    alloc: Global,
+    conn: &mut Connection<S>,
+    known: &mut BTreeMap<Code, Statuses>,
+) -> Result<Setup, OpenFault>
     requires autocommit { conn.old.in_transaction ≡ false }
     ensures ended { conn.new.in_transaction ≡ false }
     ensures opened { HasCleanDisk (state S.Store conn.new) →
@@ -57,14 +64,17 @@ pub fn open_in<S: Alter>(alloc: Global, conn: &mut Connection<S>) -> Result<Setu
         IsUnwritten (state S.Store conn.old) (state S.Store conn.new) }
     ensures counts { HasPast (state S.Store conn.old).now → HasCleanDisk (state S.Store conn.new) →
         OnOk result (KeepsCounts (state S.Store conn.old) (state S.Store conn.new)) }
+    ensures numbers { HasCleanDisk (state S.Store conn.new) →
+        IfOk result (λ setup.
+        HasNumbersOfFound setup (state S.Store conn.old).now (numbers_of known.new)) }
 {
     // Called for what its contract says: all that is there was committed. Autocommit is required.
     if !conn.is_autocommit() {
         return Err(OpenFault::Store);
     }
     match is_of_today(alloc, conn.schema()) {
-        Ok(true) => open_today(alloc, conn),
-        Ok(false) => open_former(alloc, conn),
+        Ok(true) => open_today(alloc, conn, known),
+        Ok(false) => open_former(alloc, conn, known),
         Err(fault) => Err(fault),
     }
 }

@@ -4,6 +4,7 @@ ghost use Rattle.std.specs.Prelude.{◌≡◌, ◌⊎◌, false, IfErr, IfOk, Is
 ghost use Rattle.sqlite.specs.State.{HasCleanDisk, KeepsCounts, Survives};
 ghost use Rattle.sqlite.specs.Held.{state};
 ghost use Rattle.tally_rules.specs.Reading.{setup_of_text};
+ghost use Rattle.tally_judge.specs.Numbers.{numbers_of};
 ghost use Rattle.tally_statements.specs.Inside.{OnlyReadsFrom};
 ghost use Rattle.tally_statements.specs.Office.{HasTables};
 ghost use Rattle.sqlite.specs.Effect.{IsDatabase};
@@ -11,16 +12,18 @@ ghost use Rattle.tally_schema.specs.Tables.{office_schema};
 ghost use Rattle.tally_tables.specs.TablesOfState.{version};
 ghost use Rattle.tally_opening.specs.Create.{IsAsBefore};
 ghost use Rattle.tally_opening.specs.Office.{IsSettled};
-ghost use Rattle.tally_opening.specs.Opening.{IsJudged, IsJudgedFault, IsTodayFault, IsSetupFault, HasSetupRow, IsTextFault, Sees, setup_shown, shown_of_row};
+ghost use Rattle.tally_opening.specs.internal.Opening.{HasNumbersOfTables, IsJudged, IsJudgedFault, IsTodayFault, IsSetupFault, HasSetupRow, IsTextFault, Sees, setup_shown, shown_of_row};
 
 use crate::judging::judge_office;
 use crate::making::VERSION;
 use sqlite::{Alter, Connection, Error, ErrorCode, Row, Transaction};
 use std::alloc::Global;
+use std::collections::BTreeMap;
 use tally_faults::OpenFault;
 use tally_rows::{number_at, text_at};
-use tally_rules::{Setup, SetupFault, read_setup};
+use tally_rules::{Code, Setup, SetupFault, read_setup};
 use tally_statements::all_setup;
+use tally_tables::Statuses;
 
 fn shown_of_row(row: &Row) -> Option<(u32, &[u8])>
     ensures { option_map (λ found. (found.0, found.1.now)) result ≡ shown_of_row row.now }
@@ -77,11 +80,13 @@ fn read_stored<S: Alter>(
     Ok(stored_setup(alloc, text))
 }
 
-/// The setup of an office whose tables are those of a lawful state.
+/// The setup of an office whose tables are those of a lawful state. The numbers of its returns are
+/// put into a tree.
 pub(crate) fn judge_stored<S: Alter>(
     alloc: Global,
     tx: &mut Transaction<'_, S>,
     number: u32,
+    known: &mut BTreeMap<Code, Statuses>,
 ) -> Result<Result<Setup, OpenFault>, Error>
     ensures reads { OnlyReadsFrom HasTables S.Store tx.old tx.new result }
     ensures stored { Sees S.Store (λ seen r. IfOk r (λ setup. HasSetupRow number setup seen))
@@ -90,12 +95,15 @@ pub(crate) fn judge_stored<S: Alter>(
         tx.old tx.new result }
     ensures fault { Sees S.Store (λ seen r. IfErr r (IsJudgedFault number seen))
         tx.old tx.new result }
+    ensures numbers { Sees S.Store (λ seen r.
+        IfOk r (λ setup. HasNumbersOfTables setup seen (numbers_of known.new)))
+        tx.old tx.new result }
 {
     let setup = match read_stored(alloc, tx, number)? {
         Ok(setup) => setup,
         Err(fault) => return Ok(Err(fault)),
     };
-    match judge_office(alloc, tx, setup)? {
+    match judge_office(alloc, tx, setup, known)? {
         Some(setup) => Ok(Ok(setup)),
         None => Ok(Err(OpenFault::BadTables)),
     }
@@ -110,10 +118,12 @@ pub(crate) fn open_fault_of(error: &Error) -> OpenFault
     }
 }
 
-/// The setup of an office whose tables are of today's version. Nothing is written.
+/// The setup of an office whose tables are of today's version. Nothing is written. The numbers of
+/// its returns are put into a tree.
 pub(crate) fn open_today<S: Alter>(
     alloc: Global,
     conn: &mut Connection<S>,
+    known: &mut BTreeMap<Code, Statuses>,
 ) -> Result<Setup, OpenFault>
     requires autocommit { conn.old.in_transaction ≡ false }
     requires schema { (state S.Store conn.old).now.schema ≡ office_schema }
@@ -135,9 +145,12 @@ pub(crate) fn open_today<S: Alter>(
     ensures counts { HasCleanDisk (state S.Store conn.new) →
         OnOk result (KeepsCounts (state S.Store conn.old) (state S.Store conn.new)) }
     ensures unwritten { Survives (state S.Store conn.old) (state S.Store conn.new) (λ _. ⊥) }
+    ensures numbers { HasCleanDisk (state S.Store conn.new) →
+        IfOk result (λ setup.
+        HasNumbersOfTables setup (state S.Store conn.old) (numbers_of known.new)) }
 {
     let mut tx = conn.transaction();
-    let judged = judge_stored(alloc, &mut tx, VERSION);
+    let judged = judge_stored(alloc, &mut tx, VERSION, known);
     tx.rollback();
     match judged {
         Ok(told) => told,

@@ -2,28 +2,12 @@
 -- contract says what is in its files.
 use Rattle.std.specs.Prelude.{◌≡◌, ℕ, List, Option, Some, None, Result, Ok, Err, IfErr, take}
 use Rattle.std.specs.Io.KnownBytes.{Appends}
-use Rattle.tally_report.specs.declared.report.Report.{Report}
-use Rattle.tally_report.specs.declared.report.Report.TheVariants as report
 use Rattle.tally_commands.specs.Served.{IsServedText}
 use Rattle.tally_commands.specs.Told.{Told}
 use Rattle.tally_commands.specs.Trouble.{trouble_line, trouble_status}
 use Rattle.tally_commands.specs.declared.trouble.Trouble.{Trouble}
 use Rattle.tally_commands.specs.declared.trouble.Trouble.TheVariants.{Write}
 use Rattle.tally_program.specs.Troubles.{IsTroubleOfServe}
-use Rattle.tally_line.specs.declared.line.ReportName.{ReportName}
-use Rattle.tally_line.specs.declared.line.ReportName.TheVariants as name
-
--- the report of a constituency that has this name; the progress is of none
-abbrev pub report_of_name : ReportName → Option Report
-report_of_name name.Tally = Some report.Tally
-report_of_name name.Seats = Some report.Seats
-report_of_name name.Quotients = Some report.Quotients
-report_of_name name.Awards = Some report.Awards
-report_of_name name.Quota = Some report.Quota
-report_of_name name.Holders = Some report.Holders
-report_of_name name.Past = Some report.Past
-report_of_name name.Short = Some report.Short
-report_of_name name.Progress = None
 
 -- any text, where it takes the office to say more
 abbrev pub IsAnyText : List ℕ → Type 0

@@ -1,5 +1,4 @@
+pub mod internal
 pub mod Commands
 pub mod Perform
-pub mod Served
 pub mod Troubles
-pub mod Worked

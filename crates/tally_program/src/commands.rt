@@ -7,13 +7,12 @@ ghost use Rattle.tally_desk.specs.Respond.{office};
 ghost use Rattle.tally_commands.specs.Imported.{IsCountText};
 ghost use Rattle.tally_commands.specs.Made.{IsMadeText, constituencies_text};
 ghost use Rattle.tally_commands.specs.Served.{IsServedText};
-ghost use Rattle.tally_program.specs.Commands.{IsAnyText, IsWritten, report_of_name};
-ghost use Rattle.tally_program.specs.Served.{IsToldOfServing};
+ghost use Rattle.tally_program.specs.Commands.{IsAnyText, IsWritten};
+ghost use Rattle.tally_program.specs.internal.Served.{IsToldOfServing};
 ghost use Rattle.tally_program.specs.Troubles.{IsTroubleOfEnding, IsTroubleOfImport, IsTroubleOfImporting, IsTroubleOfNew};
 ghost use Rattle.tally_program.specs.Troubles.{IsTroubleOfServe, IsTroubleOfServing, IsTroubleOfShow};
 ghost use Rattle.tally_commands.specs.Trouble.{IsTroubleOfReport};
-ghost use Rattle.tally_program.specs.Worked.{IsFileImported, IsFileTrouble, IsShown, IsShowTrouble};
-ghost use Rattle.tally_line.specs.Line.{needs_con};
+ghost use Rattle.tally_program.specs.internal.Worked.{IsFileImported, IsFileTrouble, IsShown, IsShowTrouble};
 
 use crate::files::{open_file, read_setup};
 use crate::offices::Offices;
@@ -27,7 +26,6 @@ use tally_commands::{
 use tally_desk::{Door, TcpDoor, serve};
 use tally_import::write_text;
 use tally_keeper::Keeper;
-use tally_line::ReportName;
 
 /// Closes the office of a command, and then writes what it came to, unless that is a trouble.
 fn end<O: Offices, W: Write>(
@@ -169,16 +167,16 @@ fn import_file<K: Keeper>(
     }
 }
 
-/// Prints a report. Progress is that of all constituencies; any other is of the one that is named.
+/// Prints a report of the constituency that is named, or with no report the progress of all.
 pub fn show<O: Offices, W: Write>(
     rt: &HostRuntime,
     offices: &O,
     db: &str,
-    report: ReportName,
+    report: Option<Report>,
     con: Option<&str>,
     output: &mut W,
 ) -> Result<(), Trouble>
-    requires { needs_con report ≡ true → is_some con ≡ true }
+    requires { is_some report ≡ true → is_some con ≡ true }
     ensures written { IsWritten W.contents IsAnyText output.old output.new result }
     ensures named { IfErr result IsTroubleOfShow }
 {
@@ -186,11 +184,11 @@ pub fn show<O: Offices, W: Write>(
         Ok(office) => office,
         Err(trouble) => return Err(trouble),
     };
-    let outcome = show_in(rt, &mut office, report_of(report), con);
+    let outcome = show_in(rt, &mut office, report, con);
     end(rt, offices, db, office, outcome, output)
 }
 
-/// The text of a report, or of the progress where none is named.
+/// The text of a report, or of the progress where there is none.
 fn show_in<K: Keeper>(
     rt: &HostRuntime,
     keeper: &mut K,
@@ -214,23 +212,6 @@ fn show_in<K: Keeper>(
     match con {
         Some(con) => show_report(rt.alloc(), keeper, con, which),
         None => unreachable!(),
-    }
-}
-
-/// The report of a constituency that has this name.
-fn report_of(name: ReportName) -> Option<Report>
-    ensures { result ≡ report_of_name name }
-{
-    match name {
-        ReportName::Tally => Some(Report::Tally),
-        ReportName::Seats => Some(Report::Seats),
-        ReportName::Quotients => Some(Report::Quotients),
-        ReportName::Awards => Some(Report::Awards),
-        ReportName::Quota => Some(Report::Quota),
-        ReportName::Holders => Some(Report::Holders),
-        ReportName::Past => Some(Report::Past),
-        ReportName::Short => Some(Report::Short),
-        ReportName::Progress => None,
     }
 }
 

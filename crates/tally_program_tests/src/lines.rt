@@ -4,6 +4,7 @@ use std::alloc::{AllocError, Global};
 use std::test::Fail;
 use tally_line::{Line, LineFault, read_line};
 use tally_records::Sep;
+use tally_report::Report;
 
 /// The words of a line, at its spaces.
 fn words_of(alloc: Global, line: &str) -> Result<Vec<String>, AllocError> {
@@ -42,13 +43,26 @@ fn told_line(alloc: Global, line: &Line) -> Result<String, AllocError> {
             db,
             report,
             con: Some(con),
-        } => format!(in alloc; "show {db} {report:?} {con}"),
+        } => {
+            let report = told_report(alloc, *report)?;
+            format!(in alloc; "show {db} {report} {con}")
+        }
         Line::Show {
             db,
             report,
             con: None,
-        } => format!(in alloc; "show {db} {report:?}"),
+        } => {
+            let report = told_report(alloc, *report)?;
+            format!(in alloc; "show {db} {report}")
+        }
         Line::Serve { db, port, count } => format!(in alloc; "serve {db} {port} {count}"),
+    }
+}
+
+fn told_report(alloc: Global, report: Option<Report>) -> Result<String, AllocError> {
+    match report {
+        Some(which) => format!(in alloc; "{which:?}"),
+        None => "Progress".to_string(alloc),
     }
 }
 

@@ -8,13 +8,13 @@ use Rattle.csv.specs.declared.parser.Config.{Config}
 use Rattle.csv.specs.declared.parser.State.{State}
 use Rattle.csv.specs.declared.parser.State.TheVariants as st
 use Rattle.tally_records.specs.Input.{without_last, complete_records}
-use Rattle.tally_records.specs.Pieces.{is_line_end, ends_line}
+use Rattle.tally_records.specs.internal.Pieces.{is_line_end, ends_line, nothing}
 use Rattle.tally_records.specs.Separator.{separator, config}
 use Rattle.tally_records.specs.declared.end.Stop.{Stop}
 use Rattle.tally_records.specs.declared.separator.Sep.{Sep}
 use Rattle.tally_records.specs.declared.separator.Sep.TheVariants.{Comma, Semicolon}
 use Rattle.tally_records.proofs.FrontLemmas.{no-mark, complete_records-front}
-use Rattle.tally_records.proofs.PieceLemmas.{all, all-passes, all-steps, all-found, all-anew, all-line, nothing, HasFirst, line-end, drop-nothing}
+use Rattle.tally_records.proofs.PieceLemmas.{all, all-passes, all-steps, all-found, all-anew, all-line, HasFirst, line-end, drop-nothing}
 
 -- ---- the byte order mark
 

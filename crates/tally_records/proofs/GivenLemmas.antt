@@ -4,7 +4,7 @@ use Rattle.std.specs.Prelude.{if◌then◌else◌}
 use Rattle.std.proofs.lemmas.Bool.{lt-ltb, le-ltb}
 use Rattle.std.proofs.lemmas.List.{append-nil, take_all}
 use Rattle.tally_records.specs.Input.{AreAll, BeginsWith, Gave, complete_records, size_limit, text_records, text_stop}
-use Rattle.tally_records.specs.Given.{Came, HasGiven, MayCome, sep_of, to_come}
+use Rattle.tally_records.specs.Given.{Came, HasGiven, MayCome, sep_of, records_to_come}
 use Rattle.tally_records.specs.declared.end.Stop.{Stop}
 use Rattle.tally_records.specs.declared.end.Stop.TheVariants.{TooLong, Read}
 use Rattle.tally_records.specs.declared.end.End.{End}
@@ -85,4 +85,4 @@ front-given sep text left given (Some end) count bytes later came all =
 -- the records that were given are the first of the text
 pub HasGiven-front : (text : List ℕ) (left : Option (List ℕ)) (given : List (List (List ℕ))) (r : Records)
     → HasGiven (Some text) left given r → BeginsWith (text_records (sep_of r) text) given
-HasGiven-front text left given r has = front-given r.sep text left given r.end r.taken has.0 (to_come r) has.1 has.2
+HasGiven-front text left given r has = front-given r.sep text left given r.end r.taken has.0 (records_to_come r) has.1 has.2

@@ -12,7 +12,7 @@ use Rattle.csv.specs.declared.parser.Config.{Config}
 use Rattle.csv.specs.declared.parser.State.{State}
 use Rattle.csv.specs.declared.parser.State.TheVariants as st
 use Rattle.csv.specs.declared.parser.Terminator.TheVariants as term
-use Rattle.tally_records.specs.Pieces.{is_line_end, ends_line}
+use Rattle.tally_records.specs.internal.Pieces.{is_line_end, ends_line, nothing}
 use Rattle.tally_records.specs.Separator.{separator, config}
 use Rattle.tally_records.specs.declared.separator.Sep.{Sep}
 use Rattle.tally_records.specs.declared.separator.Sep.TheVariants.{Comma, Semicolon}
@@ -245,9 +245,6 @@ plain-between st.InComment between = cc between
 plain-between st.AfterCr between = refl
 
 -- a record of two empty fields, which a separator began
-abbrev pub nothing : List (List ℕ)
-nothing = [] ∷ [] ∷ []
-
 two-fields : (fields : List (List ℕ)) (field : List ℕ) → (fields ++ field ∷ []) ++ [] ∷ [] ≡ nothing → (fields ≡ []) × (field ≡ [])
 two-fields [] field e = (refl, cc e)
 two-fields (x ∷ fields) field e = absurd (omega (arith, ap length e, length-append (fields ++ field ∷ []) ([] ∷ []), length-append fields (field ∷ [])))

@@ -2,14 +2,14 @@
 use Rattle.std.proofs.Common.{◌≡◌, ◌+◌, ◌∷◌, ◌∙◌, ℕ, List, [], Bool, true, false, Option, Some, None, length, refl, sym, ap, subst, arith, add-one}
 use Rattle.std.specs.Prelude.{if◌then◌else◌, IsSome}
 use Rattle.std.proofs.Common.{inl}
-use Rattle.tally_records.specs.Text.{text_left}
+use Rattle.tally_records.specs.internal.Text.{text_left}
 use Rattle.tally_records.specs.declared.text.Text.{Text}
 use Rattle.csv.specs.Machine.{Read, ends_at_end, next_record}
 use Rattle.csv.specs.Reading.{ReadRecord, ReadsNext, NextIs, pending_of, records_from, records_next}
 use Rattle.csv.specs.declared.parser.Config.{Config}
 use Rattle.csv.specs.declared.parser.State.{State}
 use Rattle.csv.specs.declared.reader.Reader.{Reader}
-use Rattle.tally_records.specs.Reading.{unread, rows_in, rows_left, IsReading}
+use Rattle.tally_records.specs.internal.Reading.{unread_bytes, rows_in, rows_left, IsReading}
 use Rattle.tally_records.proofs.RecordLemmas.{next_record-after, next_record-takes, records_from-enough}
 
 Rows : Config → State → Option (List ℕ) → List (List (List ℕ))
@@ -38,7 +38,7 @@ rows-next cfg s s2 xs (Some ys) found fields between reads = rw (add-one (length
         ap (λ rest. p.0 ∷ rest) (records_from-enough cfg (length xs) (length p.2 + 1) p.1 p.2 after.1 less (omega arith))
         ∙ same p is
 
-source-after : (new : Reader Text) → new.bom_checked ≡ true → unread new ≡ pending_of (text_left new.rdr) new
+source-after : (new : Reader Text) → new.bom_checked ≡ true → unread_bytes new ≡ pending_of (text_left new.rdr) new
 source-after new checked = rw checked refl
 
 -- the state after a record is between two
@@ -69,24 +69,24 @@ rows-same cfg new (Some ys) same = ap (λ c. records_from c (length ys + 1) new.
 
 left-next : (old new : Reader Text) (before : Option (List ℕ)) (found : Bool) (fields : List (List ℕ))
     → IsSome before → ends_at_end old.state ≡ false → new.config ≡ old.config
-    → ReadsNext old.config old.state before (unread new) found fields new.state
+    → ReadsNext old.config old.state before (unread_bytes new) found fields new.state
     → rows_in old before ≡ (if found then fields ∷ rows_left new else [])
 left-next old new None found fields some between same reads = cc
 left-next old new (Some xs) found fields some between same reads =
-    rows-next old.config old.state new.state xs (unread new) found fields between reads
-    ∙ ap (λ rows. if found then fields ∷ rows else []) (rows-same old.config new (unread new) same)
+    rows-next old.config old.state new.state xs (unread_bytes new) found fields between reads
+    ∙ ap (λ rows. if found then fields ∷ rows else []) (rows-same old.config new (unread_bytes new) same)
 
 reads-unread : (old new : Reader Text) (found : Bool) (fields : List (List ℕ))
-    → ReadRecord text_left old new found fields → ReadsNext old.config old.state (unread old) (unread new) found fields new.state
+    → ReadRecord text_left old new found fields → ReadsNext old.config old.state (unread_bytes old) (unread_bytes new) found fields new.state
 reads-unread old new found fields reads =
-    subst (λ left. ReadsNext old.config old.state (unread old) left found fields new.state) (sym (source-after new reads.1)) reads.0
+    subst (λ left. ReadsNext old.config old.state (unread_bytes old) left found fields new.state) (sym (source-after new reads.1)) reads.0
 
 -- what a reader of a text in memory has left after a read of a record
 pub rows_left-next : (old new : Reader Text) (found : Bool) (fields : List (List ℕ))
     → IsReading old → ReadRecord text_left old new found fields
     → rows_left old ≡ (if found then fields ∷ rows_left new else [])
 rows_left-next old new found fields h reads =
-    left-next old new (unread old) found fields h.source h.between reads.2 (reads-unread old new found fields reads)
+    left-next old new (unread_bytes old) found fields h.source h.between reads.2 (reads-unread old new found fields reads)
 
 -- and it can read the next one
 pub IsReading-next : (old new : Reader Text) (fields : List (List ℕ))
@@ -97,6 +97,6 @@ IsReading-next old new fields h first flexible reads =
       as_it_stands = reads.3 ∙ h.as_it_stands;
       ready = inl first;
       any_length = flexible ∙ h.any_length;
-      source = some-after old.config old.state new.state (unread old) (unread new) true fields h.source next;
-      between = between-next old.config old.state new.state (unread old) (unread new) fields h.source next;
+      source = some-after old.config old.state new.state (unread_bytes old) (unread_bytes new) true fields h.source next;
+      between = between-next old.config old.state new.state (unread_bytes old) (unread_bytes new) fields h.source next;
     }

@@ -7,11 +7,11 @@ use Rattle.csv.specs.Machine.{next_record}
 use Rattle.csv.specs.Reading.{records, records_from, strip_bom}
 use Rattle.csv.specs.Records.{fields_of}
 use Rattle.tally_records.specs.Input.{AreAll, Gave, complete_records, without_last}
-use Rattle.tally_records.specs.Given.{Came, HasGiven, MayCome, to_come}
-use Rattle.tally_records.specs.Pieces.{Begun, Fills, HasGivenAt, IsBegunIn, IsLast, IsPiece, IsWorking, IsRest, IsSpent, bytes_at, bytes_of, ends_line, is_whole, piece_rows, text_rows}
-use Rattle.tally_records.specs.Reading.{IsReading, rows_left}
+use Rattle.tally_records.specs.Given.{Came, HasGiven, MayCome, records_to_come}
+use Rattle.tally_records.specs.internal.Pieces.{Begun, Fills, HasGivenAt, IsBegunIn, IsLast, IsPiece, IsWorking, IsRest, IsSpent, bytes_at, bytes_of, ends_line, is_whole, nothing, piece_rows, text_rows}
+use Rattle.tally_records.specs.internal.Reading.{IsReading, rows_left}
 use Rattle.tally_records.specs.Separator.{separator, config}
-use Rattle.tally_records.specs.Text.{joined}
+use Rattle.tally_records.specs.internal.Text.{bytes_of_parts}
 use Rattle.std.specs.declared.alloc.Global.{Global}
 use Rattle.tally_records.specs.declared.end.Stop.{Stop}
 use Rattle.tally_records.specs.declared.end.Stop.TheVariants.{TooLong, Read}
@@ -23,7 +23,6 @@ use Rattle.tally_records.specs.RecordsValue.{Records}
 use Rattle.tally_records.specs.declared.separator.Sep.{Sep}
 use Rattle.tally_records.specs.declared.separator.Sep.TheVariants.{Comma, Semicolon}
 use Rattle.tally_records.proofs.ComingLemmas.{gives, anew, more-behind, as-many, records-few, drop-next, next-dropped, without_last-drop}
-use Rattle.tally_records.proofs.PieceLemmas.{nothing}
 
 -- ---- the next record of a piece
 
@@ -127,7 +126,7 @@ pub bytes_of-open : (r : Work) → r.end ≡ None → r.held.bytes.items ≡ byt
 bytes_of-open r goes = ap (λ end. bytes_at end r.held r.last.value) (sym goes)
 
 -- parts, and one more behind them
-pub joined-more : (parts : List (Vec ℕ Global)) (part : Vec ℕ Global) → joined (parts ++ part ∷ []) ≡ joined parts ++ part.items
+pub joined-more : (parts : List (Vec ℕ Global)) (part : Vec ℕ Global) → bytes_of_parts (parts ++ part ∷ []) ≡ bytes_of_parts parts ++ part.items
 joined-more parts part = sym (flat_map_more (λ (p : Vec ℕ Global). p.items) [] parts part)
 
 -- what came behind nothing, and what came behind that
@@ -328,9 +327,9 @@ HasGiven-partly r = go r.end refl
   where
     at : (end : Option End) (how : Option Stop) → r.end ≡ end → MayCome end [] how
         → ((t : List ℕ) (left : Option (List ℕ)) (bytes : List ℕ) → Came (Some t) left bytes r.taken end → Gave t left bytes how) → Partly r
-    at end how is may gave = (to_come r [] how, how, all)
+    at end how is may gave = (records_to_come r [] how, how, all)
       where
-        all : (text left : Option (List ℕ)) (given : List (List (List ℕ))) → HasGiven text left given r → AreAll r.sep text left (given ++ to_come r [] how) how
+        all : (text left : Option (List ℕ)) (given : List (List (List ℕ))) → HasGiven text left given r → AreAll r.sep text left (given ++ records_to_come r [] how) how
         all None left given has = tt
         all (Some t) left given has = (
           has.0,

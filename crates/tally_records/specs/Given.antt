@@ -1,7 +1,7 @@
 -- Which records of an input were given, and what is left of it.
-use Rattle.std.specs.Prelude.{◌≡◌, ◌≤◌, ◌++◌, ℕ, Bool, true, List, [], drop, length, Option, Some, None, IfSome, ⊤}
+use Rattle.std.specs.Prelude.{◌≡◌, ◌≤◌, ◌++◌, ◌∷◌, ℕ, Bool, true, List, [], drop, length, Option, Some, None, IfSome, ⊤}
 use Rattle.std.specs.Io.KnownBytes.{Consumes}
-use Rattle.tally_records.specs.Input.{Gave, complete_records, size_limit}
+use Rattle.tally_records.specs.Input.{AreAll, Gave, complete_records, size_limit}
 use Rattle.tally_records.specs.RecordsValue.{Records}
 use Rattle.tally_records.specs.Watch.{flag_after_end}
 use Rattle.tally_records.specs.declared.end.Stop.{Stop}
@@ -19,13 +19,25 @@ MayCome None more stop = ⊤
 MayCome (Some end) more stop = (more ≡ []) × (stop ≡ end.stop)
 
 -- the records still to be given, where these bytes come and then the end, or what stops the input
-abbrev pub to_come : Records → List ℕ → Option Stop → List (List (List ℕ))
-to_come r more stop = drop r.given (complete_records r.sep (r.bytes ++ more) stop)
+abbrev pub records_to_come : Records → List ℕ → Option Stop → List (List (List ℕ))
+records_to_come r more stop = drop r.given (complete_records r.sep (r.bytes ++ more) stop)
 
 -- These are the records of this text that were given so far.
 abbrev pub HasGiven : Option (List ℕ) → Option (List ℕ) → List (List (List ℕ)) → Records → Type 0
 HasGiven text left given r = (bytes : List ℕ) × Came text left bytes r.taken r.end
-    × ((more : List ℕ) (stop : Option Stop) → MayCome r.end more stop → complete_records r.sep (bytes ++ more) stop ≡ given ++ to_come r more stop)
+    × ((more : List ℕ) (stop : Option Stop) → MayCome r.end more stop → complete_records r.sep (bytes ++ more) stop ≡ given ++ records_to_come r more stop)
+
+-- One more record was given: with it after them, the records of a text that were given before are
+-- those given now. `old_left` and `left` are what the reader had left before and after.
+abbrev pub GivesRecord : Option (List ℕ) → Option (List ℕ) → List (List ℕ) → Records → Records → Type 0
+GivesRecord old_left left fields old new = (text : Option (List ℕ)) (given : List (List (List ℕ)))
+    → HasGiven text old_left given old → HasGiven text left (given ++ fields ∷ []) new
+
+-- Where the input ended, or was stopped so: the records of a text that were given before are all
+-- that are complete in what came of it.
+abbrev pub GaveAll : Option (List ℕ) → Option (List ℕ) → Records → Option Stop → Type 0
+GaveAll old_left left old stop = (text : Option (List ℕ)) (given : List (List (List ℕ)))
+    → HasGiven text old_left given old → AreAll old.sep text left given stop
 
 -- the separator of two fields
 abbrev pub sep_of : Records → Sep

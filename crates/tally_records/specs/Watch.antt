@@ -9,6 +9,10 @@ use Rattle.tally_records.specs.declared.watch.Watch.{Watch}
 abbrev pub has_failed : {S : Type 0} → Watch S → Bool
 has_failed watch = watch.failed
 
+-- the watch notes just what it noted before
+abbrev pub NotesNothing : {S : Type 0} → Watch S → Watch S → Type 0
+NotesNothing old new = has_failed new ≡ has_failed old
+
 -- What a watch notes of an input that was stopped so: that a read failed, where one stopped it, and
 -- else what it noted before.
 abbrev pub flag_after_stop : Option Stop → Bool → Bool
@@ -20,6 +24,10 @@ flag_after_stop (Some Read) before = true
 abbrev pub flag_after_end : Option End → Bool → Bool
 flag_after_end None before = before
 flag_after_end (Some end) before = flag_after_stop end.stop before
+
+-- How an input ended, where it has, is what the watch notes of it besides what it noted before.
+abbrev pub NotesEnd : {S : Type 0} → Watch S → Watch S → Option End → Type 0
+NotesEnd old new end = has_failed new ≡ flag_after_end end (has_failed old)
 
 -- Where an input is said to have ended, this is what its watch notes.
 abbrev pub TellsEnd : Bool → Option End → Bool → Type 0

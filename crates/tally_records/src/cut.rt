@@ -1,10 +1,10 @@
 //! Where an input is cut into pieces.
 
-ghost use Rattle.std.specs.Prelude.{◌≡◌, ◌≤◌, ◌<◌, ◌++◌, ◌∷◌, [], ℕ, None, true, drop, take, length, IfOk, if◌then◌else◌};
+ghost use Rattle.std.specs.Prelude.{◌≡◌, ◌≤◌, ◌<◌, ◌++◌, ◌∷◌, [], None, true, drop, take, length, IfOk};
 ghost use Rattle.csv.specs.Records.{fields_of};
 ghost use Rattle.tally_records.specs.Separator.{separator};
-ghost use Rattle.tally_records.specs.Pieces.{ends_line, is_line_end, is_whole, piece_rows};
-ghost use Rattle.tally_records.specs.Text.{bytes_left};
+ghost use Rattle.tally_records.specs.internal.Pieces.{EndsNoLineAfter, HasNothingAfter, IsGivenPiece, ends_line, is_line_end, is_whole, nothing, piece_rows, text_of_piece};
+ghost use Rattle.tally_records.specs.internal.Text.{bytes_left};
 
 use crate::end::End;
 use crate::fields::field;
@@ -30,7 +30,7 @@ pub(crate) fn ended_itself(end: Option<End>) -> bool
 pub(crate) fn piece_size(bytes: &[u8]) -> usize
     ensures within { result ≤ length bytes.now }
     ensures piece { ends_line (take result bytes.now) ≡ true }
-    ensures last { (size : ℕ) → size ≤ length bytes.now → ends_line (take size bytes.now) ≡ true → size ≤ result }
+    ensures last { EndsNoLineAfter result bytes.now }
 {
     match memrchr2(b'\r', b'\n', bytes) {
         Some(place) => place + 1,
@@ -47,8 +47,8 @@ pub(crate) fn is_line_end(byte: u8) -> bool
 
 /// Whether a record is the one that a separator begins after the end of a line.
 pub(crate) fn is_nothing(row: &ByteRecord) -> bool
-    ensures nothing { result ≡ true → fields_of row.now ≡ [] ∷ [] ∷ [] }
-    ensures found { fields_of row.now ≡ [] ∷ [] ∷ [] → result ≡ true }
+    ensures nothing { result ≡ true → fields_of row.now ≡ nothing }
+    ensures found { fields_of row.now ≡ nothing → result ≡ true }
 {
     row.len() == 2 && field(row, 0).is_empty() && field(row, 1).is_empty()
 }
@@ -73,8 +73,8 @@ pub(crate) fn given_size(
     requires piece { ends_line piece.now ≡ true }
     requires last { drop given (piece_rows sep None piece.now) ≡ fields_of last.now ∷ [] }
     ensures within { IfOk result (λ size. size ≤ length piece.now) }
-    ensures whole { fields_of last.now ≡ [] ∷ [] ∷ [] → IfOk result (λ size. size ≡ length piece.now) }
-    ensures given { IfOk result (λ size. 0 < size → (ends_line (take size piece.now) ≡ true) × (drop given (piece_rows sep None (take size piece.now)) ≡ ([] ∷ [] ∷ []) ∷ [])) }
+    ensures whole { fields_of last.now ≡ nothing → IfOk result (λ size. size ≡ length piece.now) }
+    ensures given { IfOk result (λ size. 0 < size → IsGivenPiece sep given (take size piece.now)) }
 {
     if is_nothing(last) {
         return Ok(piece.len());
@@ -109,7 +109,7 @@ pub(crate) fn last_text(
     sep: Sep,
     is_whole: bool,
 ) -> Result<Text, AllocError>
-    ensures { IfOk result (λ last. bytes_left last ≡ (if is_whole then bytes_left text else bytes_left text ++ separator sep ∷ [])) }
+    ensures { IfOk result (λ last. bytes_left last ≡ text_of_piece is_whole sep (bytes_left text)) }
 {
     if !is_whole {
         text.push(alloc, sep.byte())?;
@@ -119,8 +119,8 @@ pub(crate) fn last_text(
 
 /// Whether the first `given` records of a text are all that it has, and a line ended after them.
 fn is_given(alloc: Global, front: &[u8], sep: Sep, given: usize) -> Result<bool, AllocError>
-    ensures given { IfOk result (λ all. all ≡ true → drop given (piece_rows sep None front.now) ≡ ([] ∷ [] ∷ []) ∷ []) }
-    ensures found { IfOk result (λ all. drop given (piece_rows sep None front.now) ≡ ([] ∷ [] ∷ []) ∷ [] → all ≡ true) }
+    ensures given { IfOk result (λ all. all ≡ true → HasNothingAfter sep given front.now) }
+    ensures found { IfOk result (λ all. HasNothingAfter sep given front.now → all ≡ true) }
 {
     let text = Text::of(alloc, piece_text(alloc, front, sep)?)?;
     let mut reader = records_in(alloc, text, sep)?;

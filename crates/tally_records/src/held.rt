@@ -32,9 +32,9 @@ pub(crate) struct Held {
 }
 
 impl Held {
-    ghost use Rattle.tally_records.specs.Pieces.{Fills};
-    ghost use Rattle.tally_records.specs.Text.{joined};
-    ghost use Rattle.tally_records.specs.Watch.{flag_after_end, has_failed};
+    ghost use Rattle.tally_records.specs.internal.Pieces.{Ends, Fills, FillsHeld, HoldsAllThatCame, HoldsMore, HoldsNoMore};
+    ghost use Rattle.tally_records.specs.internal.Text.{bytes_of_parts};
+    ghost use Rattle.tally_records.specs.Watch.{NotesEnd};
 
     /// No byte.
     pub(crate) fn new(alloc: Global) -> Held
@@ -57,12 +57,13 @@ impl Held {
         size: usize,
     ) -> Result<Option<End>, AllocError>
         requires { self.old.taken ≤ 16777216 }
-        ensures fills { IfOk result (λ end. Fills (R.remaining input.old) (R.remaining input.new) self.old.bytes.items self.old.taken self.new.bytes.items self.new.taken end) }
+        ensures fills { IfOk result (FillsHeld
+            (R.remaining input.old) (R.remaining input.new) self.old self.new) }
         ensures size { IfOk result (λ end. end ≡ None → size ≤ length self.new.bytes.items) }
-        ensures count { IfOk result (λ end. end ≡ None → self.new.taken + length self.old.bytes.items ≡ self.old.taken + length self.new.bytes.items) }
+        ensures count { IfOk result (λ end. end ≡ None → HoldsAllThatCame self.old self.new) }
         ensures limit { IfOk result (λ end. end ≡ None → self.new.taken ≤ 16777216) }
-        ensures few { OnOk result (self.old.taken + length self.new.bytes.items ≤ self.new.taken + length self.old.bytes.items) }
-        ensures failed { IfOk result (λ end. has_failed watch.new ≡ flag_after_end end (has_failed watch.old)) }
+        ensures few { OnOk result (HoldsNoMore self.old self.new) }
+        ensures failed { IfOk result (NotesEnd watch.old watch.new) }
     {
         let missing = size.saturating_sub(self.bytes.len());
         self.bytes
@@ -72,17 +73,8 @@ impl Held {
             let wanted = READ_SIZE
                 .min(size - self.bytes.len())
                 .min(SIZE_LIMIT + 1 - self.taken);
-            match watch.read(input, &mut buffer[..wanted]) {
-                Ok(0) => return Ok(Some(End { stop: None })),
-                Ok(came) => {
-                    self.bytes.extend_from_slice(&buffer[..came])?;
-                    self.taken += came;
-                }
-                Err(_) => {
-                    return Ok(Some(End {
-                        stop: Some(Stop::Read),
-                    }));
-                }
+            if let Some(end) = self.read_once(input, watch, &mut buffer[..wanted])? {
+                return Ok(Some(end));
             }
         }
         if self.taken <= SIZE_LIMIT {
@@ -94,6 +86,36 @@ impl Held {
         }))
     }
 
+    // Reads once into some room, and holds what came. Answers how the input ended, where it did.
+    fn read_once<R: Read>(
+        &mut self,
+        input: &mut R,
+        watch: &mut Watch<R>,
+        room: &mut [u8],
+    ) -> Result<Option<End>, AllocError>
+        requires some { 0 < length room.old }
+        requires limit { self.old.taken + length room.old ≤ 16777217 }
+        ensures came { IfOk result (λ end. end ≡ None
+            → HoldsMore (R.remaining input.old) (R.remaining input.new) self.old self.new) }
+        ensures some { IfOk result (λ end. end ≡ None → self.old.taken < self.new.taken) }
+        ensures limit { OnOk result (self.new.taken ≤ 16777217) }
+        ensures ended { IfOk result (λ end. (e : End) → end ≡ Some e
+            → (self.new ≡ self.old) × Ends (R.remaining input.old) (R.remaining input.new) e.stop) }
+        ensures failed { IfOk result (NotesEnd watch.old watch.new) }
+    {
+        let Ok(came) = watch.read(input, room) else {
+            return Ok(Some(End {
+                stop: Some(Stop::Read),
+            }));
+        };
+        if came == 0 {
+            return Ok(Some(End { stop: None }));
+        }
+        self.bytes.extend_from_slice(&room[..came])?;
+        self.taken += came;
+        Ok(None)
+    }
+
     /// Reads all that still comes, in parts, so that each can be given back by itself. An input
     /// that goes on past 16 MiB is stopped there.
     pub(crate) fn read_rest<R: Read>(
@@ -103,11 +125,12 @@ impl Held {
         watch: &mut Watch<R>,
     ) -> Result<(VecDeque<Vec<u8>>, End), AllocError>
         requires { self.old.taken ≤ 16777216 }
-        ensures fills { IfOk result (λ rest. Fills (R.remaining input.old) (R.remaining input.new) [] self.old.taken (joined rest.0.items) self.new.taken (Some rest.1)) }
+        ensures fills { IfOk result (λ rest. Fills (R.remaining input.old) (R.remaining input.new)
+            [] self.old.taken (bytes_of_parts rest.0.items) self.new.taken (Some rest.1)) }
         ensures bytes { OnOk result (self.new.bytes ≡ self.old.bytes) }
-        ensures few { IfOk result (λ rest. self.old.taken + length (joined rest.0.items) ≤ self.new.taken) }
-        ensures failed { IfOk result (λ rest.
-            has_failed watch.new ≡ flag_after_end (Some rest.1) (has_failed watch.old)) }
+        ensures few { IfOk result (λ rest.
+            self.old.taken + length (bytes_of_parts rest.0.items) ≤ self.new.taken) }
+        ensures failed { IfOk result (λ rest. NotesEnd watch.old watch.new (Some rest.1)) }
     {
         let mut parts = VecDeque::new(alloc);
         loop {

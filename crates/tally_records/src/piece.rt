@@ -1,7 +1,7 @@
 //! A piece of an input, and the records in it.
 
 ghost use Rattle.std.specs.Prelude.{◌≡◌, ◌≤◌, ◌<◌, true, false, drop, length, IfOk};
-ghost use Rattle.tally_records.specs.Reading.{IsReading};
+ghost use Rattle.tally_records.specs.internal.Reading.{IsReading};
 
 use crate::reading::{TextReader, next_record, pass_over, records_in};
 use crate::separator::Sep;
@@ -17,8 +17,8 @@ pub(crate) struct Rest {
 }
 
 impl Rest {
-    ghost use Rattle.tally_records.specs.Pieces.{IsRest, text_rows};
-    ghost use Rattle.tally_records.specs.Text.{bytes_left};
+    ghost use Rattle.tally_records.specs.internal.Pieces.{IsRest, text_rows};
+    ghost use Rattle.tally_records.specs.internal.Text.{bytes_left};
 
     /// The records of a piece's text after the first `given`, which it has.
     pub(crate) fn new(
@@ -31,7 +31,8 @@ impl Rest {
         requires some { is_whole ≡ false → given < length (text_rows sep (bytes_left text)) }
         requires whole { is_whole ≡ true → given ≤ length (text_rows sep (bytes_left text)) }
         ensures reading { IfOk result (λ rest. IsReading rest.reader.reader.value) }
-        ensures rest { IfOk result (IsRest is_whole (drop given (text_rows sep (bytes_left text)))) }
+        ensures rest { IfOk result (IsRest is_whole
+            (drop given (text_rows sep (bytes_left text)))) }
     {
         let mut reader = records_in(alloc, text, sep)?;
         let mut ahead = ByteRecord::new(alloc);

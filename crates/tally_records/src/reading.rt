@@ -1,11 +1,10 @@
 //! Reading the records of a text in memory.
 
-ghost use Rattle.std.specs.Prelude.{◌≡◌, ◌≤◌, ◌∷◌, [], true, drop, length, IfOk, if◌then◌else◌};
-ghost use Rattle.csv.specs.Reading.{records, strip_bom};
+ghost use Rattle.std.specs.Prelude.{◌≡◌, ◌≤◌, true, drop, length, IfOk};
 ghost use Rattle.csv.specs.Records.{fields_of};
-ghost use Rattle.tally_records.specs.Reading.{IsReading, rows_left};
-ghost use Rattle.tally_records.specs.Separator.{config};
-ghost use Rattle.tally_records.specs.Text.{bytes_left};
+ghost use Rattle.tally_records.specs.internal.Pieces.{text_rows};
+ghost use Rattle.tally_records.specs.internal.Reading.{GivesRow, IsReading, rows_left};
+ghost use Rattle.tally_records.specs.internal.Text.{bytes_left};
 
 use crate::separator::Sep;
 use crate::text::Text;
@@ -29,7 +28,7 @@ impl Drop for TextReader {
 /// empty, since a reader that has none yet keeps copies of the first record.
 pub(crate) fn records_in(alloc: Global, text: Text, sep: Sep) -> Result<TextReader, AllocError>
     ensures reading { IfOk result (λ it. IsReading it.reader.value) }
-    ensures rows { IfOk result (λ it. rows_left it.reader.value ≡ records (config sep) (strip_bom (bytes_left text))) }
+    ensures rows { IfOk result (λ it. rows_left it.reader.value ≡ text_rows sep (bytes_left text)) }
 {
     let mut it = TextReader {
         reader: Box::new(
@@ -54,7 +53,7 @@ pub(crate) fn next_record(
 ) -> Result<bool, AllocError>
     requires { IsReading reader.old }
     ensures reading { IfOk result (λ found. found ≡ true → IsReading reader.new) }
-    ensures record { IfOk result (λ found. rows_left reader.old ≡ (if found then fields_of into.new ∷ rows_left reader.new else [])) }
+    ensures record { IfOk result (GivesRow reader.old reader.new (fields_of into.new)) }
 {
     let Ok(found) = reader.read_byte_record(into) else {
         return Err(AllocError);
@@ -70,7 +69,8 @@ pub(crate) fn pass_over(
 ) -> Result<bool, AllocError>
     requires { IsReading reader.old }
     ensures reading { IfOk result (λ all. all ≡ true → IsReading reader.new) }
-    ensures rows { IfOk result (λ all. all ≡ true → rows_left reader.new ≡ drop count (rows_left reader.old)) }
+    ensures rows { IfOk result (λ all. all ≡ true
+        → rows_left reader.new ≡ drop count (rows_left reader.old)) }
     ensures all { IfOk result (λ all. count ≤ length (rows_left reader.old) → all ≡ true) }
 {
     for passed in 0..count {

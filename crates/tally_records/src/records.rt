@@ -1,6 +1,6 @@
 //! The records of an input, one after the other.
 
-ghost use Rattle.std.specs.Prelude.{◌≡◌, ◌++◌, ◌∷◌, [], List, ℕ, Option, Some, None, Bool, true, IfOk, OnOk};
+ghost use Rattle.std.specs.Prelude.{◌≡◌, [], Some, None, Bool, IfOk, OnOk};
 ghost use Rattle.csv.specs.Records.{fields_of};
 
 use crate::end::End;
@@ -23,19 +23,18 @@ pub struct Records {
 
 impl Model for Records {
     ghost use Rattle.std.specs.Prelude.{◌≡◌, true};
-    ghost use Rattle.tally_records.specs.Pieces.{IsWorking, shown};
+    ghost use Rattle.tally_records.specs.internal.Pieces.{IsWorking, records_of_work};
     ghost use Rattle.tally_records.specs.RecordsValue as value;
 
     ghost Value = { value.Records };
 
-    ghost view = { λ r. shown r.work r.at_work };
+    ghost view = { λ r. records_of_work r.work r.at_work };
 
     ghost invariant = { λ r. r.at_work ≡ true → IsWorking r.work };
 }
 
 impl Records {
-    ghost use Rattle.tally_records.specs.Input.{AreAll};
-    ghost use Rattle.tally_records.specs.Given.{HasGiven, IsReadingOn, TellsTrue, sep_of};
+    ghost use Rattle.tally_records.specs.Given.{GaveAll, GivesRecord, HasGiven, IsReadingOn, TellsTrue, sep_of};
     ghost use Rattle.tally_records.specs.Watch.{TellsEnd, has_failed};
 
     /// The records of an input, whose first piece is read.
@@ -70,10 +69,11 @@ impl Records {
         requires { IsReadingOn self.old }
         ensures sep { sep_of self.new ≡ sep_of self.old }
         ensures reading { IfOk result (λ end. end ≡ None → IsReadingOn self.new) }
-        ensures record { IfOk result (λ end. end ≡ None → (text : Option (List ℕ)) (given : List (List (List ℕ)))
-            → HasGiven text (R.remaining input.old) given self.old → HasGiven text (R.remaining input.new) (given ++ fields_of into.new ∷ []) self.new) }
-        ensures all { IfOk result (λ end. (e : End) → end ≡ Some e → (text : Option (List ℕ)) (given : List (List (List ℕ)))
-            → HasGiven text (R.remaining input.old) given self.old → AreAll (sep_of self.old) text (R.remaining input.new) given e.stop) }
+        ensures record { IfOk result (λ end. end ≡ None
+            → GivesRecord (R.remaining input.old) (R.remaining input.new)
+            (fields_of into.new) self.old self.new) }
+        ensures all { IfOk result (λ end. (e : End) → end ≡ Some e
+            → GaveAll (R.remaining input.old) (R.remaining input.new) self.old e.stop) }
         ensures failed { (before : Bool) → TellsTrue before self.old (has_failed watch.old)
             → IfOk result (λ end. TellsEnd before end (has_failed watch.new)) }
         ensures tells { (before : Bool) → TellsTrue before self.old (has_failed watch.old)

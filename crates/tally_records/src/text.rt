@@ -3,7 +3,7 @@
 ghost use Rattle.std.specs.Prelude.{◌≡◌, ◌++◌, ◌∷◌, [], IfOk, IsOk, OnOk};
 ghost use Rattle.std.specs.Io.{ReadsAtMost};
 ghost use Rattle.std.specs.Io.KnownBytes.{ReadConsumes};
-ghost use Rattle.tally_records.specs.Text.{bytes_left, joined, text_left};
+ghost use Rattle.tally_records.specs.internal.Text.{bytes_left, bytes_of_parts, text_left};
 
 use std::alloc::{AllocError, Global};
 use std::collections::VecDeque;
@@ -26,7 +26,8 @@ impl Text {
         front: Vec<u8>,
         behind: VecDeque<Vec<u8>>,
     ) -> Result<Text, AllocError>
-        ensures { IfOk result (λ text. bytes_left text ≡ front.items ++ joined behind.items) }
+        ensures { IfOk result (λ text.
+            bytes_left text ≡ front.items ++ bytes_of_parts behind.items) }
     {
         Ok(Text {
             front: Cursor::new(front),

@@ -3,7 +3,7 @@
 ghost use Rattle.std.specs.Prelude.{◌≡◌, ◌<◌, false, true, length, Ok, IfOk, OnOk, OnErr};
 ghost use Rattle.std.specs.Io.{ReadsAtMost, WritesAtMost};
 ghost use Rattle.std.specs.Io.KnownBytes.{Keeps, ReadConsumes, WriteAppends};
-ghost use Rattle.tally_records.specs.Watch.{has_failed};
+ghost use Rattle.tally_records.specs.Watch.{NotesNothing, has_failed};
 
 use std::io::{Read, Result, Write};
 use std::marker::PhantomData;
@@ -39,9 +39,10 @@ impl<R: Read> Watch<R> {
     /// Reads, and notes a read that fails.
     pub fn read(&mut self, reader: &mut R, buf: &mut [u8]) -> Result<usize>
         ensures bound { ReadsAtMost result buf.new }
-        ensures bytes { ReadConsumes (R.remaining reader.old) (R.remaining reader.new) result buf.new }
+        ensures bytes { ReadConsumes (R.remaining reader.old)
+            (R.remaining reader.new) result buf.new }
         ensures failed { OnErr result (has_failed self.new ≡ true) }
-        ensures kept { OnOk result (has_failed self.new ≡ has_failed self.old) }
+        ensures kept { OnOk result (NotesNothing self.old self.new) }
     {
         let result = reader.read(buf);
         if result.is_err() {
@@ -55,11 +56,12 @@ impl<W: Write> Watch<W> {
     /// Writes, and notes a write that fails, or takes nothing of some bytes.
     pub fn write(&mut self, writer: &mut W, buf: &[u8]) -> Result<usize>
         ensures bound { WritesAtMost result buf.now }
-        ensures bytes { WriteAppends (W.contents writer.old) (W.contents writer.new) result buf.now }
+        ensures bytes { WriteAppends (W.contents writer.old)
+            (W.contents writer.new) result buf.now }
         ensures failed { OnErr result (has_failed self.new ≡ true) }
         ensures nothing { result ≡ Ok 0 → 0 < length buf.now → has_failed self.new ≡ true }
-        ensures kept { IfOk result (λ taken. 0 < taken → has_failed self.new ≡ has_failed self.old) }
-        ensures empty { length buf.now ≡ 0 → OnOk result (has_failed self.new ≡ has_failed self.old) }
+        ensures kept { IfOk result (λ taken. 0 < taken → NotesNothing self.old self.new) }
+        ensures empty { length buf.now ≡ 0 → OnOk result (NotesNothing self.old self.new) }
     {
         match writer.write(buf) {
             Ok(taken) => {
@@ -79,7 +81,7 @@ impl<W: Write> Watch<W> {
     pub fn flush(&mut self, writer: &mut W) -> Result<()>
         ensures bytes { Keeps (W.contents writer.old) (W.contents writer.new) }
         ensures failed { OnErr result (has_failed self.new ≡ true) }
-        ensures kept { OnOk result (has_failed self.new ≡ has_failed self.old) }
+        ensures kept { OnOk result (NotesNothing self.old self.new) }
     {
         let result = writer.flush();
         if result.is_err() {

@@ -1,6 +1,6 @@
 //! The records of an input at work, with one piece of it in memory.
 
-ghost use Rattle.std.specs.Prelude.{◌≡◌, ◌≤◌, ◌<◌, ◌+◌, ◌++◌, ◌∷◌, [], length, List, ℕ, Option, Some, None, Bool, true, false, IfOk, OnOk};
+ghost use Rattle.std.specs.Prelude.{◌≡◌, ◌≤◌, ◌<◌, ◌+◌, ◌++◌, [], length, Some, None, Bool, true, false, IfOk, OnOk};
 ghost use Rattle.csv.specs.Records.{fields_of};
 
 use crate::cut::{ended_itself, given_size, last_text, piece_size, piece_text};
@@ -42,10 +42,9 @@ pub(crate) struct Work {
 }
 
 impl Work {
-    ghost use Rattle.tally_records.specs.Input.{AreAll};
-    ghost use Rattle.tally_records.specs.Pieces.{Begun, Fills, HasGivenAt, IsBegunIn, IsWorking, IsSpent, bytes_of, left_size};
-    ghost use Rattle.tally_records.specs.Text.{joined};
-    ghost use Rattle.tally_records.specs.Watch.{TellsEnd, flag_after_end, has_failed};
+    ghost use Rattle.tally_records.specs.internal.Pieces.{Begun, GaveAllAt, GivesOfPiece, GivesRecordAt, HasGivenAt, HoldsAllThatCame, IsBegunIn, IsWorking, IsSpent, KeepsGiven, TakesUp, bytes_of, left_size};
+    ghost use Rattle.tally_records.specs.internal.Text.{bytes_of_parts};
+    ghost use Rattle.tally_records.specs.Watch.{NotesEnd, TellsEnd, flag_after_end, has_failed};
 
     /// The records of an input, whose first piece is read.
     pub(crate) fn new<R: Read>(
@@ -56,9 +55,9 @@ impl Work {
     ) -> Result<Work, AllocError>
         ensures sep { IfOk result (λ records. records.sep ≡ sep) }
         ensures reading { IfOk result IsWorking }
-        ensures given { IfOk result (HasGivenAt (R.remaining input.old) (R.remaining input.new) []) }
-        ensures failed { IfOk result (λ records.
-            has_failed watch.new ≡ flag_after_end records.end (has_failed watch.old)) }
+        ensures given { IfOk result (HasGivenAt
+            (R.remaining input.old) (R.remaining input.new) []) }
+        ensures failed { IfOk result (λ records. NotesEnd watch.old watch.new records.end) }
     {
         Work::read(alloc, Held::new(alloc), input, watch, sep)
     }
@@ -74,13 +73,12 @@ impl Work {
     ) -> Result<Work, AllocError>
         requires { held.taken ≤ 16777216 }
         ensures reading { IfOk result IsWorking }
-        ensures fills { IfOk result (λ r. Fills (R.remaining input.old) (R.remaining input.new) held.bytes.items held.taken (bytes_of r) r.held.taken r.end) }
+        ensures fills { IfOk result (TakesUp (R.remaining input.old) (R.remaining input.new) held) }
         ensures size { IfOk result (λ r. r.end ≡ None → 262144 ≤ length r.held.bytes.items) }
-        ensures count { IfOk result (λ r. r.end ≡ None → r.held.taken + length held.bytes.items ≡ held.taken + length r.held.bytes.items) }
+        ensures count { IfOk result (λ r. r.end ≡ None → HoldsAllThatCame held r.held) }
         ensures sep { IfOk result (λ r. r.sep ≡ sep) }
         ensures given { IfOk result (λ r. r.given ≡ 0) }
-        ensures failed { IfOk result (λ r.
-            has_failed watch.new ≡ flag_after_end r.end (has_failed watch.old)) }
+        ensures failed { IfOk result (λ r. NotesEnd watch.old watch.new r.end) }
     {
         if let Some(end) = held.fill(input, watch, PIECE)? {
             return Work::last(alloc, held, VecDeque::new(alloc), end, sep, 0);
@@ -114,12 +112,11 @@ impl Work {
         requires few { length held.bytes.items ≤ held.taken + 1 }
         requires begun { Begun sep held.bytes.items given }
         ensures reading { IfOk result IsWorking }
-        ensures fills { IfOk result (λ r. Fills (R.remaining input.old) (R.remaining input.new) held.bytes.items held.taken (bytes_of r) r.held.taken r.end) }
+        ensures fills { IfOk result (TakesUp (R.remaining input.old) (R.remaining input.new) held) }
         ensures ended { IfOk result (λ r. left_size r ≡ 0) }
         ensures sep { IfOk result (λ r. r.sep ≡ sep) }
         ensures given { IfOk result (λ r. r.given ≡ given) }
-        ensures failed { IfOk result (λ r.
-            has_failed watch.new ≡ flag_after_end r.end (has_failed watch.old)) }
+        ensures failed { IfOk result (λ r. NotesEnd watch.old watch.new r.end) }
     {
         let (more, end) = held.read_rest(alloc, input, watch)?;
         Work::last(alloc, held, more, end, sep, given)
@@ -134,10 +131,11 @@ impl Work {
         sep: Sep,
         given: usize,
     ) -> Result<Work, AllocError>
-        requires few { length (held.bytes.items ++ joined more.items) ≤ held.taken + 1 }
-        requires begun { IsBegunIn sep (held.bytes.items ++ joined more.items) given }
+        requires few { length (held.bytes.items ++ bytes_of_parts more.items) ≤ held.taken + 1 }
+        requires begun { IsBegunIn sep (held.bytes.items ++ bytes_of_parts more.items) given }
         ensures reading { IfOk result IsWorking }
-        ensures bytes { IfOk result (λ r. bytes_of r ≡ held.bytes.items ++ joined more.items) }
+        ensures bytes { IfOk result (λ r.
+            bytes_of r ≡ held.bytes.items ++ bytes_of_parts more.items) }
         ensures taken { IfOk result (λ r. r.held.taken ≡ held.taken) }
         ensures end { IfOk result (λ r. r.end ≡ Some end) }
         ensures sep { IfOk result (λ r. r.sep ≡ sep) }
@@ -172,10 +170,11 @@ impl Work {
         requires { IsWorking self.old }
         ensures sep { self.new.sep ≡ self.old.sep }
         ensures reading { IfOk result (λ end. end ≡ None → IsWorking self.new) }
-        ensures record { IfOk result (λ end. end ≡ None → (text : Option (List ℕ)) (given : List (List (List ℕ)))
-            → HasGivenAt text (R.remaining input.old) given self.old → HasGivenAt text (R.remaining input.new) (given ++ fields_of into.new ∷ []) self.new) }
-        ensures all { IfOk result (λ end. (e : End) → end ≡ Some e → (text : Option (List ℕ)) (given : List (List (List ℕ)))
-            → HasGivenAt text (R.remaining input.old) given self.old → AreAll (self.old.sep) text (R.remaining input.new) given e.stop) }
+        ensures record { IfOk result (λ end. end ≡ None
+            → GivesRecordAt (R.remaining input.old) (R.remaining input.new)
+            (fields_of into.new) self.old self.new) }
+        ensures all { IfOk result (λ end. (e : End) → end ≡ Some e
+            → GaveAllAt (R.remaining input.old) (R.remaining input.new) self.old e.stop) }
         ensures failed { (before : Bool) → has_failed watch.old ≡ flag_after_end self.old.end before
             → IfOk result (λ end. TellsEnd before end (has_failed watch.new)) }
         ensures tells { (before : Bool) → has_failed watch.old ≡ flag_after_end self.old.end before
@@ -194,10 +193,11 @@ impl Work {
     fn next_in_piece(&mut self, into: &mut ByteRecord) -> Result<bool, AllocError>
         requires { IsWorking self.old }
         ensures reading { IfOk result (λ found. found ≡ true → IsWorking self.new) }
-        ensures given { IfOk result (λ found. found ≡ true → (text left : Option (List ℕ)) (given : List (List (List ℕ)))
-            → HasGivenAt text left given self.old → HasGivenAt text left (given ++ fields_of into.new ∷ []) self.new) }
+        ensures given { IfOk result (λ found. found ≡ true
+            → GivesOfPiece (fields_of into.new) self.old self.new) }
         ensures spent { IfOk result (λ found. found ≡ false → IsSpent self.new) }
-        ensures same { IfOk result (λ found. found ≡ false → self.new ≡ record self.old { rest = self.new.rest }) }
+        ensures same { IfOk result (λ found. found ≡ false
+            → self.new ≡ record self.old { rest = self.new.rest }) }
         ensures sep { self.new.sep ≡ self.old.sep }
         ensures end { self.new.end ≡ self.old.end }
     {
@@ -221,10 +221,10 @@ impl Work {
         requires spent { IsSpent self.old }
         requires more { self.old.end ≡ None }
         ensures reading { OnOk result (IsWorking self.new) }
-        ensures given { OnOk result ((text : Option (List ℕ)) (given : List (List (List ℕ)))
-            → HasGivenAt text (R.remaining input.old) given self.old → HasGivenAt text (R.remaining input.new) given self.new) }
+        ensures given { OnOk result (KeepsGiven
+            (R.remaining input.old) (R.remaining input.new) self.old self.new) }
         ensures goes_on { OnOk result (left_size self.new < left_size self.old) }
-        ensures failed { OnOk result (has_failed watch.new ≡ flag_after_end self.new.end (has_failed watch.old)) }
+        ensures failed { OnOk result (NotesEnd watch.old watch.new self.new.end) }
         ensures sep { self.new.sep ≡ self.old.sep }
     {
         let held = &mut self.held;

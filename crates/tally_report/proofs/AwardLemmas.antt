@@ -2,7 +2,7 @@
 use Rattle.std.proofs.Common.{◌≡◌, ◌≢◌, ◌≤◌, ◌<◌, ◌⊎◌, ◌∙◌, ℕ, zero, suc, ◌+◌, List, [], Bool, true, false, length, get_or, refl, sym, ap, subst, inl, inr, arith}
 use Rattle.std.proofs.lemmas.Bool.{cases_lt, false≢true}
 use Rattle.std.proofs.lemmas.List.{get_or_past, length-map}
-use Rattle.tally_frac.specs.DivisorLaws.{modified-positive}
+use Rattle.tally_frac.specs.internal.DivisorLaws.{modified-positive}
 use Rattle.tally_allot.specs.AllotFault.{IsFaultOf}
 use Rattle.tally_allot.specs.Awards.{AreAwardsBy}
 use Rattle.tally_law.specs.LawStatements.{GroupsAreOfOneNumberOfVotes, NoLotIsNeededWhereVotesDecide}
@@ -21,7 +21,7 @@ use Rattle.tally_rules.specs.Threshold.{base_of, is_eligible}
 use Rattle.tally_rules.specs.declared.profile.LotRule.{LotRule}
 use Rattle.tally_rules.specs.declared.profile.Method.{Method}
 use Rattle.tally_rules.specs.declared.profile.Method.TheVariants.{DHondt, SainteLague, ModifiedSainteLague, Hare}
-use Rattle.tally_report.specs.Awards.{IsAwardIn}
+use Rattle.tally_report.specs.internal.Awards.{IsAwardIn}
 
 -- what is said of the parts that awards are made of, said of equal ones
 pub carried : {A B C D E : Type 0} (P : A → B → C → D → E → Type 0) → {a a' : A} → a ≡ a' → {b b' : B} → b ≡ b' → {c c' : C} → c ≡ c' → {d d' : D} → d ≡ d' → {e e' : E} → e ≡ e' → P a b c d e → P a' b' c' d' e'

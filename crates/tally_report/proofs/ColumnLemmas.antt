@@ -7,7 +7,7 @@ use Rattle.std.specs.Fmt.{char_count, decimal, format_spec, padded_integral, sty
 use Rattle.std.proofs.lemmas.Bool.{eqb-true}
 use Rattle.std.proofs.lemmas.Fmt.{decimal_digit}
 use Rattle.std.proofs.lemmas.List.{append-nil}
-use Rattle.tally_report.specs.Columns.{number, right, spaces}
+use Rattle.tally_report.specs.Columns.{number, right_cell, spaces}
 use Rattle.tally_report.specs.TallyText.{hundredths}
 
 repeat-space : (n : ℕ) → repeat n (32 ∷ []) ≡ spaces n
@@ -24,7 +24,7 @@ laid short left space digits is same =
     let none : left - left ≡ 0 = omega arith in
     rw none (rw is (rw same (rw repeat-space (simp append-nil))))
 
-padded : (width : ℕ) (digits : List ℕ) → padded_integral (format_spec 32 3 0 width 18446744073709551615) false [] digits ≡ right width digits
+padded : (width : ℕ) (digits : List ℕ) → padded_integral (format_spec 32 3 0 width 18446744073709551615) false [] digits ≡ right_cell width digits
 unfolding padded_integral char_count
 padded width digits = laid (width - length digits) (width - length digits - 0 - 0) (encode_utf8 32) digits space-is (omega arith)
 
@@ -37,7 +37,7 @@ pub number-is : (width n : ℕ) → styled_decimal (format_spec 32 3 0 width 184
 number-is width n = by_width width n (width == 0) refl
 
 -- a whole part of five places, a point and two digits are a column of eight
-pointed : (w a b : List ℕ) (x y : ℕ) → a ≡ x ∷ [] → b ≡ y ∷ [] → right 5 w ++ 46 ∷ (a ++ b) ≡ right 8 (w ++ 46 ∷ [] ++ a ++ b)
+pointed : (w a b : List ℕ) (x y : ℕ) → a ≡ x ∷ [] → b ≡ y ∷ [] → right_cell 5 w ++ 46 ∷ (a ++ b) ≡ right_cell 8 (w ++ 46 ∷ [] ++ a ++ b)
 pointed w a b x y one two = rw one (rw two (rw short (simp append_assoc)))
   where
     long : length (w ++ 46 ∷ [] ++ x ∷ [] ++ y ∷ []) ≡ length w + 3
@@ -46,7 +46,7 @@ pointed w a b x y one two = rw one (rw two (rw short (simp append_assoc)))
     short : 8 - length (w ++ 46 ∷ [] ++ x ∷ [] ++ y ∷ []) ≡ 5 - length w
     short = omega (arith, long)
 
-pub hundredths-is : (n : ℕ) → number 5 (n / 100) ++ 46 ∷ (decimal (n / 10 % 10) ++ decimal (n % 10)) ≡ right 8 (hundredths n)
+pub hundredths-is : (n : ℕ) → number 5 (n / 100) ++ 46 ∷ (decimal (n / 10 % 10) ++ decimal (n % 10)) ≡ right_cell 8 (hundredths n)
 hundredths-is n =
     pointed (decimal (n / 100)) (decimal (n / 10 % 10)) (decimal (n % 10)) (48 + n / 10 % 10) (48 + n % 10)
     (decimal_digit (n / 10 % 10) (omega arith)) (decimal_digit (n % 10) (omega arith))

@@ -7,7 +7,7 @@ use Rattle.std.proofs.lemmas.List.{append-nil, get_or-map, get_or-replicate, get
 use Rattle.std.proofs.lemmas.List.Elements.{filter-append}
 use Rattle.std.proofs.lemmas.Grind.{get_or-set_at, replicate_next}
 use Rattle.tally_returns.specs.GoneCandidate.{GoneCandidate}
-use Rattle.tally_report.specs.GoneByList.{AreByList, IsOneMore, places_in}
+use Rattle.tally_report.specs.internal.GoneByList.{AreByList, IsOneMore, places_in}
 
 -- of nobody there are none
 pub none_gone : (all : List GoneCandidate) (n : ℕ) (places : List (List ℕ)) → places ≡ replicate n [] → AreByList (take 0 all) n places

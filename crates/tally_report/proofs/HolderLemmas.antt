@@ -3,7 +3,7 @@ use Rattle.std.proofs.Common.{◌≡◌, ◌≤◌, ◌<◌, ◌∙◌, ℕ, zer
 use Rattle.std.specs.Prelude.{not, take, if◌then◌else◌}
 use Rattle.std.specs.List.{filter, range_with_len, repeat}
 use Rattle.std.proofs.lemmas.List.{append-nil}
-use Rattle.tally_steps.specs.Holders.{holders, is_among, staying}
+use Rattle.tally_steps.specs.Holders.{holders, is_among, remaining_candidates}
 
 kept : (keep : Bool) (a n i : ℕ) (rest : List ℕ) → ((j : ℕ) → j < length rest → (a + 1 ≤ get_or rest j 0) × (get_or rest j 0 < a + 1 + n))
     → i < length (if keep then a ∷ rest else rest) → (a ≤ get_or (if keep then a ∷ rest else rest) i 0) × (get_or (if keep then a ∷ rest else rest) i 0 < a + suc n)
@@ -25,7 +25,7 @@ first (suc s) (suc i) (x ∷ xs) lt = let r = first s i xs (omega arith) in (ome
 -- who holds a seat is a candidate
 pub holder-within : (candidates seats : ℕ) (gone : List ℕ) (i : ℕ) → i < length (holders candidates seats gone) → (1 ≤ get_or (holders candidates seats gone) i 0) × (get_or (holders candidates seats gone) i 0 ≤ candidates)
 holder-within candidates seats gone i lt =
-    let f = first seats i (staying candidates gone) lt in
+    let f = first seats i (remaining_candidates candidates gone) lt in
     let w = within (λ place. not (is_among place gone)) 1 candidates i f.0 in
     (omega (arith, f.1, w.0), omega (arith, f.1, w.1))
 

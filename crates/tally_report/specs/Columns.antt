@@ -13,15 +13,15 @@ spaces n = replicate n 32
 
 -- A value at the left of a column, and one at the right. A value wider than its column is printed
 -- whole, and the line grows.
-abbrev pub left : ℕ → List ℕ → List ℕ
-left width value = value ++ spaces (width - length value)
+abbrev pub left_cell : ℕ → List ℕ → List ℕ
+left_cell width value = value ++ spaces (width - length value)
 
-abbrev pub right : ℕ → List ℕ → List ℕ
-right width value = spaces (width - length value) ++ value
+abbrev pub right_cell : ℕ → List ℕ → List ℕ
+right_cell width value = spaces (width - length value) ++ value
 
 -- a number at the right of a column
 abbrev pub number : ℕ → ℕ → List ℕ
-number width n = right width (decimal n)
+number width n = right_cell width (decimal n)
 
 abbrev pub line_end : List ℕ
 line_end = codes "\n"

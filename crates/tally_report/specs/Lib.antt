@@ -1,8 +1,6 @@
-pub mod Awards
 pub mod AwardsText
 pub mod Columns
 pub mod Fault
-pub mod GoneByList
 pub mod HoldersText
 pub mod PastText
 pub mod ProgressText

@@ -11,7 +11,7 @@ use Rattle.std.specs.Fmt.{decimal}
 use Rattle.tally_rules.specs.Constituency.{Constituency, ListEntry}
 use Rattle.tally_rules.specs.Threshold.{base_of}
 use Rattle.tally_returns.specs.View.{View}
-use Rattle.tally_report.specs.Columns.{heading, is_eligible_at, left, line_end, list_lines, number, right}
+use Rattle.tally_report.specs.Columns.{heading, is_eligible_at, left_cell, line_end, list_lines, number, right_cell}
 
 -- the line of the valid votes, which are those of the lists and the blank ones (LOREG article 96.5)
 abbrev pub valid_line : View → List ℕ
@@ -36,11 +36,11 @@ in_or_out false = codes "out"
 -- the line of a list, from its votes, the base and whether it is eligible
 abbrev pub tally_columns : ListEntry → ℕ → ℕ → Bool → List ℕ
 tally_columns list votes base eligible =
-    left 16 list.code
+    left_cell 16 list.code
     ++ number 12 votes
-    ++ right 8 (hundredths (share base votes))
+    ++ right_cell 8 (hundredths (share base votes))
     ++ codes " "
-    ++ left 4 (in_or_out eligible)
+    ++ left_cell 4 (in_or_out eligible)
     ++ list.name
     ++ line_end
 

@@ -1,2 +1,4 @@
 -- What only proofs speak of.
 pub mod EnoughViews
+pub mod Awards
+pub mod GoneByList

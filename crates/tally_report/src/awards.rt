@@ -9,7 +9,7 @@ ghost use Rattle.tally_returns.specs.View.{FitsView};
 ghost use Rattle.tally_report.specs.Fault.{IsRefused, divisors_fault};
 ghost use Rattle.tally_report.specs.Columns.{lines_from};
 ghost use Rattle.tally_report.specs.AwardsText.{IsAwardsText, award_line};
-ghost use Rattle.tally_report.specs.Awards.{IsAwardIn};
+ghost use Rattle.tally_report.specs.internal.Awards.{IsAwardIn};
 ghost use Rattle.tally_report.specs.declared.fault.ReportFault.TheVariants.{Memory};
 
 use crate::column::{push_heading, push_left, push_number};

@@ -1,7 +1,7 @@
 //! Columns, and the first line of a report.
 
 ghost use Rattle.std.specs.Prelude.{◌≡◌, ◌++◌, OnOk, string_bytes};
-ghost use Rattle.tally_report.specs.Columns.{heading, left, number, spaces};
+ghost use Rattle.tally_report.specs.Columns.{heading, left_cell, number, spaces};
 
 use std::alloc::AllocError;
 use tally_rules::Constituency;
@@ -21,7 +21,8 @@ pub(crate) fn push_heading(
 
 /// A value at the left of a column of so many places.
 pub(crate) fn push_left(text: &mut String, value: &str, width: usize) -> Result<(), AllocError>
-    ensures { OnOk result (string_bytes text.new ≡ string_bytes text.old ++ left width value.now) }
+    ensures { OnOk result (string_bytes text.new ≡
+        string_bytes text.old ++ left_cell width value.now) }
 {
     text.push_str(value)?;
     push_spaces(text, width.saturating_sub(value.len()))

@@ -6,7 +6,7 @@ ghost use Rattle.tally_steps.specs.Holders.{holders};
 ghost use Rattle.tally_returns.specs.View.{FitsView};
 ghost use Rattle.tally_report.specs.Fault.{IsRefused, seats_fault};
 ghost use Rattle.tally_report.specs.Columns.{list_lines};
-ghost use Rattle.tally_report.specs.GoneByList.{AreByList, IsOneMore};
+ghost use Rattle.tally_report.specs.internal.GoneByList.{AreByList, IsOneMore};
 ghost use Rattle.tally_report.specs.HoldersText.{empty_line, holder_line, holder_lines, holders_text, seat_lines};
 
 use crate::column::{push_heading, push_left, push_number};
@@ -63,7 +63,8 @@ fn push_list(
     gone: &[Vec<u32>],
 ) -> Result<(), AllocError>
     requires seats { place < length view.now.seats }
-    requires gone { AreByList view.now.gone (length view.now.seats) (map (λ places. places.items) gone.now) }
+    requires gone { AreByList view.now.gone (length view.now.seats)
+        (map (λ places. places.items) gone.now) }
     ensures { OnOk result (string_bytes text.new
         ≡ string_bytes text.old ++ holder_lines view.now place list.now) }
 {

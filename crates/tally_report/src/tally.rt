@@ -3,7 +3,7 @@
 ghost use Rattle.std.specs.Prelude.{◌≡◌, ◌≤◌, ◌<◌, ◌*◌, ◌++◌, IfOk, IfErr, OnOk, length, slice_index, sum, string_bytes};
 ghost use Rattle.tally_rules.specs.Threshold.{IsWithinVotes, base_of, eligible_lists};
 ghost use Rattle.tally_returns.specs.View.{FitsView};
-ghost use Rattle.tally_report.specs.Columns.{list_lines, right};
+ghost use Rattle.tally_report.specs.Columns.{list_lines, right_cell};
 ghost use Rattle.tally_report.specs.TallyText.{hundredths, share, tally_columns, tally_line, tally_text, valid_line};
 ghost use Rattle.tally_report.specs.declared.fault.ReportFault.TheVariants.{Memory};
 
@@ -89,7 +89,7 @@ fn share(base: u64, votes: u64) -> u64
 /// A number of hundredths, at the right of a column of eight places.
 fn push_hundredths(text: &mut String, n: u64) -> Result<(), AllocError>
     ensures { OnOk result (string_bytes text.new
-        ≡ string_bytes text.old ++ right 8 (hundredths n)) }
+        ≡ string_bytes text.old ++ right_cell 8 (hundredths n)) }
 {
     let (tenths, rest) = (n / 10 % 10, n % 10);
     push_number(text, n / 100, 5)?;

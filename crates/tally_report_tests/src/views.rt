@@ -2,10 +2,7 @@
 
 use std::alloc::{AllocError, Global};
 use std::test::Fail;
-use tally_report::{
-    ReportFault, awards_text, holders_text, past_text, quota_text, quotients_text, seats_text,
-    short_text, tally_text,
-};
+use tally_report::{Report, ReportFault, report_text};
 use tally_returns::{ConView, Gone, Past};
 use tally_rules::{Constituency, read_setup};
 
@@ -147,18 +144,8 @@ fn check_view(
     if !view.fits(con) {
         return Err(Fail::from("a view that does not fit"));
     }
-    let text = match report {
-        "tally" => tally_text(alloc, con, view),
-        "seats" => seats_text(alloc, con, view),
-        "quotients" => quotients_text(alloc, con, view),
-        "awards" => awards_text(alloc, con, view),
-        "quota" => quota_text(alloc, con, view),
-        "holders" => holders_text(alloc, con, view),
-        "short" => short_text(alloc, con, view),
-        "past" => past_text(alloc, con, view),
-        _ => return Err(Fail::from("no report")),
-    };
-    check_text(&text, want)
+    let which = Report::named(report).ok_or("no report")?;
+    check_text(&report_text(alloc, con, view, which), want)
 }
 
 /// Fails where a report of the first constituency of a setup and the view of a line is another.

@@ -24,7 +24,7 @@ use Rattle.tally_returns.specs.declared.refusal.Refusal.TheVariants.{Memory, NoC
 use Rattle.tally_returns.specs.declared.reply.Reply.{Reply}
 use Rattle.tally_returns.specs.declared.reply.Reply.TheVariants.{Con}
 use Rattle.tally_steps.specs.LawfulState.{IsLawfulState}
-use Rattle.tally_steps.specs.Step.{ConChange, Decides, IsAnswered, IsConDecision, IsConRefusal, IsStepSeen, IsView, after_change, no_change, progress_shown, seen}
+use Rattle.tally_steps.specs.Step.{ConChange, Decides, IsAnswered, IsConDecision, IsConRefusal, IsStepSeen, IsView, after_change, no_change, progress_shown, reply_seen}
 use Rattle.tally_steps.proofs.CertificationLemmas.{refused-lawful}
 use Rattle.tally_steps.proofs.DecisionLemmas.{decisions-steps, unknown-constituency}
 use Rattle.tally_steps.proofs.ViewLemmas.{view-lawful}
@@ -36,7 +36,7 @@ use Rattle.tally_tables.specs.declared.views.Statuses.{Statuses}
 use Rattle.tally_entries.specs.Constituencies.{FindsProgressRow, FindsView, IsKnown}
 use Rattle.tally_requests.specs.Known.{AreKnown, Known}
 use Rattle.tally_requests.proofs.KnownLemmas.{con-returns, known-remembered, seen-statuses, shown-returns}
-use Rattle.tally_requests.specs.Seen.{CarriesOutSeen, IsStill}
+use Rattle.tally_requests.specs.internal.Seen.{CarriesOutSeen, IsStill}
 
 -- ---- requests on a constituency
 
@@ -125,7 +125,7 @@ still-then old mid new one two = record { inside = two.inside; same = two.same �
 pub still-state : (setup : List Constituency) (text : List ℕ) (s : State) (old new : Seen) → IsStill old new → AreTables setup text s old.now.trees → IsInState setup text s new
 still-state setup text s old new still tables = record { inside = still.inside; tables = subst (λ d. AreTables setup text s d.trees) (sym still.same) tables }
 
-pub progress-carried : (setup : List Constituency) (text : List ℕ) (s : State) (rows : List ProgressRow) (r : Result Reply Refusal) (now : Seen) → seen r ≡ Ok (progress_shown rows) → rows ≡ progress setup s
+pub progress-carried : (setup : List Constituency) (text : List ℕ) (s : State) (rows : List ProgressRow) (r : Result Reply Refusal) (now : Seen) → reply_seen r ≡ Ok (progress_shown rows) → rows ≡ progress setup s
     → IsInState setup text s now → IsCarriedOut setup text s ShowProgress r now
 progress-carried setup text s rows r now shown is here = record { state = s; answered = inl (shown ∙ ap (λ x. Ok (progress_shown x)) is, refl); in_state = here }
 

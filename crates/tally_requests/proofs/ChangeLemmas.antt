@@ -37,12 +37,12 @@ use Rattle.tally_steps.proofs.DecisionLemmas.{gone-once}
 use Rattle.tally_steps.proofs.LawfulViewLemmas.{certified-seats, drawn-open}
 use Rattle.tally_steps.proofs.PastLemmas.{past-lawful}
 use Rattle.tally_statements.specs.declared.table.KeyedTable.TheVariants.{Returns, Counts, Cons, Lots, Seats, Gone, Totals, Past}
-use Rattle.tally_tables.specs.Cells.{con_rows, gone_row, gone_rows, items_of, lot_rows, numbered, past_row, past_rows, record_rows, seat_rows, total_rows, totals_of}
+use Rattle.tally_tables.specs.Cells.{con_rows, gone_row, gone_rows, items_of, lot_rows, numbers_with_places, past_row, past_rows, record_rows, seat_rows, total_rows, totals_of}
 use Rattle.tally_tables.specs.TablesOfState.{AreSeats, AreTables}
 use Rattle.tally_entries.specs.Constituencies.{ChangesOnly, HasGone, MovesRows, MovesSeats}
 use Rattle.tally_entries.specs.Entries.{stored_in}
 use Rattle.tally_entries.proofs.ReturnLemmas.{items_keyed}
-use Rattle.tally_requests.specs.Changes.{CarriesDecided, HasWrittenLot, HasWrittenRecord, HasWrittenSeats, HoldsCon}
+use Rattle.tally_requests.specs.internal.Changes.{CarriesDecided, HasWrittenLot, HasWrittenRecord, HasWrittenSeats, HoldsCon}
 use Rattle.tally_requests.specs.Requests.{CarriesChange, IsChangeCarriedOut}
 use Rattle.tally_requests.proofs.DecidedLemmas.{certifying, drawing, reopening}
 use Rattle.tally_requests.proofs.WriteLemmas.{apart}
@@ -53,10 +53,10 @@ pub cons_keyed : AreKeyedBy con_rows
 cons_keyed e = (refl, tt)
 
 lots_keyed : AreKeyedBy lot_rows
-lots_keyed e = items_keyed e.0 (numbered 1 e.1.lot)
+lots_keyed e = items_keyed e.0 (numbers_with_places 1 e.1.lot)
 
 pub seats_keyed : (given : List ℕ → List ℕ) → AreKeyedBy (seat_rows given)
-seats_keyed given e = items_keyed e.0 (numbered 1 (given e.0))
+seats_keyed given e = items_keyed e.0 (numbers_with_places 1 (given e.0))
 
 pub totals_keyed : (setup : List Constituency) (returns : Office) → AreKeyedBy (total_rows setup returns)
 totals_keyed setup returns e = items_keyed e.0 (items_of (totals_of setup returns e.0))
@@ -73,7 +73,7 @@ pub gone_keyed : AreKeyedBy gone_rows
 gone_keyed e = each_keyed e.0 (gone_row e.0) (λ x. refl) (entries e.1.gone)
 
 pub past_keyed : AreKeyedBy past_rows
-past_keyed e = flat_keyed e.0 (record_rows e.0) (λ x. each_keyed e.0 (past_row e.0 x.0) (λ i. refl) (numbered 1 x.1)) (entries e.1.past)
+past_keyed e = flat_keyed e.0 (record_rows e.0) (λ x. each_keyed e.0 (past_row e.0 x.0) (λ i. refl) (numbers_with_places 1 x.1)) (entries e.1.past)
 
 -- ---- tables that a call leaves
 
@@ -121,7 +121,7 @@ seats_after setup s con given next now known was has others code other found = g
 
 -- what `put_gone` does
 abbrev pub HasGoneMoved : List ℕ → GoneCandidate → Seen → Seen → Type 0
-HasGoneMoved code gone old new = ChangesOnly Gone old new × MovesRows Gone gone_rows code (HasGone gone.list gone.place gone.note) old new
+HasGoneMoved code gone old new = ChangesOnly Gone old new × MovesRows Gone gone_rows code (HasGone gone) old new
 
 gone_right : (con : Constituency) (c : ConState) (returns : Office) (seats key note : List ℕ) (b : Bool) → HasSeats con (view_with con c returns seats) b
     → HasSeats con (view_with con (record c { gone = insert c.gone key note }) returns seats) b

@@ -22,7 +22,7 @@ use Rattle.tally_returns.specs.declared.ask.Ask.TheVariants.{Lodge, Query, Corre
 use Rattle.tally_returns.specs.declared.refusal.Refusal.{Refusal}
 use Rattle.tally_returns.specs.declared.refusal.Refusal.TheVariants.{BadNote, Exhausted, NotCertified, Stale}
 use Rattle.tally_returns.proofs.DecideLemmas.{passed-first, passed-rest}
-use Rattle.tally_steps.specs.Certification.{Certifies, Draws, certificate_of, reopen_checks, reopened, vacates}
+use Rattle.tally_steps.specs.Certification.{Certifies, Draws, certificate_of, reopen_checks, reopen_result, vacate_result}
 use Rattle.tally_steps.specs.Outcome.{poll_in, rule_in}
 use Rattle.tally_steps.specs.Step.{Decides, certified_with, gone_for_good, lot_set, open_again}
 use Rattle.tally_steps.proofs.DecisionLemmas.{given-by}
@@ -43,10 +43,10 @@ drawing con view (Draw code edition order) lot decides =
     (edition, order.items, subst (λ places. Draws con view edition order.items (Ok places)) same (subst (Draws con view edition order.items) by.1 decides.1))
 drawing con view (Certify code edition) lot decides = let by = given-by certified_with decides.0 (lot_set lot) decides.2 in let e : lot_set lot ≡ certified_with by.0 = by.2 in cc
 drawing con view (Reopen code edition note) lot decides =
-    let by = given-by (λ (r : List ℕ × PastSeats). open_again r.0 r.1) (reopened view edition (string_bytes note)) (lot_set lot) decides in
+    let by = given-by (λ (r : List ℕ × PastSeats). open_again r.0 r.1) (reopen_result view edition (string_bytes note)) (lot_set lot) decides in
     let e : lot_set lot ≡ open_again by.0.0 by.0.1 = by.2 in cc
 drawing con view (Vacate code list place note) lot decides =
-    let by = given-by (λ (v : GoneCandidate × Option ℕ). gone_for_good v.0 v.1) (vacates con view list place (string_bytes note)) (lot_set lot) decides in
+    let by = given-by (λ (v : GoneCandidate × Option ℕ). gone_for_good v.0 v.1) (vacate_result con view list place (string_bytes note)) (lot_set lot) decides in
     let e : lot_set lot ≡ gone_for_good by.0.0 by.0.1 = by.2 in cc
 drawing con view (ShowCon code) lot decides = cc
 drawing con view (Lodge station slip counts) lot decides = absurd decides
@@ -68,10 +68,10 @@ certifying con view (Certify code edition) seats decides =
     (edition, subst (λ given. Certifies con view edition (Ok given)) same (subst (Certifies con view edition) by.1 decides.1))
 certifying con view (Draw code edition order) seats decides = let by = given-by lot_set decides.0 (certified_with seats) decides.2 in let e : certified_with seats ≡ lot_set by.0 = by.2 in cc
 certifying con view (Reopen code edition note) seats decides =
-    let by = given-by (λ (r : List ℕ × PastSeats). open_again r.0 r.1) (reopened view edition (string_bytes note)) (certified_with seats) decides in
+    let by = given-by (λ (r : List ℕ × PastSeats). open_again r.0 r.1) (reopen_result view edition (string_bytes note)) (certified_with seats) decides in
     let e : certified_with seats ≡ open_again by.0.0 by.0.1 = by.2 in cc
 certifying con view (Vacate code list place note) seats decides =
-    let by = given-by (λ (v : GoneCandidate × Option ℕ). gone_for_good v.0 v.1) (vacates con view list place (string_bytes note)) (certified_with seats) decides in
+    let by = given-by (λ (v : GoneCandidate × Option ℕ). gone_for_good v.0 v.1) (vacate_result con view list place (string_bytes note)) (certified_with seats) decides in
     let e : certified_with seats ≡ gone_for_good by.0.0 by.0.1 = by.2 in cc
 certifying con view (ShowCon code) seats decides = cc
 certifying con view (Lodge station slip counts) seats decides = absurd decides
@@ -100,14 +100,14 @@ reopened_by view edition note (Some e) given some ok = cc
 
 pub reopening : (con : Constituency) (view : View) (ask : Ask) (note : List ℕ) (past : PastSeats) → Decides con view ask (Ok (open_again note past)) → IsReopening view past
 reopening con view (Reopen code edition text) note past decides =
-    let by = given-by (λ (r : List ℕ × PastSeats). open_again r.0 r.1) (reopened view edition (string_bytes text)) (open_again note past) decides in
+    let by = given-by (λ (r : List ℕ × PastSeats). open_again r.0 r.1) (reopen_result view edition (string_bytes text)) (open_again note past) decides in
     let e : open_again note past ≡ open_again by.0.0 by.0.1 = by.2 in
     let same : by.0.1 ≡ past = cc in
     subst (IsReopening view) same (reopened_by view edition (string_bytes text) (first_refusal (reopen_checks view edition (string_bytes text))) by.0 refl by.1)
 reopening con view (Draw code edition order) note past decides = let by = given-by lot_set decides.0 (open_again note past) decides.2 in let e : open_again note past ≡ lot_set by.0 = by.2 in cc
 reopening con view (Certify code edition) note past decides = let by = given-by certified_with decides.0 (open_again note past) decides.2 in let e : open_again note past ≡ certified_with by.0 = by.2 in cc
 reopening con view (Vacate code list place text) note past decides =
-    let by = given-by (λ (v : GoneCandidate × Option ℕ). gone_for_good v.0 v.1) (vacates con view list place (string_bytes text)) (open_again note past) decides in
+    let by = given-by (λ (v : GoneCandidate × Option ℕ). gone_for_good v.0 v.1) (vacate_result con view list place (string_bytes text)) (open_again note past) decides in
     let e : open_again note past ≡ gone_for_good by.0.0 by.0.1 = by.2 in cc
 reopening con view (ShowCon code) note past decides = cc
 reopening con view (Lodge station slip counts) note past decides = absurd decides

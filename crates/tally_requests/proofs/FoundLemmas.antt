@@ -12,8 +12,8 @@ use Rattle.tally_rules.specs.Text.{is_note}
 use Rattle.tally_rules.specs.declared.constituency.Station.{Station}
 use Rattle.tally_returns.specs.Checks.{check, first_refusal, refused_or}
 use Rattle.tally_returns.specs.Counts.{all_votes, are_counts}
-use Rattle.tally_returns.specs.Decide.{IsUnlessMemory, decided_move, decided_return, decided_there, limits_of, put_next}
-use Rattle.tally_returns.specs.Moves.{close_checks, closed, correct_checks, corrected, counts_checks_at, last_revision, may_close, may_correct, may_query, move_checks, queried, query_checks}
+use Rattle.tally_returns.specs.Decide.{IsUnlessMemory, move_change, return_change, return_change_at, limits_of, put_next}
+use Rattle.tally_returns.specs.Moves.{close_checks, closed_return, correct_checks, corrected_return, counts_checks_at, last_revision, may_close, may_correct, may_query, move_checks, queried_return, query_checks}
 use Rattle.tally_returns.specs.Named.{station_named}
 use Rattle.tally_returns.specs.Return.{StationReturn}
 use Rattle.tally_returns.specs.State.{State, con_state}
@@ -32,17 +32,17 @@ use Rattle.tally_returns.proofs.DecideLemmas.{passed-first, passed-rest}
 use Rattle.tally_ledger.proofs.SetupLemmas.{con-limits, station-found}
 use Rattle.tally_steps.specs.Kinds.{IsReplyTo}
 use Rattle.tally_steps.specs.LawfulState.{IsLawfulState}
-use Rattle.tally_steps.specs.Step.{IsStep, after, after_put, after_return, con_of_station, decided_in, move_reply, seen, with_return, without_lot}
+use Rattle.tally_steps.specs.Step.{IsStep, state_after, after_put, after_return, con_of_station, change_in_state, move_reply, reply_seen, with_return, without_lot}
 use Rattle.tally_steps.proofs.DecisionLemmas.{con_of-found, unknown-station}
 use Rattle.tally_steps.proofs.ReturnStepLemmas.{append-rest}
 use Rattle.tally_tables.specs.TablesOfState.{AreTables}
 use Rattle.tally_entries.specs.Constituencies.{FindsCertified}
 use Rattle.tally_entries.specs.Entries.{FindsReturn}
-use Rattle.tally_keeper.specs.Held.{moves_return}
+use Rattle.tally_keeper.specs.internal.Held.{moves_return}
 use Rattle.tally_keeper.proofs.StepLemmas.{decided-found, memory-or}
-use Rattle.tally_requests.specs.Found.{CarriesOutFound, MovesTo, after_lot, after_move}
+use Rattle.tally_requests.specs.internal.Found.{CarriesOutFound, MovesTo, after_lot, after_move}
 use Rattle.tally_requests.specs.Requests.{IsCarriedOut, IsInState}
-use Rattle.tally_requests.specs.Seen.{IsStill}
+use Rattle.tally_requests.specs.internal.Seen.{IsStill}
 use Rattle.tally_requests.proofs.ChangeLemmas.{stands}
 use Rattle.tally_requests.proofs.LodgedLemmas.{found-is}
 
@@ -77,7 +77,7 @@ passed-start certified before rev may_start none =
     go false same more start none = cc
 
 passed-move : (certified : Bool) (found : Option StationReturn) (rev : ℕ) (may_start : Status → Bool) (checks : List (Option Refusal)) (next : StationReturn → StationReturn) (change : Change)
-    → (first_refusal checks ≡ None → first_refusal (move_checks certified found rev may_start) ≡ None) → decided_move checks found next ≡ Ok change
+    → (first_refusal checks ≡ None → first_refusal (move_checks certified found rev may_start) ≡ None) → move_change checks found next ≡ Ok change
     → IsPassed certified found may_start checks next change
 passed-move certified found rev may_start checks next change rest is = go (first_refusal checks) found refl refl is
   where
@@ -113,13 +113,13 @@ starts-closed Corrected is same = cc
 starts-closed Closed is same = cc
 
 pub put-decided : (con : Constituency) (place : Station) (certified : Bool) (found : Option StationReturn) (ask : Ask) (change : Change) → moves_return ask ≡ true
-    → decided_there con place certified found ask ≡ Ok change → IsPut con certified found ask change
+    → return_change_at con place certified found ask ≡ Ok change → IsPut con certified found ask change
 put-decided con place certified found (Query code rev note) change moves is =
     let checks = query_checks (Some (limits_of con place)) certified found rev (string_bytes note) in
-    let p = passed-move certified found rev may_query checks (queried (string_bytes note)) change
+    let p = passed-move certified found rev may_query checks (queried_return (string_bytes note)) change
     (λ none. passed-rest (is_note (string_bytes note)) BadNote (move_checks certified found rev may_query) none) is in record {
       before = p.before;
-      standing = queried (string_bytes note) p.before;
+      standing = queried_return (string_bytes note) p.before;
       found_is = p.found_is;
       change_is = p.change_is;
       is_open = p.is_open;
@@ -128,12 +128,12 @@ put-decided con place certified found (Query code rev note) change moves is =
 put-decided con place certified found (Correct code rev slip counts) change moves is =
     let limits = limits_of con place in
     let checks = correct_checks (Some limits) certified found rev counts in
-    let p = passed-move certified found rev may_correct checks (corrected slip counts) change
+    let p = passed-move certified found rev may_correct checks (corrected_return slip counts) change
     (append-rest (counts_checks_at (Some limits) counts) (move_checks certified found rev may_correct)) is in
     let fit : are_counts limits.lists counts ≡ true = passed-first (are_counts limits.lists counts) BadCounts (check (nat_le (all_votes counts) limits.electors) TooManyVotes ∷ move_checks certified found rev may_correct) p.none in
     record {
       before = p.before;
-      standing = corrected slip counts p.before;
+      standing = corrected_return slip counts p.before;
       found_is = p.found_is;
       change_is = p.change_is;
       is_open = p.is_open;
@@ -141,9 +141,9 @@ put-decided con place certified found (Correct code rev slip counts) change move
     }
 put-decided con place certified found (Close code rev) change moves is =
     let checks = close_checks (Some (limits_of con place)) certified found rev in
-    let p = passed-move certified found rev may_close checks closed change (λ none. none) is in record {
+    let p = passed-move certified found rev may_close checks closed_return change (λ none. none) is in record {
       before = p.before;
-      standing = closed p.before;
+      standing = closed_return p.before;
       found_is = p.found_is;
       change_is = p.change_is;
       is_open = p.is_open;
@@ -184,7 +184,7 @@ moved-kind setup (Vacate code list number note) rev moves = cc
 moved-kind setup (ShowCon code) rev moves = cc
 moved-kind setup ShowProgress rev moves = cc
 
-moving-step : (setup : List Constituency) (s : State) (ask : Ask) (r : Result Reply Refusal) (t : State) → moves_return ask ≡ true → seen r ≡ move_reply (decided_in setup s ask)
+moving-step : (setup : List Constituency) (s : State) (ask : Ask) (r : Result Reply Refusal) (t : State) → moves_return ask ≡ true → reply_seen r ≡ move_reply (change_in_state setup s ask)
     → t ≡ after_return setup s ask → IsStep setup s ask r t
 moving-step setup s (Query code rev note) r t moves is to = (is, to)
 moving-step setup s (Correct code rev slip counts) r t moves is to = (is, to)
@@ -213,23 +213,23 @@ pub record IsFound (setup : List Constituency) (s : State) (station : List ℕ) 
   pub found_is : found ≡ get s.returns station
 
 pub found-decided : (setup : List Constituency) (s : State) (ask : Ask) (station : List ℕ) (con : Constituency) (place : Station) (certified : Bool) (found : Option StationReturn)
-    → station_named ask ≡ Some station → IsFound setup s station con place certified found → decided_in setup s ask ≡ decided_there con place certified found ask
+    → station_named ask ≡ Some station → IsFound setup s station con place certified found → change_in_state setup s ask ≡ return_change_at con place certified found ask
 found-decided setup s ask station con place certified found named is =
     decided-found setup s ask station con place named is.known
-    ∙ ap (λ b. decided_return (Some (limits_of con place)) b (get s.returns station) ask) (sym is.certified_is)
-    ∙ ap (λ f. decided_return (Some (limits_of con place)) certified f ask) (sym is.found_is)
+    ∙ ap (λ b. return_change (Some (limits_of con place)) b (get s.returns station) ask) (sym is.certified_is)
+    ∙ ap (λ f. return_change (Some (limits_of con place)) certified f ask) (sym is.found_is)
 
 -- a command that was refused changes nothing
 pub move-refused : (setup : List Constituency) (text : List ℕ) (s : State) (ask : Ask) (station : List ℕ) (con : Constituency) (place : Station) (certified : Bool) (found : Option StationReturn) (e : Refusal) (now : Seen)
-    → station_named ask ≡ Some station → moves_return ask ≡ true → IsFound setup s station con place certified found → IsUnlessMemory (Err e) (decided_there con place certified found ask)
+    → station_named ask ≡ Some station → moves_return ask ≡ true → IsFound setup s station con place certified found → IsUnlessMemory (Err e) (return_change_at con place certified found ask)
     → IsInState setup text s now → IsCarriedOut setup text s ask (Err e) now
 move-refused setup text s ask station con place certified found e now named moves seen_as is here = go (memory-or e)
   where
     go : (e ≡ Memory) ⊎ (e ≢ Memory) → IsCarriedOut setup text s ask (Err e) now
     go (inl memory) = record { state = s; answered = inr (inl (ap Err memory), refl); in_state = here }
     go (inr other) =
-        let decided : decided_in setup s ask ≡ Err e = found-decided setup s ask station con place certified found named seen_as ∙ is other in
-        record { state = s; answered = inl (moving-step setup s ask (Err e) s moves (ap move_reply (sym decided)) (ap (after setup s ask) (sym decided))); in_state = here }
+        let decided : change_in_state setup s ask ≡ Err e = found-decided setup s ask station con place certified found named seen_as ∙ is other in
+        record { state = s; answered = inl (moving-step setup s ask (Err e) s moves (ap move_reply (sym decided)) (ap (state_after setup s ask) (sym decided))); in_state = here }
 
 -- such as one that names no station
 pub move-nowhere : (setup : List Constituency) (text : List ℕ) (s : State) (ask : Ask) (station : List ℕ) (now : Seen) → station_named ask ≡ Some station → station_with station setup ≡ None
@@ -238,14 +238,14 @@ move-nowhere setup text s ask station now named none here = record { state = s; 
 
 -- a command that moved a return
 pub move-carried : (setup : List Constituency) (text : List ℕ) (s : State) (ask : Ask) (station : List ℕ) (con : Constituency) (place : Station) (certified : Bool) (found : Option StationReturn) (standing : StationReturn) (now : Seen)
-    → station_named ask ≡ Some station → moves_return ask ≡ true → IsFound setup s station con place certified found → decided_there con place certified found ask ≡ Ok (PutReturn standing)
+    → station_named ask ≡ Some station → moves_return ask ≡ true → IsFound setup s station con place certified found → return_change_at con place certified found ask ≡ Ok (PutReturn standing)
     → IsInState setup text (after_move con station ask standing s) now → IsCarriedOut setup text s ask (Ok (Moved standing.rev)) now
 move-carried setup text s ask station con place certified found standing now named moves seen_as is here =
-    let decided : decided_in setup s ask ≡ Ok (PutReturn standing) = found-decided setup s ask station con place certified found named seen_as ∙ is in
+    let decided : change_in_state setup s ask ≡ Ok (PutReturn standing) = found-decided setup s ask station con place certified found named seen_as ∙ is in
     let to : after_move con station ask standing s ≡ after_return setup s ask =
     ap (λ t. with_return t (Some station) standing) (sym (lot-put setup s ask station con place named seen_as.known))
     ∙ ap (λ n. with_return (after_put setup s ask) n standing) (sym named)
-    ∙ ap (after setup s ask) (sym decided) in
+    ∙ ap (state_after setup s ask) (sym decided) in
     record {
       state = after_move con station ask standing s;
       answered = inl (moving-step setup s ask (Ok (Moved standing.rev)) (after_move con station ask standing s) moves (ap move_reply (sym decided)) to);

@@ -14,10 +14,10 @@ use Rattle.tally_rules.specs.Limits.{IsSetup}
 use Rattle.tally_rules.specs.Setup.{constituency_with, station_with}
 use Rattle.tally_rules.specs.declared.constituency.Station.{Station}
 use Rattle.tally_returns.specs.Counts.{VoteCounts}
-use Rattle.tally_returns.specs.Lodge.{after_lodge as returns_after_lodge, decided_at_code, lodge_answer}
-use Rattle.tally_returns.specs.Decide.{decided_there, limits_of}
+use Rattle.tally_returns.specs.Lodge.{after_lodge as returns_after_lodge, reply_at_code, lodge_answer}
+use Rattle.tally_returns.specs.Decide.{return_change_at, limits_of}
 use Rattle.tally_returns.specs.Named.{con_named, station_named}
-use Rattle.tally_returns.specs.Progress.{is_received, is_queried, is_corrected, is_closed, stations_in}
+use Rattle.tally_returns.specs.Progress.{is_received, is_queried, is_corrected, is_closed, count_with_status}
 use Rattle.tally_returns.specs.Return.{Returns, StationReturn, first_return}
 use Rattle.tally_returns.specs.State.{State, con_state, stations_of}
 use Rattle.tally_returns.specs.View.{View, view_of}
@@ -36,19 +36,19 @@ use Rattle.tally_returns.proofs.ClosedLemmas.{put-elsewhere, same-tied, station-
 use Rattle.tally_ledger.proofs.SetupLemmas.{Has, con-limits, station-found, stations-differ}
 use Rattle.tally_ledger.proofs.SumLemmas.{one_if, stations_in-total}
 use Rattle.tally_ledger.proofs.TreeLemmas.{get-tree, tree-insert}
-use Rattle.tally_keeper.specs.Held.{moves_return}
+use Rattle.tally_keeper.specs.internal.Held.{moves_return}
 use Rattle.tally_keeper.specs.Import.{RowAnswer, after_row as returns_after_row, row_answer}
 use Rattle.tally_keeper.specs.declared.import.Row.{Row}
 use Rattle.tally_keeper.specs.declared.import.Row.TheVariants as row
 use Rattle.tally_keeper.proofs.HeldLemmas.{lodge-step}
 use Rattle.tally_keeper.proofs.LodgeLemmas.{lodged-none}
-use Rattle.tally_steps.specs.Step.{Answer, ConChange, IsAnswered, IsConStepSeen, IsNotAccepted, IsStep, IsStepSeenAt, after, after_change, after_put, after_return, certified_with, con_of_station, decided_in, gone_for_good, lodge_reply, lot_set, move_reply, no_change, open_again, seen, with_return, without_lot}
+use Rattle.tally_steps.specs.Step.{Answer, ConChange, IsAnswered, IsConStepSeen, IsNotAccepted, IsStep, IsStepSeenAt, state_after, after_change, after_put, after_return, certified_with, con_of_station, change_in_state, gone_for_good, lodge_reply, lot_set, move_reply, no_change, open_again, reply_seen, with_return, without_lot}
 use Rattle.tally_tables.specs.Views.{statuses_of}
 use Rattle.tally_tables.specs.declared.views.Statuses.{Statuses}
 use Rattle.tally_entries.specs.Constituencies.{IsKnown}
 use Rattle.tally_entries.specs.Statuses.{statuses_in}
-use Rattle.tally_requests.specs.Found.{MovesTo}
-use Rattle.tally_requests.specs.Known.{AreKnown, Known, after_command, after_lodge, after_lodge_in, after_move, after_row, after_status, has_status, known_of, lowered, raised, status_after, with_changed, with_known, with_move}
+use Rattle.tally_requests.specs.internal.Found.{MovesTo}
+use Rattle.tally_requests.specs.Known.{AreKnown, Known, after_command, after_lodge, after_lodge_in, after_move, after_row, after_status, has_status, known_of, one_less_if, one_more_if, status_after, with_changed, with_known, with_move}
 use Rattle.tally_requests.proofs.FoundLemmas.{IsFound, IsPut, found-decided, put-decided}
 use Rattle.tally_requests.proofs.LodgedLemmas.{shown-stays}
 use Rattle.tally_requests.proofs.TotalLemmas.{total-replaced}
@@ -100,7 +100,7 @@ seen-statuses con s statuses view is seen_as = is ∙ ap statuses_of seen_as
 
 -- ---- a return that moves
 
-shifted : (was is : Bool) (old new : ℕ) → new + cond was 1 0 ≡ old + cond is 1 0 → new ≤ 5000 → new ≡ lowered was (raised is old)
+shifted : (was is : Bool) (old new : ℕ) → new + cond was 1 0 ≡ old + cond is 1 0 → new ≤ 5000 → new ≡ one_less_if was (one_more_if is old)
 shifted true true old new sum few = omega (arith, sum, few)
 shifted true false old new sum few = omega (arith, sum, few)
 shifted false true old new sum few = omega (arith, sum, few)
@@ -111,24 +111,24 @@ status_of_return is_status None = refl
 status_of_return is_status (Some standing) = refl
 
 module _ (setup : List Constituency) (returns : Returns) (station : List ℕ) (con : Constituency) (place : Station) (standing : StationReturn) (before : Option Status) (limits : IsSetup setup) (at : station_with station setup ≡ Some (con, place)) (was : before ≡ option_map (λ (r : StationReturn). r.status) (get returns station)) where
-  number-moved : (is_status : Status → Bool) → stations_in is_status (insert returns station standing) con.stations ≡ lowered (has_status is_status before) (raised (is_status standing.status) (stations_in is_status returns con.stations))
+  number-moved : (is_status : Status → Bool) → count_with_status is_status (insert returns station standing) con.stations ≡ one_less_if (has_status is_status before) (one_more_if (is_status standing.status) (count_with_status is_status returns con.stations))
   number-moved is_status =
-      shifted (has_status is_status before) (is_status standing.status) (stations_in is_status returns con.stations) (stations_in is_status (insert returns station standing) con.stations)
-      (subst (λ b. stations_in is_status (insert returns station standing) con.stations + cond b 1 0 ≡ stations_in is_status returns con.stations + cond (is_status standing.status) 1 0)
+      shifted (has_status is_status before) (is_status standing.status) (count_with_status is_status returns con.stations) (count_with_status is_status (insert returns station standing) con.stations)
+      (subst (λ b. count_with_status is_status (insert returns station standing) con.stations + cond b 1 0 ≡ count_with_status is_status returns con.stations + cond (is_status standing.status) 1 0)
       (status_of_return is_status (get returns station) ∙ ap (has_status is_status) (sym was)) sum) most
     where
       found : Has con setup × Has place con.stations × (station ≡ place.code)
       found = station-found setup station con place at
 
-      sum : stations_in is_status (insert returns station standing) con.stations + one_if is_status (get returns station) ≡ stations_in is_status returns con.stations + one_if is_status (Some standing)
+      sum : count_with_status is_status (insert returns station standing) con.stations + one_if is_status (get returns station) ≡ count_with_status is_status returns con.stations + one_if is_status (Some standing)
       sum =
           ap (λ n. n + one_if is_status (get returns station)) (stations_in-total is_status (insert returns station standing) con.stations)
           ∙ total-replaced (one_if is_status) returns station (get returns station) standing con.stations place refl (stations-differ setup con limits found.0) found.1 found.2
           ∙ ap (λ n. n + one_if is_status (Some standing)) (sym (stations_in-total is_status returns con.stations))
 
-      most : stations_in is_status (insert returns station standing) con.stations ≤ 5000
+      most : count_with_status is_status (insert returns station standing) con.stations ≤ 5000
       most =
-          let all : stations_in is_status (insert returns station standing) con.stations ≤ length con.stations =
+          let all : count_with_status is_status (insert returns station standing) con.stations ≤ length con.stations =
           count_by-le-length (λ (x : Station). option_map_or (λ (r : StationReturn). is_status r.status) (get (insert returns station standing) x.code) false) con.stations in
           let few = (con-limits setup con limits found.0).stations in
           omega (arith, all, few)
@@ -144,7 +144,7 @@ module _ (setup : List Constituency) (returns : Returns) (station : List ℕ) (c
 
   statuses-apart : (other : Constituency) → constituency_with other.code setup ≡ Some other → other.code ≢ con.code → statuses_in (insert returns station standing) other.stations ≡ statuses_in returns other.stations
   statuses-apart other there apart =
-      let same : (is_status : Status → Bool) → stations_in is_status (insert returns station standing) other.stations ≡ stations_in is_status returns other.stations =
+      let same : (is_status : Status → Bool) → count_with_status is_status (insert returns station standing) other.stations ≡ count_with_status is_status returns other.stations =
       λ is_status. stations_in-same is_status (insert returns station standing) returns other.stations
       (put-elsewhere returns station standing other.stations (station-elsewhere setup other.code station con other place limits at there apart)) in
       λ i. record {
@@ -184,7 +184,7 @@ known-lodged setup returns station slip counts (Ok (lodge.Lodged rev)) known lim
     none : get returns station ≡ None
     none = lodged-none (stations_of setup) returns station slip counts rev (sym is)
 
-    go : (found : Option (Constituency × Station)) → station_with station setup ≡ found → Ok (lodge.Lodged rev) ≡ decided_at_code (option_map (λ (p : Constituency × Station). limits_of p.0 p.1) found) (get returns station) slip counts
+    go : (found : Option (Constituency × Station)) → station_with station setup ≡ found → Ok (lodge.Lodged rev) ≡ reply_at_code (option_map (λ (p : Constituency × Station). limits_of p.0 p.1) found) (get returns station) slip counts
         → AreKnown setup (insert returns station (first_return slip counts)) (after_lodge_in (con_of_station setup station) known)
     go None there bad = let e : ◌≡◌ {A = Result LodgeReply Refusal} (Ok (lodge.Lodged rev)) (Err NoStation) = bad in cc
     go (Some found) there good =
@@ -215,23 +215,23 @@ not-accepted r (inl is) = (_, is)
 not-accepted r (inr is) = (_, is)
 
 pub lodged-known : (setup : List Constituency) (s t : State) (station slip : List ℕ) (counts : VoteCounts) (r : Result LodgeReply Refusal) (a : Result Reply Refusal) (known after : Known) → IsSetup setup
-    → r ≡ lodge_answer (stations_of setup) s.returns station slip counts → seen a ≡ lodge_reply r → after ≡ after_lodge setup station r known → AreKnown setup s.returns known
+    → r ≡ lodge_answer (stations_of setup) s.returns station slip counts → reply_seen a ≡ lodge_reply r → after ≡ after_lodge setup station r known → AreKnown setup s.returns known
     → IsAnswered setup s (Lodge station slip counts) a t → AreKnown setup t.returns after
 lodged-known setup s t station slip counts r a known after limits is shown put held (inl step) =
     let next : t.returns ≡ returns_after_lodge s.returns station slip counts r =
     ap (λ (x : State). x.returns) (step.1 ∙ lodge-step setup s station slip counts) ∙ ap (returns_after_lodge s.returns station slip counts) (sym is) in
     subst (λ (returns : Returns). AreKnown setup returns after) (sym next) (subst (AreKnown setup (returns_after_lodge s.returns station slip counts r)) (sym put) (known-lodged setup s.returns station slip counts r known limits is held))
 lodged-known setup s t station slip counts r a known after limits is shown put held (inr not) =
-    subst (λ (x : State). AreKnown setup x.returns after) (sym not.1) (go r (ap seen (sym (not-accepted a not.0).1) ∙ shown) put)
+    subst (λ (x : State). AreKnown setup x.returns after) (sym not.1) (go r (ap reply_seen (sym (not-accepted a not.0).1) ∙ shown) put)
   where
-    go : (r : Result LodgeReply Refusal) → seen (Err (not-accepted a not.0).0) ≡ lodge_reply r → after ≡ after_lodge setup station r known → AreKnown setup s.returns after
+    go : (r : Result LodgeReply Refusal) → reply_seen (Err (not-accepted a not.0).0) ≡ lodge_reply r → after ≡ after_lodge setup station r known → AreKnown setup s.returns after
     go (Ok (lodge.Lodged rev)) bad put = cc
     go (Ok (lodge.Same rev)) bad put = cc
     go (Err e) good put = subst (AreKnown setup s.returns) (sym put) held
 
 -- ---- a command that moves a return
 
-stepped : (setup : List Constituency) (s : State) (ask : Ask) (r : Result Reply Refusal) (t : State) → moves_return ask ≡ true → IsStep setup s ask r t → (seen r ≡ move_reply (decided_in setup s ask)) × (t ≡ after_return setup s ask)
+stepped : (setup : List Constituency) (s : State) (ask : Ask) (r : Result Reply Refusal) (t : State) → moves_return ask ≡ true → IsStep setup s ask r t → (reply_seen r ≡ move_reply (change_in_state setup s ask)) × (t ≡ after_return setup s ask)
 stepped setup s (Query code rev note) r t moves step = step
 stepped setup s (Correct code rev slip counts) r t moves step = step
 stepped setup s (Close code rev) r t moves step = step
@@ -269,7 +269,7 @@ pub command-known : (setup : List Constituency) (s t : State) (ask : Ask) (stati
     → station_named ask ≡ Some station → moves_return ask ≡ true → station_with station setup ≡ Some (con, place) → code ≡ con.code → found ≡ get s.returns station → before ≡ option_map (λ (x : StationReturn). x.status) found
     → next ≡ after_command code ask before (is_ok r) known → AreKnown setup s.returns known → IsAnswered setup s ask r t → AreKnown setup t.returns next
 command-known setup s t ask station code con place found before r known next limits named moves at own found_is was put held (inl step) =
-    go (decided_in setup s ask) r refl (stepped setup s ask r t moves step).0 ((stepped setup s ask r t moves step).1) put
+    go (change_in_state setup s ask) r refl (stepped setup s ask r t moves step).0 ((stepped setup s ask r t moves step).1) put
   where
     certified : Bool
     certified = (con_state s con.code).certified
@@ -277,15 +277,15 @@ command-known setup s t ask station code con place found before r known next lim
     same : (r : Result Reply Refusal) → t ≡ s → AreKnown setup t.returns known
     same r is = subst (λ (x : State). AreKnown setup x.returns known) (sym is) held
 
-    go : (d : Result Change Refusal) (r : Result Reply Refusal) → decided_in setup s ask ≡ d → seen r ≡ move_reply d → t ≡ after setup s ask (decided_in setup s ask) → next ≡ after_command code ask before (is_ok r) known → AreKnown setup t.returns next
+    go : (d : Result Change Refusal) (r : Result Reply Refusal) → change_in_state setup s ask ≡ d → reply_seen r ≡ move_reply d → t ≡ state_after setup s ask (change_in_state setup s ask) → next ≡ after_command code ask before (is_ok r) known → AreKnown setup t.returns next
     go (Ok (PutReturn standing)) (Ok reply) is shown to put =
         let is_found : IsFound setup s station con place certified found = record { known = at; certified_is = refl; found_is = found_is } in
-        let decided : decided_there con place certified found ask ≡ Ok (PutReturn standing) = sym (found-decided setup s ask station con place certified found named is_found) ∙ is in
+        let decided : return_change_at con place certified found ask ≡ Ok (PutReturn standing) = sym (found-decided setup s ask station con place certified found named is_found) ∙ is in
         let done : IsPut con certified found ask (PutReturn standing) = put-decided con place certified found ask (PutReturn standing) moves decided in
         let standing_is : done.standing ≡ standing = let e : PutReturn standing ≡ PutReturn done.standing = done.change_is in cc in
         let status : status_after ask ≡ Some standing.status = status-moved con ask done.before done.standing done.moves ∙ ap (λ (x : StationReturn). Some x.status) standing_is in
         let returns : t.returns ≡ insert s.returns station standing =
-        ap (λ (x : State). x.returns) (to ∙ ap (after setup s ask) is)
+        ap (λ (x : State). x.returns) (to ∙ ap (state_after setup s ask) is)
         ∙ ap (λ n. (with_return (after_put setup s ask) n standing).returns) named
         ∙ ap (λ (m : Returns). insert m station standing) (put-returns setup s ask) in
         let counted : next ≡ after_move con.code before standing.status known = put ∙ ap (λ o. after_status code before o known) status ∙ ap (λ k. after_move k before standing.status known) own in
@@ -294,17 +294,17 @@ command-known setup s t ask station code con place found before r known next lim
         (known-moved setup s.returns station con place standing before limits at (was ∙ ap (option_map (λ (x : StationReturn). x.status)) found_is) known held))
     go (Ok (PutReturn standing)) (Err e) is shown to put = cc
     go (Ok Same) (Ok reply) is shown to put = cc
-    go (Ok Same) (Err e) is shown to put = subst (AreKnown setup t.returns) (sym put) (same (Err e) (to ∙ ap (after setup s ask) is))
+    go (Ok Same) (Err e) is shown to put = subst (AreKnown setup t.returns) (sym put) (same (Err e) (to ∙ ap (state_after setup s ask) is))
     go (Ok (SetLot places)) (Ok reply) is shown to put = cc
-    go (Ok (SetLot places)) (Err e) is shown to put = subst (AreKnown setup t.returns) (sym put) (same (Err e) (to ∙ ap (after setup s ask) is))
+    go (Ok (SetLot places)) (Err e) is shown to put = subst (AreKnown setup t.returns) (sym put) (same (Err e) (to ∙ ap (state_after setup s ask) is))
     go (Ok (SetCertified seats)) (Ok reply) is shown to put = cc
-    go (Ok (SetCertified seats)) (Err e) is shown to put = subst (AreKnown setup t.returns) (sym put) (same (Err e) (to ∙ ap (after setup s ask) is))
+    go (Ok (SetCertified seats)) (Err e) is shown to put = subst (AreKnown setup t.returns) (sym put) (same (Err e) (to ∙ ap (state_after setup s ask) is))
     go (Ok (SetReopened note past)) (Ok reply) is shown to put = cc
-    go (Ok (SetReopened note past)) (Err e) is shown to put = subst (AreKnown setup t.returns) (sym put) (same (Err e) (to ∙ ap (after setup s ask) is))
+    go (Ok (SetReopened note past)) (Err e) is shown to put = subst (AreKnown setup t.returns) (sym put) (same (Err e) (to ∙ ap (state_after setup s ask) is))
     go (Ok (SetGone gone up)) (Ok reply) is shown to put = cc
-    go (Ok (SetGone gone up)) (Err e) is shown to put = subst (AreKnown setup t.returns) (sym put) (same (Err e) (to ∙ ap (after setup s ask) is))
+    go (Ok (SetGone gone up)) (Err e) is shown to put = subst (AreKnown setup t.returns) (sym put) (same (Err e) (to ∙ ap (state_after setup s ask) is))
     go (Err refusal) (Ok reply) is shown to put = cc
-    go (Err refusal) (Err e) is shown to put = subst (AreKnown setup t.returns) (sym put) (same (Err e) (to ∙ ap (after setup s ask) is))
+    go (Err refusal) (Err e) is shown to put = subst (AreKnown setup t.returns) (sym put) (same (Err e) (to ∙ ap (state_after setup s ask) is))
 command-known setup s t ask station code con place found before r known next limits named moves at own found_is was put held (inr not) =
     let refused = not-accepted r not.0 in
     subst (λ (x : State). AreKnown setup x.returns next) (sym not.1) (subst (AreKnown setup s.returns) (sym (put ∙ ap (λ a. after_command code ask before (is_ok a) known) refused.1)) held)
@@ -313,16 +313,16 @@ command-known setup s t ask station code con place found before r known next lim
 pub nowhere-known : (setup : List Constituency) (s t : State) (ask : Ask) (e : Refusal) (known : Known) → moves_return ask ≡ true → AreKnown setup s.returns known → IsAnswered setup s ask (Err e) t → AreKnown setup t.returns known
 nowhere-known setup s t ask e known moves held (inl step) =
     let both = stepped setup s ask (Err e) t moves step in
-    go (decided_in setup s ask) refl both.0 both.1
+    go (change_in_state setup s ask) refl both.0 both.1
   where
-    go : (d : Result Change Refusal) → decided_in setup s ask ≡ d → seen (Err e) ≡ move_reply d → t ≡ after setup s ask (decided_in setup s ask) → AreKnown setup t.returns known
+    go : (d : Result Change Refusal) → change_in_state setup s ask ≡ d → reply_seen (Err e) ≡ move_reply d → t ≡ state_after setup s ask (change_in_state setup s ask) → AreKnown setup t.returns known
     go (Ok (PutReturn standing)) is shown to = cc
-    go (Ok Same) is shown to = subst (λ (x : State). AreKnown setup x.returns known) (sym (to ∙ ap (after setup s ask) is)) held
-    go (Ok (SetLot places)) is shown to = subst (λ (x : State). AreKnown setup x.returns known) (sym (to ∙ ap (after setup s ask) is)) held
-    go (Ok (SetCertified seats)) is shown to = subst (λ (x : State). AreKnown setup x.returns known) (sym (to ∙ ap (after setup s ask) is)) held
-    go (Ok (SetReopened note past)) is shown to = subst (λ (x : State). AreKnown setup x.returns known) (sym (to ∙ ap (after setup s ask) is)) held
-    go (Ok (SetGone gone up)) is shown to = subst (λ (x : State). AreKnown setup x.returns known) (sym (to ∙ ap (after setup s ask) is)) held
-    go (Err refusal) is shown to = subst (λ (x : State). AreKnown setup x.returns known) (sym (to ∙ ap (after setup s ask) is)) held
+    go (Ok Same) is shown to = subst (λ (x : State). AreKnown setup x.returns known) (sym (to ∙ ap (state_after setup s ask) is)) held
+    go (Ok (SetLot places)) is shown to = subst (λ (x : State). AreKnown setup x.returns known) (sym (to ∙ ap (state_after setup s ask) is)) held
+    go (Ok (SetCertified seats)) is shown to = subst (λ (x : State). AreKnown setup x.returns known) (sym (to ∙ ap (state_after setup s ask) is)) held
+    go (Ok (SetReopened note past)) is shown to = subst (λ (x : State). AreKnown setup x.returns known) (sym (to ∙ ap (state_after setup s ask) is)) held
+    go (Ok (SetGone gone up)) is shown to = subst (λ (x : State). AreKnown setup x.returns known) (sym (to ∙ ap (state_after setup s ask) is)) held
+    go (Err refusal) is shown to = subst (λ (x : State). AreKnown setup x.returns known) (sym (to ∙ ap (state_after setup s ask) is)) held
 nowhere-known setup s t ask e known moves held (inr not) = subst (λ (x : State). AreKnown setup x.returns known) (sym not.1) held
 
 -- ---- requests that leave the returns
@@ -342,7 +342,7 @@ con-step-returns (Some con) s t ask a step = ap (λ (x : State). x.returns) step
 -- one on a constituency
 pub con-returns : (setup : List Constituency) (s t : State) (ask : Ask) (code : List ℕ) (r : Result Reply Refusal) → con_named ask ≡ Some code → IsAnswered setup s ask r t → t.returns ≡ s.returns
 con-returns setup s t ask code r named (inl step) =
-    con-step-returns (constituency_with code setup) s t ask (seen r) (subst (λ n. IsStepSeenAt n setup s ask (seen r) t) named step)
+    con-step-returns (constituency_with code setup) s t ask (reply_seen r) (subst (λ n. IsStepSeenAt n setup s ask (reply_seen r) t) named step)
 con-returns setup s t ask code r named (inr not) = ap (λ (x : State). x.returns) not.1
 
 -- one that shows how far constituencies have come, or the return of a station

@@ -14,7 +14,7 @@ use Rattle.tally_returns.specs.declared.reply.LodgeReply.{LodgeReply}
 use Rattle.tally_returns.specs.declared.reply.LodgeReply.TheVariants.{Lodged, Same}
 use Rattle.tally_returns.specs.declared.reply.Reply.{Reply}
 use Rattle.tally_steps.specs.LawfulState.{IsLawfulState}
-use Rattle.tally_steps.specs.Step.{lodge_reply, seen}
+use Rattle.tally_steps.specs.Step.{lodge_reply, reply_seen}
 use Rattle.tally_steps.proofs.ReturnStepLemmas.{return-step-lawful}
 use Rattle.tally_keeper.proofs.HeldLemmas.{lodge-step}
 use Rattle.tally_keeper.specs.Import.{IsCodedRow, after_row}
@@ -22,13 +22,13 @@ use Rattle.tally_keeper.specs.declared.import.Row.{Row}
 use Rattle.tally_keeper.specs.declared.import.Row.TheVariants as row
 use Rattle.tally_requests.specs.Requests.{IsCarriedOut, IsLodged, IsRowTaken}
 
-pub seen-reply : (reply : LodgeReply) → seen (Ok (as_reply reply)) ≡ lodge_reply (Ok reply)
+pub seen-reply : (reply : LodgeReply) → reply_seen (Ok (as_reply reply)) ≡ lodge_reply (Ok reply)
 seen-reply (Lodged rev) = refl
 seen-reply (Same rev) = refl
 
 -- what was lodged is carried out
 pub lodged-carried : (setup : List Constituency) (text : List ℕ) (s : State) (station slip : List ℕ) (counts : VoteCounts) (r : Result LodgeReply Refusal) (a : Result Reply Refusal) (new : Seen)
-    → seen a ≡ lodge_reply r → IsLodged setup text s station slip counts r new → IsCarriedOut setup text s (Lodge station slip counts) a new
+    → reply_seen a ≡ lodge_reply r → IsLodged setup text s station slip counts r new → IsCarriedOut setup text s (Lodge station slip counts) a new
 lodged-carried setup text s station slip counts r a new shown done = record {
   state = record s { returns = _ };
   answered = inl (shown ∙ ap lodge_reply done.answered, sym (lodge-step setup s station slip counts));

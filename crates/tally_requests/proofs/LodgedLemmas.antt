@@ -19,7 +19,7 @@ use Rattle.tally_returns.specs.Checks.{check, first_refusal, refused_or}
 use Rattle.tally_returns.specs.Counts.{VoteCounts, all_votes, are_counts}
 use Rattle.tally_returns.specs.Decide.{limits_of, show_checks}
 use Rattle.tally_returns.specs.Lawful.{IsLawfulAt}
-use Rattle.tally_returns.specs.Lodge.{StationLimits, admitted, after_lodge, counts_checks, decided_at, decided_at_code, limits_for, lodge_answer}
+use Rattle.tally_returns.specs.Lodge.{StationLimits, reply_after_checks, after_lodge, counts_checks, reply_at_station, reply_at_code, limits_for, lodge_answer}
 use Rattle.tally_returns.specs.Return.{StationReturn, Returns, first_return}
 use Rattle.tally_returns.specs.State.{ConState, State, con_state, stations_of}
 use Rattle.tally_returns.specs.View.{blank_of, closed_counts, counts_if_closed, spoiled_of, view_with, votes_of_lists}
@@ -35,7 +35,7 @@ use Rattle.tally_returns.proofs.DecideLemmas.{passed-first}
 use Rattle.tally_ledger.proofs.SetupLemmas.{con-limits, station-found}
 use Rattle.tally_steps.specs.LawfulState.{IsLawfulState}
 use Rattle.tally_steps.specs.Outcome.{HasSeats}
-use Rattle.tally_steps.specs.Step.{Answer, after, after_return, answer, return_reply, return_shown, seen}
+use Rattle.tally_steps.specs.Step.{Answer, state_after, after_return, answer, return_reply, return_shown, reply_seen}
 use Rattle.tally_statements.specs.Office.{IsInside, tree_of}
 use Rattle.tally_statements.specs.declared.table.KeyedTable.TheVariants.{Cons, Lots, Seats, Gone, Totals, Past}
 use Rattle.tally_tables.specs.Cells.{con_rows, gone_rows, item_row, items_of, lot_rows, past_rows, seat_rows, total_rows, totals_of}
@@ -43,7 +43,7 @@ use Rattle.tally_tables.specs.TablesOfState.{AreTables}
 use Rattle.tally_entries.specs.Entries.{AddsReturn, FindsReturn, PutsReturn}
 use Rattle.tally_entries.proofs.FindLemmas.{inside_still}
 use Rattle.tally_keeper.proofs.LodgeLemmas.{lodged-none}
-use Rattle.tally_requests.specs.Lodging.{IsLodgeAnswer}
+use Rattle.tally_requests.specs.internal.Lodging.{IsLodgeAnswer}
 use Rattle.tally_requests.specs.Requests.{IsCarriedOut, IsInState, IsLodged}
 
 -- ---- closed counts where a return is put whose counts are closed as those before it were
@@ -145,33 +145,33 @@ still setup text s old new same inside tables = record {
 
 -- what is answered at a station of the setup
 pub answer-at : (setup : List Constituency) (returns : Returns) (station slip : List ℕ) (counts : VoteCounts) (con : Constituency) (place : Station) → station_with station setup ≡ Some (con, place)
-    → decided_at (limits_of con place) (get returns station) slip counts ≡ lodge_answer (stations_of setup) returns station slip counts
+    → reply_at_station (limits_of con place) (get returns station) slip counts ≡ lodge_answer (stations_of setup) returns station slip counts
 answer-at setup returns station slip counts con place is =
-    ap (λ found. decided_at_code (option_map (λ (p : Constituency × Station). limits_of p.0 p.1) found) (get returns station) slip counts) (sym is)
+    ap (λ found. reply_at_code (option_map (λ (p : Constituency × Station). limits_of p.0 p.1) found) (get returns station) slip counts) (sym is)
 
 -- and where there is none
 pub answer-nowhere : (setup : List Constituency) (returns : Returns) (station slip : List ℕ) (counts : VoteCounts) → station_with station setup ≡ None
     → Err NoStation ≡ lodge_answer (stations_of setup) returns station slip counts
 answer-nowhere setup returns station slip counts is =
-    ap (λ found. decided_at_code (option_map (λ (p : Constituency × Station). limits_of p.0 p.1) found) (get returns station) slip counts) (sym is)
+    ap (λ found. reply_at_code (option_map (λ (p : Constituency × Station). limits_of p.0 p.1) found) (get returns station) slip counts) (sym is)
 
 -- what was decided of what was found is what is answered
 pub decided-is : (setup : List Constituency) (text : List ℕ) (s : State) (station slip : List ℕ) (counts : VoteCounts) (con : Constituency) (place : Station) (lists : ℕ) (old : Seen) (found copied : Option StationReturn) (r : Result LodgeReply Refusal)
     → IsSetup setup → IsLawfulState setup s → AreTables setup text s old.now.trees → station_with station setup ≡ Some (con, place) → lists ≡ length con.lists → FindsReturn setup station old found
-    → copied ≡ found → r ≡ decided_at (limits_for lists place.electors) copied slip counts → r ≡ lodge_answer (stations_of setup) s.returns station slip counts
+    → copied ≡ found → r ≡ reply_at_station (limits_for lists place.electors) copied slip counts → r ≡ lodge_answer (stations_of setup) s.returns station slip counts
 decided-is setup text s station slip counts con place lists old found copied r limits lawful tables known many finds same is =
     is
-    ∙ ap (λ f. decided_at (limits_for lists place.electors) f slip counts) same
-    ∙ ap (λ n. decided_at (limits_for n place.electors) found slip counts) many
-    ∙ ap (λ f. decided_at (limits_of con place) f slip counts) (found-is setup text s station old found limits lawful tables finds)
+    ∙ ap (λ f. reply_at_station (limits_for lists place.electors) f slip counts) same
+    ∙ ap (λ n. reply_at_station (limits_for n place.electors) found slip counts) many
+    ∙ ap (λ f. reply_at_station (limits_of con place) f slip counts) (found-is setup text s station old found limits lawful tables finds)
     ∙ answer-at setup s.returns station slip counts con place known
 
 -- a return that is lodged is for at most 60 lists
-pub lodged-few : (limits : StationLimits) (found : Option StationReturn) (slip : List ℕ) (counts : VoteCounts) (rev : ℕ) → decided_at limits found slip counts ≡ Ok (Lodged rev) → limits.lists ≤ 60
+pub lodged-few : (limits : StationLimits) (found : Option StationReturn) (slip : List ℕ) (counts : VoteCounts) (rev : ℕ) → reply_at_station limits found slip counts ≡ Ok (Lodged rev) → limits.lists ≤ 60
     → length counts.votes ≤ 60
 lodged-few limits found slip counts rev is few = go (first_refusal (counts_checks limits counts)) refl is
   where
-    go : (refused : Option Refusal) → first_refusal (counts_checks limits counts) ≡ refused → refused_or refused (admitted found slip counts) ≡ Ok (Lodged rev) → length counts.votes ≤ 60
+    go : (refused : Option Refusal) → first_refusal (counts_checks limits counts) ≡ refused → refused_or refused (reply_after_checks found slip counts) ≡ Ok (Lodged rev) → length counts.votes ≤ 60
     go (Some e) at ok = cc
     go None at ok =
         let fit : are_counts limits.lists counts ≡ true = passed-first (are_counts limits.lists counts) BadCounts (check (nat_le (all_votes counts) limits.electors) TooManyVotes ∷ []) at in
@@ -241,11 +241,11 @@ mapped-some f (Some x) seen none is some none_is = (f x, sym is)
 pub shown-stays : (setup : List Constituency) (s : State) (station : List ℕ) → s ≡ after_return setup s (ShowReturn station)
 shown-stays setup s station = go (first_refusal (show_checks (stations_of setup station) (get s.returns station)))
   where
-    go : (refused : Option Refusal) → s ≡ after setup s (ShowReturn station) (refused_or refused (Ok Unchanged))
+    go : (refused : Option Refusal) → s ≡ state_after setup s (ShowReturn station) (refused_or refused (Ok Unchanged))
     go None = refl
     go (Some e) = refl
 
-pub shown-carried : (setup : List Constituency) (text : List ℕ) (s : State) (station : List ℕ) (r : Result Reply Refusal) (new : Seen) → seen r ≡ answer setup s (ShowReturn station)
+pub shown-carried : (setup : List Constituency) (text : List ℕ) (s : State) (station : List ℕ) (r : Result Reply Refusal) (new : Seen) → reply_seen r ≡ answer setup s (ShowReturn station)
     → IsInState setup text s new → IsCarriedOut setup text s (ShowReturn station) r new
 shown-carried setup text s station r new is here = record {
   state = s;
@@ -257,11 +257,11 @@ shown-carried setup text s station r new is here = record {
 abbrev shown_at : Option (Constituency × Station) → Option StationReturn → Result Answer Refusal
 shown_at place found = refused_or (first_refusal (show_checks (option_map (λ (p : Constituency × Station). limits_of p.0 p.1) place) found)) (return_reply found)
 
-pub shown-nowhere : (setup : List Constituency) (s : State) (station : List ℕ) → station_with station setup ≡ None → seen (Err NoStation) ≡ answer setup s (ShowReturn station)
+pub shown-nowhere : (setup : List Constituency) (s : State) (station : List ℕ) → station_with station setup ≡ None → reply_seen (Err NoStation) ≡ answer setup s (ShowReturn station)
 shown-nowhere setup s station is = ap (λ place. shown_at place (get s.returns station)) (sym is)
 
 pub shown-none : (setup : List Constituency) (s : State) (station : List ℕ) (place : Constituency × Station) → station_with station setup ≡ Some place → None ≡ get s.returns station
-    → seen (Err NoReturn) ≡ answer setup s (ShowReturn station)
+    → reply_seen (Err NoReturn) ≡ answer setup s (ShowReturn station)
 shown-none setup s station place is none = ap (shown_at (Some place)) none ∙ ap (λ p. shown_at p (get s.returns station)) (sym is)
 
 pub shown-some : (setup : List Constituency) (s : State) (station : List ℕ) (place : Constituency × Station) (standing : StationReturn) → station_with station setup ≡ Some place

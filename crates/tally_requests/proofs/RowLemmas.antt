@@ -1,5 +1,5 @@
 -- An import in a transaction, so far.
-use Rattle.std.proofs.Common.{◌≡◌, ◌≤◌, ◌<◌, ◌+◌, ◌∙◌, ℕ, List, [], ◌++◌, ◌∷◌, None, Option, Some, Ok, Err, length, refl, sym, ap, subst, length-append}
+use Rattle.std.proofs.Common.{◌≡◌, ◌≤◌, ◌<◌, ◌+◌, ◌∙◌, ℕ, List, [], ◌++◌, ◌∷◌, None, Some, Ok, Err, length, refl, sym, ap, subst, arith, length-append}
 use Rattle.std.specs.FinMap.{empty}
 use Rattle.std.specs.Prelude.{IfSome}
 use Rattle.sqlite.specs.State.{State as Seen}
@@ -10,15 +10,15 @@ use Rattle.tally_returns.specs.Return.{Returns}
 use Rattle.tally_returns.specs.State.{State, stations_of}
 use Rattle.tally_steps.specs.LawfulState.{IsLawfulState}
 use Rattle.tally_ledger.specs.Kept.{Kept}
-use Rattle.tally_keeper.specs.Import.{IsBelow, IsCodedRow, RowAnswer, after_row, count_of, counted, row_answer}
-use Rattle.tally_keeper.specs.Keeper.{IsFault}
-use Rattle.tally_keeper.specs.Source.{Coming, Ending, GivesNext, IsWithin, row_limit}
+use Rattle.tally_keeper.specs.Import.{IsBelow, IsCodedRow, RowAnswer, after_row, count_of, count_with_row, row_answer}
+use Rattle.tally_keeper.specs.Keeper.{IsFault, IsOwnFault}
+use Rattle.tally_keeper.specs.Source.{GaveAll, IsWithin, SourceAt, row_limit}
 use Rattle.tally_keeper.specs.declared.import.ImportCount.{ImportCount}
 use Rattle.tally_keeper.specs.declared.import.Row.{Row}
 use Rattle.tally_keeper.specs.declared.source.ImportFault.{ImportFault}
 use Rattle.tally_keeper.specs.declared.source.ImportFault.TheVariants.{TooLong}
 use Rattle.tally_keeper.proofs.ImportLemmas.{count_of-below, push_is}
-use Rattle.tally_keeper.proofs.TakenLemmas.{SoFar, SoFar-end, SoFar-fault, SoFar-many, SoFar-next, SoFar-start}
+use Rattle.tally_keeper.proofs.TakenLemmas.{GivesAt, SoFar, SoFar-end, SoFar-fault, SoFar-many, SoFar-next, SoFar-own, SoFar-start, all-given}
 use Rattle.tally_requests.specs.Known.{AreKnown, Known, after_row as after_row_known}
 use Rattle.tally_requests.specs.Requests.{IsImportedKnown, IsInState, IsRowTaken}
 use Rattle.tally_requests.proofs.KnownLemmas.{known-row}
@@ -30,30 +30,38 @@ pub no_stations : Stations
 no_stations station = None
 
 -- so many rows came
-abbrev pub Came : Option Coming → Option Coming → ℕ → Type 0
+abbrev pub Came : SourceAt → SourceAt → ℕ → Type 0
 Came all left many = (count : ImportCount) × (now : Returns) × SoFar no_stations empty now all left count many
 
-pub came-start : (all : Option Coming) → Came all all 0
+pub came-start : (all : SourceAt) → Came all all 0
 came-start all = (count_of [], empty, SoFar-start no_stations empty all (count_of []) refl)
 
-pub came-next : (all left next : Option Coming) (many : ℕ) (r : Row) → Came all left many → IsCodedRow r → GivesNext left (Ok (Some r)) next → Came all next (many + 1)
+pub came-next : (all left next : SourceAt) (many : ℕ) (r : Row) → Came all left many → IsCodedRow r → GivesAt left (Ok (Some r)) next → Came all next (many + 1)
 came-next all left next many r was coded given = (
-  counted was.0 (many + 1) (row_answer no_stations was.1 r),
+  count_with_row was.0 (many + 1) (row_answer no_stations was.1 r),
   after_row no_stations was.1 r,
-  SoFar-next no_stations empty was.1 (after_row no_stations was.1 r) all left next was.0 (counted was.0 (many + 1) (row_answer no_stations was.1 r)) many r (row_answer no_stations was.1 r) was.2 coded given refl refl refl,
+  SoFar-next no_stations empty was.1 (after_row no_stations was.1 r) all left next was.0 (count_with_row was.0 (many + 1) (row_answer no_stations was.1 r)) many r (row_answer no_stations was.1 r) was.2 coded given refl refl refl,
 )
 
-pub came-fault : (all left next : Option Coming) (ended : Ending) (many : ℕ) (fault : ImportFault) → Came all left many → GivesNext left (Err fault) next → ended ≡ Some (Some fault) → IsFault all ended fault
-came-fault all left next ended many fault was given ends = SoFar-fault no_stations empty was.1 all left next ended was.0 many fault was.2 given ends
+pub came-end : (all left next : SourceAt) (many : ℕ) → Came all left many → many ≤ row_limit → GivesAt left (Ok None) next → GaveAll (record { start = all; finish = next })
+came-end all left next many was few given =
+    let h = was.2 in
+    (h.rows, all-given all left next h.rows h.given h.taken (omega (arith, few, h.many_are)) given)
 
-pub came-many : (all left : Option Coming) (ended : Ending) (many : ℕ) → Came all left many → row_limit < many → IfSome all IsWithin → IsFault all ended TooLong
-came-many all left ended many was over within = SoFar-many no_stations empty was.1 all left ended was.0 many was.2 over within
+pub came-fault : (all left next : SourceAt) (many : ℕ) (fault : ImportFault) → Came all left many → GivesAt left (Err fault) next → IsFault (record { start = all; finish = next }) fault
+came-fault all left next many fault was given = SoFar-fault no_stations empty was.1 all left next was.0 many fault was.2 given
+
+pub came-own : (all left next : SourceAt) (many : ℕ) (r : Row) (fault : ImportFault) → Came all left many → GivesAt left (Ok (Some r)) next → IsOwnFault fault → IsFault (record { start = all; finish = next }) fault
+came-own all left next many r fault was given own = SoFar-own no_stations empty was.1 all left next was.0 many r fault was.2 given own
+
+pub came-many : (all left : SourceAt) (many : ℕ) → Came all left many → many ≡ row_limit + 1 → IfSome all.coming IsWithin → IsFault (record { start = all; finish = left }) TooLong
+came-many all left many was over within = SoFar-many no_stations empty was.1 all left was.0 many was.2 over within
 
 -- so many answers were counted
 abbrev pub Counted : ImportCount → ℕ → Type 0
 Counted count many = (answered : List RowAnswer) × (count ≡ count_of answered) × (length answered ≡ many)
 
-pub counted-next : (count more : ImportCount) (many : ℕ) (answer : RowAnswer) → Counted count many → more ≡ counted count (many + 1) answer → Counted more (many + 1)
+pub counted-next : (count more : ImportCount) (many : ℕ) (answer : RowAnswer) → Counted count many → more ≡ count_with_row count (many + 1) answer → Counted more (many + 1)
 counted-next count more many answer was is = (
   was.0 ++ answer ∷ [],
   push_is count more was.0 answer (many + 1) was.1 (ap (λ n. n + 1) (sym was.2)) is,
@@ -66,14 +74,14 @@ counted-below count many was = subst (λ c. IsBelow c (many + 1)) (sym was.1) (c
 -- ---- what is known of the tables of a lawful state
 
 -- so many rows came, and were taken; the state that they left, and what is known of it
-pub record RowsSoFar (setup : List Constituency) (text : List ℕ) (s : State) (all left : Option Coming) (count : ImportCount) (many : ℕ) (before after : Known) (new : Seen) : Type 0 where
+pub record RowsSoFar (setup : List Constituency) (text : List ℕ) (s : State) (all left : SourceAt) (count : ImportCount) (many : ℕ) (before after : Known) (new : Seen) : Type 0 where
   pub returns : Returns
   pub so_far : SoFar (stations_of setup) s.returns returns all left count many
   pub lawful : IsLawfulState setup (record s { returns = returns })
   pub in_state : IsInState setup text (record s { returns = returns }) new
   pub known : AreKnown setup s.returns before → AreKnown setup returns after
 
-pub rows-start : (setup : List Constituency) (text : List ℕ) (s : State) (all : Option Coming) (count : ImportCount) (known : Known) (old : Seen) → count ≡ count_of [] → IsLawfulState setup s → IsInState setup text s old
+pub rows-start : (setup : List Constituency) (text : List ℕ) (s : State) (all : SourceAt) (count : ImportCount) (known : Known) (old : Seen) → count ≡ count_of [] → IsLawfulState setup s → IsInState setup text s old
     → RowsSoFar setup text s all all count 0 known known old
 rows-start setup text s all count known old is lawful here = record {
   returns = s.returns;
@@ -83,9 +91,9 @@ rows-start setup text s all count known old is lawful here = record {
   known = λ held. held;
 }
 
-pub rows-next : (setup : List Constituency) (text : List ℕ) (s : State) (all left next : Option Coming) (count more : ImportCount) (many : ℕ) (r : Row) (answer : RowAnswer) (before known after : Known) (mid new : Seen)
-    → IsSetup setup → (was : RowsSoFar setup text s all left count many before known mid) → IsCodedRow r → GivesNext left (Ok (Some r)) next
-    → IsRowTaken setup text (record s { returns = was.returns }) r answer new → after ≡ after_row_known setup r answer known → more ≡ counted count (many + 1) answer
+pub rows-next : (setup : List Constituency) (text : List ℕ) (s : State) (all left next : SourceAt) (count more : ImportCount) (many : ℕ) (r : Row) (answer : RowAnswer) (before known after : Known) (mid new : Seen)
+    → IsSetup setup → (was : RowsSoFar setup text s all left count many before known mid) → IsCodedRow r → GivesAt left (Ok (Some r)) next
+    → IsRowTaken setup text (record s { returns = was.returns }) r answer new → after ≡ after_row_known setup r answer known → more ≡ count_with_row count (many + 1) answer
     → RowsSoFar setup text s all next more (many + 1) before after new
 rows-next setup text s all left next count more many r answer before known after mid new limits was coded given taken put counted_is = record {
   returns = after_row (stations_of setup) was.returns r;
@@ -96,8 +104,8 @@ rows-next setup text s all left next count more many r answer before known after
 }
 
 -- the import is done where its source ends
-pub rows-end : (setup : List Constituency) (text : List ℕ) (s : State) (all left next : Option Coming) (count : ImportCount) (many : ℕ) (before after : Known) (new : Seen)
-    → RowsSoFar setup text s all left count many before after new → many ≤ row_limit → GivesNext left (Ok None) next → IsImportedKnown setup text s all before after count new
+pub rows-end : (setup : List Constituency) (text : List ℕ) (s : State) (all left next : SourceAt) (count : ImportCount) (many : ℕ) (before after : Known) (new : Seen)
+    → RowsSoFar setup text s all left count many before after new → many ≤ row_limit → GivesAt left (Ok None) next → IsImportedKnown setup text s (record { start = all; finish = next }) before after count new
 rows-end setup text s all left next count many before after new was few given =
     let old : Kept = record { setup = setup; returns = s.returns; cons = s.cons; seats = empty } in (
       record {

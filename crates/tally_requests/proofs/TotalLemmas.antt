@@ -20,7 +20,8 @@ use Rattle.tally_returns.specs.Return.{StationReturn, Returns}
 use Rattle.tally_returns.specs.State.{State}
 use Rattle.tally_returns.specs.View.{blank_of, closed_counts, spoiled_of, votes_at, votes_of_lists}
 use Rattle.tally_returns.proofs.ClosedLemmas.{closed_counts-same, get-kept, get-put, put-elsewhere, station-elsewhere}
-use Rattle.tally_ledger.specs.Sums.{moved_sum, moved_sums}
+use Rattle.tally_ledger.specs.Sums.{moved_sum}
+use Rattle.tally_ledger.specs.internal.Sums.{moved_sums}
 use Rattle.tally_ledger.proofs.SetupLemmas.{Has, Apart, Differ, apart-has, bytes_flipped, code_of_station, con-found, con-only, not_apart, station-found, stations-differ}
 use Rattle.tally_ledger.proofs.SumLemmas.{at_place, closed-total, if_closed, mapped-same, total}
 use Rattle.tally_steps.specs.LawfulState.{IsLawfulState}
@@ -31,8 +32,8 @@ use Rattle.tally_tables.specs.Cells.{total_rows, totals_of}
 use Rattle.tally_entries.specs.Constituencies.{ChangesOnly, ChangesSums, FindsSums}
 use Rattle.tally_entries.specs.Entries.{stored_in}
 use Rattle.tally_entries.proofs.FindLemmas.{inside_still}
-use Rattle.tally_requests.specs.Moves.{CountsSo}
-use Rattle.tally_requests.specs.Sums.{with_counts_moved}
+use Rattle.tally_requests.specs.internal.Moves.{CountsSo}
+use Rattle.tally_requests.specs.internal.Sums.{with_counts_moved}
 
 -- ---- a sum over stations where one has another return now
 

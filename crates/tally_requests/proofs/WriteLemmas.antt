@@ -15,7 +15,7 @@ use Rattle.tally_statements.specs.Office.{tree_of}
 use Rattle.tally_tables.specs.Cells.{con_rows, lot_rows, past_rows, seat_rows}
 use Rattle.tally_entries.specs.Constituencies.{ChangesOnly, HasLot, HasRecord, IsAt, MovesRows, MovesSeats}
 use Rattle.tally_entries.specs.Entries.{stored_in}
-use Rattle.tally_requests.specs.Changes.{ChangesAmong, HasWrittenLot, HoldsCon, HasWrittenRecord, HasWrittenSeats}
+use Rattle.tally_requests.specs.internal.Changes.{ChangesAmong, HasWrittenLot, HoldsCon, HasWrittenRecord, HasWrittenSeats}
 
 pub apart : (u t : KeyedTable) → nat_eq (tree_of u) (tree_of t) ≡ false → tree_of u ≢ tree_of t
 apart u t is = eqb-false (tree_of u) (tree_of t) is
@@ -72,7 +72,7 @@ seats_written code edition certified note seats old between new first second = r
 }
 
 pub record_written : (code : List ℕ) (edition : ℕ) (note : List ℕ) (standing : PastSeats) (old between new : Seen) → HasWrittenSeats code edition false note [] old between
-    → HasMoved Past past_rows code (HasRecord standing.edition standing.seats) between new → HasWrittenRecord code edition note standing old new
+    → HasMoved Past past_rows code (HasRecord standing) between new → HasWrittenRecord code edition note standing old new
 record_written code edition note standing old between new first second = record {
   only = record {
     inside = second.0.inside;
@@ -82,5 +82,5 @@ record_written code edition note standing old between new first second = record 
   cons = moved_before Cons con_rows code (IsAt edition false note) old between new (second.0.others Cons (apart Cons Past refl)) first.cons;
   seats = λ cons before after known own others held.
       subst (AreRowsOf (seat_rows after) cons) (sym (second.0.others Seats (apart Seats Past refl))) (first.seats cons before after known own others held);
-  past = moved_after Past past_rows code (HasRecord standing.edition standing.seats) old between new (first.only.others Past (apart Past Cons refl, (apart Past Seats refl, tt))) second.1;
+  past = moved_after Past past_rows code (HasRecord standing) old between new (first.only.others Past (apart Past Cons refl, (apart Past Seats refl, tt))) second.1;
 }

@@ -1,5 +1,5 @@
 -- What is known of constituencies: how many of their returns are in each status.
-use Rattle.std.specs.Prelude.{◌≡◌, ◌+◌, ◌-◌, ◌^◌, if◌then◌else◌, ℕ, Bool, false, List, min, Option, None, Some, Result, Ok}
+use Rattle.std.specs.Prelude.{◌≡◌, ◌+◌, ◌-◌, ◌^◌, if◌then◌else◌, ℕ, Bool, false, List, min, Option, None, Some, Result, Ok, IfOk}
 use Rattle.std.specs.BTreeMap.{BTreeMap}
 use Rattle.std.specs.FinMap.{FinMap, from_entries, get, insert}
 use Rattle.std.specs.Option.{option_map_or}
@@ -42,19 +42,19 @@ statuses_of_row row = record { stations = row.stations; received = row.received;
 -- ---- a return that moves
 
 -- a number of 32 bits with one more, where it has room, or with one less
-abbrev pub raised : Bool → ℕ → ℕ
-raised by_one n = if by_one then min (n + 1) (2 ^ 32 - 1) else n
+abbrev pub one_more_if : Bool → ℕ → ℕ
+one_more_if by_one n = if by_one then min (n + 1) (2 ^ 32 - 1) else n
 
-abbrev pub lowered : Bool → ℕ → ℕ
-lowered by_one n = if by_one then n - 1 else n
+abbrev pub one_less_if : Bool → ℕ → ℕ
+one_less_if by_one n = if by_one then n - 1 else n
 
 -- one return more of this status
 abbrev pub with_one : Status → Statuses → Statuses
 with_one status s = record s {
-  received = raised (is_received status) s.received;
-  queried = raised (is_queried status) s.queried;
-  corrected = raised (is_corrected status) s.corrected;
-  closed = raised (is_closed status) s.closed;
+  received = one_more_if (is_received status) s.received;
+  queried = one_more_if (is_queried status) s.queried;
+  corrected = one_more_if (is_corrected status) s.corrected;
+  closed = one_more_if (is_closed status) s.closed;
 }
 
 -- whether there is a return and it has such a status
@@ -64,10 +64,10 @@ has_status is_status status = option_map_or is_status status false
 -- one return less of this status
 abbrev pub without_one : Option Status → Statuses → Statuses
 without_one status s = record s {
-  received = lowered (has_status is_received status) s.received;
-  queried = lowered (has_status is_queried status) s.queried;
-  corrected = lowered (has_status is_corrected status) s.corrected;
-  closed = lowered (has_status is_closed status) s.closed;
+  received = one_less_if (has_status is_received status) s.received;
+  queried = one_less_if (has_status is_queried status) s.queried;
+  corrected = one_less_if (has_status is_corrected status) s.corrected;
+  closed = one_less_if (has_status is_closed status) s.closed;
 }
 
 -- a return that had the one status, or was not there, has the other
@@ -105,6 +105,14 @@ after_lodge_row setup other answer known = known
 abbrev pub after_row : List Constituency → Row → RowAnswer → Known → Known
 after_row setup r None known = known
 after_row setup r (Some answer) known = after_lodge_row setup r answer known
+
+-- What is known after a call that lodges a return, whatever was known before.
+abbrev pub CountsLodge : {E : Type 0} → List Constituency → List ℕ → BTreeMap (List ℕ) Statuses → BTreeMap (List ℕ) Statuses → Result (Result LodgeReply Refusal) E → Type 0
+CountsLodge setup station old new result = IfOk result (λ r. known_of new ≡ after_lodge setup station r (known_of old))
+
+-- and after one that takes a row
+abbrev pub CountsRow : {E : Type 0} → List Constituency → Row → BTreeMap (List ℕ) Statuses → BTreeMap (List ℕ) Statuses → Result RowAnswer E → Type 0
+CountsRow setup row old new result = IfOk result (λ answer. known_of new ≡ after_row setup row answer (known_of old))
 
 -- ---- after a command that moves a return
 

@@ -1,9 +1,4 @@
-pub mod Lodging
+pub mod internal
 pub mod Known
 pub mod Requests
-pub mod Seen
-pub mod Found
-pub mod Changes
-pub mod Moves
-pub mod Sums
 pub mod Inside

@@ -16,7 +16,7 @@ use Rattle.tally_steps.specs.LawfulState.{IsLawfulState}
 use Rattle.tally_steps.specs.Step.{ConChange, IsAnswered, IsView, after_change, answer_seen, con_answer, con_change}
 use Rattle.tally_keeper.specs.Import.{RowAnswer, after_row, row_answer}
 use Rattle.tally_keeper.specs.Keeper.{IsImportOf}
-use Rattle.tally_keeper.specs.Source.{Coming}
+use Rattle.tally_keeper.specs.Source.{Delivery}
 use Rattle.tally_keeper.specs.declared.import.ImportCount.{ImportCount}
 use Rattle.tally_keeper.specs.declared.import.Row.{Row}
 use Rattle.tally_keeper.specs.declared.source.ImportFault.{ImportFault}
@@ -65,7 +65,7 @@ LodgesOf setup station slip counts old new r =
     (text : List ℕ) (s : State) → IsLawfulState setup s → AreTables setup text s old.now.trees → IsLodged setup text s station slip counts r new
 
 -- The same after a call that lodges a return, where the disk returned what was written.
-abbrev pub Lodges : List Constituency → List ℕ → List ℕ → VoteCounts → Seen → Seen → Result (Result LodgeReply Refusal) Error → Type 0
+abbrev pub Lodges : {E : Type 0} → List Constituency → List ℕ → List ℕ → VoteCounts → Seen → Seen → Result (Result LodgeReply Refusal) E → Type 0
 Lodges setup station slip counts old new result =
     HasCleanDisk new → IsInside old → IfOk result (LodgesOf setup station slip counts old new)
 
@@ -79,24 +79,24 @@ abbrev pub TakesRow : List Constituency → Row → Seen → Seen → Result Row
 TakesRow setup row old new result =
     HasCleanDisk new → IsInside old → IfOk result (λ answer. (text : List ℕ) (s : State) → IsLawfulState setup s → AreTables setup text s old.now.trees → IsRowTaken setup text s row answer new)
 
--- All rows of a source were lodged as in this state, and the tables are those of the state after
--- that.
-pub record IsImported (setup : List Constituency) (text : List ℕ) (s : State) (known : Option Coming) (count : ImportCount) (new : Seen) : Type 0 where
+-- All rows that a source gave were lodged as in this state, and the tables are those of the state
+-- after that.
+pub record IsImported (setup : List Constituency) (text : List ℕ) (s : State) (d : Delivery) (count : ImportCount) (new : Seen) : Type 0 where
   pub state : State
-  pub imported : IsImportOf setup (Some s) known count (Some state)
+  pub imported : IsImportOf setup (Some s) d count (Some state)
   pub in_state : IsInState setup text state new
 
 -- and what was known of the state before it is known of the state after it
-abbrev pub IsImportedKnown : List Constituency → List ℕ → State → Option Coming → Known → Known → ImportCount → Seen → Type 0
-IsImportedKnown setup text s coming before after count new =
-    (done : IsImported setup text s coming count new) × (AreKnown setup s.returns before → AreKnown setup done.state.returns after)
+abbrev pub IsImportedKnown : List Constituency → List ℕ → State → Delivery → Known → Known → ImportCount → Seen → Type 0
+IsImportedKnown setup text s d before after count new =
+    (done : IsImported setup text s d count new) × (AreKnown setup s.returns before → AreKnown setup done.state.returns after)
 
 -- What holds after a call that lodges the rows of a source, where the disk returned what was
 -- written.
-abbrev pub ImportsRows : List Constituency → Option Coming → Known → Known → Seen → Seen → Result ImportCount ImportFault → Type 0
-ImportsRows setup coming before after old new result =
+abbrev pub ImportsRows : List Constituency → Delivery → Known → Known → Seen → Seen → Result ImportCount ImportFault → Type 0
+ImportsRows setup d before after old new result =
     HasCleanDisk new → IsInside old → IfOk result (λ count. (text : List ℕ) (s : State) → IsLawfulState setup s → AreTables setup text s old.now.trees
-    → IsImportedKnown setup text s coming before after count new)
+    → IsImportedKnown setup text s d before after count new)
 
 -- A change of a constituency was carried out as decided in this state. The reply is that of the
 -- step, and the tables are those of the state after it.

@@ -65,7 +65,8 @@ fn lodge_at<S: Alter>(
     ensures kind { IfOk result (λ r. IfOk r (IsReplyTo setup.now (Lodge station slip counts.now))) }
     ensures step { CarriesOutKnown setup.now (known_of known.old) (Lodge station slip counts.now)
         (state S.Store tx.old.conn.now) (state S.Store tx.new.conn.now) result }
-    ensures known { KeepsKnown setup.now (known_of known.old) (known_of known.new) (Lodge station slip counts.now)
+    ensures known { KeepsKnown setup.now (known_of known.old) (known_of known.new)
+        (Lodge station slip counts.now)
         (state S.Store tx.old.conn.now) (state S.Store tx.new.conn.now) result }
 {
     match lodge(alloc, tx, setup, known, station, slip, counts)? {

@@ -8,7 +8,7 @@ ghost use Rattle.tally_returns.specs.Named.{con_named};
 ghost use Rattle.tally_returns.specs.View.{FitsView};
 ghost use Rattle.tally_returns.specs.declared.change.Change.TheVariants.{Same};
 ghost use Rattle.tally_rules.specs.Setup.{constituency_with};
-ghost use Rattle.tally_requests.specs.Changes.{CarriesDecided, HasWrittenLot, HasWrittenRecord, HasWrittenSeats, WritesSo};
+ghost use Rattle.tally_requests.specs.internal.Changes.{CarriesDecided, HasWrittenLot, HasWrittenRecord, HasWrittenSeats, WritesSo};
 ghost use Rattle.tally_statements.specs.Inside.{Stays, StaysInside};
 ghost use Rattle.tally_requests.specs.Requests.{CarriesChange};
 
@@ -146,7 +146,8 @@ fn write_seats<S: Alter>(
 ) -> Result<(), Error>
     requires few { length seats.now ≤ 60 }
     ensures stays { Stays S.Store tx.old tx.new }
-    ensures written { WritesSo con.now (HasWrittenSeats con.now edition certified note.now seats.now)
+    ensures written { WritesSo con.now
+        (HasWrittenSeats con.now edition certified note.now seats.now)
         (state S.Store tx.old.conn.now) (state S.Store tx.new.conn.now) result }
 {
     put_con(tx, con, edition, certified, note)?;

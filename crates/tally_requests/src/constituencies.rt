@@ -1,7 +1,6 @@
 //! Requests on a constituency, and the one that shows how far constituencies have come.
 
-ghost use Rattle.std.specs.Prelude.{◌≡◌, Some, IfOk, OnOk};
-ghost use Rattle.sqlite.specs.State.{HasCleanDisk};
+ghost use Rattle.std.specs.Prelude.{◌≡◌, Some, IfOk};
 ghost use Rattle.sqlite.specs.Held.{state};
 ghost use Rattle.tally_steps.specs.Kinds.{IsReplyTo};
 ghost use Rattle.tally_steps.specs.Step.{IsConDecision};
@@ -10,11 +9,11 @@ ghost use Rattle.tally_returns.specs.View.{FitsView};
 ghost use Rattle.tally_returns.specs.declared.ask.Ask.TheVariants.{ShowProgress};
 ghost use Rattle.tally_rules.specs.Limits.{IsSetup};
 ghost use Rattle.tally_rules.specs.Setup.{constituency_with};
-ghost use Rattle.tally_statements.specs.Office.{IsInside};
+ghost use Rattle.tally_entries.specs.Entries.{Finds};
 ghost use Rattle.tally_statements.specs.Inside.{StaysInside};
 ghost use Rattle.tally_requests.specs.Known.{known_of};
 ghost use Rattle.tally_requests.specs.Requests.{CarriesOutKnown, KeepsKnown};
-ghost use Rattle.tally_requests.specs.Seen.{CarriesOutSeen, FindsKnown, FindsProgress, LooksUp};
+ghost use Rattle.tally_requests.specs.internal.Seen.{CarriesOutSeen, FindsKnown, FindsProgress, LooksUp};
 
 use crate::changes::carry_out;
 use crate::known::{known_at, remember, statuses_of, statuses_of_row};
@@ -126,10 +125,12 @@ fn find_progress<S: Alter>(
     known: &mut BTreeMap<Code, Statuses>,
 ) -> Result<Vec<ProgressRow>, Error>
     ensures stays { StaysInside S.Store tx.old tx.new }
-    ensures found { HasCleanDisk (state S.Store tx.new.conn.now) → IsInside (state S.Store tx.old.conn.now) →
-        IfOk result (λ rows. FindsProgress setup.now (known_of known.old) (state S.Store tx.old.conn.now) rows.items) }
-    ensures known { HasCleanDisk (state S.Store tx.new.conn.now) → IsInside (state S.Store tx.old.conn.now) →
-        OnOk result (FindsKnown setup.now (known_of known.old) (known_of known.new) (state S.Store tx.old.conn.now)) }
+    ensures found { Finds S.Store
+        (λ seen rows. FindsProgress setup.now (known_of known.old) seen rows.items)
+        tx.old tx.new result }
+    ensures known { Finds S.Store
+        (λ seen _. FindsKnown setup.now (known_of known.old) (known_of known.new) seen)
+        tx.old tx.new result }
     ensures still { LooksUp (state S.Store tx.old.conn.now) (state S.Store tx.new.conn.now) result }
 {
     let cons = setup.cons();

@@ -123,7 +123,8 @@ pub(crate) fn count_command(
     before: Option<Status>,
     accepted: bool,
 )
-    ensures { known_of known.new ≡ after_command con command.now before accepted (known_of known.old) }
+    ensures { known_of known.new ≡
+        after_command con command.now before accepted (known_of known.old) }
 {
     if !accepted {
         return;

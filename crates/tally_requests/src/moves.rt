@@ -1,11 +1,10 @@
 //! A return that has moved, written in the tables.
 
-ghost use Rattle.std.specs.Prelude.{◌≡◌, ◌≢◌, ◌≤◌, Some, length};
+ghost use Rattle.std.specs.Prelude.{◌≡◌, ◌≢◌, ◌≤◌, length};
 ghost use Rattle.sqlite.specs.Held.{state};
-ghost use Rattle.tally_steps.specs.Step.{with_return, without_lot};
 ghost use Rattle.tally_returns.specs.declared.returns.Status.TheVariants.{Closed, Corrected, Queried};
 ghost use Rattle.tally_statements.specs.Inside.{StaysInside};
-ghost use Rattle.tally_requests.specs.Moves.{PutsMoved, Uncounts};
+ghost use Rattle.tally_requests.specs.internal.Moves.{PutsMoved, Uncounts, with_queried, with_standing};
 
 use crate::sums::move_sums;
 use sqlite::{Alter, Error, Transaction};
@@ -28,7 +27,7 @@ pub(crate) fn put_queried<S: Alter>(
     requires queried { standing.now.status ≡ Queried }
     requires same_counts { before.now.counts ≡ standing.now.counts }
     ensures stays { StaysInside S.Store tx.old tx.new }
-    ensures put { PutsMoved (λ s. with_return (without_lot s (Some con.now.code)) (Some station) standing.now) con.now station before.now
+    ensures put { PutsMoved (with_queried con.now station standing.now) con.now station before.now
         (state S.Store tx.old.conn.now) (state S.Store tx.new.conn.now) result }
 {
     uncount(alloc, tx, con, before)?;
@@ -67,7 +66,7 @@ pub(crate) fn put_corrected<S: Alter>(
     requires corrected { standing.now.status ≡ Corrected }
     requires lists { length standing.now.counts.votes ≡ length con.now.lists }
     ensures stays { StaysInside S.Store tx.old tx.new }
-    ensures put { PutsMoved (λ s. with_return s (Some station) standing.now) con.now station before.now
+    ensures put { PutsMoved (with_standing station standing.now) con.now station before.now
         (state S.Store tx.old.conn.now) (state S.Store tx.new.conn.now) result }
 {
     correct_return(tx, station.as_str(), standing)
@@ -87,7 +86,7 @@ pub(crate) fn put_closed<S: Alter>(
     requires closed { standing.now.status ≡ Closed }
     requires same_counts { before.now.counts ≡ standing.now.counts }
     ensures stays { StaysInside S.Store tx.old tx.new }
-    ensures put { PutsMoved (λ s. with_return s (Some station) standing.now) con.now station before.now
+    ensures put { PutsMoved (with_standing station standing.now) con.now station before.now
         (state S.Store tx.old.conn.now) (state S.Store tx.new.conn.now) result }
 {
     move_sums(alloc, tx, con, &standing.counts, true)?;

@@ -1,25 +1,21 @@
 //! Requests on the return of a station.
 
 ghost use Rattle.std.specs.Prelude.{◌≡◌, ◌≤◌, length, Some, Ok, IfOk, OnOk, true};
-ghost use Rattle.std.specs.Option.{ForSome};
-ghost use Rattle.sqlite.specs.State.{HasCleanDisk};
 ghost use Rattle.sqlite.specs.Held.{state};
-ghost use Rattle.tally_keeper.specs.Held.{moves_return};
+ghost use Rattle.tally_keeper.specs.internal.Held.{moves_return};
 ghost use Rattle.tally_steps.specs.Kinds.{IsReplyTo};
-ghost use Rattle.tally_returns.specs.Decide.{decided_there, limits_of};
-ghost use Rattle.tally_returns.specs.Lawful.{IsLawful};
+ghost use Rattle.tally_returns.specs.Decide.{return_change_at};
 ghost use Rattle.tally_returns.specs.Named.{station_named};
 ghost use Rattle.tally_returns.specs.Return.{first_return};
 ghost use Rattle.tally_returns.specs.declared.ask.Ask.TheVariants.{ShowReturn};
 ghost use Rattle.tally_rules.specs.Limits.{IsSetup};
 ghost use Rattle.tally_rules.specs.Setup.{station_with};
-ghost use Rattle.tally_statements.specs.Office.{IsInside};
-ghost use Rattle.tally_entries.specs.Entries.{AddsReturn, FindsReturn};
-ghost use Rattle.tally_requests.specs.Found.{CarriesOutFound, MovesTo, after_move};
+ghost use Rattle.tally_entries.specs.Entries.{AddsReturn, Finds, FindsReturn};
+ghost use Rattle.tally_requests.specs.internal.Found.{CarriesOutFound, IsLawfulIfFound, MovesTo, after_move};
 ghost use Rattle.tally_statements.specs.Inside.{OnlyReads, Stays, StaysInside};
-ghost use Rattle.tally_requests.specs.Lodging.{DecidesLodge, IsFewIfLodged};
-ghost use Rattle.tally_requests.specs.Moves.{PutsMoved};
-ghost use Rattle.tally_requests.specs.Known.{after_lodge, known_of};
+ghost use Rattle.tally_requests.specs.internal.Lodging.{DecidesLodge, IsFewIfLodged};
+ghost use Rattle.tally_requests.specs.internal.Moves.{PutsMoved};
+ghost use Rattle.tally_requests.specs.Known.{CountsLodge, known_of};
 ghost use Rattle.tally_requests.specs.Requests.{CarriesOut, CarriesOutKnown, KeepsKnown, Lodges};
 
 use crate::known::{count_command, count_move, status_found};
@@ -49,7 +45,7 @@ pub(crate) fn lodge<S: Alter>(
     ensures lodged { Lodges setup.now station slip counts.now
         (state S.Store tx.old.conn.now) (state S.Store tx.new.conn.now) result }
     ensures limits { OnOk result (IsSetup setup.now) }
-    ensures known { IfOk result (λ r. known_of known.new ≡ after_lodge setup.now station r (known_of known.old)) }
+    ensures known { CountsLodge setup.now station known.old known.new result }
 {
     let Some((con, place)) = setup.station(station) else {
         return Ok(Err(Refusal::NoStation));
@@ -148,9 +144,8 @@ fn find_lawful<S: Alter>(
 ) -> Result<Option<Return>, Error>
     requires few { length con.now.lists ≤ 60 }
     ensures reads { OnlyReads S.Store tx.old tx.new result }
-    ensures found { HasCleanDisk (state S.Store tx.new.conn.now) → IsInside (state S.Store tx.old.conn.now) →
-        IfOk result (λ found. FindsReturn setup.now station (state S.Store tx.old.conn.now) found) }
-    ensures lawful { IfOk result (λ found. ForSome found (IsLawful (limits_of con.now place.now))) }
+    ensures found { Finds S.Store (FindsReturn setup.now station) tx.old tx.new result }
+    ensures lawful { IfOk result (IsLawfulIfFound con.now place.now) }
 {
     let found = find_return(alloc, tx, setup, station)?;
     check_lawful(con, place, found)
@@ -164,7 +159,7 @@ fn check_lawful(
 ) -> Result<Option<Return>, Error>
     requires few { length con.now.lists ≤ 60 }
     ensures same { IfOk result (λ checked. checked ≡ found) }
-    ensures lawful { IfOk result (λ checked. ForSome checked (IsLawful (limits_of con.now place.now))) }
+    ensures lawful { IfOk result (IsLawfulIfFound con.now place.now) }
 {
     let Some(standing) = found else {
         return Ok(None);
@@ -191,7 +186,7 @@ fn move_found<S: Alter>(
     requires known { station_with station setup.now ≡ Some (con.now, place.now) }
     requires named { station_named ask.now ≡ Some station }
     requires moves { moves_return ask.now ≡ true }
-    requires lawful { ForSome found (IsLawful (limits_of con.now place.now)) }
+    requires lawful { IsLawfulIfFound con.now place.now found }
     ensures stays { StaysInside S.Store tx.old tx.new }
     ensures kind { IfOk result (λ r. IfOk r (IsReplyTo setup.now ask.now)) }
     ensures step { CarriesOutFound setup.now con.now station certified found ask.now
@@ -222,7 +217,7 @@ fn put_next<S: Alter>(
     requires known { station_with station setup.now ≡ Some (con.now, place.now) }
     requires named { station_named ask.now ≡ Some station }
     requires moves { moves_return ask.now ≡ true }
-    requires decided { decided_there con.now place.now certified found ask.now ≡ Ok change }
+    requires decided { return_change_at con.now place.now certified found ask.now ≡ Ok change }
     ensures stays { StaysInside S.Store tx.old tx.new }
     ensures kind { IfOk result (λ r. IfOk r (IsReplyTo setup.now ask.now)) }
     ensures step { CarriesOutFound setup.now con.now station certified found ask.now
@@ -249,7 +244,8 @@ fn put_moved<S: Alter>(
     requires few { length con.now.lists ≤ 60 }
     requires moves { MovesTo con.now ask.now before.now standing.now }
     ensures stays { StaysInside S.Store tx.old tx.new }
-    ensures put { PutsMoved (λ s. after_move con.now station ask.now standing.now s) con.now station before.now
+    ensures put { PutsMoved (after_move con.now station ask.now standing.now)
+        con.now station before.now
         (state S.Store tx.old.conn.now) (state S.Store tx.new.conn.now) result }
 {
     match ask {

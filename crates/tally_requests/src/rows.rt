@@ -1,17 +1,17 @@
 //! The rows of a source, lodged.
 
-ghost use Rattle.std.specs.Prelude.{◌≡◌, Some, None, IfErr, IfOk, OnOk, true};
-ghost use Rattle.sqlite.specs.State.{HasCleanDisk};
+ghost use Rattle.std.specs.Prelude.{◌≡◌, Some, IfErr, OnOk, true};
 ghost use Rattle.sqlite.specs.Held.{state};
+ghost use Rattle.tally_keeper.specs.Delivery.{delivery};
 ghost use Rattle.tally_keeper.specs.Import.{IsCodedRow};
 ghost use Rattle.tally_keeper.specs.Keeper.{IsFault, IsOwnFault};
+ghost use Rattle.tally_keeper.specs.Source.{GaveAll};
 ghost use Rattle.tally_keeper.specs.declared.import.Row.{Row};
 ghost use Rattle.tally_rules.specs.Code.{is_code};
-ghost use Rattle.tally_statements.specs.Office.{IsInside};
 ghost use Rattle.tally_statements.specs.Inside.{StaysInside};
 ghost use Rattle.tally_requests.specs.Inside.{StaysInState};
-ghost use Rattle.tally_requests.specs.Known.{after_lodge, after_row, known_of};
-ghost use Rattle.tally_requests.specs.Requests.{ImportsRows, LodgesOf, TakesRow};
+ghost use Rattle.tally_requests.specs.Known.{CountsLodge, CountsRow, known_of};
+ghost use Rattle.tally_requests.specs.Requests.{ImportsRows, Lodges, TakesRow};
 
 use crate::returns::lodge;
 use sqlite::{Alter, Error, ErrorCode, Transaction};
@@ -33,10 +33,11 @@ pub fn take_rows<S: Alter, R: RowSource>(
     source: &mut R,
 ) -> Result<ImportCount, ImportFault>
     ensures stays { StaysInState setup.now S.Store tx.old tx.new }
-    ensures imported { ImportsRows setup.now (R.coming source.old) (known_of known.old) (known_of known.new)
+    ensures imported { ImportsRows setup.now (delivery R.RowSource source.old source.new)
+        (known_of known.old) (known_of known.new)
         (state S.Store tx.old.conn.now) (state S.Store tx.new.conn.now) result }
-    ensures ended { OnOk result (R.ended source.new ≡ Some None) }
-    ensures fault { IfErr result (IsFault (R.coming source.old) (R.ended source.new)) }
+    ensures gave { OnOk result (GaveAll (delivery R.RowSource source.old source.new)) }
+    ensures fault { IfErr result (IsFault (delivery R.RowSource source.old source.new)) }
 {
     // Called for what its contract says: the setup is within its limits.
     let _cons = setup.cons();
@@ -64,7 +65,7 @@ fn take_row<S: Alter>(
     ensures codes { IsCodedRow row }
     ensures taken { TakesRow setup.now row
         (state S.Store tx.old.conn.now) (state S.Store tx.new.conn.now) result }
-    ensures known { IfOk result (λ answer. known_of known.new ≡ after_row setup.now row answer (known_of known.old)) }
+    ensures known { CountsRow setup.now row known.old known.new result }
     ensures own { IfErr result IsOwnFault }
 {
     let Row::Lodge(ask) = row else {
@@ -86,7 +87,7 @@ fn take_ask<S: Alter>(
     ensures codes { IsCodedRow (Row.Lodge ask) }
     ensures taken { TakesRow setup.now (Row.Lodge ask)
         (state S.Store tx.old.conn.now) (state S.Store tx.new.conn.now) result }
-    ensures known { IfOk result (λ answer. known_of known.new ≡ after_row setup.now (Row.Lodge ask) answer (known_of known.old)) }
+    ensures known { CountsRow setup.now (Row.Lodge ask) known.old known.new result }
     ensures own { IfErr result IsOwnFault }
 {
     let Ask::Lodge {
@@ -114,10 +115,9 @@ fn take_return<S: Alter>(
 ) -> Result<Result<LodgeReply, Refusal>, ImportFault>
     ensures stays { StaysInside S.Store tx.old tx.new }
     ensures codes { is_code slip ≡ true }
-    ensures lodged { HasCleanDisk (state S.Store tx.new.conn.now) → IsInside (state S.Store tx.old.conn.now) →
-        IfOk result (λ r. LodgesOf setup.now station slip counts.now
-        (state S.Store tx.old.conn.now) (state S.Store tx.new.conn.now) r) }
-    ensures known { IfOk result (λ r. known_of known.new ≡ after_lodge setup.now station r (known_of known.old)) }
+    ensures lodged { Lodges setup.now station slip counts.now
+        (state S.Store tx.old.conn.now) (state S.Store tx.new.conn.now) result }
+    ensures known { CountsLodge setup.now station known.old known.new result }
     ensures own { IfErr result IsOwnFault }
 {
     // Called for what its contract says: a slip is a code.

@@ -1,15 +1,18 @@
 //! The sums of closed votes of a constituency, moved by a return.
 
-ghost use Rattle.std.specs.Prelude.{◌≡◌, ◌≤◌, OnSome, SomeIff, length};
+ghost use Rattle.std.specs.Prelude.{◌≡◌, ◌≤◌, OnSome, SomeIff, length, true, false};
 ghost use Rattle.sqlite.specs.Held.{state};
 ghost use Rattle.tally_statements.specs.Inside.{StaysInside};
-ghost use Rattle.tally_requests.specs.Moves.{MovesSums};
-ghost use Rattle.tally_ledger.specs.Sums.{moved_sum, moved_sums};
-ghost use Rattle.tally_requests.specs.Sums.{FitCounts, FitEach, FitsMoved, with_counts_moved};
+ghost use Rattle.tally_requests.specs.internal.Moves.{MovesSums};
+ghost use Rattle.tally_ledger.specs.Sums.{CanMove, moved_sum};
+ghost use Rattle.tally_ledger.specs.internal.Sums.{moved_sums};
+ghost use Rattle.tally_requests.specs.internal.Sums.{FitCounts, FitEach, with_counts_moved};
 
 use sqlite::{Alter, Error, ErrorCode, Transaction};
 use std::alloc::Global;
 use tally_entries::{find_sums, put_sums};
+use tally_frac::MOST_VOTES;
+use tally_ledger::moved;
 use tally_returns::Counts;
 use tally_rules::Constituency;
 use tally_tables::Sums;
@@ -39,13 +42,14 @@ pub(crate) fn move_sums<S: Alter>(
     put_sums(tx, con.code.as_str(), &sums)
 }
 
-/// The sums with these counts added or taken out, if they are of the same lists and the results fit
-/// in 64 bits.
+/// The sums with these counts added or taken out, if they are of the same lists and the results are
+/// numbers of votes.
 fn moved_sums(sums: Sums, counts: &Counts, add: bool) -> Option<Sums>
-    ensures { SomeIff result (FitCounts sums counts.now add) (with_counts_moved sums counts.now add) }
+    ensures { SomeIff result (FitCounts sums counts.now add)
+        (with_counts_moved sums counts.now add) }
 {
-    let blank = moved(sums.blank, counts.blank, add)?;
-    let spoiled = moved(sums.spoiled, counts.spoiled, add)?;
+    let blank = moved_if(sums.blank, counts.blank, add)?;
+    let spoiled = moved_if(sums.spoiled, counts.spoiled, add)?;
     let mut votes = sums.votes;
     move_votes(&mut votes, &counts.votes, add)?;
     Some(Sums {
@@ -64,18 +68,32 @@ fn move_votes(votes: &mut [u64], by: &[u32], add: bool) -> Option<()>
         return None;
     }
     for place in 0..votes.len() {
-        votes[place] = moved(votes[place], by[place], add)?;
+        votes[place] = moved_if(votes[place], by[place], add)?;
     }
     Some(())
 }
 
-/// The sum with a number added or taken out, if the result fits in 64 bits.
-fn moved(n: u64, by: u32, add: bool) -> Option<u64>
-    ensures { SomeIff result (FitsMoved n by add) (moved_sum n by add) }
+/// The sum with a number added or taken out, if the result is a number of votes.
+fn moved_if(n: u64, by: u32, add: bool) -> Option<u64>
+    ensures { SomeIff result (CanMove n by add) (moved_sum n by add) }
 {
-    if add {
-        n.checked_add(u64::from(by))
-    } else {
-        n.checked_sub(u64::from(by))
+    if add { added(n, by) } else { taken_out(n, by) }
+}
+
+fn added(n: u64, by: u32) -> Option<u64>
+    ensures { SomeIff result (CanMove n by true) (moved_sum n by true) }
+{
+    if n > MOST_VOTES - u64::from(by) {
+        return None;
     }
+    Some(moved(n, by, true))
+}
+
+fn taken_out(n: u64, by: u32) -> Option<u64>
+    ensures { SomeIff result (CanMove n by false) (moved_sum n by false) }
+{
+    if u64::from(by) > n {
+        return None;
+    }
+    Some(moved(n, by, false))
 }

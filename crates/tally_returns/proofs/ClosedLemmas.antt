@@ -18,7 +18,7 @@ use Rattle.tally_rules.specs.Limits.{IsSetup}
 use Rattle.tally_rules.specs.Setup.{all_stations, all_station_codes, constituency_codes, constituency_with, station_with}
 use Rattle.tally_rules.specs.declared.constituency.Station.{Station}
 use Rattle.tally_returns.specs.Decide.{station_in}
-use Rattle.tally_returns.specs.Progress.{is_received, is_queried, is_corrected, is_closed, stations_in}
+use Rattle.tally_returns.specs.Progress.{is_received, is_queried, is_corrected, is_closed, count_with_status}
 use Rattle.tally_returns.specs.Return.{StationReturn, Returns}
 use Rattle.tally_returns.specs.State.{ConState}
 use Rattle.tally_returns.specs.View.{View, blank_of, closed_counts, counts_if_closed, gone_candidates, past_records, spoiled_of, view_with, votes_of_lists}
@@ -213,11 +213,11 @@ abbrev is_in : (Status → Bool) → Returns → Station → Bool
 is_in is_status returns station = option_map_or (λ (standing : StationReturn). is_status standing.status) (fin.get returns station.code) false
 
 -- where the returns of stations are the same, as many are of a status
-pub stations_in-same : (is_status : Status → Bool) (a b : Returns) (stations : List Station) → All (IsSameAt a b) stations → stations_in is_status a stations ≡ stations_in is_status b stations
+pub stations_in-same : (is_status : Status → Bool) (a b : Returns) (stations : List Station) → All (IsSameAt a b) stations → count_with_status is_status a stations ≡ count_with_status is_status b stations
 stations_in-same is_status a b [] all = refl
 stations_in-same is_status a b (x ∷ stations) all =
     sum_by-cons (λ (y : Station). cond (is_in is_status a y) 1 0) x stations
-    ∙ ap (λ found. cond (option_map_or (λ (standing : StationReturn). is_status standing.status) found false) 1 0 + stations_in is_status a stations) (All-head (IsSameAt a b) x stations all)
+    ∙ ap (λ found. cond (option_map_or (λ (standing : StationReturn). is_status standing.status) found false) 1 0 + count_with_status is_status a stations) (All-head (IsSameAt a b) x stations all)
     ∙ ap (λ n. cond (is_in is_status b x) 1 0 + n) (stations_in-same is_status a b stations (All-tail (IsSameAt a b) x stations all))
     ∙ sym (sum_by-cons (λ (y : Station). cond (is_in is_status b y) 1 0) x stations)
 
@@ -251,7 +251,7 @@ seen con c seats received queried corrected closed counts = record {
 -- where the returns of its stations are the same, the same is seen of a constituency
 pub view_with-same : (con : Constituency) (c : ConState) (a b : Returns) (seats : List ℕ) → All (IsSameAt a b) con.stations → view_with con c a seats ≡ view_with con c b seats
 view_with-same con c a b seats all =
-    let in_status = λ (is_status : Status → Bool) (returns : Returns). stations_in is_status returns con.stations in
+    let in_status = λ (is_status : Status → Bool) (returns : Returns). count_with_status is_status returns con.stations in
     ap (λ n. seen con c seats n (in_status is_queried a) (in_status is_corrected a) (in_status is_closed a) (closed_counts a con.stations)) (stations_in-same is_received a b con.stations all)
     ∙ ap (λ n. seen con c seats (in_status is_received b) n (in_status is_corrected a) (in_status is_closed a) (closed_counts a con.stations)) (stations_in-same is_queried a b con.stations all)
     ∙ ap (λ n. seen con c seats (in_status is_received b) (in_status is_queried b) n (in_status is_closed a) (closed_counts a con.stations)) (stations_in-same is_corrected a b con.stations all)
@@ -259,19 +259,19 @@ view_with-same con c a b seats all =
     ∙ ap (λ counts. seen con c seats (in_status is_received b) (in_status is_queried b) (in_status is_corrected b) (in_status is_closed b) counts) (closed_counts-same a b con.stations all)
 
 -- all stations are counted only where each has a closed return
-pub all_closed-each : (returns : Returns) (stations : List Station) → stations_in is_closed returns stations ≡ length stations → All (λ (x : Station). closed_now (fin.get returns x.code) ≡ true) stations
+pub all_closed-each : (returns : Returns) (stations : List Station) → count_with_status is_closed returns stations ≡ length stations → All (λ (x : Station). closed_now (fin.get returns x.code) ≡ true) stations
 all_closed-each returns [] all = All-nil (λ (x : Station). closed_now (fin.get returns x.code) ≡ true)
 all_closed-each returns (x ∷ stations) all =
     go (closed_now (fin.get returns x.code)) refl (sym (sum_by-cons (λ (y : Station). cond (closed_now (fin.get returns y.code)) 1 0) x stations) ∙ all) (all_closed-each returns stations)
   where
-    go : (b : Bool) → closed_now (fin.get returns x.code) ≡ b → cond b 1 0 + stations_in is_closed returns stations ≡ suc (length stations)
-        → (stations_in is_closed returns stations ≡ length stations → All (λ (y : Station). closed_now (fin.get returns y.code) ≡ true) stations)
+    go : (b : Bool) → closed_now (fin.get returns x.code) ≡ b → cond b 1 0 + count_with_status is_closed returns stations ≡ suc (length stations)
+        → (count_with_status is_closed returns stations ≡ length stations → All (λ (y : Station). closed_now (fin.get returns y.code) ≡ true) stations)
         → All (λ (y : Station). closed_now (fin.get returns y.code) ≡ true) (x ∷ stations)
     go true closed count later = All-cons (λ (y : Station). closed_now (fin.get returns y.code) ≡ true) x stations closed (later (omega (arith, count)))
     go false not_closed count later = absurd (omega (arith, count, count_by-le-length (λ (y : Station). closed_now (fin.get returns y.code)) stations))
 
 -- where all stations are counted, the return of each is closed
-pub all_closed-at : (con : Constituency) (returns : Returns) (code : List ℕ) (station : Station) → stations_in is_closed returns con.stations ≡ length con.stations
+pub all_closed-at : (con : Constituency) (returns : Returns) (code : List ℕ) (station : Station) → count_with_status is_closed returns con.stations ≡ length con.stations
     → station_in con code ≡ Some station → closed_now (fin.get returns code) ≡ true
 all_closed-at con returns code station all is =
     let same : code ≡ station.code = (bytes_eq-Decides code station.code).0 (found-passes (λ (x : Station). bytes_eq code x.code) con.stations station is) in

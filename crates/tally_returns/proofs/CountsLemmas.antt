@@ -7,7 +7,7 @@ use Rattle.std.proofs.lemmas.Bool.{leb-true, eqb-true}
 use Rattle.std.proofs.lemmas.List.Sums.{sum_by-cons}
 use Rattle.std.proofs.Common.{refl, Ok, Option}
 use Rattle.tally_returns.specs.Checks.{check, first_refusal, refused_or}
-use Rattle.tally_returns.specs.Lodge.{StationLimits, decided_at, admitted}
+use Rattle.tally_returns.specs.Lodge.{StationLimits, reply_at_station, reply_after_checks}
 use Rattle.tally_returns.specs.Return.{StationReturn}
 use Rattle.tally_returns.specs.declared.refusal.Refusal.TheVariants.{BadCounts, TooManyVotes}
 use Rattle.tally_returns.specs.declared.reply.LodgeReply.TheVariants.{Lodged}
@@ -31,11 +31,11 @@ all_votes-counts lists c few e =
 
 -- counts that were lodged pass their check
 pub are_counts-lodged : (station : StationLimits) (found : Option StationReturn) (slip : List ℕ) (c : VoteCounts) (rev : ℕ)
-    → decided_at station found slip c ≡ Ok (Lodged rev) → are_counts station.lists c ≡ true
+    → reply_at_station station found slip c ≡ Ok (Lodged rev) → are_counts station.lists c ≡ true
 are_counts-lodged station found slip c rev e = go (are_counts station.lists c) e
   where
     go : (b : Bool)
-        → refused_or (first_refusal (check b BadCounts ∷ check (nat_le (all_votes c) station.electors) TooManyVotes ∷ [])) (admitted found slip c) ≡ Ok (Lodged rev)
+        → refused_or (first_refusal (check b BadCounts ∷ check (nat_le (all_votes c) station.electors) TooManyVotes ∷ [])) (reply_after_checks found slip c) ≡ Ok (Lodged rev)
         → b ≡ true
     go true e = refl
     go false e = cc

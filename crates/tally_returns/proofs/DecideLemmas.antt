@@ -13,10 +13,10 @@ use Rattle.tally_rules.specs.Text.{is_note}
 use Rattle.tally_returns.specs.Checks.{check, first_refusal, refused_or}
 use Rattle.tally_returns.specs.Counts.{VoteCounts, are_counts, all_votes, same_counts}
 use Rattle.tally_returns.specs.Return.{StationReturn, first_return}
-use Rattle.tally_returns.specs.Lodge.{StationLimits, counts_checks, admitted}
-use Rattle.tally_returns.specs.Moves.{last_revision, may_query, may_correct, may_close, move_checks, counts_checks_at, query_checks, correct_checks, close_checks, queried, corrected, closed}
+use Rattle.tally_returns.specs.Lodge.{StationLimits, counts_checks, reply_after_checks}
+use Rattle.tally_returns.specs.Moves.{last_revision, may_query, may_correct, may_close, move_checks, counts_checks_at, query_checks, correct_checks, close_checks, queried_return, corrected_return, closed_return}
 use Rattle.tally_returns.specs.Lawful.{IsLawful, PutsLawful, is_kept_note, may_stand}
-use Rattle.tally_returns.specs.Decide.{IsUnlessMemory, decided_return, limits_named, limits_of, lodge_change, decided_move, put_next, station_in}
+use Rattle.tally_returns.specs.Decide.{IsUnlessMemory, return_change, limits_named, limits_of, lodge_change, move_change, put_next, station_in}
 use Rattle.tally_returns.specs.Named.{BringsCode, station_named}
 use Rattle.tally_returns.specs.declared.returns.Status.{Status}
 use Rattle.tally_returns.specs.declared.ask.Ask.{Ask}
@@ -98,7 +98,7 @@ may_stand-kept (byte ∷ note) is = is
 
 -- a decision to move a return, by what its checks say
 moved-lawful : (station : StationLimits) (checks : List (Option Refusal)) (found : Option StationReturn) (next : StationReturn → StationReturn) (change : Change)
-    → decided_move checks found next ≡ Ok change
+    → move_change checks found next ≡ Ok change
     → ((standing : StationReturn) → found ≡ Some standing → first_refusal checks ≡ None → IsLawful station (next standing))
     → PutsLawful station change
 moved-lawful station checks found next change is lawful = go (first_refusal checks) found refl refl is
@@ -111,7 +111,7 @@ moved-lawful station checks found next change is lawful = go (first_refusal chec
         let put : PutReturn (next standing) ≡ change = cc in subst (PutsLawful station) put (lawful standing some none)
 
 lodged-lawful : (station : StationLimits) (found : Option StationReturn) (slip : List ℕ) (counts : VoteCounts) (change : Change) → is_code slip ≡ true
-    → lodge_change slip counts (refused_or (first_refusal (counts_checks station counts)) (admitted found slip counts)) ≡ Ok change
+    → lodge_change slip counts (refused_or (first_refusal (counts_checks station counts)) (reply_after_checks found slip counts)) ≡ Ok change
     → PutsLawful station change
 lodged-lawful station found slip counts change code is = go (first_refusal (counts_checks station counts)) found refl is
   where
@@ -120,7 +120,7 @@ lodged-lawful station found slip counts change code is = go (first_refusal (coun
     again false rev e ok = cc
 
     go : (refused : Option Refusal) (f : Option StationReturn) → first_refusal (counts_checks station counts) ≡ refused
-        → lodge_change slip counts (refused_or refused (admitted f slip counts)) ≡ Ok change → PutsLawful station change
+        → lodge_change slip counts (refused_or refused (reply_after_checks f slip counts)) ≡ Ok change → PutsLawful station change
     go (Some e) f none ok = cc
     go None None none ok =
         let put : PutReturn (first_return slip counts) ≡ change = cc in
@@ -136,10 +136,10 @@ lodged-lawful station found slip counts change code is = go (first_refusal (coun
 
 -- a decision on a lawful return leaves a lawful one
 pub decided-lawful : (station : StationLimits) (certified : Bool) (found : Option StationReturn) (ask : Ask) (change : Change) → BringsCode ask
-    → ForSome found (IsLawful station) → decided_return (Some station) certified found ask ≡ Ok change → PutsLawful station change
+    → ForSome found (IsLawful station) → return_change (Some station) certified found ask ≡ Ok change → PutsLawful station change
 decided-lawful station certified found (Lodge code slip counts) change brings lawful is = lodged-lawful station found slip counts change (brings slip refl) is
 decided-lawful station certified found (Query code rev note) change brings lawful is =
-    moved-lawful station (query_checks (Some station) certified found rev (string_bytes note)) found (queried (string_bytes note)) change is
+    moved-lawful station (query_checks (Some station) certified found rev (string_bytes note)) found (queried_return (string_bytes note)) change is
     (λ standing some none.
     let old = lawful standing some in
     let moves = subst (λ f. first_refusal (move_checks certified f rev may_query) ≡ None) some (passed-rest (is_note (string_bytes note)) BadNote (move_checks certified found rev may_query) none) in
@@ -155,7 +155,7 @@ decided-lawful station certified found (Correct code rev slip counts) change bri
     let are = are_counts station.lists counts in
     let votes = nat_le (all_votes counts) station.electors in
     let moves = move_checks certified found rev may_correct in
-    moved-lawful station (correct_checks (Some station) certified found rev counts) found (corrected slip counts) change is
+    moved-lawful station (correct_checks (Some station) certified found rev counts) found (corrected_return slip counts) change is
     (λ standing some none.
     let old = lawful standing some in
     let passed = subst (λ f. first_refusal (move_checks certified f rev may_correct) ≡ None) some (passed-rest votes TooManyVotes moves (passed-rest are BadCounts (check votes TooManyVotes ∷ moves) none)) in
@@ -168,7 +168,7 @@ decided-lawful station certified found (Correct code rev slip counts) change bri
       votes = leb-true (all_votes counts) station.electors (passed-first votes TooManyVotes moves (passed-rest are BadCounts (check votes TooManyVotes ∷ moves) none));
     })
 decided-lawful station certified found (Close code rev) change brings lawful is =
-    moved-lawful station (close_checks (Some station) certified found rev) found closed change is
+    moved-lawful station (close_checks (Some station) certified found rev) found closed_return change is
     (λ standing some none.
     let old = lawful standing some in
     let moves = subst (λ f. first_refusal (move_checks certified f rev may_close) ≡ None) some none in
@@ -194,7 +194,7 @@ decided-lawful station certified found ShowProgress change brings lawful is = le
 
 -- the same of an answer
 pub answered-lawful : (station : StationLimits) (certified : Bool) (found : Option StationReturn) (ask : Ask) (result : Result Change Refusal) → BringsCode ask
-    → ForSome found (IsLawful station) → IsUnlessMemory result (decided_return (Some station) certified found ask) → IfOk result (PutsLawful station)
+    → ForSome found (IsLawful station) → IsUnlessMemory result (return_change (Some station) certified found ask) → IfOk result (PutsLawful station)
 answered-lawful station certified found ask (Ok change) brings lawful is = decided-lawful station certified found ask change brings lawful is
 answered-lawful station certified found ask (Err e) brings lawful is = tt
 
@@ -204,16 +204,16 @@ lawful-last station found lawful = λ standing is. (lawful standing is).last
 -- a correction whose counts were refused
 pub correct-refused : (station : StationLimits) (certified : Bool) (found : Option StationReturn) (rev : ℕ) (slip : List ℕ) (counts : VoteCounts) (e : Refusal)
     → first_refusal (counts_checks_at (Some station) counts) ≡ Some e
-    → decided_move (correct_checks (Some station) certified found rev counts) found (corrected slip counts) ≡ Err e
+    → move_change (correct_checks (Some station) certified found rev counts) found (corrected_return slip counts) ≡ Err e
 correct-refused station certified found rev slip counts e some =
-    ap (λ r. refused_or r (Ok (put_next found (corrected slip counts)))) (first_refusal-append_some (counts_checks_at (Some station) counts) (move_checks certified found rev may_correct) e some)
+    ap (λ r. refused_or r (Ok (put_next found (corrected_return slip counts)))) (first_refusal-append_some (counts_checks_at (Some station) counts) (move_checks certified found rev may_correct) e some)
 
 -- a correction whose counts passed
 pub correct-passed : (station : StationLimits) (certified : Bool) (found : Option StationReturn) (rev : ℕ) (slip : List ℕ) (counts : VoteCounts)
     → first_refusal (counts_checks_at (Some station) counts) ≡ None
-    → decided_move (correct_checks (Some station) certified found rev counts) found (corrected slip counts) ≡ decided_move (move_checks certified found rev may_correct) found (corrected slip counts)
+    → move_change (correct_checks (Some station) certified found rev counts) found (corrected_return slip counts) ≡ move_change (move_checks certified found rev may_correct) found (corrected_return slip counts)
 correct-passed station certified found rev slip counts none =
-    ap (λ r. refused_or r (Ok (put_next found (corrected slip counts)))) (first_refusal-append_none (counts_checks_at (Some station) counts) (move_checks certified found rev may_correct) none)
+    ap (λ r. refused_or r (Ok (put_next found (corrected_return slip counts)))) (first_refusal-append_none (counts_checks_at (Some station) counts) (move_checks certified found rev may_correct) none)
 
 -- what the constituency says of the station that a command names, where it is found
 pub limits_named-found : (con : Constituency) (ask : Ask) (code : List ℕ) (place : Station) → station_named ask ≡ Some code → station_in con code ≡ Some place

@@ -7,8 +7,8 @@ use Rattle.tally_rules.specs.Constituency.{Constituency}
 use Rattle.tally_rules.specs.declared.constituency.Station.{Station}
 use Rattle.tally_returns.specs.Return.{StationReturn, first_return}
 use Rattle.tally_returns.specs.Counts.{VoteCounts}
-use Rattle.tally_returns.specs.Lodge.{StationLimits, decided_at_code, limits_for}
-use Rattle.tally_returns.specs.Moves.{query_checks, correct_checks, close_checks, queried, corrected, closed}
+use Rattle.tally_returns.specs.Lodge.{StationLimits, reply_at_code, limits_for}
+use Rattle.tally_returns.specs.Moves.{query_checks, correct_checks, close_checks, queried_return, corrected_return, closed_return}
 use Rattle.tally_returns.specs.Named.{station_named}
 use Rattle.tally_returns.specs.Checks.{check, first_refusal, refused_or}
 use Rattle.tally_returns.specs.declared.ask.Ask.{Ask}
@@ -54,40 +54,40 @@ IsUnlessMemory (Ok x) answer = answer ≡ Ok x
 IsUnlessMemory (Err refusal) answer = refusal ≢ Memory → answer ≡ Err refusal
 
 -- the refusal of the first check that fails, or else the next return
-abbrev pub decided_move : List (Option Refusal) → Option StationReturn
+abbrev pub move_change : List (Option Refusal) → Option StationReturn
     → (StationReturn → StationReturn) → Result Change Refusal
-decided_move checks found next = refused_or (first_refusal checks) (Ok (put_next found next))
+move_change checks found next = refused_or (first_refusal checks) (Ok (put_next found next))
 
 -- This is decided of a move, unless an allocation was refused.
 abbrev pub IsDecidedMove : List (Option Refusal) → Option StationReturn
     → (StationReturn → StationReturn) → Result Change Refusal → Type 0
-IsDecidedMove checks found next result = IsUnlessMemory result (decided_move checks found next)
+IsDecidedMove checks found next result = IsUnlessMemory result (move_change checks found next)
 
 -- what is decided at a station, by whether its constituency is certified and by the return that it
 -- has. Other commands change no return.
-abbrev pub decided_return : Option StationLimits → Bool → Option StationReturn → Ask
+abbrev pub return_change : Option StationLimits → Bool → Option StationReturn → Ask
     → Result Change Refusal
-decided_return station certified found (Lodge code slip counts) =
-    lodge_change slip counts (decided_at_code station found slip counts)
-decided_return station certified found (Query code rev note) =
-    decided_move (query_checks station certified found rev (string_bytes note)) found
-    (queried (string_bytes note))
-decided_return station certified found (Correct code rev slip counts) =
-    decided_move (correct_checks station certified found rev counts) found (corrected slip counts)
-decided_return station certified found (Close code rev) =
-    decided_move (close_checks station certified found rev) found closed
-decided_return station certified found (ShowReturn code) =
+return_change station certified found (Lodge code slip counts) =
+    lodge_change slip counts (reply_at_code station found slip counts)
+return_change station certified found (Query code rev note) =
+    move_change (query_checks station certified found rev (string_bytes note)) found
+    (queried_return (string_bytes note))
+return_change station certified found (Correct code rev slip counts) =
+    move_change (correct_checks station certified found rev counts) found (corrected_return slip counts)
+return_change station certified found (Close code rev) =
+    move_change (close_checks station certified found rev) found closed_return
+return_change station certified found (ShowReturn code) =
     refused_or (first_refusal (show_checks station found)) (Ok Same)
-decided_return station certified found other = Ok Same
+return_change station certified found other = Ok Same
 
 -- the same at a station of this constituency
-abbrev pub decided_there : Constituency → Station → Bool → Option StationReturn → Ask
+abbrev pub return_change_at : Constituency → Station → Bool → Option StationReturn → Ask
     → Result Change Refusal
-decided_there con station certified found ask =
-    decided_return (Some (limits_of con station)) certified found ask
+return_change_at con station certified found ask =
+    return_change (Some (limits_of con station)) certified found ask
 
 -- the same at the station of this constituency that the command names
-abbrev pub decided_where_named : Constituency → Bool → Option StationReturn → Ask
+abbrev pub return_change_named : Constituency → Bool → Option StationReturn → Ask
     → Result Change Refusal
-decided_where_named con certified found ask =
-    decided_return (limits_named con ask) certified found ask
+return_change_named con certified found ask =
+    return_change (limits_named con ask) certified found ask

@@ -30,28 +30,28 @@ counts_checks station counts =
     ∷ []
 
 -- a return that comes where one is recorded: the same slip and counts again, or another return
-abbrev pub again : StationReturn → List ℕ → VoteCounts → Result LodgeReply Refusal
-again standing slip counts =
+abbrev pub reply_where_recorded : StationReturn → List ℕ → VoteCounts → Result LodgeReply Refusal
+reply_where_recorded standing slip counts =
     if pointwise nat_eq standing.slip slip && same_counts standing.counts counts
     then Ok (Same standing.rev)
     else Err (Differs standing.rev)
 
 -- what is answered where the counts pass their checks, by the recorded return
-abbrev pub admitted : Option StationReturn → List ℕ → VoteCounts → Result LodgeReply Refusal
-admitted None slip counts = Ok (Lodged 1)
-admitted (Some standing) slip counts = again standing slip counts
+abbrev pub reply_after_checks : Option StationReturn → List ℕ → VoteCounts → Result LodgeReply Refusal
+reply_after_checks None slip counts = Ok (Lodged 1)
+reply_after_checks (Some standing) slip counts = reply_where_recorded standing slip counts
 
 -- what is answered at a station
-abbrev pub decided_at : StationLimits → Option StationReturn → List ℕ → VoteCounts
+abbrev pub reply_at_station : StationLimits → Option StationReturn → List ℕ → VoteCounts
     → Result LodgeReply Refusal
-decided_at station found slip counts =
-    refused_or (first_refusal (counts_checks station counts)) (admitted found slip counts)
+reply_at_station station found slip counts =
+    refused_or (first_refusal (counts_checks station counts)) (reply_after_checks found slip counts)
 
 -- what is answered at a code, which may be no station
-abbrev pub decided_at_code : Option StationLimits → Option StationReturn → List ℕ → VoteCounts
+abbrev pub reply_at_code : Option StationLimits → Option StationReturn → List ℕ → VoteCounts
     → Result LodgeReply Refusal
-decided_at_code None found slip counts = Err NoStation
-decided_at_code (Some station) found slip counts = decided_at station found slip counts
+reply_at_code None found slip counts = Err NoStation
+reply_at_code (Some station) found slip counts = reply_at_station station found slip counts
 
 -- the returns after an answer: one more where it was lodged
 abbrev pub after_lodge : Returns → List ℕ → List ℕ → VoteCounts → Result LodgeReply Refusal
@@ -65,7 +65,7 @@ after_lodge returns station slip counts (Err refusal) = returns
 abbrev pub lodge_answer : Stations → Returns → List ℕ → List ℕ → VoteCounts
     → Result LodgeReply Refusal
 lodge_answer stations returns station slip counts =
-    decided_at_code (stations station) (get returns station) slip counts
+    reply_at_code (stations station) (get returns station) slip counts
 
 -- the returns that Lodge leaves
 abbrev pub lodge : Stations → Returns → List ℕ → List ℕ → VoteCounts → Returns

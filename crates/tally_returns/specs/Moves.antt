@@ -71,14 +71,14 @@ close_checks station certified found rev =
     ∷ move_checks certified found rev may_close
 
 -- the note replaces the old one
-abbrev pub queried : List ℕ → StationReturn → StationReturn
-queried note standing = record standing { rev = standing.rev + 1; status = Queried; note = note }
+abbrev pub queried_return : List ℕ → StationReturn → StationReturn
+queried_return note standing = record standing { rev = standing.rev + 1; status = Queried; note = note }
 
 -- slip and counts are replaced, the note is kept
-abbrev pub corrected : List ℕ → VoteCounts → StationReturn → StationReturn
-corrected slip counts standing =
+abbrev pub corrected_return : List ℕ → VoteCounts → StationReturn → StationReturn
+corrected_return slip counts standing =
     record standing { rev = standing.rev + 1; slip = slip; status = Corrected; counts = counts }
 
 -- the note is kept
-abbrev pub closed : StationReturn → StationReturn
-closed standing = record standing { rev = standing.rev + 1; status = Closed }
+abbrev pub closed_return : StationReturn → StationReturn
+closed_return standing = record standing { rev = standing.rev + 1; status = Closed }

@@ -35,8 +35,8 @@ is_closed Corrected = false
 is_closed Closed = true
 
 -- how many of these stations have a return of such a status
-abbrev pub stations_in : (Status → Bool) → Returns → List Station → ℕ
-stations_in is_status returns stations =
+abbrev pub count_with_status : (Status → Bool) → Returns → List Station → ℕ
+count_with_status is_status returns stations =
     count_by (λ (station : Station).
     option_map_or (λ (standing : StationReturn). is_status standing.status)
     (get returns station.code) false) stations
@@ -45,10 +45,10 @@ abbrev pub progress_row : State → Constituency → ProgressRow
 progress_row s con = record {
   con = con.code;
   stations = length con.stations;
-  received = stations_in is_received s.returns con.stations;
-  queried = stations_in is_queried s.returns con.stations;
-  corrected = stations_in is_corrected s.returns con.stations;
-  closed = stations_in is_closed s.returns con.stations;
+  received = count_with_status is_received s.returns con.stations;
+  queried = count_with_status is_queried s.returns con.stations;
+  corrected = count_with_status is_corrected s.returns con.stations;
+  closed = count_with_status is_closed s.returns con.stations;
   edition = (con_state s con.code).edition;
   certified = (con_state s con.code).certified;
 }

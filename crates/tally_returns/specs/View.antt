@@ -11,7 +11,7 @@ use Rattle.tally_returns.specs.PastSeats.{PastSeats}
 use Rattle.tally_returns.specs.Counts.{VoteCounts}
 use Rattle.tally_returns.specs.Return.{StationReturn, Returns}
 use Rattle.tally_returns.specs.State.{State, ConState, GoneCandidates, Records, con_state, last_edition}
-use Rattle.tally_returns.specs.Progress.{is_received, is_queried, is_corrected, is_closed, stations_in}
+use Rattle.tally_returns.specs.Progress.{is_received, is_queried, is_corrected, is_closed, count_with_status}
 
 -- how many stations there are and how many of their returns are in each status; votes, blank and
 -- spoiled ones are those of the closed returns; seats are those of each list where the constituency
@@ -98,10 +98,10 @@ view_with con c returns seats = record {
   note = c.note;
   lot = c.lot;
   stations = length con.stations;
-  received = stations_in is_received returns con.stations;
-  queried = stations_in is_queried returns con.stations;
-  corrected = stations_in is_corrected returns con.stations;
-  closed = stations_in is_closed returns con.stations;
+  received = count_with_status is_received returns con.stations;
+  queried = count_with_status is_queried returns con.stations;
+  corrected = count_with_status is_corrected returns con.stations;
+  closed = count_with_status is_closed returns con.stations;
   votes = votes_of_lists (length con.lists) (closed_counts returns con.stations);
   blank = blank_of (closed_counts returns con.stations);
   spoiled = spoiled_of (closed_counts returns con.stations);

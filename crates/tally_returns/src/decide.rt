@@ -4,13 +4,13 @@ ghost use Rattle.std.specs.Prelude.{◌≡◌, ◌≤◌, ◌∷◌, [], Ok, IfO
 ghost use Rattle.std.specs.Option.{ForSome, option_copied};
 ghost use Rattle.tally_rules.specs.Text.{is_note};
 ghost use Rattle.tally_returns.specs.Checks.{check, first_refusal, refused_or};
-ghost use Rattle.tally_returns.specs.Decide.{IsDecidedMove, IsUnlessMemory, decided_there, decided_where_named};
+ghost use Rattle.tally_returns.specs.Decide.{IsDecidedMove, IsUnlessMemory, return_change_at, return_change_named};
 ghost use Rattle.tally_returns.specs.Decide.{limits_named, limits_of, lodge_change, station_in};
 ghost use Rattle.tally_returns.specs.Lawful.{IsLawful, IsLawfulWhereNamed, PutsLawful, PutsLawfulWhereNamed};
-ghost use Rattle.tally_returns.specs.Lodge.{decided_at};
+ghost use Rattle.tally_returns.specs.Lodge.{reply_at_station};
 ghost use Rattle.tally_returns.specs.declared.change.Change.TheVariants.{Same};
-ghost use Rattle.tally_returns.specs.Moves.{closed, corrected, last_revision, may_close, may_correct, may_query};
-ghost use Rattle.tally_returns.specs.Moves.{move_checks, queried};
+ghost use Rattle.tally_returns.specs.Moves.{closed_return, corrected_return, last_revision, may_close, may_correct, may_query};
+ghost use Rattle.tally_returns.specs.Moves.{move_checks, queried_return};
 ghost use Rattle.tally_returns.specs.declared.refusal.Refusal.TheVariants.{BadNote, NoReturn};
 
 use crate::ask::Ask;
@@ -36,7 +36,7 @@ pub fn decide_return(
     requires station { IsSome (limits_named con.now ask.now) }
     requires lawful { IsLawfulWhereNamed con.now ask.now (option_copied found) }
     ensures decided { IsUnlessMemory result
-        (decided_where_named con.now certified (option_copied found.entry) ask.now) }
+        (return_change_named con.now certified (option_copied found.entry) ask.now) }
     ensures lawful { IfOk result (PutsLawfulWhereNamed con.now ask.now) }
 {
     let Some(code) = ask.station() else {
@@ -59,7 +59,7 @@ pub fn decide_at(
 ) -> Result<Change, Refusal>
     requires lawful { ForSome (option_copied found) (IsLawful (limits_of con.now station.now)) }
     ensures decided { IsUnlessMemory result
-        (decided_there con.now station.now certified (option_copied found.entry) ask.now) }
+        (return_change_at con.now station.now certified (option_copied found.entry) ask.now) }
     ensures lawful { IfOk result (PutsLawful (limits_of con.now station.now)) }
 {
     // Called for what its contract says: a slip is a code.
@@ -91,7 +91,8 @@ fn decide_first(
     counts: &Counts,
 ) -> Result<Change, Refusal>
     ensures { IsUnlessMemory result (lodge_change slip counts.now
-        (decided_at (limits_of con.now station.now) (option_copied found.entry) slip counts.now)) }
+        (reply_at_station (limits_of con.now station.now) (option_copied found.entry) slip
+        counts.now)) }
 {
     match decide_lodge(con.lists.len(), station.electors, found, slip, counts)? {
         LodgeReply::Lodged { .. } => {
@@ -112,7 +113,7 @@ fn decide_query(
     requires { ForSome (option_copied found) (λ standing. standing.rev ≤ last_revision) }
     ensures { let standing = option_copied found.entry in IsDecidedMove
         (check (is_note note.now) BadNote ∷ move_checks certified standing rev may_query)
-        standing (queried note.now) result }
+        standing (queried_return note.now) result }
 {
     if !good_note(note) {
         return Err(Refusal::BadNote);
@@ -135,7 +136,7 @@ fn decide_correct(
     requires { ForSome (option_copied found) (λ standing. standing.rev ≤ last_revision) }
     ensures { let standing = option_copied found.entry in IsDecidedMove
         (move_checks certified standing rev may_correct)
-        standing (corrected slip counts.now) result }
+        standing (corrected_return slip counts.now) result }
 {
     let Some(standing) = found else {
         return Err(Refusal::NoReturn);
@@ -152,7 +153,7 @@ fn decide_close(
 ) -> Result<Change, Refusal>
     requires { ForSome (option_copied found) (λ standing. standing.rev ≤ last_revision) }
     ensures { let standing = option_copied found.entry in IsDecidedMove
-        (move_checks certified standing rev may_close) standing closed result }
+        (move_checks certified standing rev may_close) standing closed_return result }
 {
     let Some(standing) = found else {
         return Err(Refusal::NoReturn);

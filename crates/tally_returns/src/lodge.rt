@@ -3,7 +3,7 @@
 ghost use Rattle.std.specs.Prelude.{◌≡◌, ◌≤◌, IfErr, OnOk, None, Some};
 ghost use Rattle.std.specs.Option.{option_copied};
 ghost use Rattle.tally_returns.specs.Checks.{first_refusal};
-ghost use Rattle.tally_returns.specs.Lodge.{again, counts_checks, decided_at, limits_for};
+ghost use Rattle.tally_returns.specs.Lodge.{reply_where_recorded, counts_checks, reply_at_station, limits_for};
 
 use crate::counts::Counts;
 use crate::refusal::Refusal;
@@ -23,7 +23,7 @@ pub fn decide_lodge(
 ) -> Result<LodgeReply, Refusal>
     requires { lists ≤ 60 }
     ensures { result
-        ≡ decided_at (limits_for lists electors) (option_copied found.entry) slip counts.now }
+        ≡ reply_at_station (limits_for lists electors) (option_copied found.entry) slip counts.now }
 {
     check_counts(lists, electors, counts)?;
     match found {
@@ -50,7 +50,7 @@ pub(crate) fn check_counts(lists: usize, electors: u32, counts: &Counts) -> Resu
 }
 
 fn decide_again(standing: &Return, slip: Code, counts: &Counts) -> Result<LodgeReply, Refusal>
-    ensures { result ≡ again standing.now slip counts.now }
+    ensures { result ≡ reply_where_recorded standing.now slip counts.now }
 {
     let rev = standing.rev;
     if standing.slip == slip && standing.counts == *counts {

@@ -2,7 +2,7 @@
 
 ghost use Rattle.std.specs.Prelude.{◌≡◌, ◌≢◌, ◌<◌, IfOk, IfErr, OnOk, Some, None};
 ghost use Rattle.tally_returns.specs.Checks.{first_refusal};
-ghost use Rattle.tally_returns.specs.Moves.{last_revision, may_close, may_correct, may_query, move_checks, queried, corrected, closed};
+ghost use Rattle.tally_returns.specs.Moves.{last_revision, may_close, may_correct, may_query, move_checks, queried_return, corrected_return, closed_return};
 
 use crate::counts::Counts;
 use crate::refusal::Refusal;
@@ -67,7 +67,7 @@ impl Return {
     /// The return that a query with this note leaves.
     pub(crate) fn queried(&self, alloc: Global, note: &str) -> Result<Return, AllocError>
         requires { self.now.rev < last_revision }
-        ensures { IfOk result (λ next. next ≡ queried note.now self.now) }
+        ensures { IfOk result (λ next. next ≡ queried_return note.now self.now) }
     {
         Ok(Return {
             rev: self.rev + 1,
@@ -86,7 +86,7 @@ impl Return {
         counts: &Counts,
     ) -> Result<Return, AllocError>
         requires { self.now.rev < last_revision }
-        ensures { IfOk result (λ next. next ≡ corrected slip counts.now self.now) }
+        ensures { IfOk result (λ next. next ≡ corrected_return slip counts.now self.now) }
     {
         Ok(Return {
             rev: self.rev + 1,
@@ -100,7 +100,7 @@ impl Return {
     /// The return that closing leaves.
     pub(crate) fn closed(&self, alloc: Global) -> Result<Return, AllocError>
         requires { self.now.rev < last_revision }
-        ensures { IfOk result (λ next. next ≡ closed self.now) }
+        ensures { IfOk result (λ next. next ≡ closed_return self.now) }
     {
         Ok(Return {
             rev: self.rev + 1,

@@ -11,7 +11,7 @@ use Rattle.std.proofs.lemmas.Map.Text.{is_eq-slice_cmp}
 use Rattle.std.proofs.lemmas.List.Quantifiers.{all_pairs_push}
 use Rattle.tally_rules.specs.Code.{code_cmp}
 use Rattle.tally_rules.specs.Codes.{is_among, AreDistinct}
-use Rattle.tally_rules.specs.Index.{index_of, IsIndex}
+use Rattle.tally_rules.specs.internal.Index.{index_of, IsIndex}
 
 -- a code added at the end is at the place behind the others, unless it was there
 pub index_of-push : (q code : List ℕ) (codes : List (List ℕ)) → index_of q (codes ++ code ∷ []) ≡ option_or (index_of q codes) (cond (bytes_eq q code) (Some (length codes)) None)

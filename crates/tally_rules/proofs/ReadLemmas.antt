@@ -10,7 +10,7 @@ use Rattle.std.proofs.lemmas.List.Folds.{list_all-map}
 use Rattle.toml.specs.View.{view, items_view}
 use Rattle.toml.specs.declared.value.Value.{Value}
 use Rattle.tally_rules.specs.Fault.{Fault, missing, bad_value, over_limit}
-use Rattle.tally_rules.specs.Found.{IsFoundIn}
+use Rattle.tally_rules.specs.internal.Found.{IsFoundIn}
 use Rattle.tally_rules.specs.Reading.{◌>>=◌, list_of, value_at, array_at, in_turn}
 use Rattle.tally_rules.specs.declared.read.fault.KeyFault.{KeyFault as Found}
 use Rattle.tally_rules.specs.declared.read.fault.KeyFault.TheVariants as found

@@ -1,9 +1,8 @@
+pub mod internal
 pub mod Code
 pub mod Codes
 pub mod Constituency
 pub mod Fault
-pub mod Found
-pub mod Index
 pub mod Limits
 pub mod ListSet
 pub mod Reading

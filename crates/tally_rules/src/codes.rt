@@ -2,7 +2,7 @@
 
 ghost use Rattle.std.specs.Prelude.{◌≡◌, [], ◌∷◌, ◌++◌, not, IfOk, if◌then◌else◌};
 ghost use Rattle.tally_rules.specs.Codes.{is_among, AreDistinct};
-ghost use Rattle.tally_rules.specs.Index.{index_of};
+ghost use Rattle.tally_rules.specs.internal.Index.{index_of};
 
 use crate::code::Code;
 use std::alloc::{AllocError, Global};
@@ -18,7 +18,7 @@ pub(crate) struct Codes {
 
 impl Model for Codes {
     ghost use Rattle.std.specs.Prelude.{ℕ, List};
-    ghost use Rattle.tally_rules.specs.Index.{IsIndex};
+    ghost use Rattle.tally_rules.specs.internal.Index.{IsIndex};
 
     ghost Value = { List (List ℕ) };
 

@@ -3,7 +3,7 @@
 ghost use Rattle.std.specs.Prelude.{◌≡◌, Ok, IfOk, IfErr};
 ghost use Rattle.toml.specs.View.{view};
 ghost use Rattle.tally_rules.specs.Fault.{IsFaultIn};
-ghost use Rattle.tally_rules.specs.Found.{IsFoundIn};
+ghost use Rattle.tally_rules.specs.internal.Found.{IsFoundIn};
 ghost use Rattle.tally_rules.specs.Reading.{constituencies_of, document_of, setup_of};
 ghost use Rattle.tally_rules.specs.Reading.{setup_of_text};
 

@@ -3,7 +3,7 @@
 ghost use Rattle.std.specs.Prelude.{◌≡◌, ◌++◌, IfOk, Some, map, option_copied, option_map};
 ghost use Rattle.tally_rules.specs.Setup.{all_station_codes, constituency_codes, constituency_with};
 ghost use Rattle.tally_rules.specs.Setup.{station_with, all_stations};
-ghost use Rattle.tally_rules.specs.Index.{places_in, station_at};
+ghost use Rattle.tally_rules.specs.internal.Index.{places_in, station_at};
 ghost use Rattle.tally_rules.specs.Limits.{IsSetup};
 
 use crate::code::Code;
@@ -32,7 +32,7 @@ struct StationPlace {
 impl Model for Setup {
     ghost use Rattle.std.specs.Prelude.{List};
     ghost use Rattle.tally_rules.specs.Constituency as value;
-    ghost use Rattle.tally_rules.specs.Index.{IsIndexed};
+    ghost use Rattle.tally_rules.specs.internal.Index.{IsIndexed};
 
     ghost Value = { List value.Constituency };
 

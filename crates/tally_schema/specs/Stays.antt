@@ -1,6 +1,7 @@
--- What a call in a transaction keeps, whatever it answers.
-use Rattle.std.specs.Prelude.{◌≡◌, ⊤, IsTrue}
+-- What a call in a transaction keeps, whatever it answers, and what it does.
+use Rattle.std.specs.Prelude.{◌≡◌, ⊤, IsTrue, Result}
 use Rattle.sqlite_trees.specs.declared.store.Store.{Ghosts}
+use Rattle.sqlite.specs.declared.error.Error.{Error}
 use Rattle.sqlite.specs.declared.transaction.Transaction.{Transaction}
 use Rattle.sqlite.specs.Held.{state}
 use Rattle.sqlite.specs.State.{State as Seen, HasCleanDisk, KeepsCommit, Survives}
@@ -17,3 +18,9 @@ pub record StaysFrom (starts : Seen → Type 0) {S : Type 0} (g : Ghosts S) (old
 -- what a call keeps in any transaction
 abbrev pub Stays : {S : Type 0} (g : Ghosts S) → Transaction S → Transaction S → Type 0
 Stays g old new = StaysFrom (λ _. ⊤) g old new
+
+-- What a call does to the database of its transaction: how the state before the call, the one after
+-- it and the answer belong together.
+abbrev pub Acts : {S X : Type 0} (g : Ghosts S) → (Seen → Seen → Result X Error → Type 0)
+    → Transaction S → Transaction S → Result X Error → Type 0
+Acts g Act old new result = Act (state g old.conn.now) (state g new.conn.now) result

@@ -4,7 +4,7 @@ use Rattle.std.proofs.Math.Seq.{take-add}
 use Rattle.std.proofs.lemmas.List.{append-nil, drop-drop}
 use Rattle.tally_door.specs.Connection.{Connection, Connections}
 use Rattle.tally_serve.specs.Serving.{Answering, IsExchange, Serves, one_if}
-use Rattle.tally_serve.specs.Next.{IsNext}
+use Rattle.tally_serve.specs.internal.Next.{IsNext}
 
 serves_push : {C : Type 0} (A : Answering C) (old mid new : C) (cs ds : List Connection) (c d : Connection) (whole : Bool) (k : ℕ)
     → Serves A old cs ds k mid → IsExchange A mid c whole d new → Serves A old (cs ++ c ∷ []) (ds ++ d ∷ []) (k + one_if whole) new

@@ -1,2 +1,2 @@
+pub mod internal
 pub mod Serving
-pub mod Next

@@ -58,8 +58,8 @@ Serves Answers old [] (d ∷ ds) answered new = ⊥
 Serves Answers old (c ∷ cs) [] answered new = ⊥
 
 -- the connections of a door that were taken up: those that ended, and the current one
-abbrev pub taken_up : Connections → List Connection
-taken_up all = all.ended ++ option_to_list all.current
+abbrev pub connections_taken_up : Connections → List Connection
+connections_taken_up all = all.ended ++ option_to_list all.current
 
 -- So many connections of a door, where they are known, were served one after the other: as many of
 -- those to come were taken up, the others are still to come, and of those so many were answered
@@ -69,6 +69,6 @@ abbrev pub IsServing : {C : Type 0}
 IsServing Answers IsTrusted count answered known known_new old new =
     (before : Connections) → known ≡ Some before
     → (after : Connections) × (known_new ≡ Some after) × (ended : List Connection)
-    × (taken_up after ≡ taken_up before ++ ended)
+    × (connections_taken_up after ≡ connections_taken_up before ++ ended)
     × (after.coming ≡ drop count before.coming)
     × (IsTrusted → Serves Answers old (take count before.coming) ended answered new)

@@ -3,7 +3,7 @@
 ghost use Rattle.std.specs.Prelude.{◌≡◌, ◌+◌, true, length, nat_le};
 ghost use Rattle.tally_door.specs.Connection.{ChangesCurrent, after_text};
 ghost use Rattle.tally_serve.specs.Serving.{IsExchange, IsServing, text_or};
-ghost use Rattle.tally_serve.specs.Next.{IsNextServed};
+ghost use Rattle.tally_serve.specs.internal.Next.{IsNextServed};
 
 use crate::responder::Responder;
 use std::alloc::Global;

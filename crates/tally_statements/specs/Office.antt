@@ -1,17 +1,19 @@
 -- The tables of the office in a transaction, and what a statement does to the rows of one of them.
-use Rattle.std.specs.Prelude.{◌≡◌, ◌≢◌, ℕ, pos, List, [], ◌∷◌, IsTrue, IsPermutation, map, Result, Ok, OnOk, Bool, ◌&&◌, filter}
+use Rattle.std.specs.Prelude.{◌≡◌, ◌≢◌, ℕ, pos, List, [], ◌∷◌, IsTrue, IsPermutation, map, Result, Ok, IfOk, OnOk, Bool, ◌&&◌, filter, Vec}
+use Rattle.std.specs.declared.alloc.Global.{Global}
 use Rattle.std.specs.List.{AllByRecursion}
 use Rattle.std.specs.Ordering.{is_eq}
 use Rattle.std.specs.declared.cmp.Ordering.TheVariants.{Less}
+use Rattle.sqlite_value.specs.declared.value.Value.{Value}
 use Rattle.sqlite_value.specs.declared.value.Value.TheVariants.{Null, Int, Text}
 use Rattle.sqlite_value.specs.Order.{Row, column, value_cmp, row_cmp}
 use Rattle.sqlite_trees.specs.Tree.{IsAscending, rowid}
 use Rattle.sqlite_schema.specs.declared.schema.Table.{Table}
 use Rattle.sqlite.specs.declared.error.Error.{Error}
 use Rattle.sqlite.specs.Effect.{IsDatabase}
-use Rattle.sqlite.specs.State.{State as Seen, HasCleanDisk, KeepsCommit, ExecutesInside}
+use Rattle.sqlite.specs.State.{State as Seen, HasCleanDisk, ExecutesInside}
 use Rattle.tally_rows.specs.Rows.{cells, has_key, others, HaveDistinctRowids}
-use Rattle.tally_schema.specs.Cells.{setup_row}
+use Rattle.tally_schema.specs.Cells.{flag, setup_row}
 use Rattle.tally_schema.specs.Tables.{office_schema, setup_tree, returns_table, returns_tree, counts_table, counts_tree, cons_table, cons_tree, lots_table, lots_tree, seats_table, seats_tree, gone_table, gone_tree, totals_table, totals_tree, past_table, past_tree}
 use Rattle.tally_statements.specs.declared.table.KeyedTable.{KeyedTable}
 use Rattle.tally_statements.specs.declared.table.KeyedTable.TheVariants.{Returns, Counts, Cons, Lots, Seats, Gone, Totals, Past}
@@ -64,6 +66,24 @@ pub record HasRows (t : KeyedTable) (now : List Row) (old new : Seen) : Type 0 w
   pub others : (u : KeyedTable) → tree_of u ≢ tree_of t → new.now.trees (tree_of u) ≡ old.now.trees (tree_of u)
   pub setup : new.now.trees setup_tree ≡ old.now.trees setup_tree
 
+-- a row of `returns`
+abbrev pub return_cells : List ℕ → List ℕ → ℕ → List ℕ → ℕ → List ℕ → Row
+return_cells station con rev slip status note =
+    Text station ∷ Text con ∷ Int (pos rev) ∷ Text slip ∷ Int (pos status) ∷ Text note ∷ []
+
+-- a row of `cons`
+abbrev pub con_cells : List ℕ → ℕ → Bool → List ℕ → Row
+con_cells con edition certified note =
+    Text con ∷ Int (pos edition) ∷ Int (pos (flag certified)) ∷ Text note ∷ []
+
+-- a row of `gone`
+abbrev pub gone_cells : List ℕ → ℕ → ℕ → List ℕ → Row
+gone_cells con list place note = Text con ∷ Int (pos list) ∷ Int (pos place) ∷ Text note ∷ []
+
+-- a row of `past`
+abbrev pub past_cells : List ℕ → ℕ → ℕ → ℕ → Row
+past_cells con edition list n = Text con ∷ Int (pos edition) ∷ Int (pos list) ∷ Int (pos n) ∷ []
+
 -- a row of a key, the number of an item and a number
 abbrev pub item_cells : List ℕ → ℕ → ℕ → Row
 item_cells key item n = Text key ∷ Int (pos item) ∷ Int (pos n) ∷ []
@@ -73,10 +93,6 @@ abbrev pub is_item : List ℕ → ℕ → Row → Bool
 is_item key item row = has_key key row && is_eq (value_cmp (column row 1) (Int (pos item)))
 
 -- ---- what a call says, where the disk returned what was written
-
--- whatever it answers, nothing was committed
-abbrev pub KeepsCommitIfClean : Seen → Seen → Type 0
-KeepsCommitIfClean old new = HasCleanDisk new → KeepsCommit old new
 
 -- the text was run with these values
 abbrev pub Runs : List ℕ → Row → Seen → Seen → Result Unit Error → Type 0
@@ -90,6 +106,21 @@ Inserts t row old new result = HasCleanDisk new → IsInside old → OnOk result
 abbrev pub Replaces : KeyedTable → List ℕ → Row → Row → Seen → Seen → Result Unit Error → Type 0
 Replaces t key before row old new result =
     HasCleanDisk new → IsInside old → filter (has_key key) (rows_in t old) ≡ before ∷ [] → OnOk result (HasRows t (row ∷ others key (rows_in t old)) old new)
+
+-- The row of a return has this revision, slip, status and note, whatever it had. Its constituency is
+-- as it was.
+abbrev pub UpdatesReturn : List ℕ → ℕ → List ℕ → ℕ → List ℕ
+    → Seen → Seen → Result Unit Error → Type 0
+UpdatesReturn station rev slip status note old new result =
+    (con : List ℕ) (r s t u : Value)
+    → Replaces Returns station (Text station ∷ Text con ∷ r ∷ s ∷ t ∷ u ∷ [])
+    (return_cells station con rev slip status note) old new result
+
+-- the row of a constituency has this edition, certificate and note, whatever it had
+abbrev pub UpdatesCon : List ℕ → ℕ → Bool → List ℕ → Seen → Seen → Result Unit Error → Type 0
+UpdatesCon con edition certified note old new result =
+    (r s t : Value) → Replaces Cons con (Text con ∷ r ∷ s ∷ t ∷ [])
+    (con_cells con edition certified note) old new result
 
 -- the item of a key has another number, where the table had a row for it beside these
 abbrev pub SetsItem : KeyedTable → List ℕ → ℕ → ℕ → Seen → Seen → Result Unit Error → Type 0
@@ -135,6 +166,11 @@ pub record AreInOrder (t : KeyedTable) (rows : List Row) : Type 0 where
 abbrev pub IsFound : KeyedTable → List ℕ → Seen → List Row → Type 0
 IsFound t key s answer = (rows : List Row) → AreInOrder t rows → IsPermutation rows (filter (has_key key) (rows_in t s)) → answer ≡ rows
 
+-- the rows of a key were answered, where the disk returned what was written
+abbrev pub Finds : KeyedTable → List ℕ → Seen → Seen → Result (Vec Row Global) Error → Type 0
+Finds t key old new result =
+    HasCleanDisk new → IsInside old → IfOk result (λ rows. IsFound t key old rows.items)
+
 -- ---- whole tables
 
 -- The tables of the office are there in a transaction, whatever their rows are.
@@ -152,6 +188,16 @@ pub record ShowsTable (t : KeyedTable) (s : Seen) (answer : List Row) : Type 0 w
 -- the answer has the rowids of a table
 abbrev pub ShowsRowids : KeyedTable → Seen → List Row → Type 0
 ShowsRowids t s answer = IsPermutation (map (λ r. rowid r ∷ []) (s.now.trees (tree_of t))) answer
+
+-- the whole table was answered, where the disk returned what was written
+abbrev pub ShowsAllRows : KeyedTable → Seen → Seen → Result (Vec Row Global) Error → Type 0
+ShowsAllRows t old new result =
+    HasCleanDisk new → HasTables old → IfOk result (λ rows. ShowsTable t old rows.items)
+
+-- its rowids were answered
+abbrev pub ShowsAllRowids : KeyedTable → Seen → Seen → Result (Vec Row Global) Error → Type 0
+ShowsAllRowids t old new result =
+    HasCleanDisk new → HasTables old → IfOk result (λ rows. ShowsRowids t old rows.items)
 
 -- ---- the table `setup`
 
@@ -182,3 +228,8 @@ stored_setup shown = column shown 0 ∷ Null ∷ column shown 1 ∷ column shown
 pub record ShowsSetup (s : Seen) (answer : List Row) : Type 0 where
   pub shown : IsPermutation (map shown_setup (s.now.trees setup_tree)) answer
   pub stored : IsPermutation (map stored_setup answer) (s.now.trees setup_tree)
+
+-- the whole table was answered, where the disk returned what was written
+abbrev pub ShowsAllSetup : Seen → Seen → Result (Vec Row Global) Error → Type 0
+ShowsAllSetup old new result =
+    HasCleanDisk new → HasTables old → IfOk result (λ rows. ShowsSetup old rows.items)

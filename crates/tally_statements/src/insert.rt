@@ -1,11 +1,8 @@
 //! INSERT of one row into a table.
 
-ghost use Rattle.std.specs.Prelude.{◌≡◌, ◌∷◌, [], pos, ℕ};
-ghost use Rattle.sqlite_value.specs.declared.value.Value.TheVariants.{Int, Text};
-ghost use Rattle.sqlite.specs.Held.{state};
-ghost use Rattle.tally_schema.specs.Cells.{flag};
-ghost use Rattle.tally_statements.specs.Inside.{Stays};
-ghost use Rattle.tally_statements.specs.Office.{Inserts, item_cells};
+ghost use Rattle.std.specs.Prelude.{◌≡◌, pos, ℕ};
+ghost use Rattle.tally_statements.specs.Inside.{Acts, Stays};
+ghost use Rattle.tally_statements.specs.Office.{Inserts, con_cells, gone_cells, item_cells, past_cells, return_cells};
 ghost use Rattle.tally_statements.specs.declared.table.KeyedTable.TheVariants.{Returns, Counts, Cons, Lots, Seats, Gone, Totals, Past};
 
 use crate::running::run;
@@ -22,13 +19,14 @@ pub fn insert_return<S: Alter>(
     note: &str,
 ) -> Result<(), Error>
     ensures stays { Stays S.Store tx.old tx.new }
-    ensures inserted { Inserts Returns (Text station.now ∷ Text con.now ∷ Int (pos rev) ∷ Text slip.now ∷ Int (pos status)
-        ∷ Text note.now ∷ [])
-        (state S.Store tx.old.conn.now) (state S.Store tx.new.conn.now) result }
+    ensures inserted { Acts S.Store
+        (Inserts Returns (return_cells station.now con.now rev slip.now status note.now))
+        tx.old tx.new result }
 {
     run(
         tx,
-        "INSERT INTO returns (station, con, rev, slip, status, note) VALUES (?1, ?2, ?3, ?4, ?5, ?6)",
+        "INSERT INTO returns (station, con, rev, slip, status, note) \
+         VALUES (?1, ?2, ?3, ?4, ?5, ?6)",
         params![station, con, rev, slip, status, note],
     )
 }
@@ -41,8 +39,8 @@ pub fn insert_count<S: Alter>(
     n: u32,
 ) -> Result<(), Error>
     ensures stays { Stays S.Store tx.old tx.new }
-    ensures inserted { Inserts Counts (item_cells station.now item n)
-        (state S.Store tx.old.conn.now) (state S.Store tx.new.conn.now) result }
+    ensures inserted { Acts S.Store (Inserts Counts (item_cells station.now item n))
+        tx.old tx.new result }
 {
     run(
         tx,
@@ -60,8 +58,8 @@ pub fn insert_con<S: Alter>(
     note: &str,
 ) -> Result<(), Error>
     ensures stays { Stays S.Store tx.old tx.new }
-    ensures inserted { Inserts Cons (Text con.now ∷ Int (pos edition) ∷ Int (pos (flag certified)) ∷ Text note.now ∷ [])
-        (state S.Store tx.old.conn.now) (state S.Store tx.new.conn.now) result }
+    ensures inserted { Acts S.Store (Inserts Cons (con_cells con.now edition certified note.now))
+        tx.old tx.new result }
 {
     run(
         tx,
@@ -78,8 +76,8 @@ pub fn insert_lot<S: Alter>(
     list: u32,
 ) -> Result<(), Error>
     ensures stays { Stays S.Store tx.old tx.new }
-    ensures inserted { Inserts Lots (item_cells con.now place list)
-        (state S.Store tx.old.conn.now) (state S.Store tx.new.conn.now) result }
+    ensures inserted { Acts S.Store (Inserts Lots (item_cells con.now place list))
+        tx.old tx.new result }
 {
     run(
         tx,
@@ -96,8 +94,8 @@ pub fn insert_seats<S: Alter>(
     n: u32,
 ) -> Result<(), Error>
     ensures stays { Stays S.Store tx.old tx.new }
-    ensures inserted { Inserts Seats (item_cells con.now list n)
-        (state S.Store tx.old.conn.now) (state S.Store tx.new.conn.now) result }
+    ensures inserted { Acts S.Store (Inserts Seats (item_cells con.now list n))
+        tx.old tx.new result }
 {
     run(
         tx,
@@ -115,8 +113,8 @@ pub fn insert_gone<S: Alter>(
     note: &str,
 ) -> Result<(), Error>
     ensures stays { Stays S.Store tx.old tx.new }
-    ensures inserted { Inserts Gone (Text con.now ∷ Int (pos list) ∷ Int (pos place) ∷ Text note.now ∷ [])
-        (state S.Store tx.old.conn.now) (state S.Store tx.new.conn.now) result }
+    ensures inserted { Acts S.Store (Inserts Gone (gone_cells con.now list place note.now))
+        tx.old tx.new result }
 {
     run(
         tx,
@@ -133,8 +131,8 @@ pub fn insert_total<S: Alter>(
     n: i64,
 ) -> Result<(), Error>
     ensures stays { Stays S.Store tx.old tx.new }
-    ensures inserted { (m : ℕ) → n ≡ pos m → Inserts Totals (item_cells con.now item m)
-        (state S.Store tx.old.conn.now) (state S.Store tx.new.conn.now) result }
+    ensures inserted { (m : ℕ) → n ≡ pos m → Acts S.Store
+        (Inserts Totals (item_cells con.now item m)) tx.old tx.new result }
 {
     run(
         tx,
@@ -152,8 +150,8 @@ pub fn insert_past<S: Alter>(
     n: u32,
 ) -> Result<(), Error>
     ensures stays { Stays S.Store tx.old tx.new }
-    ensures inserted { Inserts Past (Text con.now ∷ Int (pos edition) ∷ Int (pos list) ∷ Int (pos n) ∷ [])
-        (state S.Store tx.old.conn.now) (state S.Store tx.new.conn.now) result }
+    ensures inserted { Acts S.Store (Inserts Past (past_cells con.now edition list n))
+        tx.old tx.new result }
 {
     run(
         tx,

@@ -1,8 +1,7 @@
 //! Running a statement in a transaction.
 
-ghost use Rattle.sqlite.specs.Held.{state};
 ghost use Rattle.sqlite.specs.Values.{bound};
-ghost use Rattle.tally_statements.specs.Inside.{Stays};
+ghost use Rattle.tally_statements.specs.Inside.{Acts, Stays};
 ghost use Rattle.tally_statements.specs.Office.{Runs};
 
 use sqlite::types::ValueRef;
@@ -15,7 +14,7 @@ pub(crate) fn run<S: Alter>(
     params: &[ValueRef<'_>],
 ) -> Result<(), Error>
     ensures stays { Stays S.Store tx.old tx.new }
-    ensures ran { Runs sql.now (bound params.now) (state S.Store tx.old.conn.now) (state S.Store tx.new.conn.now) result }
+    ensures ran { Acts S.Store (Runs sql.now (bound params.now)) tx.old tx.new result }
 {
     tx.execute(sql, params)?;
     Ok(())

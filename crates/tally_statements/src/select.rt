@@ -1,10 +1,8 @@
 //! SELECT of the rows of a key, and of whole tables.
 
-ghost use Rattle.std.specs.Prelude.{◌≡◌, IfOk};
-ghost use Rattle.sqlite.specs.State.{HasCleanDisk};
-ghost use Rattle.sqlite.specs.Held.{state};
-ghost use Rattle.tally_statements.specs.Inside.{OnlyReads, OnlyReadsFrom};
-ghost use Rattle.tally_statements.specs.Office.{IsInside, IsFound, HasTables, ShowsTable, ShowsRowids};
+ghost use Rattle.std.specs.Prelude.{◌≡◌};
+ghost use Rattle.tally_statements.specs.Inside.{Acts, OnlyReads, OnlyReadsFrom};
+ghost use Rattle.tally_statements.specs.Office.{Finds, HasTables, ShowsAllRowids, ShowsAllRows};
 ghost use Rattle.tally_statements.specs.Texts.{rows_of_text, all_rows_text, rowids_text};
 
 use crate::table::KeyedTable;
@@ -15,7 +13,8 @@ fn text_of(table: KeyedTable) -> &'static str
 {
     match table {
         KeyedTable::Returns => {
-            "SELECT station, con, rev, slip, status, note FROM returns WHERE station = ?1 ORDER BY station"
+            "SELECT station, con, rev, slip, status, note FROM returns WHERE station = ?1 \
+             ORDER BY station"
         }
         KeyedTable::Counts => {
             "SELECT station, item, n FROM counts WHERE station = ?1 ORDER BY station, item"
@@ -42,8 +41,7 @@ pub fn rows_of_key<S: Alter>(
     key: &str,
 ) -> Result<Vec<Row>, Error>
     ensures reads { OnlyReads S.Store tx.old tx.new result }
-    ensures found { HasCleanDisk (state S.Store tx.new.conn.now) → IsInside (state S.Store tx.old.conn.now) →
-        IfOk result (λ rows. IsFound table key.now (state S.Store tx.old.conn.now) rows.items) }
+    ensures found { Acts S.Store (Finds table key.now) tx.old tx.new result }
 {
     tx.query_all(text_of(table), params![key])
 }
@@ -68,8 +66,7 @@ fn all_rows_text(table: KeyedTable) -> &'static str
 /// All rows of a table, with all columns, in the order of the table's key.
 pub fn all_rows<S: Alter>(tx: &mut Transaction<'_, S>, table: KeyedTable) -> Result<Vec<Row>, Error>
     ensures reads { OnlyReadsFrom HasTables S.Store tx.old tx.new result }
-    ensures shown { HasCleanDisk (state S.Store tx.new.conn.now) → HasTables (state S.Store tx.old.conn.now) →
-        IfOk result (λ rows. ShowsTable table (state S.Store tx.old.conn.now) rows.items) }
+    ensures shown { Acts S.Store (ShowsAllRows table) tx.old tx.new result }
 {
     tx.query_all(all_rows_text(table), &[])
 }
@@ -92,8 +89,7 @@ fn rowids_text(table: KeyedTable) -> &'static str
 /// The rowids of a table, in order.
 pub fn rowids<S: Alter>(tx: &mut Transaction<'_, S>, table: KeyedTable) -> Result<Vec<Row>, Error>
     ensures reads { OnlyReadsFrom HasTables S.Store tx.old tx.new result }
-    ensures shown { HasCleanDisk (state S.Store tx.new.conn.now) → HasTables (state S.Store tx.old.conn.now) →
-        IfOk result (λ rows. ShowsRowids table (state S.Store tx.old.conn.now) rows.items) }
+    ensures shown { Acts S.Store (ShowsAllRowids table) tx.old tx.new result }
 {
     tx.query_all(rowids_text(table), &[])
 }

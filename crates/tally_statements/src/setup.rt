@@ -1,10 +1,7 @@
 //! The table `setup`, which has one row.
 
-ghost use Rattle.std.specs.Prelude.{IfOk};
-ghost use Rattle.sqlite.specs.State.{HasCleanDisk};
-ghost use Rattle.sqlite.specs.Held.{state};
-ghost use Rattle.tally_statements.specs.Inside.{OnlyReadsFrom, Stays};
-ghost use Rattle.tally_statements.specs.Office.{HasTables, InsertsSetup, SetsVersion, ShowsSetup};
+ghost use Rattle.tally_statements.specs.Inside.{Acts, OnlyReadsFrom, Stays};
+ghost use Rattle.tally_statements.specs.Office.{HasTables, InsertsSetup, SetsVersion, ShowsAllSetup};
 
 use crate::running::run;
 use sqlite::{Alter, Error, Row, Transaction, params};
@@ -16,8 +13,7 @@ pub fn insert_setup<S: Alter>(
     text: &str,
 ) -> Result<(), Error>
     ensures stays { Stays S.Store tx.old tx.new }
-    ensures inserted { InsertsSetup version text.now
-        (state S.Store tx.old.conn.now) (state S.Store tx.new.conn.now) result }
+    ensures inserted { Acts S.Store (InsertsSetup version text.now) tx.old tx.new result }
 {
     run(
         tx,
@@ -29,7 +25,7 @@ pub fn insert_setup<S: Alter>(
 /// Changes the version of the tables. The text of the setup stays.
 pub fn update_version<S: Alter>(tx: &mut Transaction<'_, S>, version: u32) -> Result<(), Error>
     ensures stays { Stays S.Store tx.old tx.new }
-    ensures updated { SetsVersion version (state S.Store tx.old.conn.now) (state S.Store tx.new.conn.now) result }
+    ensures updated { Acts S.Store (SetsVersion version) tx.old tx.new result }
 {
     run(tx, "UPDATE setup SET version = ?1", params![version])
 }
@@ -37,8 +33,7 @@ pub fn update_version<S: Alter>(tx: &mut Transaction<'_, S>, version: u32) -> Re
 /// The rows of `setup`, each as its id, its version and its text, in the order of the ids.
 pub fn all_setup<S: Alter>(tx: &mut Transaction<'_, S>) -> Result<Vec<Row>, Error>
     ensures reads { OnlyReadsFrom HasTables S.Store tx.old tx.new result }
-    ensures shown { HasCleanDisk (state S.Store tx.new.conn.now) → HasTables (state S.Store tx.old.conn.now) →
-        IfOk result (λ rows. ShowsSetup (state S.Store tx.old.conn.now) rows.items) }
+    ensures shown { Acts S.Store ShowsAllSetup tx.old tx.new result }
 {
     tx.query_all("SELECT id, version, text FROM setup ORDER BY id", &[])
 }

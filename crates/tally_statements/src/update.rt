@@ -1,12 +1,9 @@
 //! UPDATE of one row by its key.
 
-ghost use Rattle.std.specs.Prelude.{◌≡◌, ◌∷◌, [], pos, List, ℕ};
-ghost use Rattle.sqlite_value.specs.declared.value.Value.TheVariants.{Int, Text};
-ghost use Rattle.sqlite.specs.Held.{state};
-ghost use Rattle.tally_schema.specs.Cells.{flag};
-ghost use Rattle.tally_statements.specs.Inside.{Stays};
-ghost use Rattle.tally_statements.specs.Office.{Replaces, SetsItem};
-ghost use Rattle.tally_statements.specs.declared.table.KeyedTable.TheVariants.{Returns, Counts, Cons, Totals};
+ghost use Rattle.std.specs.Prelude.{◌≡◌, pos, ℕ};
+ghost use Rattle.tally_statements.specs.Inside.{Acts, Stays};
+ghost use Rattle.tally_statements.specs.Office.{SetsItem, UpdatesCon, UpdatesReturn};
+ghost use Rattle.tally_statements.specs.declared.table.KeyedTable.TheVariants.{Counts, Totals};
 
 use crate::running::run;
 use sqlite::{Alter, Error, Transaction, params};
@@ -21,9 +18,8 @@ pub fn update_return<S: Alter>(
     note: &str,
 ) -> Result<(), Error>
     ensures stays { Stays S.Store tx.old tx.new }
-    ensures updated { (con : List ℕ) (r s t u : _) → Replaces Returns station.now (Text station.now ∷ Text con ∷ r ∷ s ∷ t ∷ u ∷ [])
-        (Text station.now ∷ Text con ∷ Int (pos rev) ∷ Text slip.now ∷ Int (pos status) ∷ Text note.now ∷ [])
-        (state S.Store tx.old.conn.now) (state S.Store tx.new.conn.now) result }
+    ensures updated { Acts S.Store (UpdatesReturn station.now rev slip.now status note.now)
+        tx.old tx.new result }
 {
     run(
         tx,
@@ -40,8 +36,7 @@ pub fn update_count<S: Alter>(
     n: u32,
 ) -> Result<(), Error>
     ensures stays { Stays S.Store tx.old tx.new }
-    ensures updated { SetsItem Counts station.now item n
-        (state S.Store tx.old.conn.now) (state S.Store tx.new.conn.now) result }
+    ensures updated { Acts S.Store (SetsItem Counts station.now item n) tx.old tx.new result }
 {
     run(
         tx,
@@ -59,9 +54,8 @@ pub fn update_con<S: Alter>(
     note: &str,
 ) -> Result<(), Error>
     ensures stays { Stays S.Store tx.old tx.new }
-    ensures updated { (r s t : _) → Replaces Cons con.now (Text con.now ∷ r ∷ s ∷ t ∷ [])
-        (Text con.now ∷ Int (pos edition) ∷ Int (pos (flag certified)) ∷ Text note.now ∷ [])
-        (state S.Store tx.old.conn.now) (state S.Store tx.new.conn.now) result }
+    ensures updated { Acts S.Store (UpdatesCon con.now edition certified note.now)
+        tx.old tx.new result }
 {
     run(
         tx,
@@ -78,8 +72,8 @@ pub fn update_total<S: Alter>(
     n: i64,
 ) -> Result<(), Error>
     ensures stays { Stays S.Store tx.old tx.new }
-    ensures updated { (m : ℕ) → n ≡ pos m → SetsItem Totals con.now item m
-        (state S.Store tx.old.conn.now) (state S.Store tx.new.conn.now) result }
+    ensures updated { (m : ℕ) → n ≡ pos m → Acts S.Store (SetsItem Totals con.now item m)
+        tx.old tx.new result }
 {
     run(
         tx,

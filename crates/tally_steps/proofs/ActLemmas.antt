@@ -6,11 +6,11 @@ use Rattle.tally_rules.specs.Setup.{constituency_with}
 use Rattle.tally_returns.specs.Checks.{first_refusal, refused_or}
 use Rattle.tally_returns.specs.Counts.{VoteCounts}
 use Rattle.tally_returns.specs.Return.{StationReturn}
-use Rattle.tally_returns.specs.Lodge.{decided_at_code}
+use Rattle.tally_returns.specs.Lodge.{reply_at_code}
 use Rattle.tally_returns.specs.Decide.{show_checks, lodge_change}
 use Rattle.tally_returns.specs.Named.{con_named}
 use Rattle.tally_returns.specs.State.{State, con_state, stations_of}
-use Rattle.tally_steps.specs.Step.{decided_in, after, ConChange, no_change, gone_for_good, Decides, after_change, changed, with_con, Answer, lodged, moved, edition_now, vacated, seen, lodge_reply, move_reply, return_reply, answer, con_answer, IsConStep, IsReturnStepSeen, IsNotAccepted, IsAnswered, IsStepSeenAt}
+use Rattle.tally_steps.specs.Step.{change_in_state, state_after, ConChange, no_change, gone_for_good, Decides, after_change, con_state_after, with_con, Answer, lodged, moved, edition_now, vacated, reply_seen, lodge_reply, move_reply, return_reply, answer, con_answer, IsConStep, IsReturnStepSeen, IsNotAccepted, IsAnswered, IsStepSeenAt}
 use Rattle.tally_returns.specs.View.{View, view_of}
 use Rattle.tally_steps.specs.Runs.{is_act}
 use Rattle.tally_returns.specs.declared.ask.Ask.{Ask}
@@ -33,7 +33,7 @@ acted (Ok (edition_now edition)) = true
 acted (Ok (vacated next)) = true
 acted other = false
 
-acted-seen : (r : Result Reply Refusal) → acted (seen r) ≡ is_act r
+acted-seen : (r : Result Reply Refusal) → acted (reply_seen r) ≡ is_act r
 acted-seen (Ok (Lodged rev)) = refl
 acted-seen (Ok (Same rev)) = refl
 acted-seen (Ok (Moved rev)) = refl
@@ -62,16 +62,16 @@ acted-show None (Some standing) = refl
 acted-show None None = refl
 
 acted-answer : (setup : List Constituency) (s : State) (ask : Ask) → acted (answer setup s ask) ≡ acts setup s ask
-acted-answer setup s (Lodge station slip counts) = acted-lodge slip counts (decided_at_code (stations_of setup station) (get s.returns station) slip counts)
+acted-answer setup s (Lodge station slip counts) = acted-lodge slip counts (reply_at_code (stations_of setup station) (get s.returns station) slip counts)
 acted-answer setup s (ShowReturn station) = acted-show (first_refusal (show_checks (stations_of setup station) (get s.returns station))) (get s.returns station)
 acted-answer setup s ShowProgress = refl
-acted-answer setup s ask = acted-move (decided_in setup s ask)
+acted-answer setup s ask = acted-move (change_in_state setup s ask)
 
 -- a command on a return acts where its answer says so
-pub is_act-return : (setup : List Constituency) (s : State) (ask : Ask) (r : Result Reply Refusal) (t : State) → IsReturnStepSeen setup s ask (seen r) t → is_act r ≡ acts setup s ask
+pub is_act-return : (setup : List Constituency) (s : State) (ask : Ask) (r : Result Reply Refusal) (t : State) → IsReturnStepSeen setup s ask (reply_seen r) t → is_act r ≡ acts setup s ask
 is_act-return setup s ask r t is = sym (acted-seen r) ∙ ap acted is.0 ∙ acted-answer setup s ask
 
-after-idle : (setup : List Constituency) (s : State) (ask : Ask) (d : Result Change Refusal) → puts d ≡ false → after setup s ask d ≡ s
+after-idle : (setup : List Constituency) (s : State) (ask : Ask) (d : Result Change Refusal) → puts d ≡ false → state_after setup s ask d ≡ s
 after-idle setup s ask (Ok (change.PutReturn r)) idle = cc
 after-idle setup s ask other idle = refl
 
@@ -99,7 +99,7 @@ record IsChange (s : State) (code : List ℕ) (d : Result ConChange Refusal) : T
   pub change : ConChange
   pub is : d ≡ Ok change
   pub some : changes (Ok change) ≡ true
-  pub new : after_change s code d ≡ with_con s code (changed (con_state s code) change)
+  pub new : after_change s code d ≡ with_con s code (con_state_after (con_state s code) change)
 
 changes-is : (s : State) (code : List ℕ) (d : Result ConChange Refusal) → changes d ≡ true → IsChange s code d
 changes-is s code (Ok no_change) e = cc
@@ -115,7 +115,7 @@ pub record IsConAct (setup : List Constituency) (code : List ℕ) (s : State) (a
   pub change : ConChange
   pub some : changes (Ok change) ≡ true
   pub decides : Decides con view ask (Ok change)
-  pub new : t ≡ with_con s code (changed (con_state s code) change)
+  pub new : t ≡ with_con s code (con_state_after (con_state s code) change)
 
 pub con-acted : (setup : List Constituency) (code : List ℕ) (s : State) (ask : Ask) (r : Result Reply Refusal) (t : State)
     → IsConStep (constituency_with code setup) s ask r t → is_act r ≡ true → IsConAct setup code s ask t
@@ -132,7 +132,7 @@ con-acted setup code s ask r t is acted_there = go (constituency_with code setup
           change = c.change;
           some = c.some;
           decides = subst (Decides con is.0 ask) c.is is.3;
-          new = is.5 ∙ c.new ∙ ap (λ (q : List ℕ). with_con s q (changed (con_state s q) c.change)) (con-code setup code con at);
+          new = is.5 ∙ c.new ∙ ap (λ (q : List ℕ). with_con s q (con_state_after (con_state s q) c.change)) (con-code setup code con at);
         }
 
 con-idle : (found : Option Constituency) (s : State) (ask : Ask) (r : Result Reply Refusal) (t : State) → IsConStep found s ask r t → is_act r ≡ false → t ≡ s
@@ -145,8 +145,8 @@ pub not_accepted-idle : (r : Result Reply Refusal) → IsNotAccepted r → is_ac
 not_accepted-idle r (inl is) = ap is_act is
 not_accepted-idle r (inr is) = ap is_act is
 
-step-idle : (named : Option (List ℕ)) (setup : List Constituency) (s : State) (ask : Ask) (r : Result Reply Refusal) (t : State) → IsStepSeenAt named setup s ask (seen r) t → is_act r ≡ false → t ≡ s
-step-idle None setup s ask r t is idle = is.1 ∙ after-idle setup s ask (decided_in setup s ask) (sym (is_act-return setup s ask r t is) ∙ idle)
+step-idle : (named : Option (List ℕ)) (setup : List Constituency) (s : State) (ask : Ask) (r : Result Reply Refusal) (t : State) → IsStepSeenAt named setup s ask (reply_seen r) t → is_act r ≡ false → t ≡ s
+step-idle None setup s ask r t is idle = is.1 ∙ after-idle setup s ask (change_in_state setup s ask) (sym (is_act-return setup s ask r t is) ∙ idle)
 step-idle (Some code) setup s ask r t is idle = con-idle (constituency_with code setup) s ask r t is idle
 
 -- a request that does not act leaves the state

@@ -8,7 +8,7 @@ use Rattle.tally_law.specs.Conditions.{AreLimitsKept}
 use Rattle.tally_law.specs.Allotment.{Rule, divisors, hare, IsAllotmentByVotes}
 use Rattle.tally_law.specs.LotNeed.{IsDecidedByVotes, IsLotNeeded, IsLotTaken, IsLotWrong, IsNeed}
 use Rattle.tally_law.specs.Poll.{Poll}
-use Rattle.tally_steps.specs.Certification.{ByOutcome, ByOutcomeOrWrongLot, Certifies, Draws, RefusedOr, certified_by, count_checks, drawn_in, drawn_places, drawn_where, list_places}
+use Rattle.tally_steps.specs.Certification.{ByOutcome, ByOutcomeOrWrongLot, Certifies, Draws, RefusedOr, seats_by_outcome, count_checks, lot_in_view, drawn_places, lot_where_recorded, list_places}
 use Rattle.tally_returns.specs.Checks.{first_refusal}
 use Rattle.tally_steps.specs.LawStatements.{WrongLotsLeadToNoOutcome}
 use Rattle.tally_steps.specs.Outcome.{Outcome, HasWrongLot, IsLawfulView, IsOutcome, MayStand, allotted, lot_missing, nobody, poll_in, rule_in}
@@ -83,9 +83,9 @@ refused-right con view gives told None result right (inr wrong) = absurd (right 
 pub refused-lawful : (con : Constituency) (view : View) (ask : Ask) (refusal : Refusal) → IsLawfulView con view → IsConRefusal con view ask refusal
     → refusal ≢ Memory → Decides con view ask (Err refusal)
 refused-lawful con view (Draw code edition order) e lawful refused other =
-    (Err e, refused-right con view (drawn_in con view order.items) LotStands (first_refusal (count_checks view edition)) (Err e) (lot-right con view lawful.lawful.lot) (refused other), refl)
+    (Err e, refused-right con view (lot_in_view con view order.items) LotStands (first_refusal (count_checks view edition)) (Err e) (lot-right con view lawful.lawful.lot) (refused other), refl)
 refused-lawful con view (Certify code edition) e lawful refused other =
-    (Err e, refused-right con view certified_by Store (first_refusal (count_checks view edition)) (Err e) (lot-right con view lawful.lawful.lot) (refused other), refl)
+    (Err e, refused-right con view seats_by_outcome Store (first_refusal (count_checks view edition)) (Err e) (lot-right con view lawful.lawful.lot) (refused other), refl)
 refused-lawful con view ask e lawful refused other = refused other
 
 -- what is decided is so where the lot may be wrong, too
@@ -145,30 +145,30 @@ refused (Some f) e P some = cc
 pub certifies : (con : Constituency) (view : View) (edition : ℕ) (seats : List ℕ) → first_refusal (count_checks view edition) ≡ None → IsOutcome con view (allotted seats)
     → Certifies con view edition (Ok seats)
 certifies con view edition seats none is =
-    not_refused (first_refusal (count_checks view edition)) (ByOutcome con view certified_by) (Ok seats) none (allotted seats, is, refl)
+    not_refused (first_refusal (count_checks view edition)) (ByOutcome con view seats_by_outcome) (Ok seats) none (allotted seats, is, refl)
 
 pub certifies-missing : (con : Constituency) (view : View) (edition : ℕ) (group : List Bool) (n : ℕ) → first_refusal (count_checks view edition) ≡ None → IsOutcome con view (lot_missing group n)
     → Certifies con view edition (Err (LotMissing group n))
 certifies-missing con view edition group n none is =
-    not_refused (first_refusal (count_checks view edition)) (ByOutcome con view certified_by) (Err (LotMissing group n)) none
+    not_refused (first_refusal (count_checks view edition)) (ByOutcome con view seats_by_outcome) (Err (LotMissing group n)) none
     (lot_missing group n, is, refl)
 
-drawn-decided : (lot : List ℕ) (seats : List ℕ) (places : Option (List ℕ)) → lot ≡ [] → Err LotNotNeeded ≡ drawn_where lot (allotted seats) places
+drawn-decided : (lot : List ℕ) (seats : List ℕ) (places : Option (List ℕ)) → lot ≡ [] → Err LotNotNeeded ≡ lot_where_recorded lot (allotted seats) places
 drawn-decided [] seats places none = refl
 drawn-decided (place ∷ lot) seats places none = cc
 
-drawn-stands : (lot : List ℕ) (seats : List ℕ) (places : Option (List ℕ)) → lot ≢ [] → Err LotStands ≡ drawn_where lot (allotted seats) places
+drawn-stands : (lot : List ℕ) (seats : List ℕ) (places : Option (List ℕ)) → lot ≢ [] → Err LotStands ≡ lot_where_recorded lot (allotted seats) places
 drawn-stands [] seats places some = absurd (some refl)
 drawn-stands (place ∷ lot) seats places some = refl
 
-drawn-missing : (lot : List ℕ) (group : List Bool) (n : ℕ) (places : Option (List ℕ)) → lot ≡ [] → drawn_places group places ≡ drawn_where lot (lot_missing group n) places
+drawn-missing : (lot : List ℕ) (group : List Bool) (n : ℕ) (places : Option (List ℕ)) → lot ≡ [] → drawn_places group places ≡ lot_where_recorded lot (lot_missing group n) places
 drawn-missing [] group n places none = refl
 drawn-missing (place ∷ lot) group n places none = cc
 
 draws : (con : Constituency) (view : View) (edition : ℕ) (order : List (List ℕ)) (result : Result (List ℕ) Refusal) (outcome : Outcome)
-    → first_refusal (count_checks view edition) ≡ None → IsOutcome con view outcome → result ≡ drawn_where view.lot outcome (list_places con order) → Draws con view edition order result
+    → first_refusal (count_checks view edition) ≡ None → IsOutcome con view outcome → result ≡ lot_where_recorded view.lot outcome (list_places con order) → Draws con view edition order result
 draws con view edition order result outcome none is gives =
-    not_refused (first_refusal (count_checks view edition)) (ByOutcome con view (drawn_in con view order)) result none
+    not_refused (first_refusal (count_checks view edition)) (ByOutcome con view (lot_in_view con view order)) result none
     (outcome, is, gives)
 
 pub draws-decided : (con : Constituency) (view : View) (edition : ℕ) (order : List (List ℕ)) (seats : List ℕ) → first_refusal (count_checks view edition) ≡ None

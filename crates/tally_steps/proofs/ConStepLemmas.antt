@@ -17,9 +17,9 @@ use Rattle.tally_rules.specs.Constituency.{Constituency, ListEntry}
 use Rattle.tally_rules.specs.Limits.{IsSetup}
 use Rattle.tally_rules.specs.Setup.{constituency_with}
 use Rattle.tally_rules.specs.Text.{is_note}
-use Rattle.tally_steps.specs.Certification.{Certifies, certificate_of, Draws, ListFound, found_from, gone_of, has_candidate, holders_of, list_found, reopen_checks, reopened, vacate_checks, vacancy, vacates}
+use Rattle.tally_steps.specs.Certification.{Certifies, certificate_of, Draws, ListFound, list_found_from, gone_of, has_candidate, holders_of, list_found, reopen_checks, reopen_result, vacate_checks, vacancy, vacate_result}
 use Rattle.tally_returns.specs.Checks.{check, first_refusal, refused_or}
-use Rattle.tally_steps.specs.Step.{ConChange, Decides, IsView, after_change, certified_with, changed, changed_by, gone_for_good, lot_set, open_again, with_con, IsConStep}
+use Rattle.tally_steps.specs.Step.{ConChange, Decides, IsView, after_change, certified_with, con_state_after, change_of_result, gone_for_good, lot_set, open_again, with_con, IsConStep}
 use Rattle.tally_returns.specs.GoneCandidate.{GoneCandidate}
 use Rattle.tally_returns.specs.PastSeats.{PastSeats}
 use Rattle.tally_steps.specs.Holders.{is_among, newcomer}
@@ -101,7 +101,7 @@ with_con-lawful setup s code con c lawful is may = record {
 -- ---- Draw
 
 drawn-may_be : (con : Constituency) (s : State) (seats places : List ℕ) (edition : ℕ) (order : List (List ℕ)) → IsLawfulIn con s → IsLawfulView con (view_of con s seats)
-    → Draws con (view_of con s seats) edition order (Ok places) → MayBe con (changed (con_state s con.code) (lot_set places)) s.returns
+    → Draws con (view_of con s seats) edition order (Ok places) → MayBe con (con_state_after (con_state s con.code) (lot_set places)) s.returns
 drawn-may_be con s seats places edition order here lawful draws =
     let after = drawn-lawful con (view_of con s seats) edition order places lawful draws in
     let open_before : (con_state s con.code).certified ≡ false = drawn-open con (view_of con s seats) edition order places draws in record {
@@ -120,7 +120,7 @@ drawn-may_be con s seats places edition order here lawful draws =
 -- ---- Certify
 
 certified-may_be : (con : Constituency) (s : State) (seats given_seats : List ℕ) (edition : ℕ) → IsLawfulIn con s → IsLawfulView con (view_of con s seats)
-    → Certifies con (view_of con s seats) edition (Ok given_seats) → MayBe con (changed (con_state s con.code) (certified_with given_seats)) s.returns
+    → Certifies con (view_of con s seats) edition (Ok given_seats) → MayBe con (con_state_after (con_state s con.code) (certified_with given_seats)) s.returns
 certified-may_be con s seats given_seats edition here lawful certifies =
     let after = certified-lawful con (view_of con s seats) edition given_seats lawful certifies in
     record {
@@ -150,7 +150,7 @@ certificate-past con view certified lawful =
 
 reopened-may_be : (con : Constituency) (s : State) (seats : List ℕ) (edition : ℕ) (note : List ℕ) → (is_note note ≡ true → is_kept_note note ≡ true) → IsLawfulIn con s
     → IsLawfulView con (view_of con s seats) → first_refusal (reopen_checks (view_of con s seats) edition note) ≡ None
-    → MayBe con (changed (con_state s con.code) (open_again note (certificate_of (view_of con s seats)))) s.returns
+    → MayBe con (con_state_after (con_state s con.code) (open_again note (certificate_of (view_of con s seats)))) s.returns
 reopened-may_be con s seats edition note keeps here view none =
     let c = con_state s con.code in
     let fourth = check (not (c.edition == last_edition)) Exhausted ∷ [] in
@@ -183,12 +183,12 @@ record IsEntry (p : ℕ) (lists : List ListEntry) (f : ListFound) : Type 0 where
   stands : slice_get lists at ≡ Some entry
   candidates : f.candidates ≡ length entry.candidates
 
-found-entry : (p : ℕ) (code : List ℕ) (lists : List ListEntry) (f : ListFound) → found_from p code lists ≡ Some f → IsEntry p lists f
+found-entry : (p : ℕ) (code : List ℕ) (lists : List ListEntry) (f : ListFound) → list_found_from p code lists ≡ Some f → IsEntry p lists f
 found-entry p code [] f is = cc
 found-entry p code (list ∷ lists) f is = by_cases (bytes_eq code list.code) is (found-entry (p + 1) code lists f)
   where
-    by_cases : (b : Bool) → cond b (Some (record { place = p; candidates = length list.candidates })) (found_from (p + 1) code lists) ≡ Some f
-        → (found_from (p + 1) code lists ≡ Some f → IsEntry (p + 1) lists f) → IsEntry p (list ∷ lists) f
+    by_cases : (b : Bool) → cond b (Some (record { place = p; candidates = length list.candidates })) (list_found_from (p + 1) code lists) ≡ Some f
+        → (list_found_from (p + 1) code lists ≡ Some f → IsEntry (p + 1) lists f) → IsEntry p (list ∷ lists) f
     by_cases true is later =
         let here : p ≡ f.place = cc in
         let many : length list.candidates ≡ f.candidates = cc in record { at = 0; entry = list; place = omega (arith, here); stands = refl; candidates = sym many }
@@ -235,7 +235,7 @@ put-gone con key note (e ∷ es) is all = go (code_cmp key e.0) (put-gone con ke
     go Greater rest = All-cons (IsLawfulGone con) (gone_candidate e) (map gone_candidate (put code_cmp key note es)) here rest
 
 gone-may_be : (con : Constituency) (s : State) (candidate : GoneCandidate) (next : Option ℕ) → IsLawfulIn con s
-    → IsLawfulGone con candidate → MayBe con (changed (con_state s con.code) (gone_for_good candidate next)) s.returns
+    → IsLawfulGone con candidate → MayBe con (con_state_after (con_state s con.code) (gone_for_good candidate next)) s.returns
 gone-may_be con s candidate next here one = record {
   seen = record {
     first = here.seen.first;
@@ -262,39 +262,39 @@ gone-may_be con s candidate next here one = record {
 
 module _ (setup : List Constituency) (s : State) (code : List ℕ) (con : Constituency) (lawful : IsLawfulState setup s) (is : constituency_with code setup ≡ Some con) where
   drawn-state : (seats : List ℕ) (edition : ℕ) (order : List (List ℕ)) (places : Result (List ℕ) Refusal) → IsLawfulView con (view_of con s seats) → Draws con (view_of con s seats) edition order places
-      → IsLawfulState setup (after_change s con.code (changed_by lot_set places))
+      → IsLawfulState setup (after_change s con.code (change_of_result lot_set places))
   drawn-state seats edition order (Ok places) view draws =
-      with_con-lawful setup s code con (changed (con_state s con.code) (lot_set places)) lawful is (drawn-may_be con s seats places edition order (lawful.cons code con is) view draws)
+      with_con-lawful setup s code con (con_state_after (con_state s con.code) (lot_set places)) lawful is (drawn-may_be con s seats places edition order (lawful.cons code con is) view draws)
   drawn-state seats edition order (Err refusal) view draws = lawful
 
   certified-state : (seats : List ℕ) (edition : ℕ) (given_seats : Result (List ℕ) Refusal) → IsLawfulView con (view_of con s seats) → Certifies con (view_of con s seats) edition given_seats
-      → IsLawfulState setup (after_change s con.code (changed_by certified_with given_seats))
+      → IsLawfulState setup (after_change s con.code (change_of_result certified_with given_seats))
   certified-state seats edition (Ok given_seats) view certifies =
-      with_con-lawful setup s code con (changed (con_state s con.code) (certified_with given_seats)) lawful is (certified-may_be con s seats given_seats edition (lawful.cons code con is) view certifies)
+      with_con-lawful setup s code con (con_state_after (con_state s con.code) (certified_with given_seats)) lawful is (certified-may_be con s seats given_seats edition (lawful.cons code con is) view certifies)
   certified-state seats edition (Err refusal) view certifies = lawful
 
   reopened-state : (seats : List ℕ) (edition : ℕ) (note : List ℕ) → (is_note note ≡ true → is_kept_note note ≡ true) → IsLawfulView con (view_of con s seats)
-      → IsLawfulState setup (after_change s con.code (changed_by (λ (r : List ℕ × PastSeats). open_again r.0 r.1) (reopened (view_of con s seats) edition note)))
+      → IsLawfulState setup (after_change s con.code (change_of_result (λ (r : List ℕ × PastSeats). open_again r.0 r.1) (reopen_result (view_of con s seats) edition note)))
   reopened-state seats edition note keeps view = by_cases (first_refusal (reopen_checks (view_of con s seats) edition note)) refl
     where
       past : PastSeats
       past = certificate_of (view_of con s seats)
 
       by_cases : (refusal : Option Refusal) → first_refusal (reopen_checks (view_of con s seats) edition note) ≡ refusal
-          → IsLawfulState setup (after_change s con.code (changed_by (λ (r : List ℕ × PastSeats). open_again r.0 r.1) (refused_or refusal (Ok (note, past)))))
+          → IsLawfulState setup (after_change s con.code (change_of_result (λ (r : List ℕ × PastSeats). open_again r.0 r.1) (refused_or refusal (Ok (note, past)))))
       by_cases None none =
-          with_con-lawful setup s code con (changed (con_state s con.code) (open_again note past)) lawful is (reopened-may_be con s seats edition note keeps (lawful.cons code con is) view none)
+          with_con-lawful setup s code con (con_state_after (con_state s con.code) (open_again note past)) lawful is (reopened-may_be con s seats edition note keeps (lawful.cons code con is) view none)
       by_cases (Some refusal) some = lawful
 
   vacated-state : (seats list : List ℕ) (place : ℕ) (note : List ℕ) → (is_note note ≡ true → is_kept_note note ≡ true)
-      → IsLawfulState setup (after_change s con.code (changed_by (λ (v : GoneCandidate × Option ℕ). gone_for_good v.0 v.1) (vacates con (view_of con s seats) list place note)))
+      → IsLawfulState setup (after_change s con.code (change_of_result (λ (v : GoneCandidate × Option ℕ). gone_for_good v.0 v.1) (vacate_result con (view_of con s seats) list place note)))
   vacated-state seats list place note keeps = at (list_found con list) refl
     where
       gone : GoneCandidate × Option ℕ → ConChange
       gone v = gone_for_good v.0 v.1
 
       by_cases : (f : ListFound) → list_found con list ≡ Some f → (refusal : Option Refusal) → first_refusal (vacate_checks (view_of con s seats) (Some f) place note) ≡ refusal
-          → IsLawfulState setup (after_change s con.code (changed_by gone (refused_or refusal (vacancy (view_of con s seats) (Some f) place note))))
+          → IsLawfulState setup (after_change s con.code (change_of_result gone (refused_or refusal (vacancy (view_of con s seats) (Some f) place note))))
       by_cases f found None none =
           let stays = not (is_among place (gone_of (view_of con s seats) f.place)) in
           let holds = is_among place (holders_of (view_of con s seats) f (gone_of (view_of con s seats) f.place)) in
@@ -304,11 +304,11 @@ module _ (setup : List Constituency) (s : State) (code : List ℕ) (con : Consti
           let good = passed-first (is_note note) BadNote last after_first in
           let left : GoneCandidate = record { list = f.place; place = place; note = note } in
           let next = newcomer (holders_of (view_of con s seats) f (gone_of (view_of con s seats) f.place)) (holders_of (view_of con s seats) f (place ∷ gone_of (view_of con s seats) f.place)) in
-          with_con-lawful setup s code con (changed (con_state s con.code) (gone_for_good left next)) lawful is (gone-may_be con s left next (lawful.cons code con is) (record { candidate = one; note = keeps good }))
+          with_con-lawful setup s code con (con_state_after (con_state s con.code) (gone_for_good left next)) lawful is (gone-may_be con s left next (lawful.cons code con is) (record { candidate = one; note = keeps good }))
       by_cases f found (Some refusal) some = lawful
 
       at : (found : Option ListFound) → list_found con list ≡ found
-          → IsLawfulState setup (after_change s con.code (changed_by gone (refused_or (first_refusal (vacate_checks (view_of con s seats) found place note)) (vacancy (view_of con s seats) found place note))))
+          → IsLawfulState setup (after_change s con.code (change_of_result gone (refused_or (first_refusal (vacate_checks (view_of con s seats) found place note)) (vacancy (view_of con s seats) found place note))))
       at None found = lawful
       at (Some f) found = by_cases f found (first_refusal (vacate_checks (view_of con s seats) (Some f) place note)) refl
 

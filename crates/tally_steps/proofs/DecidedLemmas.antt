@@ -7,9 +7,9 @@ use Rattle.tally_rules.specs.Setup.{constituency_with}
 use Rattle.tally_law.specs.Allotment.{Rule}
 use Rattle.tally_law.specs.LotNeed.{IsDecidedByVotes, IsLotTaken, IsNeed}
 use Rattle.tally_law.specs.Poll.{HasEligible, Poll}
-use Rattle.tally_steps.specs.Certification.{Certifies, Draws, RefusedOr, certified_by, count_checks, drawn_where, list_places}
+use Rattle.tally_steps.specs.Certification.{Certifies, Draws, RefusedOr, seats_by_outcome, count_checks, lot_where_recorded, list_places}
 use Rattle.tally_returns.specs.Checks.{first_refusal}
-use Rattle.tally_steps.specs.Step.{ConChange, Decides, IsView, after_change, certified_with, changed_by, lot_set, Answer, IsConStepSeen, IsStepSeen, IsStepSeenAt, answer, con_answer, after_return}
+use Rattle.tally_steps.specs.Step.{ConChange, Decides, IsView, after_change, certified_with, change_of_result, lot_set, Answer, IsConStepSeen, IsStepSeen, IsStepSeenAt, answer, con_answer, after_return}
 use Rattle.tally_steps.specs.LawfulState.{IsLawfulState}
 use Rattle.tally_returns.specs.Named.{con_named}
 use Rattle.tally_steps.specs.Outcome.{IsOutcome, MayStand, Outcome, allotted, lot_missing, nobody, poll_in, rule_in}
@@ -75,11 +75,11 @@ refused-or_else (Some e) P else = (Err e, refl)
 
 certifies-stands : (con : Constituency) (view : View) (edition : ℕ) → ((outcome : Outcome) × IsOutcome con view outcome) → (seats : Result (List ℕ) Refusal) × Certifies con view edition seats
 certifies-stands con view edition outcome =
-    refused-or_else (first_refusal (count_checks view edition)) _ (certified_by outcome.0, (outcome.0, outcome.1, refl))
+    refused-or_else (first_refusal (count_checks view edition)) _ (seats_by_outcome outcome.0, (outcome.0, outcome.1, refl))
 
 draws-stands : (con : Constituency) (view : View) (edition : ℕ) (order : List (List ℕ)) → ((outcome : Outcome) × IsOutcome con view outcome) → (places : Result (List ℕ) Refusal) × Draws con view edition order places
 draws-stands con view edition order outcome =
-    refused-or_else (first_refusal (count_checks view edition)) _ (drawn_where view.lot outcome.0 (list_places con order), (outcome.0, outcome.1, refl))
+    refused-or_else (first_refusal (count_checks view edition)) _ (lot_where_recorded view.lot outcome.0 (list_places con order), (outcome.0, outcome.1, refl))
 
 pub decides-stands : (con : Constituency) (view : View) (code : List ℕ) (ask : Ask) → con_named ask ≡ Some code → ((outcome : Outcome) × IsOutcome con view outcome)
     → (decided : Result ConChange Refusal) × Decides con view ask decided
@@ -91,10 +91,10 @@ decides-stands con view code (ShowReturn station) named outcome = cc
 decides-stands con view code ShowProgress named outcome = cc
 decides-stands con view code (Draw its edition order) named outcome =
     let places = draws-stands con view edition order.items outcome in
-    (changed_by lot_set places.0, (places.0, places.1, refl))
+    (change_of_result lot_set places.0, (places.0, places.1, refl))
 decides-stands con view code (Certify its edition) named outcome =
     let seats = certifies-stands con view edition outcome in
-    (changed_by certified_with seats.0, (seats.0, seats.1, refl))
+    (change_of_result certified_with seats.0, (seats.0, seats.1, refl))
 decides-stands con view code (Reopen its edition note) named outcome = (_, refl)
 decides-stands con view code (Vacate its list place note) named outcome = (_, refl)
 decides-stands con view code (ShowCon its) named outcome = (_, refl)

@@ -15,7 +15,7 @@ use Rattle.tally_returns.specs.declared.change.Change.TheVariants.{PutReturn}
 use Rattle.tally_returns.specs.declared.refusal.Refusal.{Refusal}
 use Rattle.tally_returns.specs.declared.reply.Reply.{Reply}
 use Rattle.tally_steps.specs.LawStatements.{TheGoneStayGone}
-use Rattle.tally_steps.specs.Step.{after, after_put, con_of_station, decided_in, without_lot, ConChange, after_change, certified_with, changed, gone_for_good, lot_set, no_change, open_again, IsConStep, seen, IsStepSeenAt}
+use Rattle.tally_steps.specs.Step.{state_after, after_put, con_of_station, change_in_state, without_lot, ConChange, after_change, certified_with, con_state_after, gone_for_good, lot_set, no_change, open_again, IsConStep, reply_seen, IsStepSeenAt}
 use Rattle.tally_steps.proofs.OnwardLemmas.{with_return-cons}
 use Rattle.tally_steps.proofs.RecordLemmas.{with_con-each}
 
@@ -26,7 +26,7 @@ StayGone c d = (key : List ℕ) → is_some (fin.get c.gone key) ≡ true → is
 gone-same : (c : ConState) → StayGone c c
 gone-same c key there = there
 
-changed-gone : (c : ConState) (change : ConChange) → StayGone c (changed c change)
+changed-gone : (c : ConState) (change : ConChange) → StayGone c (con_state_after c change)
 changed-gone c no_change key there = there
 changed-gone c (lot_set places) key there = there
 changed-gone c (certified_with seats) key there = there
@@ -49,7 +49,7 @@ con-gone (Some con) s ask r t is = subst (AreStayingGone s) (sym is.5) (go is.1)
   where
     go : (decided : Result ConChange Refusal) → AreStayingGone s (after_change s con.code decided)
     go (Ok no_change) q = gone-same (con_state s q)
-    go (Ok change) q = with_con-each StayGone gone-same s con.code (changed (con_state s con.code) change) (changed-gone (con_state s con.code) change) q
+    go (Ok change) q = with_con-each StayGone gone-same s con.code (con_state_after (con_state s con.code) change) (changed-gone (con_state s con.code) change) q
     go (Err refusal) q = gone-same (con_state s q)
 
 without_lot-gone : (s : State) (code : Option (List ℕ)) → AreStayingGone s (without_lot s code)
@@ -60,14 +60,14 @@ after_put-gone : (setup : List Constituency) (s : State) (ask : Ask) → AreStay
 after_put-gone setup s (Query station rev note) q = without_lot-gone s (con_of_station setup station) q
 after_put-gone setup s other q = gone-same (con_state s q)
 
-after-gone : (setup : List Constituency) (s : State) (ask : Ask) (d : Result Change Refusal) → AreStayingGone s (after setup s ask d)
+after-gone : (setup : List Constituency) (s : State) (ask : Ask) (d : Result Change Refusal) → AreStayingGone s (state_after setup s ask d)
 after-gone setup s ask (Ok (PutReturn standing)) q =
     let put = after_put setup s ask in
     subst (StayGone (con_state s q)) (ap (λ cons. con_state (record put { cons = cons }) q) (sym (with_return-cons put (station_named ask) standing))) (after_put-gone setup s ask q)
 after-gone setup s ask other q = gone-same (con_state s q)
 
-step-gone : (named : Option (List ℕ)) (setup : List Constituency) (s : State) (ask : Ask) (r : Result Reply Refusal) (t : State) → IsStepSeenAt named setup s ask (seen r) t → AreStayingGone s t
-step-gone None setup s ask r t is = subst (AreStayingGone s) (sym is.1) (after-gone setup s ask (decided_in setup s ask))
+step-gone : (named : Option (List ℕ)) (setup : List Constituency) (s : State) (ask : Ask) (r : Result Reply Refusal) (t : State) → IsStepSeenAt named setup s ask (reply_seen r) t → AreStayingGone s t
+step-gone None setup s ask r t is = subst (AreStayingGone s) (sym is.1) (after-gone setup s ask (change_in_state setup s ask))
 step-gone (Some code) setup s ask r t is = con-gone (constituency_with code setup) s ask r t is
 
 pub gone-stay : TheGoneStayGone

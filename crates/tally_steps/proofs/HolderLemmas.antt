@@ -5,7 +5,7 @@ use Rattle.std.proofs.Math.Numerals.{add-one}
 use Rattle.std.specs.Prelude.{not}
 use Rattle.std.specs.List.{filter, range_with_len}
 use Rattle.std.proofs.lemmas.List.Elements.{filter-append}
-use Rattle.tally_steps.specs.Holders.{is_among, staying}
+use Rattle.tally_steps.specs.Holders.{is_among, remaining_candidates}
 
 -- one number more
 pub range-more : (a n : ℕ) → range_with_len a (suc n) ≡ range_with_len a n ++ (a + n) ∷ []
@@ -15,7 +15,7 @@ range-more a (suc n) =
     ∙ ap (λ m. (a ∷ range_with_len (a + 1) n) ++ m ∷ []) (let e : a + 1 + n ≡ a + suc n = omega arith in e)
 
 -- one candidate more, who stays
-pub staying-more : (n : ℕ) (gone : List ℕ) → is_among (n + 1) gone ≡ false → staying (n + 1) gone ≡ staying n gone ++ (n + 1) ∷ []
+pub staying-more : (n : ℕ) (gone : List ℕ) → is_among (n + 1) gone ≡ false → remaining_candidates (n + 1) gone ≡ remaining_candidates n gone ++ (n + 1) ∷ []
 staying-more n gone stays =
     let p : ℕ → Bool = λ place. not (is_among place gone) in
     let passes : p (n + 1) ≡ true = ap not stays in
@@ -23,7 +23,7 @@ staying-more n gone stays =
     ap (filter p) more ∙ filter-append p (range_with_len 1 n) ((n + 1) ∷ []) ∙ ap (λ b. filter p (range_with_len 1 n) ++ cond b ((n + 1) ∷ []) []) passes
 
 -- one candidate more, who is gone
-pub staying-same : (n : ℕ) (gone : List ℕ) → is_among (n + 1) gone ≡ true → staying (n + 1) gone ≡ staying n gone
+pub staying-same : (n : ℕ) (gone : List ℕ) → is_among (n + 1) gone ≡ true → remaining_candidates (n + 1) gone ≡ remaining_candidates n gone
 staying-same n gone left =
     let p : ℕ → Bool = λ place. not (is_among place gone) in
     let fails : p (n + 1) ≡ false = ap not left in

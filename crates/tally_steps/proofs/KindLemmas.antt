@@ -13,7 +13,7 @@ use Rattle.tally_returns.specs.Lodge.{lodge_answer}
 use Rattle.tally_returns.specs.Named.{con_named}
 use Rattle.tally_returns.specs.Return.{StationReturn}
 use Rattle.tally_returns.specs.State.{State, stations_of}
-use Rattle.tally_steps.specs.Step.{decided_in, ConChange, Decides, certified_with, changed_by, gone_for_good, lot_set, open_again, Answer, IsConStepSeen, IsStepSeenAt, answer, con_answer, lodge_reply, move_reply, return_reply}
+use Rattle.tally_steps.specs.Step.{change_in_state, ConChange, Decides, certified_with, change_of_result, gone_for_good, lot_set, open_again, Answer, IsConStepSeen, IsStepSeenAt, answer, con_answer, lodge_reply, move_reply, return_reply}
 use Rattle.tally_returns.specs.View.{FitsView, View}
 use Rattle.tally_returns.specs.declared.ask.Ask.{Ask}
 use Rattle.tally_returns.specs.declared.ask.Ask.TheVariants.{Lodge, Query, Correct, Close, ShowReturn, Draw, Certify, Reopen, Vacate, ShowCon, ShowProgress}
@@ -23,7 +23,7 @@ use Rattle.tally_returns.specs.declared.refusal.Refusal.{Refusal}
 use Rattle.tally_returns.specs.declared.refusal.Refusal.TheVariants.{NoConstituency}
 use Rattle.tally_returns.specs.declared.reply.LodgeReply.{LodgeReply}
 use Rattle.tally_returns.specs.declared.reply.LodgeReply.TheVariants as reply
-use Rattle.tally_steps.specs.Certification.{reopened, vacates}
+use Rattle.tally_steps.specs.Certification.{reopen_result, vacate_result}
 use Rattle.tally_steps.specs.Decisions.{AnswersAreOfTheirKind}
 use Rattle.tally_steps.specs.Kinds.{IsAnswerTo}
 use Rattle.tally_steps.proofs.ViewLemmas.{view-lawful}
@@ -62,9 +62,9 @@ close-kind setup station rev (Err e) = tt
 
 answer-kind : (setup : List Constituency) (s : State) (ask : Ask) → con_named ask ≡ None → IfOk (answer setup s ask) (IsAnswerTo setup ask)
 answer-kind setup s (Lodge station slip counts) named = lodge-kind setup station slip counts (lodge_answer (stations_of setup) s.returns station slip counts)
-answer-kind setup s (Query station rev note) named = query-kind setup station rev note (decided_in setup s (Query station rev note))
-answer-kind setup s (Correct station rev slip counts) named = correct-kind setup station rev slip counts (decided_in setup s (Correct station rev slip counts))
-answer-kind setup s (Close station rev) named = close-kind setup station rev (decided_in setup s (Close station rev))
+answer-kind setup s (Query station rev note) named = query-kind setup station rev note (change_in_state setup s (Query station rev note))
+answer-kind setup s (Correct station rev slip counts) named = correct-kind setup station rev slip counts (change_in_state setup s (Correct station rev slip counts))
+answer-kind setup s (Close station rev) named = close-kind setup station rev (change_in_state setup s (Close station rev))
 answer-kind setup s (ShowReturn station) named = show-kind setup station (first_refusal (show_checks (stations_of setup station) (get s.returns station))) (get s.returns station)
 answer-kind setup s ShowProgress named = tt
 answer-kind setup s (Draw con edition order) named = cc
@@ -80,25 +80,25 @@ con-kind : (setup : List Constituency) (code : List ℕ) (con : Constituency) (v
 con-kind setup code con view (Draw key edition order) decided named is fits decides =
     subst (λ (d : Result ConChange Refusal). IfOk (con_answer view d) (IsAnswerTo setup (Draw key edition order))) (sym decides.2) (go decides.0)
   where
-    go : (places : Result (List ℕ) Refusal) → IfOk (con_answer view (changed_by lot_set places)) (IsAnswerTo setup (Draw key edition order))
+    go : (places : Result (List ℕ) Refusal) → IfOk (con_answer view (change_of_result lot_set places)) (IsAnswerTo setup (Draw key edition order))
     go (Ok places) = tt
     go (Err e) = tt
 con-kind setup code con view (Certify key edition) decided named is fits decides =
     subst (λ (d : Result ConChange Refusal). IfOk (con_answer view d) (IsAnswerTo setup (Certify key edition))) (sym decides.2) (go decides.0)
   where
-    go : (seats : Result (List ℕ) Refusal) → IfOk (con_answer view (changed_by certified_with seats)) (IsAnswerTo setup (Certify key edition))
+    go : (seats : Result (List ℕ) Refusal) → IfOk (con_answer view (change_of_result certified_with seats)) (IsAnswerTo setup (Certify key edition))
     go (Ok seats) = tt
     go (Err e) = tt
 con-kind setup code con view (Reopen key edition note) decided named is fits decides =
-    subst (λ (d : Result ConChange Refusal). IfOk (con_answer view d) (IsAnswerTo setup (Reopen key edition note))) (sym decides) (go (reopened view edition (string_bytes note)))
+    subst (λ (d : Result ConChange Refusal). IfOk (con_answer view d) (IsAnswerTo setup (Reopen key edition note))) (sym decides) (go (reopen_result view edition (string_bytes note)))
   where
-    go : (kept : Result (List ℕ × PastSeats) Refusal) → IfOk (con_answer view (changed_by (λ (r : List ℕ × PastSeats). open_again r.0 r.1) kept)) (IsAnswerTo setup (Reopen key edition note))
+    go : (kept : Result (List ℕ × PastSeats) Refusal) → IfOk (con_answer view (change_of_result (λ (r : List ℕ × PastSeats). open_again r.0 r.1) kept)) (IsAnswerTo setup (Reopen key edition note))
     go (Ok kept) = tt
     go (Err e) = tt
 con-kind setup code con view (Vacate key list place note) decided named is fits decides =
-    subst (λ (d : Result ConChange Refusal). IfOk (con_answer view d) (IsAnswerTo setup (Vacate key list place note))) (sym decides) (go (vacates con view list place (string_bytes note)))
+    subst (λ (d : Result ConChange Refusal). IfOk (con_answer view d) (IsAnswerTo setup (Vacate key list place note))) (sym decides) (go (vacate_result con view list place (string_bytes note)))
   where
-    go : (left : Result (GoneCandidate × Option ℕ) Refusal) → IfOk (con_answer view (changed_by (λ (v : GoneCandidate × Option ℕ). gone_for_good v.0 v.1) left)) (IsAnswerTo setup (Vacate key list place note))
+    go : (left : Result (GoneCandidate × Option ℕ) Refusal) → IfOk (con_answer view (change_of_result (λ (v : GoneCandidate × Option ℕ). gone_for_good v.0 v.1) left)) (IsAnswerTo setup (Vacate key list place note))
     go (Ok left) = tt
     go (Err e) = tt
 con-kind setup code con view (ShowCon key) decided named is fits decides =

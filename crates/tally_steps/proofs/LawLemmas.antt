@@ -9,9 +9,9 @@ use Rattle.tally_law.specs.Allotment.{IsAllotment}
 use Rattle.tally_law.specs.LotNeed.{IsLotNeeded, IsLotTaken, IsNeed}
 use Rattle.tally_law.specs.Poll.{HasEligible}
 use Rattle.tally_law.specs.LawStatements.{AllotmentsAreUnique, AllotmentsExist, EachOrderGivesAChoice, GroupsAreOfOneNumberOfVotes, NoLotIsNeededWhereVotesDecide, VotesDecideOrALotIsNeeded}
-use Rattle.tally_steps.specs.Certification.{ByOutcome, Certifies, RefusedOr, certified_by, count_checks}
+use Rattle.tally_steps.specs.Certification.{ByOutcome, Certifies, RefusedOr, seats_by_outcome, count_checks}
 use Rattle.tally_returns.specs.Checks.{check, first_refusal}
-use Rattle.tally_steps.specs.Step.{IsView, certified_with, changed_by, IsAnswered, IsConStep, IsStep, con_answer, seen, IsStepSeenAt}
+use Rattle.tally_steps.specs.Step.{IsView, certified_with, change_of_result, IsAnswered, IsConStep, IsStep, con_answer, reply_seen, IsStepSeenAt}
 use Rattle.tally_steps.specs.LawStatements.{CertificatesOfRunsStand}
 use Rattle.tally_steps.specs.LawfulState.{IsLawfulState}
 use Rattle.tally_returns.specs.Named.{BringsCode, con_named}
@@ -38,7 +38,7 @@ step-lawful setup s t ask r brings ok lawful step = at (con_named ask) refl step
     at_con code named None is step = subst (IsLawfulState setup) (sym step.1) lawful
     at_con code named (Some con) is step = con-step-lawful setup s t ask r code con ok lawful is named step
 
-    at : (named : Option (List ℕ)) → con_named ask ≡ named → IsStepSeenAt named setup s ask (seen r) t → IsLawfulState setup t
+    at : (named : Option (List ℕ)) → con_named ask ≡ named → IsStepSeenAt named setup s ask (reply_seen r) t → IsLawfulState setup t
     at None is step = subst (IsLawfulState setup) (sym step.1) (return-step-lawful setup s ask brings ok lawful)
     at (Some code) is step = at_con code is (constituency_with code setup) refl step
 
@@ -144,23 +144,23 @@ otherwise : {X : Type 0} (refusal : Option Refusal) (P : Result X Refusal → Ty
 otherwise None P result none h = h
 otherwise (Some e) P result none h = cc
 
-seen-refused : (r : Result Reply Refusal) (refusal : Refusal) → seen r ≡ Err refusal → r ≡ Err refusal
+seen-refused : (r : Result Reply Refusal) (refusal : Refusal) → reply_seen r ≡ Err refusal → r ≡ Err refusal
 seen-refused (Ok reply) refusal is = cc
 seen-refused (Err e) refusal is = cc
 
 -- a missing lot is told exactly where one is needed and none stands
 told-where_missing : AllotmentLaws → (con : Constituency) (view : View) (r : Result Reply Refusal) (outcome : Outcome) → 1 ≤ con.seats → HasEligible (poll_in con view) → IsOutcome con view outcome
-    → seen r ≡ con_answer view (changed_by certified_with (certified_by outcome))
+    → reply_seen r ≡ con_answer view (change_of_result certified_with (seats_by_outcome outcome))
     → ((group : List Bool) × (in_question : ℕ) × (r ≡ Err (LotMissing group in_question))) ↔ (IsLotNeeded (rule_in con) (poll_in con view) con.seats × (view.lot ≡ []))
 told-where_missing laws con view r nobody some has is answer = absurd (is has)
 told-where_missing laws con view r (lot_missing group n) some has is answer = (λ told. (is.1.needed, is.2), λ missing. (group, n, seen-refused r (LotMissing group n) answer))
 told-where_missing laws con view r (allotted seats) some has is answer = (
-  λ told. let both : seen r ≡ Err (LotMissing told.0 told.1) = ap seen told.2 in cc,
+  λ told. let both : reply_seen r ≡ Err (LotMissing told.0 told.1) = ap reply_seen told.2 in cc,
   λ missing. absurd (lot-stands laws con view some is.1 missing.0 missing.1),
 )
 
 -- what is told of a missing lot is its need
-need-told : (con : Constituency) (view : View) (group : List Bool) (n : ℕ) (outcome : Outcome) → IsOutcome con view outcome → Err (LotMissing group n) ≡ certified_by outcome
+need-told : (con : Constituency) (view : View) (group : List Bool) (n : ℕ) (outcome : Outcome) → IsOutcome con view outcome → Err (LotMissing group n) ≡ seats_by_outcome outcome
     → IsNeed (rule_in con) (poll_in con view) con.seats group n
 need-told con view group n nobody is told = cc
 need-told con view group n (allotted seats) is told = cc
@@ -170,7 +170,7 @@ need-told con view group n (lot_missing its m) is told =
     subst (λ (g : List Bool). IsNeed (rule_in con) (poll_in con view) con.seats g n) same_group
     (subst (λ (k : ℕ). IsNeed (rule_in con) (poll_in con view) con.seats its k) same_number is.1)
 
-result-told : (view : View) (result : Result (List ℕ) Refusal) (refusal : Refusal) → Err refusal ≡ con_answer view (changed_by certified_with result) → result ≡ Err refusal
+result-told : (view : View) (result : Result (List ℕ) Refusal) (refusal : Refusal) → Err refusal ≡ con_answer view (change_of_result certified_with result) → result ≡ Err refusal
 result-told view (Ok seats) refusal is = cc
 result-told view (Err e) refusal is = cc
 
@@ -186,7 +186,7 @@ no_lot-checked true true true true now left group n is = cc
 certifies-told : (con : Constituency) (view : View) (edition : ℕ) (group : List Bool) (n : ℕ) → Certifies con view edition (Err (LotMissing group n)) → IsNeed (rule_in con) (poll_in con view) con.seats group n
 certifies-told con view edition group n certifies = at (first_refusal (count_checks view edition)) refl certifies
   where
-    at : (refusal : Option Refusal) → first_refusal (count_checks view edition) ≡ refusal → RefusedOr refusal (ByOutcome con view certified_by) (Err (LotMissing group n)) → IsNeed (rule_in con) (poll_in con view) con.seats group n
+    at : (refusal : Option Refusal) → first_refusal (count_checks view edition) ≡ refusal → RefusedOr refusal (ByOutcome con view seats_by_outcome) (Err (LotMissing group n)) → IsNeed (rule_in con) (poll_in con view) con.seats group n
     at None none by = need-told con view group n by.0 by.1 by.2
     at (Some e) some by =
         let same : e ≡ LotMissing group n = cc in
@@ -200,7 +200,7 @@ record IsCertifyStep (con : Constituency) (s : State) (edition : ℕ) (r : Resul
   seats : List ℕ
   result : Result (List ℕ) Refusal
   certifies : Certifies con (view_of con s seats) edition result
-  answer : seen r ≡ con_answer (view_of con s seats) (changed_by certified_with result)
+  answer : reply_seen r ≡ con_answer (view_of con s seats) (change_of_result certified_with result)
 
 certify-step : (setup : List Constituency) (s t : State) (code : List ℕ) (con : Constituency) (edition : ℕ) (r : Result Reply Refusal) → constituency_with code setup ≡ Some con
     → IsStep setup s (Certify code edition) r t → IsCertifyStep con s edition r
@@ -211,7 +211,7 @@ certify-step setup s t code con edition r is step =
       seats = view.seats;
       result = decides.0;
       certifies = subst (λ (v : View). Certifies con v edition decides.0) here.2.0 decides.1;
-      answer = here.4 ∙ ap (con_answer view) decides.2 ∙ ap (λ (v : View). con_answer v (changed_by certified_with decides.0)) here.2.0;
+      answer = here.4 ∙ ap (con_answer view) decides.2 ∙ ap (λ (v : View). con_answer v (change_of_result certified_with decides.0)) here.2.0;
     }
 
 pub missing-told : AllotmentLaws → (setup : List Constituency) (s t : State) (code : List ℕ) (con : Constituency) (view : View) (edition : ℕ) (r : Result Reply Refusal) → IsSetup setup
@@ -223,8 +223,8 @@ missing-told laws setup s t code con view edition r ok is view_is none has step 
     let other = view_of con s its.seats in
     let none_there : first_refusal (count_checks other edition) ≡ None = ap (λ (v : View). first_refusal (count_checks v edition)) (sym same_view) ∙ none in
     let has_there : HasEligible (poll_in con other) = subst (λ (v : View). HasEligible (poll_in con v)) same_view has in
-    let by = otherwise (first_refusal (count_checks other edition)) (ByOutcome con other certified_by) its.result none_there its.certifies in
-    let answer : seen r ≡ con_answer other (changed_by certified_with (certified_by by.0)) = its.answer ∙ ap (λ (x : Result (List ℕ) Refusal). con_answer other (changed_by certified_with x)) by.2 in
+    let by = otherwise (first_refusal (count_checks other edition)) (ByOutcome con other seats_by_outcome) its.result none_there its.certifies in
+    let answer : reply_seen r ≡ con_answer other (change_of_result certified_with (seats_by_outcome by.0)) = its.answer ∙ ap (λ (x : Result (List ℕ) Refusal). con_answer other (change_of_result certified_with x)) by.2 in
     subst (λ (v : View). ((group : List Bool) × (in_question : ℕ) × (r ≡ Err (LotMissing group in_question))) ↔ (IsLotNeeded (rule_in con) (poll_in con v) con.seats × (v.lot ≡ []))) (sym same_view)
     (told-where_missing laws con other r by.0 (constituency-limits setup code con ok is).some_seat has_there by.1 answer)
 
@@ -234,7 +234,7 @@ pub told-is_need : (setup : List Constituency) (s t : State) (code : List ℕ) (
 told-is_need setup s t code con view edition r group n is view_is step told =
     let its = certify-step setup s t code con edition r is step in
     let other = view_of con s its.seats in
-    let result_is : its.result ≡ Err (LotMissing group n) = result-told other its.result (LotMissing group n) (sym (ap seen told) ∙ its.answer) in
+    let result_is : its.result ≡ Err (LotMissing group n) = result-told other its.result (LotMissing group n) (sym (ap reply_seen told) ∙ its.answer) in
     let need : IsNeed (rule_in con) (poll_in con other) con.seats group n =
     certifies-told con other edition group n (subst (λ (x : Result (List ℕ) Refusal). Certifies con other edition x) result_is its.certifies) in
     subst (λ (v : View). IsNeed (rule_in con) (poll_in con v) con.seats group n) (sym view_is.0) need

@@ -4,7 +4,7 @@ use Rattle.std.specs.Prelude.{not, if◌then◌else◌}
 use Rattle.std.proofs.lemmas.Bool.{eqb-true, eqb-false, not-true}
 use Rattle.tally_rules.specs.Constituency.{Constituency}
 use Rattle.tally_law.specs.Lot.{IsOrderOf}
-use Rattle.tally_steps.specs.Certification.{ByOutcome, Certifies, Draws, RefusedOr, certified_by, count_checks, drawn_in, drawn_places, drawn_where, list_places, names_group}
+use Rattle.tally_steps.specs.Certification.{ByOutcome, Certifies, Draws, RefusedOr, seats_by_outcome, count_checks, lot_in_view, drawn_places, lot_where_recorded, list_places, names_group}
 use Rattle.tally_returns.specs.Checks.{check, first_refusal}
 use Rattle.tally_steps.specs.Outcome.{Outcome, HasSeats, IsLawfulView, IsOutcome, allotted, lot_missing, nobody, poll_in, rule_in}
 use Rattle.tally_returns.specs.State.{last_edition}
@@ -44,7 +44,7 @@ passed view edition none =
 
 -- ---- Certify
 
-by_outcome : (con : Constituency) (view : View) (seats : List ℕ) (outcome : Outcome) → IsOutcome con view outcome → Ok seats ≡ certified_by outcome → IsOutcome con view (allotted seats)
+by_outcome : (con : Constituency) (view : View) (seats : List ℕ) (outcome : Outcome) → IsOutcome con view outcome → Ok seats ≡ seats_by_outcome outcome → IsOutcome con view (allotted seats)
 by_outcome con view seats nobody is e = cc
 by_outcome con view seats (lot_missing group n) is e = cc
 by_outcome con view seats (allotted given) is e =
@@ -54,14 +54,14 @@ by_outcome con view seats (allotted given) is e =
 -- the seats that Certify gives are those of the allotment
 pub certified-seats : (con : Constituency) (view : View) (edition : ℕ) (seats : List ℕ) → Certifies con view edition (Ok seats) → IsOutcome con view (allotted seats)
 certified-seats con view edition seats certifies =
-    let g = given (first_refusal (count_checks view edition)) (ByOutcome con view certified_by) seats certifies in
+    let g = given (first_refusal (count_checks view edition)) (ByOutcome con view seats_by_outcome) seats certifies in
     by_outcome con view seats g.1.0 g.1.1 g.1.2
 
 -- a lawful view is lawful once it is certified with the seats that Certify gives
 pub certified-lawful : (con : Constituency) (view : View) (edition : ℕ) (seats : List ℕ) → IsLawfulView con view → Certifies con view edition (Ok seats)
     → IsLawfulView con (record view { edition = view.edition + 1; certified = true; seats = seats })
 certified-lawful con view edition seats lawful certifies =
-    let g = given (first_refusal (count_checks view edition)) (ByOutcome con view certified_by) seats certifies in
+    let g = given (first_refusal (count_checks view edition)) (ByOutcome con view seats_by_outcome) seats certifies in
     let p = passed view edition g.0 in
     let given_seats = certified-seats con view edition seats certifies in record {
       fits = record {
@@ -104,7 +104,7 @@ drawn-named group (Some found) places e = by_cases (names_group group found) ref
         subst (λ (ps : List ℕ). names_group group ps ≡ true) same named
     by_cases false named e = cc
 
-drawn-by : (con : Constituency) (view : View) (found : Option (List ℕ)) (places lot : List ℕ) (outcome : Outcome) → IsOutcome con view outcome → Ok places ≡ drawn_where lot outcome found → IsDrawn con view places
+drawn-by : (con : Constituency) (view : View) (found : Option (List ℕ)) (places lot : List ℕ) (outcome : Outcome) → IsOutcome con view outcome → Ok places ≡ lot_where_recorded lot outcome found → IsDrawn con view places
 drawn-by con view found places [] nobody is e = cc
 drawn-by con view found places [] (lot_missing group n) is e = record { group = group; in_question = n; missing = is; named = drawn-named group found places (sym e) }
 drawn-by con view found places [] (allotted seats) is e = cc
@@ -115,7 +115,7 @@ drawn-by con view found places (place ∷ lot) (allotted seats) is e = cc
 -- where Draw gives places a lot is needed, and they name each list of its group once and no other
 pub drawn-group : (con : Constituency) (view : View) (edition : ℕ) (order : List (List ℕ)) (places : List ℕ) → Draws con view edition order (Ok places) → IsDrawn con view places
 drawn-group con view edition order places draws =
-    let g = given (first_refusal (count_checks view edition)) (ByOutcome con view (drawn_in con view order)) places draws in
+    let g = given (first_refusal (count_checks view edition)) (ByOutcome con view (lot_in_view con view order)) places draws in
     drawn-by con view (list_places con order) places view.lot g.1.0 g.1.1 g.1.2
 
 pub drawn-order : (con : Constituency) (view : View) (edition : ℕ) (order : List (List ℕ)) (places : List ℕ) → (draws : Draws con view edition order (Ok places))
@@ -127,14 +127,14 @@ drawn-order con view edition order places draws =
 -- and the constituency is not certified
 pub drawn-open : (con : Constituency) (view : View) (edition : ℕ) (order : List (List ℕ)) (places : List ℕ) → Draws con view edition order (Ok places) → view.certified ≡ false
 drawn-open con view edition order places draws =
-    let g = given (first_refusal (count_checks view edition)) (ByOutcome con view (drawn_in con view order)) places draws in
+    let g = given (first_refusal (count_checks view edition)) (ByOutcome con view (lot_in_view con view order)) places draws in
     (passed view edition g.0).not_certified
 
 -- a lawful view is lawful once the lot stands that Draw gives
 pub drawn-lawful : (con : Constituency) (view : View) (edition : ℕ) (order : List (List ℕ)) (places : List ℕ) → IsLawfulView con view → Draws con view edition order (Ok places)
     → IsLawfulView con (record view { edition = view.edition + 1; lot = places })
 drawn-lawful con view edition order places lawful draws =
-    let g = given (first_refusal (count_checks view edition)) (ByOutcome con view (drawn_in con view order)) places draws in
+    let g = given (first_refusal (count_checks view edition)) (ByOutcome con view (lot_in_view con view order)) places draws in
     let p = passed view edition g.0 in
     let d = drawn-group con view edition order places draws in
     let none : HasSeats con view false = subst (λ (b : Bool). HasSeats con view b) p.not_certified lawful.seats in record {

@@ -12,12 +12,12 @@ use Rattle.tally_rules.specs.Text.{is_note}
 use Rattle.tally_returns.specs.Checks.{check, first_refusal, refused_or}
 use Rattle.tally_returns.specs.Counts.{VoteCounts, same_counts}
 use Rattle.tally_returns.specs.Return.{StationReturn, Returns, first_return}
-use Rattle.tally_returns.specs.Lodge.{StationLimits, counts_checks, admitted}
-use Rattle.tally_returns.specs.Moves.{last_revision, may_query, may_correct, may_close, move_checks, counts_checks_at, query_checks, correct_checks, close_checks, queried, corrected, closed}
-use Rattle.tally_returns.specs.Decide.{decided_return, lodge_change, decided_move, put_next}
+use Rattle.tally_returns.specs.Lodge.{StationLimits, counts_checks, reply_after_checks}
+use Rattle.tally_returns.specs.Moves.{last_revision, may_query, may_correct, may_close, move_checks, counts_checks_at, query_checks, correct_checks, close_checks, queried_return, corrected_return, closed_return}
+use Rattle.tally_returns.specs.Decide.{return_change, lodge_change, move_change, put_next}
 use Rattle.tally_returns.specs.Named.{station_named}
 use Rattle.tally_returns.specs.State.{State, stations_of}
-use Rattle.tally_steps.specs.Step.{con_of_station, is_certified, decided_at_station, decided_in, without_lot, after_put, with_return, after, after_return}
+use Rattle.tally_steps.specs.Step.{con_of_station, is_certified, change_at_station, change_in_state, without_lot, after_put, with_return, state_after, after_return}
 use Rattle.tally_returns.specs.declared.returns.Status.{Status}
 use Rattle.tally_returns.specs.declared.ask.Ask.{Ask}
 use Rattle.tally_returns.specs.declared.ask.Ask.TheVariants.{Lodge, Query, Correct, Close, ShowReturn}
@@ -52,7 +52,7 @@ pub record IsMove (checks : List (Option Refusal)) (found : Option StationReturn
   pub put_is : r ≡ next standing
 
 moved-put : (checks : List (Option Refusal)) (found : Option StationReturn) (next : StationReturn → StationReturn) (r : StationReturn)
-    → decided_move checks found next ≡ Ok (PutReturn r) → IsMove checks found next r
+    → move_change checks found next ≡ Ok (PutReturn r) → IsMove checks found next r
 moved-put checks found next r is = go (first_refusal checks) found refl refl is
   where
     go : (refused : Option Refusal) (f : Option StationReturn) → first_refusal checks ≡ refused → found ≡ f
@@ -86,7 +86,7 @@ pub record IsRise (found : Option StationReturn) (rev : ℕ) (r : StationReturn)
 move-rise : (certified : Bool) (checks : List (Option Refusal)) (found : Option StationReturn) (rev : ℕ) (may_start : Status → Bool) (next : StationReturn → StationReturn) (r : StationReturn)
     → ((standing : StationReturn) → (next standing).rev ≡ standing.rev + 1)
     → (first_refusal checks ≡ None → first_refusal (move_checks certified found rev may_start) ≡ None)
-    → decided_move checks found next ≡ Ok (PutReturn r) → IsRise found rev r
+    → move_change checks found next ≡ Ok (PutReturn r) → IsRise found rev r
 move-rise certified checks found rev may_start next r up rest is =
     let put = moved-put checks found next r is in
     let moves = subst (λ f. first_refusal (move_checks certified f rev may_start) ≡ None) put.found_is (rest put.passed) in
@@ -96,7 +96,7 @@ move-rise certified checks found rev may_start next r up rest is =
     }
 
 lodge-rise : (slip : List ℕ) (counts : VoteCounts) (refused : Option Refusal) (found : Option StationReturn) (r : StationReturn)
-    → lodge_change slip counts (refused_or refused (admitted found slip counts)) ≡ Ok (PutReturn r) → IsRise found 0 r
+    → lodge_change slip counts (refused_or refused (reply_after_checks found slip counts)) ≡ Ok (PutReturn r) → IsRise found 0 r
 lodge-rise slip counts (Some e) found r is = cc
 lodge-rise slip counts None None r is =
     let put : first_return slip counts ≡ r = cc in record { stood = refl; rises = sym (ap (λ (x : StationReturn). x.rev) put) }
@@ -107,18 +107,18 @@ lodge-rise slip counts None (Some standing) r is = again (pointwise nat_eq stand
     again false ok = cc
 
 decided-rise : (station : Option StationLimits) (certified : Bool) (found : Option StationReturn) (ask : Ask) (r : StationReturn)
-    → decided_return station certified found ask ≡ Ok (PutReturn r) → IsRise found (named_rev ask) r
+    → return_change station certified found ask ≡ Ok (PutReturn r) → IsRise found (named_rev ask) r
 decided-rise None certified found (Lodge code slip counts) r is = cc
 decided-rise (Some limits) certified found (Lodge code slip counts) r is = lodge-rise slip counts (first_refusal (counts_checks limits counts)) found r is
 decided-rise station certified found (Query code rev note) r is =
     let moves = move_checks certified found rev may_query in
-    move-rise certified (query_checks station certified found rev (string_bytes note)) found rev may_query (queried (string_bytes note)) r (λ standing. refl)
+    move-rise certified (query_checks station certified found rev (string_bytes note)) found rev may_query (queried_return (string_bytes note)) r (λ standing. refl)
     (λ none. passed-rest (is_note (string_bytes note)) BadNote moves (passed-rest (is_some station) NoStation (check (is_note (string_bytes note)) BadNote ∷ moves) none)) is
 decided-rise station certified found (Correct code rev slip counts) r is =
-    move-rise certified (correct_checks station certified found rev counts) found rev may_correct (corrected slip counts) r (λ standing. refl)
+    move-rise certified (correct_checks station certified found rev counts) found rev may_correct (corrected_return slip counts) r (λ standing. refl)
     (first_refusal-append_rest (counts_checks_at station counts) (move_checks certified found rev may_correct)) is
 decided-rise station certified found (Close code rev) r is =
-    move-rise certified (close_checks station certified found rev) found rev may_close closed r (λ standing. refl)
+    move-rise certified (close_checks station certified found rev) found rev may_close closed_return r (λ standing. refl)
     (passed-rest (is_some station) NoStation (move_checks certified found rev may_close)) is
 decided-rise station certified found (ShowReturn code) r is = shown (first_refusal (check (is_some station) NoStation ∷ check (is_some found) NoReturn ∷ [])) is
   where
@@ -155,7 +155,7 @@ puts other = false
 
 -- whether a command on a return acts
 abbrev pub acts : List Constituency → State → Ask → Bool
-acts setup s ask = puts (decided_in setup s ask)
+acts setup s ask = puts (change_in_state setup s ask)
 
 -- what is decided where a return is put
 pub record IsPut (d : Result Change Refusal) : Type 0 where
@@ -168,23 +168,23 @@ puts-is other e = cc
 
 -- no command on a return lowers the revision of a station
 pub after_return-rises : (setup : List Constituency) (s : State) (ask : Ask) (q : List ℕ) → rev_at s q ≤ rev_at (after_return setup s ask) q
-after_return-rises setup s ask q = go (decided_in setup s ask) refl
+after_return-rises setup s ask q = go (change_in_state setup s ask) refl
   where
-    put : (named : Option (List ℕ)) (r : StationReturn) → decided_at_station setup s ask named ≡ Ok (PutReturn r) → rev_at s q ≤ rev_at (with_return (after_put setup s ask) named r) q
+    put : (named : Option (List ℕ)) (r : StationReturn) → change_at_station setup s ask named ≡ Ok (PutReturn r) → rev_at s q ≤ rev_at (with_return (after_put setup s ask) named r) q
     put None r is = cc
     put (Some station) r is =
         let rise = decided-rise (stations_of setup station) (is_certified setup s station) (map.get s.returns station) ask r is in
         subst (λ (m : Returns). rev_at s q ≤ rev_of (map.get (map.insert m station r) q)) (sym (after_put-returns setup s ask))
         (insert-rises s.returns station q r (omega (arith, rise.stood, rise.rises)))
 
-    go : (d : Result Change Refusal) → decided_in setup s ask ≡ d → rev_at s q ≤ rev_at (after setup s ask d) q
+    go : (d : Result Change Refusal) → change_in_state setup s ask ≡ d → rev_at s q ≤ rev_at (state_after setup s ask d) q
     go (Ok (PutReturn r)) is = put (station_named ask) r is
     go other is = omega arith
 
 acts-put : (setup : List Constituency) (s : State) (ask : Ask) (station : List ℕ) → station_named ask ≡ Some station → acts setup s ask ≡ true
-    → IsPut (decided_at_station setup s ask (Some station))
+    → IsPut (change_at_station setup s ask (Some station))
 acts-put setup s ask station named acted =
-    puts-is (decided_at_station setup s ask (Some station)) (subst (λ n. puts (decided_at_station setup s ask n) ≡ true) named acted)
+    puts-is (change_at_station setup s ask (Some station)) (subst (λ n. puts (change_at_station setup s ask n) ≡ true) named acted)
 
 -- a command that acts names the revision that stands
 pub acts-stood : (setup : List Constituency) (s : State) (ask : Ask) (station : List ℕ) → station_named ask ≡ Some station → acts setup s ask ≡ true
@@ -198,8 +198,8 @@ pub acts-rises : (setup : List Constituency) (s : State) (ask : Ask) (station : 
     → rev_at (after_return setup s ask) station ≡ named_rev ask + 1
 acts-rises setup s ask station named acted =
     let put = acts-put setup s ask station named acted in
-    let decision : decided_in setup s ask ≡ Ok (PutReturn put.put) = ap (decided_at_station setup s ask) named ∙ put.is in
-    ap (λ d. rev_at (after setup s ask d) station) decision
+    let decision : change_in_state setup s ask ≡ Ok (PutReturn put.put) = ap (change_at_station setup s ask) named ∙ put.is in
+    ap (λ d. rev_at (state_after setup s ask d) station) decision
     ∙ ap (λ n. rev_at (with_return (after_put setup s ask) n put.put) station) named
     ∙ insert-self (after_put setup s ask).returns station put.put
     ∙ (decided-rise (stations_of setup station) (is_certified setup s station) (map.get s.returns station) ask put.put put.is).rises

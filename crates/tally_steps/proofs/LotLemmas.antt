@@ -7,7 +7,7 @@ use Rattle.std.proofs.lemmas.List.Recursion.{and_at, and_from_places}
 use Rattle.tally_rules.specs.Constituency.{Constituency}
 use Rattle.tally_rules.specs.ListSet.{has_place}
 use Rattle.tally_law.specs.Lot.{IsOrderOf}
-use Rattle.tally_steps.specs.Certification.{are_distinct, list_place, list_places, marked_from, names_group, with_place}
+use Rattle.tally_steps.specs.Certification.{are_distinct, list_place, list_places, marked_places_from, names_group, with_place}
 use Rattle.tally_steps.specs.Holders.{is_among}
 
 -- ---- what is among places
@@ -33,27 +33,27 @@ among-from place (x ∷ xs) (suc i) lt e = or-second (nat_eq place x) (list_any 
 
 -- ---- all that are marked
 
-pub all_marked-at : (q : ℕ → Bool) (marks : List Bool) (p l : ℕ) → list_all q (marked_from p marks) ≡ true → get_or marks l false ≡ true → q (p + l) ≡ true
+pub all_marked-at : (q : ℕ → Bool) (marks : List Bool) (p l : ℕ) → list_all q (marked_places_from p marks) ≡ true → get_or marks l false ≡ true → q (p + l) ≡ true
 all_marked-at q [] p l e marked = absurd (false≢true marked)
-all_marked-at q (true ∷ marks) p zero e marked = ap q (let s : p + 0 ≡ p = omega arith in s) ∙ (and_parts (q p) (list_all q (marked_from (p + 1) marks)) e).0
+all_marked-at q (true ∷ marks) p zero e marked = ap q (let s : p + 0 ≡ p = omega arith in s) ∙ (and_parts (q p) (list_all q (marked_places_from (p + 1) marks)) e).0
 all_marked-at q (false ∷ marks) p zero e marked = absurd (false≢true marked)
 all_marked-at q (true ∷ marks) p (suc l) e marked =
-    ap q (let s : p + suc l ≡ p + 1 + l = omega arith in s) ∙ all_marked-at q marks (p + 1) l (and_parts (q p) (list_all q (marked_from (p + 1) marks)) e).1 marked
+    ap q (let s : p + suc l ≡ p + 1 + l = omega arith in s) ∙ all_marked-at q marks (p + 1) l (and_parts (q p) (list_all q (marked_places_from (p + 1) marks)) e).1 marked
 all_marked-at q (false ∷ marks) p (suc l) e marked =
     ap q (let s : p + suc l ≡ p + 1 + l = omega arith in s) ∙ all_marked-at q marks (p + 1) l e marked
 
-pub all_marked-from : (q : ℕ → Bool) (marks : List Bool) (p : ℕ) → ((l : ℕ) → get_or marks l false ≡ true → q (p + l) ≡ true) → list_all q (marked_from p marks) ≡ true
+pub all_marked-from : (q : ℕ → Bool) (marks : List Bool) (p : ℕ) → ((l : ℕ) → get_or marks l false ≡ true → q (p + l) ≡ true) → list_all q (marked_places_from p marks) ≡ true
 all_marked-from q [] p each = refl
 all_marked-from q (true ∷ marks) p each =
-    and_from (q p) (list_all q (marked_from (p + 1) marks)) (ap q (let s : p ≡ p + 0 = omega arith in s) ∙ each 0 refl)
+    and_from (q p) (list_all q (marked_places_from (p + 1) marks)) (ap q (let s : p ≡ p + 0 = omega arith in s) ∙ each 0 refl)
     (all_marked-from q marks (p + 1) (λ l marked. ap q (let s : p + 1 + l ≡ p + suc l = omega arith in s) ∙ each (suc l) marked))
 all_marked-from q (false ∷ marks) p each =
     all_marked-from q marks (p + 1) (λ l marked. ap q (let s : p + 1 + l ≡ p + suc l = omega arith in s) ∙ each (suc l) marked)
 
 -- one that is marked does not pass
-pub all_marked-fails : (q : ℕ → Bool) (marks : List Bool) (p l : ℕ) → get_or marks l false ≡ true → q (p + l) ≡ false → false ≡ list_all q (marked_from p marks)
+pub all_marked-fails : (q : ℕ → Bool) (marks : List Bool) (p l : ℕ) → get_or marks l false ≡ true → q (p + l) ≡ false → false ≡ list_all q (marked_places_from p marks)
 all_marked-fails q marks p l marked fails =
-    sym (false_from_ne_true (list_all q (marked_from p marks)) (λ e. true≢false (sym (all_marked-at q marks p l e marked) ∙ fails)))
+    sym (false_from_ne_true (list_all q (marked_places_from p marks)) (λ e. true≢false (sym (all_marked-at q marks p l e marked) ∙ fails)))
 
 -- ---- the order of a group
 
@@ -77,7 +77,7 @@ pub order-from : (group : List Bool) (places : List ℕ) → names_group group p
 order-from group places e =
     let all_in = list_all (has_place group) places in
     let differ = are_distinct places in
-    let all_named = list_all (λ place. is_among place places) (marked_from 1 group) in
+    let all_named = list_all (λ place. is_among place places) (marked_places_from 1 group) in
     let first : (all_in && differ) ≡ true = (and_parts (all_in && differ) all_named e).0 in
     let named : all_named ≡ true = (and_parts (all_in && differ) all_named e).1 in
     let within : all_in ≡ true = (and_parts all_in differ first).0 in
@@ -91,7 +91,7 @@ pub order-to : (group : List Bool) (places : List ℕ) → IsOrderOf group place
 order-to group places order =
     let all_in = list_all (has_place group) places in
     let differ = are_distinct places in
-    let all_named = list_all (λ place. is_among place places) (marked_from 1 group) in
+    let all_named = list_all (λ place. is_among place places) (marked_places_from 1 group) in
     let within : all_in ≡ true = and_from_places (list_all (has_place group)) (has_place group) refl (λ _ _. refl) places 0 order.no_other in
     let apart : differ ≡ true = distinct-from places order.once in
     let named : all_named ≡ true =

@@ -3,9 +3,9 @@ use Rattle.std.proofs.Common.{◌≡◌, ◌∙◌, ℕ, List, Option, Some, Non
 use Rattle.tally_rules.specs.Constituency.{Constituency}
 use Rattle.tally_rules.specs.Limits.{IsSetup}
 use Rattle.tally_rules.specs.Setup.{constituency_with}
-use Rattle.tally_steps.specs.Certification.{ByOutcome, Certifies, Draws, RefusedOr, certified_by, count_checks, drawn_in, drawn_where, list_places}
+use Rattle.tally_steps.specs.Certification.{ByOutcome, Certifies, Draws, RefusedOr, seats_by_outcome, count_checks, lot_in_view, lot_where_recorded, list_places}
 use Rattle.tally_returns.specs.Checks.{first_refusal}
-use Rattle.tally_steps.specs.Step.{ConChange, Decides, after_change, certified_with, changed_by, lot_set, Answer, IsConStepSeen, IsStepSeen, IsStepSeenAt, con_answer}
+use Rattle.tally_steps.specs.Step.{ConChange, Decides, after_change, certified_with, change_of_result, lot_set, Answer, IsConStepSeen, IsStepSeen, IsStepSeenAt, con_answer}
 use Rattle.tally_steps.specs.Outcome.{IsOutcome, Outcome, allotted, lot_missing, nobody, poll_in, rule_in}
 use Rattle.tally_returns.specs.Named.{con_named}
 use Rattle.tally_returns.specs.State.{State}
@@ -44,22 +44,22 @@ refused-one (Some e) P a b one first second = first ∙ sym second
 certifies-one : AllotmentLaws → (setup : List Constituency) (code : List ℕ) (con : Constituency) (view : View) (edition : ℕ) (a b : Result (List ℕ) Refusal) → IsSetup setup → constituency_with code setup ≡ Some con
     → Certifies con view edition a → Certifies con view edition b → a ≡ b
 certifies-one laws setup code con view edition a b ok is =
-    refused-one (first_refusal (count_checks view edition)) (ByOutcome con view certified_by) a b
-    (λ x y first second. first.2 ∙ ap certified_by (outcome-one laws setup code con view first.0 second.0 ok is first.1 second.1) ∙ sym second.2)
+    refused-one (first_refusal (count_checks view edition)) (ByOutcome con view seats_by_outcome) a b
+    (λ x y first second. first.2 ∙ ap seats_by_outcome (outcome-one laws setup code con view first.0 second.0 ok is first.1 second.1) ∙ sym second.2)
 
 draws-one : AllotmentLaws → (setup : List Constituency) (code : List ℕ) (con : Constituency) (view : View) (edition : ℕ) (order : List (List ℕ)) (a b : Result (List ℕ) Refusal) → IsSetup setup → constituency_with code setup ≡ Some con
     → Draws con view edition order a → Draws con view edition order b → a ≡ b
 draws-one laws setup code con view edition order a b ok is =
-    refused-one (first_refusal (count_checks view edition)) (ByOutcome con view (drawn_in con view order)) a b
-    (λ x y first second. first.2 ∙ ap (λ (o : Outcome). drawn_where view.lot o (list_places con order)) (outcome-one laws setup code con view first.0 second.0 ok is first.1 second.1) ∙ sym second.2)
+    refused-one (first_refusal (count_checks view edition)) (ByOutcome con view (lot_in_view con view order)) a b
+    (λ x y first second. first.2 ∙ ap (λ (o : Outcome). lot_where_recorded view.lot o (list_places con order)) (outcome-one laws setup code con view first.0 second.0 ok is first.1 second.1) ∙ sym second.2)
 
 -- at most one thing is decided of a command
 pub decides-one : AllotmentLaws → (setup : List Constituency) (code : List ℕ) (con : Constituency) (view : View) (ask : Ask) (a b : Result ConChange Refusal) → IsSetup setup → constituency_with code setup ≡ Some con
     → Decides con view ask a → Decides con view ask b → a ≡ b
 decides-one laws setup code con view (Draw key edition order) a b ok is first second =
-    first.2 ∙ ap (changed_by lot_set) (draws-one laws setup code con view edition order.items first.0 second.0 ok is first.1 second.1) ∙ sym second.2
+    first.2 ∙ ap (change_of_result lot_set) (draws-one laws setup code con view edition order.items first.0 second.0 ok is first.1 second.1) ∙ sym second.2
 decides-one laws setup code con view (Certify key edition) a b ok is first second =
-    first.2 ∙ ap (changed_by certified_with) (certifies-one laws setup code con view edition first.0 second.0 ok is first.1 second.1) ∙ sym second.2
+    first.2 ∙ ap (change_of_result certified_with) (certifies-one laws setup code con view edition first.0 second.0 ok is first.1 second.1) ∙ sym second.2
 decides-one laws setup code con view (Reopen key edition note) a b ok is first second = first ∙ sym second
 decides-one laws setup code con view (Vacate key list place note) a b ok is first second = first ∙ sym second
 decides-one laws setup code con view (ShowCon key) a b ok is first second = first ∙ sym second

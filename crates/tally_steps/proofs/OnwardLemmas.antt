@@ -10,7 +10,7 @@ use Rattle.tally_rules.specs.Setup.{constituency_with}
 use Rattle.tally_returns.specs.Return.{StationReturn}
 use Rattle.tally_returns.specs.Named.{con_named, station_named}
 use Rattle.tally_returns.specs.State.{State, ConState, GoneCandidates, con_state}
-use Rattle.tally_steps.specs.Step.{con_of_station, decided_in, without_lot, after_put, with_return, after, ConChange, no_change, lot_set, certified_with, open_again, gone_for_good, changed, with_con, after_change, IsConStep, IsAnswered, IsStepSeenAt, seen}
+use Rattle.tally_steps.specs.Step.{con_of_station, change_in_state, without_lot, after_put, with_return, state_after, ConChange, no_change, lot_set, certified_with, open_again, gone_for_good, con_state_after, with_con, after_change, IsConStep, IsAnswered, IsStepSeenAt, reply_seen}
 use Rattle.tally_returns.specs.declared.ask.Ask.{Ask}
 use Rattle.tally_returns.specs.declared.ask.Ask.TheVariants.{Query}
 use Rattle.tally_returns.specs.declared.change.Change.{Change}
@@ -48,7 +48,7 @@ insert-gone m key note candidate there = ap is_some (fin.get-insert nat_list_cmp
     go true = refl
     go false = there
 
-changed-onward : (c : ConState) (change : ConChange) → IsConOnward c (changed c change)
+changed-onward : (c : ConState) (change : ConChange) → IsConOnward c (con_state_after c change)
 changed-onward c no_change = con_onward-same c
 changed-onward c (lot_set places) = record { edition = omega arith; gone = λ candidate there. there }
 changed-onward c (certified_with seats) = record { edition = omega arith; gone = λ candidate there. there }
@@ -58,7 +58,7 @@ changed-onward c (gone_for_good candidate next) =
 
 after_change-onward : (s : State) (code : List ℕ) (d : Result ConChange Refusal) → AreOnward s (after_change s code d)
 after_change-onward s code (Ok no_change) q = con_onward-same (con_state s q)
-after_change-onward s code (Ok other) q = with_con-onward s code (changed (con_state s code) other) (changed-onward (con_state s code) other) q
+after_change-onward s code (Ok other) q = with_con-onward s code (con_state_after (con_state s code) other) (changed-onward (con_state s code) other) q
 after_change-onward s code (Err refusal) q = con_onward-same (con_state s q)
 
 con-onward : (found : Option Constituency) (s : State) (ask : Ask) (r : Result Reply Refusal) (t : State) → IsConStep found s ask r t → AreOnward s t
@@ -84,7 +84,7 @@ with_return-cons s (Some station) standing = refl
 same_cons-onward : (s m t : State) → AreOnward s m → t.cons ≡ m.cons → AreOnward s t
 same_cons-onward s m t on same q = subst (IsConOnward (con_state s q)) (ap (λ cons. con_state (record m { cons = cons }) q) (sym same)) (on q)
 
-after-onward : (setup : List Constituency) (s : State) (ask : Ask) (d : Result Change Refusal) → AreOnward s (after setup s ask d)
+after-onward : (setup : List Constituency) (s : State) (ask : Ask) (d : Result Change Refusal) → AreOnward s (state_after setup s ask d)
 after-onward setup s ask (Ok (PutReturn standing)) q =
     same_cons-onward s (after_put setup s ask) (with_return (after_put setup s ask) (station_named ask) standing) (after_put-onward setup s ask)
     (with_return-cons (after_put setup s ask) (station_named ask) standing) q
@@ -104,9 +104,9 @@ same_returns-rise : (s t : State) → t.returns ≡ s.returns → (station : Lis
 same_returns-rise s t same station =
     let e : rev_at t station ≡ rev_at s station = ap (λ m. rev_at (record s { returns = m }) station) same in omega (arith, e)
 
-step-onward : (named : Option (List ℕ)) (setup : List Constituency) (s : State) (ask : Ask) (r : Result Reply Refusal) (t : State) → IsStepSeenAt named setup s ask (seen r) t → IsOnward s t
+step-onward : (named : Option (List ℕ)) (setup : List Constituency) (s : State) (ask : Ask) (r : Result Reply Refusal) (t : State) → IsStepSeenAt named setup s ask (reply_seen r) t → IsOnward s t
 step-onward None setup s ask r t is =
-    subst (IsOnward s) (sym is.1) (record { returns = after_return-rises setup s ask; cons = after-onward setup s ask (decided_in setup s ask) })
+    subst (IsOnward s) (sym is.1) (record { returns = after_return-rises setup s ask; cons = after-onward setup s ask (change_in_state setup s ask) })
 step-onward (Some code) setup s ask r t is = record {
   returns = same_returns-rise s t (con_step-returns (constituency_with code setup) s ask r t is);
   cons = con-onward (constituency_with code setup) s ask r t is;

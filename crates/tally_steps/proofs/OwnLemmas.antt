@@ -6,16 +6,16 @@ use Rattle.std.specs.FinMap.{get}
 use Rattle.tally_rules.specs.Constituency.{Constituency}
 use Rattle.tally_rules.specs.Setup.{constituency_with}
 use Rattle.tally_rules.specs.Text.{is_note}
-use Rattle.tally_steps.specs.Certification.{ListFound, RefusedOr, certificate_of, certified_by, count_checks, drawn_where, gone_of, has_candidate, holders_of, list_found, list_places, names_group, reopen_checks, reopened, vacate_checks, vacancy, vacates}
+use Rattle.tally_steps.specs.Certification.{ListFound, RefusedOr, certificate_of, seats_by_outcome, count_checks, lot_where_recorded, gone_of, has_candidate, holders_of, list_found, list_places, names_group, reopen_checks, reopen_result, vacate_checks, vacancy, vacate_result}
 use Rattle.tally_returns.specs.Checks.{check, check_found, first_refusal, refused_or}
-use Rattle.tally_steps.specs.Step.{ConChange, no_change, gone_for_good, lot_set, certified_with, open_again, Decides, changed_by, Answer, IsConStepSeen, IsStepSeenAt, answer, con_answer, lodge_reply, move_reply, return_reply, decided_in, is_certified}
+use Rattle.tally_steps.specs.Step.{ConChange, no_change, gone_for_good, lot_set, certified_with, open_again, Decides, change_of_result, Answer, IsConStepSeen, IsStepSeenAt, answer, con_answer, lodge_reply, move_reply, return_reply, change_in_state, is_certified}
 use Rattle.tally_returns.specs.Counts.{VoteCounts, all_votes, are_counts, same_counts}
 use Rattle.tally_returns.specs.Decide.{put_next, show_checks}
 use Rattle.tally_returns.specs.GoneCandidate.{GoneCandidate}
 use Rattle.tally_returns.specs.PastSeats.{PastSeats}
 use Rattle.tally_steps.specs.Holders.{is_among}
-use Rattle.tally_returns.specs.Lodge.{StationLimits, admitted, counts_checks, decided_at_code, lodge_answer}
-use Rattle.tally_returns.specs.Moves.{close_checks, closed, correct_checks, corrected, counts_checks_at, last_revision, may_close, may_correct, may_query, move_checks, queried, query_checks}
+use Rattle.tally_returns.specs.Lodge.{StationLimits, reply_after_checks, counts_checks, reply_at_code, lodge_answer}
+use Rattle.tally_returns.specs.Moves.{close_checks, closed_return, correct_checks, corrected_return, counts_checks_at, last_revision, may_close, may_correct, may_query, move_checks, queried_return, query_checks}
 use Rattle.tally_returns.specs.Named.{con_named}
 use Rattle.tally_steps.specs.Outcome.{Outcome, nobody, lot_missing, allotted}
 use Rattle.tally_steps.specs.Decisions.{StepsAreOfTheMachine}
@@ -77,7 +77,7 @@ refused-own checks x own other = go (first_refusal checks) (first-own checks own
 
 -- ---- commands on returns
 
-lodge-own : (known : Option StationLimits) (found : Option StationReturn) (slip : List ℕ) (counts : VoteCounts) → IsOwn (decided_at_code known found slip counts)
+lodge-own : (known : Option StationLimits) (found : Option StationReturn) (slip : List ℕ) (counts : VoteCounts) → IsOwn (reply_at_code known found slip counts)
 lodge-own None found slip counts = tt
 lodge-own (Some limits) found slip counts = go (first_refusal (counts_checks limits counts)) found (first-own (counts_checks limits counts) checks)
   where
@@ -88,7 +88,7 @@ lodge-own (Some limits) found slip counts = go (first_refusal (counts_checks lim
     again standing true = tt
     again standing false = tt
 
-    go : (refused : Option Refusal) (f : Option StationReturn) → IsOwnCheck refused → IsOwn (refused_or refused (admitted f slip counts))
+    go : (refused : Option Refusal) (f : Option StationReturn) → IsOwnCheck refused → IsOwn (refused_or refused (reply_after_checks f slip counts))
     go (Some e) f is = is
     go None None is = tt
     go None (Some standing) is = again standing (pointwise nat_eq standing.slip slip && same_counts standing.counts counts)
@@ -135,22 +135,22 @@ answer-own setup s (Query station rev note) =
     let certified = is_certified setup s station in
     let found = get s.returns station in
     let text = string_bytes note in
-    move_reply-own (decided_in setup s (Query station rev note))
-    (refused-own (query_checks known certified found rev text) (Ok (put_next found (queried text)))
+    move_reply-own (change_in_state setup s (Query station rev note))
+    (refused-own (query_checks known certified found rev text) (Ok (put_next found (queried_return text)))
     (check-own (is_some known) NoStation tt, (check-own (is_note text) BadNote tt, move-own certified found rev may_query)) tt)
 answer-own setup s (Correct station rev slip counts) =
     let known = stations_of setup station in
     let certified = is_certified setup s station in
     let found = get s.returns station in
-    move_reply-own (decided_in setup s (Correct station rev slip counts))
-    (refused-own (correct_checks known certified found rev counts) (Ok (put_next found (corrected slip counts)))
+    move_reply-own (change_in_state setup s (Correct station rev slip counts))
+    (refused-own (correct_checks known certified found rev counts) (Ok (put_next found (corrected_return slip counts)))
     (append-own (counts_checks_at known counts) (move_checks certified found rev may_correct) (counts-own known counts) (move-own certified found rev may_correct)) tt)
 answer-own setup s (Close station rev) =
     let known = stations_of setup station in
     let certified = is_certified setup s station in
     let found = get s.returns station in
-    move_reply-own (decided_in setup s (Close station rev))
-    (refused-own (close_checks known certified found rev) (Ok (put_next found closed)) (check-own (is_some known) NoStation tt, move-own certified found rev may_close) tt)
+    move_reply-own (change_in_state setup s (Close station rev))
+    (refused-own (close_checks known certified found rev) (Ok (put_next found closed_return)) (check-own (is_some known) NoStation tt, move-own certified found rev may_close) tt)
 answer-own setup s (ShowReturn station) =
     refused-own (show_checks (stations_of setup station) (get s.returns station)) (return_reply (get s.returns station))
     (check-own (is_some (stations_of setup station)) NoStation tt, (check-own (is_some (get s.returns station)) NoReturn tt, tt)) (shown (get s.returns station))
@@ -175,16 +175,16 @@ refused_or-own checks Otherwise x own other is = go (first_refusal checks) (firs
     go None checked so = other so
     go (Some e) checked so = subst IsOwn (sym so) checked
 
-changed-own : {X : Type 0} (change : X → ConChange) (x : Result X Refusal) → IsOwn x → IsOwn (changed_by change x)
+changed-own : {X : Type 0} (change : X → ConChange) (x : Result X Refusal) → IsOwn x → IsOwn (change_of_result change x)
 changed-own change (Ok x) own = tt
 changed-own change (Err e) own = own
 
-certified-own : (outcome : Outcome) → IsOwn (certified_by outcome)
+certified-own : (outcome : Outcome) → IsOwn (seats_by_outcome outcome)
 certified-own nobody = tt
 certified-own (lot_missing group in_question) = tt
 certified-own (allotted seats) = tt
 
-drawn-own : (lot : List ℕ) (outcome : Outcome) (places : Option (List ℕ)) → IsOwn (drawn_where lot outcome places)
+drawn-own : (lot : List ℕ) (outcome : Outcome) (places : Option (List ℕ)) → IsOwn (lot_where_recorded lot outcome places)
 drawn-own [] nobody places = tt
 drawn-own [] (lot_missing group in_question) None = tt
 drawn-own [] (lot_missing group in_question) (Some places) = go (names_group group places)
@@ -252,11 +252,11 @@ decides-own con view (Certify code edition) decision is =
     (refused_or-own (count_checks view edition) _ is.0 (count-own view edition) (λ so. subst IsOwn (sym so.2) (certified-own so.0)) is.1))
 decides-own con view (Reopen code edition note) decision is =
     let text = string_bytes note in
-    subst IsOwn (sym is) (changed-own (λ (r : List ℕ × PastSeats). open_again r.0 r.1) (reopened view edition text) (refused-own (reopen_checks view edition text) (Ok (text, certificate_of view)) (reopen-own view edition text) tt))
+    subst IsOwn (sym is) (changed-own (λ (r : List ℕ × PastSeats). open_again r.0 r.1) (reopen_result view edition text) (refused-own (reopen_checks view edition text) (Ok (text, certificate_of view)) (reopen-own view edition text) tt))
 decides-own con view (Vacate code list place note) decision is =
     let text = string_bytes note in
     let found = list_found con list in
-    subst IsOwn (sym is) (changed-own (λ (v : GoneCandidate × Option ℕ). gone_for_good v.0 v.1) (vacates con view list place text)
+    subst IsOwn (sym is) (changed-own (λ (v : GoneCandidate × Option ℕ). gone_for_good v.0 v.1) (vacate_result con view list place text)
     (refused-own (vacate_checks view found place text) (vacancy view found place text) (vacate-own view found place text) (vacated-own view found place text)))
 decides-own con view (ShowCon code) decision is = subst IsOwn (sym is) tt
 decides-own con view other decision is = absurd is

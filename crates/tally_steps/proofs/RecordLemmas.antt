@@ -16,7 +16,7 @@ use Rattle.tally_returns.specs.GoneCandidate.{GoneCandidate}
 use Rattle.tally_returns.specs.Named.{BringsCode, con_named, station_named}
 use Rattle.tally_returns.specs.PastSeats.{PastSeats}
 use Rattle.tally_returns.specs.State.{ConState, Records, State, con_state, last_edition, opening_con}
-use Rattle.tally_steps.specs.Step.{after, after_put, after_return, con_of_station, decided_in, without_lot, ConChange, Decides, IsView, after_change, certified_with, changed, gone_for_good, lot_set, no_change, open_again, with_con, IsAnswered, IsConStep, con_answer, edition_now, seen, IsStepSeenAt}
+use Rattle.tally_steps.specs.Step.{state_after, after_put, after_return, con_of_station, change_in_state, without_lot, ConChange, Decides, IsView, after_change, certified_with, con_state_after, gone_for_good, lot_set, no_change, open_again, with_con, IsAnswered, IsConStep, con_answer, edition_now, reply_seen, IsStepSeenAt}
 use Rattle.tally_returns.specs.View.{View, past_records}
 use Rattle.tally_returns.specs.declared.ask.Ask.{Ask}
 use Rattle.tally_returns.specs.declared.ask.Ask.TheVariants.{Lodge, Query, Correct, Close, ShowReturn, Draw, Certify, Reopen, Vacate, ShowCon, ShowProgress}
@@ -27,7 +27,7 @@ use Rattle.tally_returns.specs.declared.refusal.Refusal.TheVariants.{BadNote, Ex
 use Rattle.tally_returns.specs.declared.reply.Reply.{Reply}
 use Rattle.tally_returns.specs.declared.reply.Reply.TheVariants.{Lodged, Same, Moved, Return, Edition, Vacated, Con, Progress}
 use Rattle.tally_returns.proofs.DecideLemmas.{passed-first, passed-rest}
-use Rattle.tally_steps.specs.Certification.{certificate_of, reopen_checks, reopened, vacates}
+use Rattle.tally_steps.specs.Certification.{certificate_of, reopen_checks, reopen_result, vacate_result}
 use Rattle.tally_steps.specs.Decisions.{RecordsComeLast}
 use Rattle.tally_steps.specs.LawfulState.{IsLawfulState}
 use Rattle.tally_steps.specs.Outcome.{IsLawfulPast}
@@ -72,7 +72,7 @@ IsOfItsEdition c other = Unit {0}
 same-edition : (a b : ℕ) → eq_by_cmp nat_cmp a b ≡ true → a ≡ b
 same-edition a b tied = fin.nat_cmp-IsAntisymmetric a b ((Equal-is (nat_cmp a b)).0 tied)
 
-reopened-stays : (c : ConState) (note : List ℕ) (past : PastSeats) → past.edition ≡ c.edition → Stays c (changed c (open_again note past))
+reopened-stays : (c : ConState) (note : List ℕ) (past : PastSeats) → past.edition ≡ c.edition → Stays c (con_state_after c (open_again note past))
 reopened-stays c note past its earlier = (
   λ edition seats is. there edition ∙ stay edition seats is (eq_by_cmp nat_cmp edition past.edition) refl,
   λ edition seats is. before edition seats (eq_by_cmp nat_cmp edition past.edition) refl (sym (there edition) ∙ is),
@@ -89,7 +89,7 @@ reopened-stays c note past its earlier = (
     before edition seats true tied is = omega (arith, its, same-edition edition past.edition tied)
     before edition seats false apart is = omega (arith, earlier edition seats is)
 
-changed-stays : (c : ConState) (change : ConChange) → IsOfItsEdition c change → Stays c (changed c change)
+changed-stays : (c : ConState) (change : ConChange) → IsOfItsEdition c change → Stays c (con_state_after c change)
 changed-stays c no_change its earlier = (λ edition seats is. is, earlier)
 changed-stays c (lot_set places) its earlier = (λ edition seats is. is, λ edition seats is. omega (arith, earlier edition seats is))
 changed-stays c (certified_with seats) its earlier = (λ edition seats is. is, λ edition seats is. omega (arith, earlier edition seats is))
@@ -125,8 +125,8 @@ passed-certified view edition note none =
 of-reopening : (con : Constituency) (view : View) (ask : Ask) (note : List ℕ) (past : PastSeats) → Decides con view ask (Ok (open_again note past)) → IsOfReopening view ask past
 of-reopening con view (Reopen key edition text) note past decides = go (first_refusal (reopen_checks view edition (string_bytes text))) refl by.0 by.1 by.2
   where
-    by : (given : List ℕ × PastSeats) × (reopened view edition (string_bytes text) ≡ Ok given) × (open_again note past ≡ open_again given.0 given.1)
-    by = given-by (λ (r : List ℕ × PastSeats). open_again r.0 r.1) (reopened view edition (string_bytes text)) (open_again note past) decides
+    by : (given : List ℕ × PastSeats) × (reopen_result view edition (string_bytes text) ≡ Ok given) × (open_again note past ≡ open_again given.0 given.1)
+    by = given-by (λ (r : List ℕ × PastSeats). open_again r.0 r.1) (reopen_result view edition (string_bytes text)) (open_again note past) decides
 
     go : (refusal : Option Refusal) → first_refusal (reopen_checks view edition (string_bytes text)) ≡ refusal → (given : List ℕ × PastSeats)
         → refused_or refusal (Ok (string_bytes text, certificate_of view)) ≡ Ok given → open_again note past ≡ open_again given.0 given.1 → IsOfReopening view (Reopen key edition text) past
@@ -146,7 +146,7 @@ of-reopening con view (Reopen key edition text) note past decides = go (first_re
 of-reopening con view (Draw key edition order) note past decides = let by = given-by lot_set decides.0 (open_again note past) decides.2 in let e : open_again note past ≡ lot_set by.0 = by.2 in cc
 of-reopening con view (Certify key edition) note past decides = let by = given-by certified_with decides.0 (open_again note past) decides.2 in let e : open_again note past ≡ certified_with by.0 = by.2 in cc
 of-reopening con view (Vacate key list place text) note past decides =
-    let by = given-by (λ (v : GoneCandidate × Option ℕ). gone_for_good v.0 v.1) (vacates con view list place (string_bytes text)) (open_again note past) decides in
+    let by = given-by (λ (v : GoneCandidate × Option ℕ). gone_for_good v.0 v.1) (vacate_result con view list place (string_bytes text)) (open_again note past) decides in
     let e : open_again note past ≡ gone_for_good by.0.0 by.0.1 = by.2 in cc
 of-reopening con view (ShowCon key) note past decides = cc
 of-reopening con view (Lodge station slip counts) note past decides = absurd decides
@@ -177,7 +177,7 @@ con-stays (Some con) s ask r t is = subst (AreStaying s) (sym is.5) (go is.1 is.
     go : (decided : Result ConChange Refusal) → Decides con is.0 ask decided → AreStaying s (after_change s con.code decided)
     go (Ok no_change) decides q = stays-same (con_state s q)
     go (Ok change) decides q =
-        with_con-each Stays stays-same s con.code (changed (con_state s con.code) change) (changed-stays (con_state s con.code) change (its-edition con s is.0 ask change is.2 decides)) q
+        with_con-each Stays stays-same s con.code (con_state_after (con_state s con.code) change) (changed-stays (con_state s con.code) change (its-edition con s is.0 ask change is.2 decides)) q
     go (Err refusal) decides q = stays-same (con_state s q)
 
 without_lot-as_before : (s : State) (code : Option (List ℕ)) (q : List ℕ) → IsAsBefore (con_state s q) (con_state (without_lot s code) q)
@@ -188,15 +188,15 @@ after_put-as_before : (setup : List Constituency) (s : State) (ask : Ask) (q : L
 after_put-as_before setup s (Query station rev note) q = without_lot-as_before s (con_of_station setup station) q
 after_put-as_before setup s other q = (refl, refl)
 
-after-as_before : (setup : List Constituency) (s : State) (ask : Ask) (d : Result Change Refusal) (q : List ℕ) → IsAsBefore (con_state s q) (con_state (after setup s ask d) q)
+after-as_before : (setup : List Constituency) (s : State) (ask : Ask) (d : Result Change Refusal) (q : List ℕ) → IsAsBefore (con_state s q) (con_state (state_after setup s ask d) q)
 after-as_before setup s ask (Ok (PutReturn standing)) q =
     let put = after_put setup s ask in
     subst (IsAsBefore (con_state s q)) (ap (λ cons. con_state (record put { cons = cons }) q) (sym (with_return-cons put (station_named ask) standing))) (after_put-as_before setup s ask q)
 after-as_before setup s ask other q = (refl, refl)
 
-step-stays : (named : Option (List ℕ)) (setup : List Constituency) (s : State) (ask : Ask) (r : Result Reply Refusal) (t : State) → IsStepSeenAt named setup s ask (seen r) t → AreStaying s t
+step-stays : (named : Option (List ℕ)) (setup : List Constituency) (s : State) (ask : Ask) (r : Result Reply Refusal) (t : State) → IsStepSeenAt named setup s ask (reply_seen r) t → AreStaying s t
 step-stays None setup s ask r t is =
-    subst (AreStaying s) (sym is.1) (λ q. stays-as_before (con_state s q) (con_state (after_return setup s ask) q) (after-as_before setup s ask (decided_in setup s ask) q))
+    subst (AreStaying s) (sym is.1) (λ q. stays-as_before (con_state s q) (con_state (after_return setup s ask) q) (after-as_before setup s ask (change_in_state setup s ask) q))
 step-stays (Some code) setup s ask r t is = con-stays (constituency_with code setup) s ask r t is
 
 answered-stays : (setup : List Constituency) (s : State) (ask : Ask) (r : Result Reply Refusal) (t : State) → IsAnswered setup s ask r t → AreStaying s t
@@ -240,7 +240,7 @@ records-last setup s con code view ask note past lawful on viewed decides = λ k
 -- ---- records are of allotments
 
 -- an answer that tells an edition
-told-edition : (r : Result Reply Refusal) (n : ℕ) → seen r ≡ Ok (edition_now n) → r ≡ Ok (Edition n)
+told-edition : (r : Result Reply Refusal) (n : ℕ) → reply_seen r ≡ Ok (edition_now n) → r ≡ Ok (Edition n)
 told-edition (Ok (Lodged rev)) n is = cc
 told-edition (Ok (Same rev)) n is = cc
 told-edition (Ok (Moved rev)) n is = cc
@@ -253,7 +253,7 @@ told-edition (Err refusal) n is = cc
 
 -- the certificate that a Reopen puts on record
 reopened-now : AllotmentLaws → (setup : List Constituency) (s : State) (ask : Ask) (r : Result Reply Refusal) (code : List ℕ) (con : Constituency) (view : View) (note : List ℕ) (past : PastSeats) → IsSetup setup → IsLawfulState setup s
-    → con_named ask ≡ Some code → constituency_with code setup ≡ Some con → IsView con s view → Decides con view ask (Ok (open_again note past)) → seen r ≡ Ok (edition_now (view.edition + 1))
+    → con_named ask ≡ Some code → constituency_with code setup ≡ Some con → IsView con s view → Decides con view ask (Ok (open_again note past)) → reply_seen r ≡ Ok (edition_now (view.edition + 1))
     → IsReopened con past.edition past.seats s ask r
 reopened-now laws setup s ask r code con view note past ok lawful named found viewed decides told =
     let of = of-reopening con view ask note past decides in
@@ -273,13 +273,13 @@ reopened-now laws setup s ask r code con view note past ok lawful named found vi
     }
 
 -- what stands on record after a change of the constituency stood there before, or the change put it there
-changed-adds : (s : State) (code : List ℕ) (note : List ℕ) (past : PastSeats) (edition : ℕ) (seats : List ℕ) → IsOnRecord (with_con s code (changed (con_state s code) (open_again note past))) code edition seats
+changed-adds : (s : State) (code : List ℕ) (note : List ℕ) (past : PastSeats) (edition : ℕ) (seats : List ℕ) → IsOnRecord (with_con s code (con_state_after (con_state s code) (open_again note past))) code edition seats
     → IsOnRecord s code edition seats ⊎ ((edition ≡ past.edition) × (seats ≡ past.seats))
 changed-adds s code note past edition seats is = go (eq_by_cmp nat_cmp edition past.edition) refl (sym there ∙ is)
   where
-    there : fin.get (con_state (with_con s code (changed (con_state s code) (open_again note past))) code).past edition ≡ cond (eq_by_cmp nat_cmp edition past.edition) (Some past.seats) (fin.get (con_state s code).past edition)
+    there : fin.get (con_state (with_con s code (con_state_after (con_state s code) (open_again note past))) code).past edition ≡ cond (eq_by_cmp nat_cmp edition past.edition) (Some past.seats) (fin.get (con_state s code).past edition)
     there =
-        ap (λ (c : ConState). fin.get c.past edition) (con_state-changed s code (changed (con_state s code) (open_again note past)))
+        ap (λ (c : ConState). fin.get c.past edition) (con_state-changed s code (con_state_after (con_state s code) (open_again note past)))
         ∙ fin.get-insert nat_cmp_total (con_state s code).past past.edition past.seats edition
 
     go : (b : Bool) → eq_by_cmp nat_cmp edition past.edition ≡ b → cond b (Some past.seats) (fin.get (con_state s code).past edition) ≡ Some seats
@@ -303,7 +303,7 @@ con-adds : AllotmentLaws → (setup : List Constituency) (s : State) (ask : Ask)
 con-adds laws setup s ask r t key other ok lawful named known step code con edition seats found on =
     go step.1 step.3 step.4 (subst (λ (x : State). IsOnRecord x con.code edition seats) step.5 on)
   where
-    here : (note : List ℕ) (past : PastSeats) → Decides other step.0 ask (Ok (open_again note past)) → seen r ≡ Ok (edition_now (step.0.edition + 1)) → con.code ≡ other.code → con ≡ other
+    here : (note : List ℕ) (past : PastSeats) → Decides other step.0 ask (Ok (open_again note past)) → reply_seen r ≡ Ok (edition_now (step.0.edition + 1)) → con.code ≡ other.code → con ≡ other
         → IsOnRecord s other.code edition seats ⊎ ((edition ≡ past.edition) × (seats ≡ past.seats)) → IsOnRecord s con.code edition seats ⊎ IsReopened con edition seats s ask r
     here note past decides told codes same (inl before) = inl (subst (λ (q : List ℕ). IsOnRecord s q edition seats) (sym codes) before)
     here note past decides told codes same (inr made) =
@@ -311,32 +311,32 @@ con-adds laws setup s ask r t key other ok lawful named known step code con edit
         inr (subst (λ (x : Constituency). IsReopened x edition seats s ask r) (sym same)
         (subst (λ (n : ℕ). IsReopened other n seats s ask r) (sym made.0) (subst (λ (a : List ℕ). IsReopened other past.edition a s ask r) (sym made.1) its)))
 
-    by_tie : (note : List ℕ) (past : PastSeats) → Decides other step.0 ask (Ok (open_again note past)) → seen r ≡ Ok (edition_now (step.0.edition + 1))
-        → IsOnRecord (with_con s other.code (changed (con_state s other.code) (open_again note past))) con.code edition seats
+    by_tie : (note : List ℕ) (past : PastSeats) → Decides other step.0 ask (Ok (open_again note past)) → reply_seen r ≡ Ok (edition_now (step.0.edition + 1))
+        → IsOnRecord (with_con s other.code (con_state_after (con_state s other.code) (open_again note past))) con.code edition seats
         → (b : Bool) → eq_by_cmp code_cmp con.code other.code ≡ b → IsOnRecord s con.code edition seats ⊎ IsReopened con edition seats s ask r
     by_tie note past decides told is true tied =
         let codes : con.code ≡ other.code = same_code con.code other.code tied in
         let same : con ≡ other = same-constituency setup code key con other found known (sym codes) in
         here note past decides told codes same
-        (changed-adds s other.code note past edition seats (subst (λ (q : List ℕ). IsOnRecord (with_con s other.code (changed (con_state s other.code) (open_again note past))) q edition seats) codes is))
-    by_tie note past decides told is false apart = inl (elsewhere s other.code (changed (con_state s other.code) (open_again note past)) con.code edition seats apart is)
+        (changed-adds s other.code note past edition seats (subst (λ (q : List ℕ). IsOnRecord (with_con s other.code (con_state_after (con_state s other.code) (open_again note past))) q edition seats) codes is))
+    by_tie note past decides told is false apart = inl (elsewhere s other.code (con_state_after (con_state s other.code) (open_again note past)) con.code edition seats apart is)
 
-    go : (decided : Result ConChange Refusal) → Decides other step.0 ask decided → seen r ≡ con_answer step.0 decided → IsOnRecord (after_change s other.code decided) con.code edition seats
+    go : (decided : Result ConChange Refusal) → Decides other step.0 ask decided → reply_seen r ≡ con_answer step.0 decided → IsOnRecord (after_change s other.code decided) con.code edition seats
         → IsOnRecord s con.code edition seats ⊎ IsReopened con edition seats s ask r
     go (Ok no_change) decides told is = inl is
-    go (Ok (lot_set places)) decides told is = inl (same-past s other.code (changed (con_state s other.code) (lot_set places)) con.code edition seats refl is)
-    go (Ok (certified_with given)) decides told is = inl (same-past s other.code (changed (con_state s other.code) (certified_with given)) con.code edition seats refl is)
+    go (Ok (lot_set places)) decides told is = inl (same-past s other.code (con_state_after (con_state s other.code) (lot_set places)) con.code edition seats refl is)
+    go (Ok (certified_with given)) decides told is = inl (same-past s other.code (con_state_after (con_state s other.code) (certified_with given)) con.code edition seats refl is)
     go (Ok (open_again note past)) decides told is = by_tie note past decides told is (eq_by_cmp code_cmp con.code other.code) refl
-    go (Ok (gone_for_good candidate next)) decides told is = inl (same-past s other.code (changed (con_state s other.code) (gone_for_good candidate next)) con.code edition seats refl is)
+    go (Ok (gone_for_good candidate next)) decides told is = inl (same-past s other.code (con_state_after (con_state s other.code) (gone_for_good candidate next)) con.code edition seats refl is)
     go (Err refusal) decides told is = inl is
 
 -- what stands on record after a step stood there before, or the request put it there
 step-adds : AllotmentLaws → (setup : List Constituency) (s : State) (ask : Ask) (r : Result Reply Refusal) (t : State) → IsSetup setup → IsLawfulState setup s
-    → (named : Option (List ℕ)) → con_named ask ≡ named → IsStepSeenAt named setup s ask (seen r) t
+    → (named : Option (List ℕ)) → con_named ask ≡ named → IsStepSeenAt named setup s ask (reply_seen r) t
     → (code : List ℕ) (con : Constituency) (edition : ℕ) (seats : List ℕ) → constituency_with code setup ≡ Some con → IsOnRecord t con.code edition seats
     → IsOnRecord s con.code edition seats ⊎ IsReopened con edition seats s ask r
 step-adds laws setup s ask r t ok lawful None named step code con edition seats found on =
-    inl (sym (ap (λ (past : Records). fin.get past edition) (after-as_before setup s ask (decided_in setup s ask) con.code).0) ∙ subst (λ (x : State). IsOnRecord x con.code edition seats) step.1 on)
+    inl (sym (ap (λ (past : Records). fin.get past edition) (after-as_before setup s ask (change_in_state setup s ask) con.code).0) ∙ subst (λ (x : State). IsOnRecord x con.code edition seats) step.1 on)
 step-adds laws setup s ask r t ok lawful (Some key) named step code con edition seats found on = at (constituency_with key setup) refl step
   where
     at : (known : Option Constituency) → constituency_with key setup ≡ known → IsConStep known s ask r t → IsOnRecord s con.code edition seats ⊎ IsReopened con edition seats s ask r

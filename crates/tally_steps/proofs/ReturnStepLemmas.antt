@@ -17,17 +17,17 @@ use Rattle.tally_rules.specs.Text.{is_note}
 use Rattle.tally_rules.specs.declared.constituency.Station.{Station}
 use Rattle.tally_returns.specs.Checks.{check, first_refusal, refused_or}
 use Rattle.tally_returns.specs.Counts.{VoteCounts, same_counts}
-use Rattle.tally_returns.specs.Decide.{decided_return, limits_of, lodge_change, decided_move, put_next}
+use Rattle.tally_returns.specs.Decide.{return_change, limits_of, lodge_change, move_change, put_next}
 use Rattle.tally_returns.specs.Lawful.{IsLawful, may_stand}
 use Rattle.tally_steps.specs.LawfulState.{IsLawfulIn, IsLawfulState, IsUnderPlaces}
-use Rattle.tally_returns.specs.Lodge.{StationLimits, admitted, counts_checks}
-use Rattle.tally_returns.specs.Moves.{close_checks, closed, correct_checks, corrected, counts_checks_at, last_revision, may_close, may_correct, may_query, move_checks, queried, query_checks}
+use Rattle.tally_returns.specs.Lodge.{StationLimits, reply_after_checks, counts_checks}
+use Rattle.tally_returns.specs.Moves.{close_checks, closed_return, correct_checks, corrected_return, counts_checks_at, last_revision, may_close, may_correct, may_query, move_checks, queried_return, query_checks}
 use Rattle.tally_returns.specs.Named.{BringsCode}
 use Rattle.tally_steps.specs.Outcome.{IsLawfulCon, IsLawfulGone, IsLawfulPast, MayStand}
 use Rattle.tally_returns.specs.Progress.{is_closed}
 use Rattle.tally_returns.specs.Return.{StationReturn, Returns}
 use Rattle.tally_returns.specs.State.{State, ConState, con_state, opening, opening_con, opening_cons, stations_of, last_edition}
-use Rattle.tally_steps.specs.Step.{after, after_return, con_of_station, decided_in, is_certified, with_return, without_lot}
+use Rattle.tally_steps.specs.Step.{state_after, after_return, con_of_station, change_in_state, is_certified, with_return, without_lot}
 use Rattle.tally_returns.specs.View.{gone_candidate, gone_candidates, past_records, view_of, view_with}
 use Rattle.tally_returns.specs.declared.ask.Ask.{Ask}
 use Rattle.tally_returns.specs.declared.ask.Ask.TheVariants.{Certify, Close, Correct, Draw, Lodge, Query, Reopen, ShowCon, ShowProgress, ShowReturn, Vacate}
@@ -187,7 +187,7 @@ move-started certified standing rev may_start none =
 
 moved-from : (certified : Bool) (found : Option StationReturn) (rev : ℕ) (may_start : Status → Bool) (checks : List (Option Refusal)) (next : StationReturn → StationReturn) (r : StationReturn)
     → (first_refusal checks ≡ None → first_refusal (move_checks certified found rev may_start) ≡ None)
-    → decided_move checks found next ≡ Ok (PutReturn r) → IsMoved certified found may_start
+    → move_change checks found next ≡ Ok (PutReturn r) → IsMoved certified found may_start
 moved-from certified found rev may_start checks next r rest is = go (first_refusal checks) found refl refl is
   where
     go : (refused : Option Refusal) (f : Option StationReturn) → first_refusal checks ≡ refused → found ≡ f
@@ -205,10 +205,10 @@ append-rest (Some e ∷ xs) ys none = cc
 
 -- a query moves a return only where the constituency is not certified
 query-open : (station : Option StationLimits) (certified : Bool) (found : Option StationReturn) (rev : ℕ) (note : List ℕ) (r : StationReturn)
-    → decided_move (query_checks station certified found rev note) found (queried note) ≡ Ok (PutReturn r) → certified ≡ false
+    → move_change (query_checks station certified found rev note) found (queried_return note) ≡ Ok (PutReturn r) → certified ≡ false
 query-open station certified found rev note r is =
     let moves = move_checks certified found rev may_query in
-    (moved-from certified found rev may_query (query_checks station certified found rev note) (queried note) r
+    (moved-from certified found rev may_query (query_checks station certified found rev note) (queried_return note) r
     (λ none. passed-rest (is_note note) BadNote moves (passed-rest (is_some station) NoStation (check (is_note note) BadNote ∷ moves) none)) is).is_open
 
 correct-not_closed : (status : Status) → may_correct status ≡ true → is_closed status ≡ false
@@ -224,35 +224,35 @@ close-not_closed Corrected is = refl
 close-not_closed Closed is = cc
 
 correct-open : (station : Option StationLimits) (certified : Bool) (found : Option StationReturn) (rev : ℕ) (slip : List ℕ) (counts : VoteCounts) (r : StationReturn)
-    → decided_move (correct_checks station certified found rev counts) found (corrected slip counts) ≡ Ok (PutReturn r) → closed_now found ≡ false
+    → move_change (correct_checks station certified found rev counts) found (corrected_return slip counts) ≡ Ok (PutReturn r) → closed_now found ≡ false
 correct-open station certified found rev slip counts r is =
-    let m = moved-from certified found rev may_correct (correct_checks station certified found rev counts) (corrected slip counts) r
+    let m = moved-from certified found rev may_correct (correct_checks station certified found rev counts) (corrected_return slip counts) r
     (append-rest (counts_checks_at station counts) (move_checks certified found rev may_correct)) is in
     ap closed_now m.found_is ∙ correct-not_closed m.standing.status m.started
 
 close-open : (station : Option StationLimits) (certified : Bool) (found : Option StationReturn) (rev : ℕ) (r : StationReturn)
-    → decided_move (close_checks station certified found rev) found closed ≡ Ok (PutReturn r) → closed_now found ≡ false
+    → move_change (close_checks station certified found rev) found closed_return ≡ Ok (PutReturn r) → closed_now found ≡ false
 close-open station certified found rev r is =
-    let m = moved-from certified found rev may_close (close_checks station certified found rev) closed r
+    let m = moved-from certified found rev may_close (close_checks station certified found rev) closed_return r
     (passed-rest (is_some station) NoStation (move_checks certified found rev may_close)) is in
     ap closed_now m.found_is ∙ close-not_closed m.standing.status m.started
 
 -- a return is lodged only where none stands
 lodge-open : (limits : StationLimits) (found : Option StationReturn) (slip : List ℕ) (counts : VoteCounts) (r : StationReturn)
-    → lodge_change slip counts (refused_or (first_refusal (counts_checks limits counts)) (admitted found slip counts)) ≡ Ok (PutReturn r) → closed_now found ≡ false
+    → lodge_change slip counts (refused_or (first_refusal (counts_checks limits counts)) (reply_after_checks found slip counts)) ≡ Ok (PutReturn r) → closed_now found ≡ false
 lodge-open limits found slip counts r is = go (first_refusal (counts_checks limits counts)) found is
   where
     again : (same : Bool) (rev : ℕ) (e : Refusal) → lodge_change slip counts (if same then Ok (reply.Same rev) else Err e) ≢ Ok (PutReturn r)
     again true rev e ok = cc
     again false rev e ok = cc
 
-    go : (refused : Option Refusal) (f : Option StationReturn) → lodge_change slip counts (refused_or refused (admitted f slip counts)) ≡ Ok (PutReturn r) → closed_now f ≡ false
+    go : (refused : Option Refusal) (f : Option StationReturn) → lodge_change slip counts (refused_or refused (reply_after_checks f slip counts)) ≡ Ok (PutReturn r) → closed_now f ≡ false
     go (Some e) f ok = cc
     go None None ok = refl
     go None (Some standing) ok = absurd (again (pointwise nat_eq standing.slip slip && same_counts standing.counts counts) standing.rev (Differs standing.rev) ok)
 
 -- no return is put where there is no station
-no_station-put : (certified : Bool) (found : Option StationReturn) (ask : Ask) (r : StationReturn) → decided_return None certified found ask ≢ Ok (PutReturn r)
+no_station-put : (certified : Bool) (found : Option StationReturn) (ask : Ask) (r : StationReturn) → return_change None certified found ask ≢ Ok (PutReturn r)
 no_station-put certified found (Lodge code slip counts) r is = cc
 no_station-put certified found (Query code rev note) r is = cc
 no_station-put certified found (Correct code rev slip counts) r is = cc
@@ -271,14 +271,14 @@ pub record IsPlaced (setup : List Constituency) (station : List ℕ) (certified 
   pub place : Station
   pub is : station_with station setup ≡ Some (con, place)
   pub lawful : IsLawful (limits_of con place) r
-  pub decision : decided_return (Some (limits_of con place)) certified found ask ≡ Ok (PutReturn r)
+  pub decision : return_change (Some (limits_of con place)) certified found ask ≡ Ok (PutReturn r)
 
 pub put-placed : (setup : List Constituency) (s : State) (station : List ℕ) (certified : Bool) (ask : Ask) (r : StationReturn) → BringsCode ask → IsLawfulState setup s
-    → decided_return (stations_of setup station) certified (fin.get s.returns station) ask ≡ Ok (PutReturn r) → IsPlaced setup station certified (fin.get s.returns station) ask r
+    → return_change (stations_of setup station) certified (fin.get s.returns station) ask ≡ Ok (PutReturn r) → IsPlaced setup station certified (fin.get s.returns station) ask r
 put-placed setup s station certified ask r brings lawful is = go (station_with station setup) refl is
   where
     go : (found : Option (Constituency × Station)) → station_with station setup ≡ found
-        → decided_return (option_map (λ (place : Constituency × Station). limits_of place.0 place.1) found) certified (fin.get s.returns station) ask ≡ Ok (PutReturn r)
+        → return_change (option_map (λ (place : Constituency × Station). limits_of place.0 place.1) found) certified (fin.get s.returns station) ask ≡ Ok (PutReturn r)
         → IsPlaced setup station certified (fin.get s.returns station) ask r
     go None there put = absurd (no_station-put certified (fin.get s.returns station) ask r put)
     go (Some place) there put = record {
@@ -323,9 +323,9 @@ query-put setup s station ask r is_setup lawful placed is_open =
 
 -- a step on a return from a lawful state leads to a lawful one
 pub return-step-lawful : (setup : List Constituency) (s : State) (ask : Ask) → BringsCode ask → IsSetup setup → IsLawfulState setup s → IsLawfulState setup (after_return setup s ask)
-return-step-lawful setup s ask brings is_setup lawful = go (decided_in setup s ask) refl
+return-step-lawful setup s ask brings is_setup lawful = go (change_in_state setup s ask) refl
   where
-    put : (a : Ask) (r : StationReturn) → BringsCode a → decided_in setup s a ≡ Ok (PutReturn r) → IsLawfulState setup (after setup s a (Ok (PutReturn r)))
+    put : (a : Ask) (r : StationReturn) → BringsCode a → change_in_state setup s a ≡ Ok (PutReturn r) → IsLawfulState setup (state_after setup s a (Ok (PutReturn r)))
     put (Lodge station slip counts) r brings is =
         let placed = put-placed setup s station (is_certified setup s station) (Lodge station slip counts) r brings lawful is in
         open-put setup s station (is_certified setup s station) (Lodge station slip counts) r is_setup lawful placed
@@ -354,7 +354,7 @@ return-step-lawful setup s ask brings is_setup lawful = go (decided_in setup s a
     put (ShowCon con) r brings is = lawful
     put ShowProgress r brings is = lawful
 
-    go : (d : Result Change Refusal) → decided_in setup s ask ≡ d → IsLawfulState setup (after setup s ask d)
+    go : (d : Result Change Refusal) → change_in_state setup s ask ≡ d → IsLawfulState setup (state_after setup s ask d)
     go (Ok Same) is = lawful
     go (Ok (PutReturn r)) is = put ask r brings is
     go (Ok (SetLot places)) is = lawful

@@ -2,7 +2,7 @@
 use Rattle.std.proofs.Common.{◌≡◌, ◌+◌, ◌<◌, ◌∷◌, ◌∙◌, ℕ, zero, suc, List, [], Bool, true, false, cond, Some, Result, refl, sym, ap, subst, arith, add-one, filter, slice_get}
 use Rattle.tally_rules.specs.Constituency.{Constituency}
 use Rattle.tally_returns.specs.State.{State}
-use Rattle.tally_steps.specs.Runs.{IsRun, is_act, IsSameCommand, acting_asks, kept}
+use Rattle.tally_steps.specs.Runs.{IsRun, is_act, IsSameCommand, acting_asks, kept_elements}
 use Rattle.tally_returns.specs.declared.ask.Ask.{Ask}
 use Rattle.tally_returns.specs.declared.refusal.Refusal.{Refusal}
 use Rattle.tally_returns.specs.declared.reply.Reply.{Reply}
@@ -60,16 +60,16 @@ acting-run setup s t (a ∷ asks) (x ∷ rs) is = go (is_act x) refl (acting-run
 
 pub kept-run : (setup : List Constituency) (s t : State) (asks : List Ask) (rs : List (Result Reply Refusal)) → IsRun setup s asks rs t
     → (keep : ℕ → Bool) → ((i : ℕ) (r : Result Reply Refusal) → slice_get rs i ≡ Some r → keep i ≡ false → is_act r ≡ false)
-    → IsRun setup s (kept keep asks) (kept keep rs) t
+    → IsRun setup s (kept_elements keep asks) (kept_elements keep rs) t
 kept-run setup s t [] [] is keep idle = is
 kept-run setup s t [] (x ∷ rs) is keep idle = absurd is
 kept-run setup s t (a ∷ asks) [] is keep idle = absurd is
 kept-run setup s t (a ∷ asks) (x ∷ rs) is keep idle =
     go (keep 0) refl (kept-run setup is.0 t asks rs is.2 (λ i. keep (i + 1)) (λ i r at out. idle (i + 1) r (ap (slice_get (x ∷ rs)) (add-one i) ∙ at) out))
   where
-    go : (b : Bool) → keep 0 ≡ b → IsRun setup is.0 (kept (λ i. keep (i + 1)) asks) (kept (λ i. keep (i + 1)) rs) t
-        → IsRun setup s (cond b (a ∷ kept (λ i. keep (i + 1)) asks) (kept (λ i. keep (i + 1)) asks)) (cond b (x ∷ kept (λ i. keep (i + 1)) rs) (kept (λ i. keep (i + 1)) rs)) t
+    go : (b : Bool) → keep 0 ≡ b → IsRun setup is.0 (kept_elements (λ i. keep (i + 1)) asks) (kept_elements (λ i. keep (i + 1)) rs) t
+        → IsRun setup s (cond b (a ∷ kept_elements (λ i. keep (i + 1)) asks) (kept_elements (λ i. keep (i + 1)) asks)) (cond b (x ∷ kept_elements (λ i. keep (i + 1)) rs) (kept_elements (λ i. keep (i + 1)) rs)) t
     go true in_place rest = (is.0, is.1, rest)
     go false out rest =
-        subst (λ (m : State). IsRun setup m (kept (λ i. keep (i + 1)) asks) (kept (λ i. keep (i + 1)) rs) t)
+        subst (λ (m : State). IsRun setup m (kept_elements (λ i. keep (i + 1)) asks) (kept_elements (λ i. keep (i + 1)) rs) t)
         (answered-idle setup s a x is.0 is.1 (idle 0 x refl out)) rest

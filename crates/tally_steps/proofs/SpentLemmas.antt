@@ -10,14 +10,14 @@ use Rattle.std.proofs.lemmas.Bool.{eqb-true, eq-eqb, or_right}
 use Rattle.tally_rules.specs.Constituency.{Constituency}
 use Rattle.tally_rules.specs.Setup.{constituency_with}
 use Rattle.tally_rules.specs.Text.{is_note}
-use Rattle.tally_steps.specs.Certification.{ListFound, RefusedOr, certificate_of, count_checks, gone_of, has_candidate, holders_of, list_found, reopened, reopen_checks, vacate_checks, vacancy, vacates}
+use Rattle.tally_steps.specs.Certification.{ListFound, RefusedOr, certificate_of, count_checks, gone_of, has_candidate, holders_of, list_found, reopen_result, reopen_checks, vacate_checks, vacancy, vacate_result}
 use Rattle.tally_returns.specs.Checks.{check, first_refusal, refused_or}
 use Rattle.tally_returns.specs.GoneCandidate.{GoneCandidate}
 use Rattle.tally_returns.specs.PastSeats.{PastSeats}
 use Rattle.tally_steps.specs.Holders.{is_among, newcomer}
 use Rattle.tally_returns.specs.View.{View, gone_candidate}
 use Rattle.tally_returns.specs.State.{State, ConState, GoneCandidates, con_state, last_edition}
-use Rattle.tally_steps.specs.Step.{ConChange, lot_set, certified_with, open_again, gone_for_good, changed, changed_by, IsReturnStepSeen, IsAnswered, IsStep, seen}
+use Rattle.tally_steps.specs.Step.{ConChange, lot_set, certified_with, open_again, gone_for_good, con_state_after, change_of_result, IsReturnStepSeen, IsAnswered, IsStep, reply_seen}
 use Rattle.tally_returns.specs.Named.{station_named}
 use Rattle.tally_steps.specs.Runs.{is_act, IsSameCommand}
 use Rattle.tally_returns.specs.AskSeen.{AskSeen, ask_seen}
@@ -155,12 +155,12 @@ IsUsed setup m s t = IsFresh setup m s × IsSpent setup m t
 
 -- a constituency that comes to the next edition
 edition-used : (setup : List Constituency) (code : List ℕ) (n : ℕ) (s : State) (ask : Ask) (t : State) (act : IsConAct setup code s ask t)
-    → act.view.edition ≡ n → (changed (con_state s code) act.change).edition ≡ (con_state s code).edition + 1 → IsUsed setup (edition code n) s t
+    → act.view.edition ≡ n → (con_state_after (con_state s code) act.change).edition ≡ (con_state s code).edition + 1 → IsUsed setup (edition code n) s t
 edition-used setup code n s ask t act named next =
     let stood : (con_state s code).edition ≡ n = ap (λ (q : List ℕ). (con_state s q).edition) (sym (con-code setup code act.con act.found)) ∙ sym (ap (λ (v : View). v.edition) act.is_view) ∙ named in
     let now : (con_state t code).edition ≡ (con_state s code).edition + 1 =
     ap (λ (x : State). (con_state x code).edition) act.new
-    ∙ ap (λ (c : ConState). c.edition) (con_state-changed s code (changed (con_state s code) act.change))
+    ∙ ap (λ (c : ConState). c.edition) (con_state-changed s code (con_state_after (con_state s code) act.change))
     ∙ next in
     (stood, omega (arith, stood, now))
 
@@ -171,27 +171,27 @@ record IsSet {X : Type 0} (by : X → ConChange) (refusal : Option Refusal) (cha
   pub is : change ≡ by what
 
 set-by : {X : Type 0} (by : X → ConChange) (refusal : Option Refusal) (P : Result X Refusal → Type 0) (change : ConChange) (d : Result X Refusal)
-    → RefusedOr refusal P d → Ok change ≡ changed_by by d → IsSet by refusal change
+    → RefusedOr refusal P d → Ok change ≡ change_of_result by d → IsSet by refusal change
 set-by by None P made (Ok x) is gives = record { what = x; passed = refl; is = let same : made ≡ by x = cc in same }
 set-by by (Some e) P made (Ok x) is gives = cc
 set-by by refusal P made (Err e) is gives = cc
 
 count-used : (setup : List Constituency) (code : List ℕ) (n : ℕ) (s : State) (ask : Ask) (t : State) (act : IsConAct setup code s ask t) (by : List ℕ → ConChange)
-    → ((c : ConState) (places : List ℕ) → (changed c (by places)).edition ≡ c.edition + 1)
+    → ((c : ConState) (places : List ℕ) → (con_state_after c (by places)).edition ≡ c.edition + 1)
     → IsSet by (first_refusal (count_checks act.view n)) act.change → IsUsed setup (edition code n) s t
 count-used setup code n s ask t act by next set =
     edition-used setup code n s ask t act (count-edition act.view n set.passed)
-    (ap (λ (c : ConChange). (changed (con_state s code) c).edition) set.is ∙ next (con_state s code) set.what)
+    (ap (λ (c : ConChange). (con_state_after (con_state s code) c).edition) set.is ∙ next (con_state s code) set.what)
 
 -- a note that is set is the command's own
 reopen-used : (setup : List Constituency) (code : List ℕ) (n : ℕ) (note : List ℕ) (s : State) (ask : Ask) (t : State) (act : IsConAct setup code s ask t)
-    → Ok act.change ≡ changed_by (λ (r : List ℕ × PastSeats). open_again r.0 r.1) (reopened act.view n note) → IsUsed setup (edition code n) s t
+    → Ok act.change ≡ change_of_result (λ (r : List ℕ × PastSeats). open_again r.0 r.1) (reopen_result act.view n note) → IsUsed setup (edition code n) s t
 reopen-used setup code n note s ask t act decides = go (first_refusal (reopen_checks act.view n note)) refl decides
   where
-    go : (refused : Option Refusal) → first_refusal (reopen_checks act.view n note) ≡ refused → Ok act.change ≡ changed_by (λ (r : List ℕ × PastSeats). open_again r.0 r.1) (refused_or refused (Ok (note, certificate_of act.view))) → IsUsed setup (edition code n) s t
+    go : (refused : Option Refusal) → first_refusal (reopen_checks act.view n note) ≡ refused → Ok act.change ≡ change_of_result (λ (r : List ℕ × PastSeats). open_again r.0 r.1) (refused_or refused (Ok (note, certificate_of act.view))) → IsUsed setup (edition code n) s t
     go None none is =
         let change : act.change ≡ open_again note (certificate_of act.view) = cc in
-        edition-used setup code n s ask t act (reopen-edition act.view n note none) (ap (λ (c : ConChange). (changed (con_state s code) c).edition) change)
+        edition-used setup code n s ask t act (reopen-edition act.view n note none) (ap (λ (c : ConChange). (con_state_after (con_state s code) c).edition) change)
     go (Some e) some is = cc
 
 -- ---- the candidate
@@ -238,11 +238,11 @@ not-true true e = cc
 not-true false e = refl
 
 vacate-gone : (con : Constituency) (view : View) (list : List ℕ) (place : ℕ) (note : List ℕ) (change : ConChange)
-    → Ok change ≡ changed_by (λ (v : GoneCandidate × Option ℕ). gone_for_good v.0 v.1) (vacates con view list place note) → IsVacated con view list place change
+    → Ok change ≡ change_of_result (λ (v : GoneCandidate × Option ℕ). gone_for_good v.0 v.1) (vacate_result con view list place note) → IsVacated con view list place change
 vacate-gone con view list place note change is = go (list_found con list) refl is
   where
     checked : (f : ListFound) (refused : Option Refusal) → first_refusal (vacate_checks view (Some f) place note) ≡ refused → list_found con list ≡ Some f
-        → Ok change ≡ changed_by (λ (v : GoneCandidate × Option ℕ). gone_for_good v.0 v.1) (refused_or refused (vacancy view (Some f) place note)) → IsVacated con view list place change
+        → Ok change ≡ change_of_result (λ (v : GoneCandidate × Option ℕ). gone_for_good v.0 v.1) (refused_or refused (vacancy view (Some f) place note)) → IsVacated con view list place change
     checked f (Some e) none at gives = cc
     checked f None none at gives =
         let gone = is_among place (gone_of view f.place) in
@@ -259,7 +259,7 @@ vacate-gone con view list place note change is = go (list_found con list) refl i
         }
 
     go : (found : Option ListFound) → list_found con list ≡ found
-        → Ok change ≡ changed_by (λ (v : GoneCandidate × Option ℕ). gone_for_good v.0 v.1) (refused_or (first_refusal (vacate_checks view found place note)) (vacancy view found place note))
+        → Ok change ≡ change_of_result (λ (v : GoneCandidate × Option ℕ). gone_for_good v.0 v.1) (refused_or (first_refusal (vacate_checks view found place note)) (vacancy view found place note))
         → IsVacated con view list place change
     go None at gives = cc
     go (Some f) at gives = checked f (first_refusal (vacate_checks view (Some f) place note)) refl at gives
@@ -287,8 +287,8 @@ vacate-used setup code list place s ask t act v =
         list_is = v.list_is;
         is =
             ap (λ (x : State). is_some (fin.get (con_state x code).gone key)) act.new
-            ∙ ap (λ (c : ConState). is_some (fin.get c.gone key)) (con_state-changed s code (changed (con_state s code) act.change))
-            ∙ ap (λ (c : ConChange). is_some (fin.get (changed (con_state s code) c).gone key)) v.is
+            ∙ ap (λ (c : ConState). is_some (fin.get c.gone key)) (con_state-changed s code (con_state_after (con_state s code) act.change))
+            ∙ ap (λ (c : ConChange). is_some (fin.get (con_state_after (con_state s code) c).gone key)) v.is
             ∙ insert-gone_there (con_state s code).gone key v.note;
       },
     )
@@ -307,7 +307,7 @@ vacate-used setup code list place s ask t act v =
 -- ---- any request
 
 return-used : (setup : List Constituency) (s : State) (ask : Ask) (r : Result Reply Refusal) (t : State) (station : List ℕ) → station_named ask ≡ Some station
-    → IsReturnStepSeen setup s ask (seen r) t → is_act r ≡ true → IsUsed setup (revision station (named_rev ask)) s t
+    → IsReturnStepSeen setup s ask (reply_seen r) t → is_act r ≡ true → IsUsed setup (revision station (named_rev ask)) s t
 return-used setup s ask r t station named is acted_there =
     let acted : acts setup s ask ≡ true = sym (is_act-return setup s ask r t is) ∙ acted_there in
     let now : rev_at t station ≡ named_rev ask + 1 = ap (λ (x : State). rev_at x station) is.1 ∙ acts-rises setup s ask station named acted in

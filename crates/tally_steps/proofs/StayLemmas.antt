@@ -11,10 +11,10 @@ use Rattle.tally_rules.specs.Setup.{constituency_with}
 use Rattle.tally_returns.specs.Checks.{first_refusal, refused_or}
 use Rattle.tally_returns.specs.Counts.{VoteCounts, same_counts}
 use Rattle.tally_returns.specs.Return.{StationReturn, Returns, first_return}
-use Rattle.tally_returns.specs.Lodge.{StationLimits, Stations, counts_checks, admitted, decided_at_code, lodge_answer, after_lodge, lodge}
+use Rattle.tally_returns.specs.Lodge.{StationLimits, Stations, counts_checks, reply_after_checks, reply_at_code, lodge_answer, after_lodge, lodge}
 use Rattle.tally_returns.specs.Named.{con_named, station_named}
 use Rattle.tally_returns.specs.State.{State}
-use Rattle.tally_steps.specs.Step.{con_of_station, decided_in, without_lot, after_put, with_return, after, after_return, IsAnswered, IsStepSeenAt, seen}
+use Rattle.tally_steps.specs.Step.{con_of_station, change_in_state, without_lot, after_put, with_return, state_after, after_return, IsAnswered, IsStepSeenAt, reply_seen}
 use Rattle.tally_steps.specs.Runs.{IsRun}
 use Rattle.tally_returns.specs.declared.ask.Ask.{Ask}
 use Rattle.tally_returns.specs.declared.ask.Ask.TheVariants as ask
@@ -52,13 +52,13 @@ put-stays setup s (ask.Query station rev note) q there = go (con_of_station setu
 put-stays setup s a q there = there
 
 after_return-stays : (setup : List Constituency) (s : State) (a : Ask) → Stay s.returns (after_return setup s a).returns
-after_return-stays setup s a q there = go (decided_in setup s a)
+after_return-stays setup s a q there = go (change_in_state setup s a)
   where
     put : (t : State) (named : Option (List ℕ)) (r : StationReturn) → is_some (map.get t.returns q) ≡ true → is_some (map.get (with_return t named r).returns q) ≡ true
     put t None r stood = stood
     put t (Some station) r stood = insert-stays t.returns station r q stood
 
-    go : (d : Result Change Refusal) → is_some (map.get (after setup s a d).returns q) ≡ true
+    go : (d : Result Change Refusal) → is_some (map.get (state_after setup s a d).returns q) ≡ true
     go (Ok (change.PutReturn r)) = put (after_put setup s a) (station_named a) r (put-stays setup s a q there)
     go other = there
 
@@ -66,7 +66,7 @@ after_return-stays setup s a q there = go (decided_in setup s a)
 same-stays : (m n : Returns) → n ≡ m → Stay m n
 same-stays m n same = subst (Stay m) (sym same) (λ q there. there)
 
-step-stays : (named : Option (List ℕ)) (setup : List Constituency) (s : State) (a : Ask) (r : Result Reply Refusal) (t : State) → IsStepSeenAt named setup s a (seen r) t → Stay s.returns t.returns
+step-stays : (named : Option (List ℕ)) (setup : List Constituency) (s : State) (a : Ask) (r : Result Reply Refusal) (t : State) → IsStepSeenAt named setup s a (reply_seen r) t → Stay s.returns t.returns
 step-stays None setup s a r t is = subst (λ (x : State). Stay s.returns x.returns) (sym is.1) (after_return-stays setup s a)
 step-stays (Some code) setup s a r t is = same-stays s.returns t.returns (con_step-returns (constituency_with code setup) s a r t is)
 
@@ -90,7 +90,7 @@ lodge-stays stations m station slip counts q there = go (lodge_answer stations m
     go (Err refusal) = there
 
 -- a return is lodged only where none stands
-lodged-none : (known : Option StationLimits) (found : Option StationReturn) (slip : List ℕ) (counts : VoteCounts) (rev : ℕ) → decided_at_code known found slip counts ≡ Ok (Lodged rev) → found ≡ None
+lodged-none : (known : Option StationLimits) (found : Option StationReturn) (slip : List ℕ) (counts : VoteCounts) (rev : ℕ) → reply_at_code known found slip counts ≡ Ok (Lodged rev) → found ≡ None
 lodged-none None found slip counts rev is = cc
 lodged-none (Some limits) found slip counts rev is = go (first_refusal (counts_checks limits counts)) found is
   where
@@ -98,7 +98,7 @@ lodged-none (Some limits) found slip counts rev is = go (first_refusal (counts_c
     again standing true ok = cc
     again standing false ok = cc
 
-    go : (refused : Option Refusal) (f : Option StationReturn) → refused_or refused (admitted f slip counts) ≡ Ok (Lodged rev) → f ≡ None
+    go : (refused : Option Refusal) (f : Option StationReturn) → refused_or refused (reply_after_checks f slip counts) ≡ Ok (Lodged rev) → f ≡ None
     go (Some e) f ok = cc
     go None None ok = refl
     go None (Some standing) ok = again standing (pointwise nat_eq standing.slip slip && same_counts standing.counts counts) ok
@@ -117,5 +117,5 @@ not_lodged-again stations m n station slip counts rev stay is = go (map.get m st
     go : (found : Option StationReturn) → map.get m station ≡ found → ⊥
     go (Some standing) at = nothing (lodge-stays stations m station slip counts station (ap is_some at))
     go None at =
-        let before : lodge_answer stations m station slip counts ≡ Ok (Lodged rev) = ap (λ f. decided_at_code (stations station) f slip counts) (at ∙ sym now) ∙ is in
+        let before : lodge_answer stations m station slip counts ≡ Ok (Lodged rev) = ap (λ f. reply_at_code (stations station) f slip counts) (at ∙ sym now) ∙ is in
         nothing (ap (λ answer. is_some (map.get (after_lodge m station slip counts answer) station)) before ∙ insert-there m station (first_return slip counts))

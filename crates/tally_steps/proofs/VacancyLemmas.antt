@@ -7,7 +7,7 @@ use Rattle.tally_rules.specs.Constituency.{Constituency, ListEntry}
 use Rattle.tally_rules.specs.Text.{is_note}
 use Rattle.tally_law.specs.Allotment.{Rule, divisors, hare, IsAllotment}
 use Rattle.tally_law.specs.Poll.{Poll}
-use Rattle.tally_steps.specs.Certification.{ListFound, found_from, gone_of, has_candidate, holders_of, list_found, vacate_checks, vacancy, vacates}
+use Rattle.tally_steps.specs.Certification.{ListFound, list_found_from, gone_of, has_candidate, holders_of, list_found, vacate_checks, vacancy, vacate_result}
 use Rattle.tally_returns.specs.Checks.{check, first_refusal, refused_or}
 use Rattle.tally_steps.specs.Holders.{holders, is_among, newcomer}
 use Rattle.tally_returns.specs.View.{FitsView, View}
@@ -17,12 +17,12 @@ use Rattle.tally_returns.proofs.DecideLemmas.{first_refusal-passed}
 
 -- ---- the list that was found
 
-found-from : (p : ℕ) (code : List ℕ) (lists : List ListEntry) (f : ListFound) → found_from p code lists ≡ Some f → (p ≤ f.place) × (f.place < p + length lists)
+found-from : (p : ℕ) (code : List ℕ) (lists : List ListEntry) (f : ListFound) → list_found_from p code lists ≡ Some f → (p ≤ f.place) × (f.place < p + length lists)
 found-from p code [] f is = cc
 found-from p code (list ∷ lists) f is = by_cases (bytes_eq code list.code) is (found-from (p + 1) code lists f)
   where
-    by_cases : (b : Bool) → cond b (Some (record { place = p; candidates = length list.candidates })) (found_from (p + 1) code lists) ≡ Some f
-        → (found_from (p + 1) code lists ≡ Some f → (p + 1 ≤ f.place) × (f.place < p + 1 + length lists)) → (p ≤ f.place) × (f.place < p + length (list ∷ lists))
+    by_cases : (b : Bool) → cond b (Some (record { place = p; candidates = length list.candidates })) (list_found_from (p + 1) code lists) ≡ Some f
+        → (list_found_from (p + 1) code lists ≡ Some f → (p + 1 ≤ f.place) × (f.place < p + 1 + length lists)) → (p ≤ f.place) × (f.place < p + length (list ∷ lists))
     by_cases true is rest =
         let here : p ≡ f.place = cc in
         (omega arith, omega arith)
@@ -80,7 +80,7 @@ last-two candidate note certified stays holds a b c =
 rest-is : (con : Constituency) (view : View) (code : List ℕ) (place : ℕ) (note : List ℕ) (f : ListFound) → list_found con code ≡ Some f → has_candidate place f ≡ true → is_note note ≡ true → view.certified ≡ true
     → (refusal : Option Refusal)
     → first_refusal (check (not (is_among place (gone_of view f.place))) AlreadyGone ∷ check (is_among place (holders_of view f (gone_of view f.place))) NotHolder ∷ []) ≡ refusal
-    → vacates con view code place note ≡ refused_or refusal (vacancy view (Some f) place note)
+    → vacate_result con view code place note ≡ refused_or refusal (vacancy view (Some f) place note)
 rest-is con view code place note f is candidate good certified refusal gives =
     let stays = not (is_among place (gone_of view f.place)) in
     let holds = is_among place (holders_of view f (gone_of view f.place)) in
@@ -88,13 +88,13 @@ rest-is con view code place note f is candidate good certified refusal gives =
     ∙ ap (λ (r : Option Refusal). refused_or r (vacancy view (Some f) place note)) (last-two (has_candidate place f) (is_note note) view.certified stays holds candidate good certified ∙ gives)
 
 pub vacates-gone : (con : Constituency) (view : View) (code : List ℕ) (place : ℕ) (note : List ℕ) (f : ListFound) → list_found con code ≡ Some f → has_candidate place f ≡ true → is_note note ≡ true → view.certified ≡ true
-    → is_among place (gone_of view f.place) ≡ true → vacates con view code place note ≡ Err AlreadyGone
+    → is_among place (gone_of view f.place) ≡ true → vacate_result con view code place note ≡ Err AlreadyGone
 vacates-gone con view code place note f is candidate good certified gone =
     rest-is con view code place note f is candidate good certified (Some AlreadyGone)
     (ap (λ (b : Bool). first_refusal (check (not b) AlreadyGone ∷ check (is_among place (holders_of view f (gone_of view f.place))) NotHolder ∷ [])) gone)
 
 pub vacates-no_holder : (con : Constituency) (view : View) (code : List ℕ) (place : ℕ) (note : List ℕ) (f : ListFound) → list_found con code ≡ Some f → has_candidate place f ≡ true → is_note note ≡ true → view.certified ≡ true
-    → is_among place (gone_of view f.place) ≡ false → is_among place (holders_of view f (gone_of view f.place)) ≡ false → vacates con view code place note ≡ Err NotHolder
+    → is_among place (gone_of view f.place) ≡ false → is_among place (holders_of view f (gone_of view f.place)) ≡ false → vacate_result con view code place note ≡ Err NotHolder
 vacates-no_holder con view code place note f is candidate good certified stays none =
     rest-is con view code place note f is candidate good certified (Some NotHolder)
     (
@@ -105,7 +105,7 @@ vacates-no_holder con view code place note f is candidate good certified stays n
 pub vacates-seat : (con : Constituency) (view : View) (code : List ℕ) (place : ℕ) (note : List ℕ) (f : ListFound) → list_found con code ≡ Some f → has_candidate place f ≡ true → is_note note ≡ true → view.certified ≡ true
     → is_among place (gone_of view f.place) ≡ false → is_among place (holders_of view f (gone_of view f.place)) ≡ true
     → (list : ℕ) (next : Option ℕ) → list ≡ f.place → next ≡ newcomer (holders_of view f (gone_of view f.place)) (holders_of view f (place ∷ gone_of view f.place))
-    → vacates con view code place note ≡ Ok (record { list = list; place = place; note = note }, next)
+    → vacate_result con view code place note ≡ Ok (record { list = list; place = place; note = note }, next)
 vacates-seat con view code place note f is candidate good certified stays holds list next place_is next_is =
     rest-is con view code place note f is candidate good certified None
     (

@@ -66,18 +66,18 @@ IsCountRefusal con view edition gives told refusal =
 -- ---- Certify
 
 -- what Certify gives where the votes come to this: the seats of the lists
-abbrev pub certified_by : Outcome → Result (List ℕ) Refusal
-certified_by nobody = Err NoEligible
-certified_by (lot_missing group in_question) = Err (LotMissing group in_question)
-certified_by (allotted seats) = Ok seats
+abbrev pub seats_by_outcome : Outcome → Result (List ℕ) Refusal
+seats_by_outcome nobody = Err NoEligible
+seats_by_outcome (lot_missing group in_question) = Err (LotMissing group in_question)
+seats_by_outcome (allotted seats) = Ok seats
 
 abbrev pub Certifies : Constituency → View → ℕ → Result (List ℕ) Refusal → Type 0
-Certifies con view edition = CountGives con view edition certified_by
+Certifies con view edition = CountGives con view edition seats_by_outcome
 
 -- A refusal of Certify; where the recorded lot is wrong, the database that gave the view is
 -- refused.
 abbrev pub IsCertifyRefusal : Constituency → View → ℕ → Refusal → Type 0
-IsCertifyRefusal con view edition = IsCountRefusal con view edition certified_by Store
+IsCertifyRefusal con view edition = IsCountRefusal con view edition seats_by_outcome Store
 
 -- ---- the list of a code
 
@@ -86,15 +86,15 @@ pub record ListFound : Type 0 where
   pub place : ℕ
   pub candidates : ℕ
 
-abbrev pub found_from : ℕ → List ℕ → List ListEntry → Option ListFound
-found_from place code [] = None
-found_from place code (list ∷ lists) =
+abbrev pub list_found_from : ℕ → List ℕ → List ListEntry → Option ListFound
+list_found_from place code [] = None
+list_found_from place code (list ∷ lists) =
     if bytes_eq code list.code
     then Some (record { place = place; candidates = length list.candidates })
-    else found_from (place + 1) code lists
+    else list_found_from (place + 1) code lists
 
 abbrev pub list_found : Constituency → List ℕ → Option ListFound
-list_found con code = found_from 1 code con.lists
+list_found con code = list_found_from 1 code con.lists
 
 -- ---- Draw
 
@@ -118,16 +118,16 @@ are_distinct [] = true
 are_distinct (place ∷ places) = not (is_among place places) && are_distinct places
 
 -- the marks of a group, from its first place
-abbrev pub marked_from : ℕ → List Bool → List ℕ
-marked_from place [] = []
-marked_from place (true ∷ marks) = place ∷ marked_from (place + 1) marks
-marked_from place (false ∷ marks) = marked_from (place + 1) marks
+abbrev pub marked_places_from : ℕ → List Bool → List ℕ
+marked_places_from place [] = []
+marked_places_from place (true ∷ marks) = place ∷ marked_places_from (place + 1) marks
+marked_places_from place (false ∷ marks) = marked_places_from (place + 1) marks
 
 -- the order names each list of the group once and no other
 abbrev pub names_group : List Bool → List ℕ → Bool
 names_group group places =
     list_all (has_place group) places && are_distinct places
-    && list_all (λ place. is_among place places) (marked_from 1 group)
+    && list_all (λ place. is_among place places) (marked_places_from 1 group)
 
 abbrev pub drawn_places : List Bool → Option (List ℕ) → Result (List ℕ) Refusal
 drawn_places group None = Err (LotWrongGroup group)
@@ -136,28 +136,28 @@ drawn_places group (Some places) =
 
 -- what Draw gives where the votes come to this and no lot is recorded: the places of the lists in
 -- the order drawn
-abbrev pub drawn_by : Outcome → Option (List ℕ) → Result (List ℕ) Refusal
-drawn_by nobody places = Err NoEligible
-drawn_by (lot_missing group in_question) places = drawn_places group places
-drawn_by (allotted seats) places = Err LotNotNeeded
+abbrev pub lot_by_outcome : Outcome → Option (List ℕ) → Result (List ℕ) Refusal
+lot_by_outcome nobody places = Err NoEligible
+lot_by_outcome (lot_missing group in_question) places = drawn_places group places
+lot_by_outcome (allotted seats) places = Err LotNotNeeded
 
 -- and where a lot is recorded, which is looked at after the votes
-abbrev pub drawn_where : List ℕ → Outcome → Option (List ℕ) → Result (List ℕ) Refusal
-drawn_where [] outcome places = drawn_by outcome places
-drawn_where (place ∷ lot) nobody places = Err NoEligible
-drawn_where (place ∷ lot) other places = Err LotStands
+abbrev pub lot_where_recorded : List ℕ → Outcome → Option (List ℕ) → Result (List ℕ) Refusal
+lot_where_recorded [] outcome places = lot_by_outcome outcome places
+lot_where_recorded (place ∷ lot) nobody places = Err NoEligible
+lot_where_recorded (place ∷ lot) other places = Err LotStands
 
 -- what Draw gives for an outcome, in this view and with this order
-abbrev pub drawn_in : Constituency → View → List (List ℕ) → Outcome → Result (List ℕ) Refusal
-drawn_in con view order outcome = drawn_where view.lot outcome (list_places con order)
+abbrev pub lot_in_view : Constituency → View → List (List ℕ) → Outcome → Result (List ℕ) Refusal
+lot_in_view con view order outcome = lot_where_recorded view.lot outcome (list_places con order)
 
 abbrev pub Draws : Constituency → View → ℕ → List (List ℕ) → Result (List ℕ) Refusal → Type 0
-Draws con view edition order = CountGives con view edition (drawn_in con view order)
+Draws con view edition order = CountGives con view edition (lot_in_view con view order)
 
 -- A refusal of Draw. A recorded lot that is wrong is refused as any recorded lot is: by LotStands.
 abbrev pub IsDrawRefusal : Constituency → View → ℕ → List (List ℕ) → Refusal → Type 0
 IsDrawRefusal con view edition order =
-    IsCountRefusal con view edition (drawn_in con view order) LotStands
+    IsCountRefusal con view edition (lot_in_view con view order) LotStands
 
 -- ---- Reopen
 
@@ -174,8 +174,8 @@ abbrev pub certificate_of : View → PastSeats
 certificate_of view = record { edition = view.edition; seats = view.seats }
 
 -- Reopen gives its note, and what is put on record.
-abbrev pub reopened : View → ℕ → List ℕ → Result (List ℕ × PastSeats) Refusal
-reopened view edition note =
+abbrev pub reopen_result : View → ℕ → List ℕ → Result (List ℕ × PastSeats) Refusal
+reopen_result view edition note =
     refused_or (first_refusal (reopen_checks view edition note)) (Ok (note, certificate_of view))
 
 -- ---- Vacate
@@ -216,8 +216,8 @@ vacancy view (Some list) place note = Ok (
 )
 
 -- Vacate gives the candidate who is gone, and the next.
-abbrev pub vacates : Constituency → View → List ℕ → ℕ → List ℕ
+abbrev pub vacate_result : Constituency → View → List ℕ → ℕ → List ℕ
     → Result (GoneCandidate × Option ℕ) Refusal
-vacates con view code place note =
+vacate_result con view code place note =
     let found = list_found con code in
     refused_or (first_refusal (vacate_checks view found place note)) (vacancy view found place note)

@@ -6,13 +6,13 @@ use Rattle.tally_rules.specs.Constituency.{Constituency}
 use Rattle.tally_rules.specs.Limits.{IsSetup}
 use Rattle.tally_rules.specs.Setup.{constituency_with, station_with}
 use Rattle.tally_rules.specs.declared.constituency.Station.{Station}
-use Rattle.tally_returns.specs.Decide.{decided_where_named, limits_named}
+use Rattle.tally_returns.specs.Decide.{return_change_named, limits_named}
 use Rattle.tally_returns.specs.GoneCandidate.{GoneCandidate}
 use Rattle.tally_returns.specs.PastSeats.{PastSeats}
 use Rattle.tally_returns.specs.Named.{con_named, station_named}
 use Rattle.tally_returns.specs.Return.{StationReturn}
 use Rattle.tally_returns.specs.State.{State, con_state, last_edition, stations_of}
-use Rattle.tally_steps.specs.Step.{after, ConChange, Decides, IsView, after_change, changed, gone_for_good, open_again, Answer, IsStepSeen, con_answer, lodged, moved, return_shown, same}
+use Rattle.tally_steps.specs.Step.{state_after, ConChange, Decides, IsView, after_change, con_state_after, gone_for_good, open_again, Answer, IsStepSeen, con_answer, lodged, moved, return_shown, same}
 use Rattle.tally_returns.specs.View.{View, past_records}
 use Rattle.tally_returns.specs.declared.ask.Ask.{Ask}
 use Rattle.tally_returns.specs.declared.ask.Ask.TheVariants.{Lodge, Query, Correct, Close, ShowReturn}
@@ -32,19 +32,19 @@ IsAt setup con code ask =
     × ((station : Station) × (station_with code setup ≡ Some (con, station)))
 
 -- what is decided of a command on the return of a station, by what a state says of it
-abbrev pub decided_of : State → Constituency → List ℕ → Ask → Result Change Refusal
-decided_of s con code ask =
-    decided_where_named con (con_state s con.code).certified (get s.returns code) ask
+abbrev pub change_at_code : State → Constituency → List ℕ → Ask → Result Change Refusal
+change_at_code s con code ask =
+    return_change_named con (con_state s con.code).certified (get s.returns code) ask
 
 -- what a command on a return is answered where this is what it changes
-abbrev pub told : Ask → Option StationReturn → Change → Option Answer
-told (Lodge station slip counts) found (PutReturn standing) = Some (lodged standing.rev)
-told (Lodge station slip counts) (Some standing) Same = Some (same standing.rev)
-told (Query station rev note) found (PutReturn standing) = Some (moved standing.rev)
-told (Correct station rev slip counts) found (PutReturn standing) = Some (moved standing.rev)
-told (Close station rev) found (PutReturn standing) = Some (moved standing.rev)
-told (ShowReturn station) (Some standing) Same = Some (return_shown standing)
-told ask found other = None
+abbrev pub answer_to_change : Ask → Option StationReturn → Change → Option Answer
+answer_to_change (Lodge station slip counts) found (PutReturn standing) = Some (lodged standing.rev)
+answer_to_change (Lodge station slip counts) (Some standing) Same = Some (same standing.rev)
+answer_to_change (Query station rev note) found (PutReturn standing) = Some (moved standing.rev)
+answer_to_change (Correct station rev slip counts) found (PutReturn standing) = Some (moved standing.rev)
+answer_to_change (Close station rev) found (PutReturn standing) = Some (moved standing.rev)
+answer_to_change (ShowReturn station) (Some standing) Same = Some (return_shown standing)
+answer_to_change ask found other = None
 
 -- what a constituency says of its stations is what the setup says
 abbrev pub LimitsAreThoseOfTheSetup : Type 0
@@ -57,16 +57,16 @@ abbrev pub RefusalsOnReturnsAreSteps : Type 0
 RefusalsOnReturnsAreSteps =
     (setup : List Constituency) (s : State) (con : Constituency) (code : List ℕ) (ask : Ask)
     (refusal : Refusal)
-    → IsAt setup con code ask → decided_of s con code ask ≡ Err refusal
+    → IsAt setup con code ask → change_at_code s con code ask ≡ Err refusal
     → IsStepSeen setup s ask (Err refusal) s
 
 abbrev pub ChangesOfReturnsAreSteps : Type 0
 ChangesOfReturnsAreSteps =
     (setup : List Constituency) (s : State) (con : Constituency) (code : List ℕ) (ask : Ask)
     (change : Change)
-    → IsAt setup con code ask → decided_of s con code ask ≡ Ok change
-    → (answer : Answer) × (told ask (get s.returns code) change ≡ Some answer)
-    × IsStepSeen setup s ask (Ok answer) (after setup s ask (Ok change))
+    → IsAt setup con code ask → change_at_code s con code ask ≡ Ok change
+    → (answer : Answer) × (answer_to_change ask (get s.returns code) change ≡ Some answer)
+    × IsStepSeen setup s ask (Ok answer) (state_after setup s ask (Ok change))
 
 -- a code that is no station
 abbrev pub UnknownStationsAreRefused : Type 0
@@ -104,7 +104,7 @@ EditionsStayWithinTheirLimit =
     (ask : Ask) (change : ConChange)
     → IsSetup setup → IsLawfulState setup s → IsOn setup con code ask → IsView con s view
     → Decides con view ask (Ok change)
-    → (changed (con_state s con.code) change).edition ≤ last_edition
+    → (con_state_after (con_state s con.code) change).edition ≤ last_edition
 
 -- one who goes was not gone
 abbrev pub NobodyGoesTwice : Type 0

@@ -21,7 +21,7 @@ use Rattle.tally_steps.specs.Certification.{count_checks}
 use Rattle.tally_steps.specs.Step.{ConChange, Decides, IsAnswered, IsView, Answer, IsStep, IsStepSeen}
 use Rattle.tally_steps.specs.LawfulState.{IsLawfulState}
 use Rattle.tally_steps.specs.Outcome.{Outcome, HasWrongLot, IsCertificate, IsLawfulView, IsOutcome, poll_in, rule_in}
-use Rattle.tally_steps.specs.Runs.{IsRun, is_act, IsSameCommand, acting_asks, kept}
+use Rattle.tally_steps.specs.Runs.{IsRun, is_act, IsSameCommand, acting_asks, kept_elements}
 
 -- ---- lawful states
 
@@ -181,4 +181,4 @@ WhatDoesNotActCanBeLeftOut =
     → IsRun setup s asks rs t → (keep : ℕ → Bool)
     → ((i : ℕ) (r : Result Reply Refusal) → slice_get rs i ≡ Some r → keep i ≡ false
     → is_act r ≡ false)
-    → IsRun setup s (kept keep asks) (kept keep rs) t
+    → IsRun setup s (kept_elements keep asks) (kept_elements keep rs) t

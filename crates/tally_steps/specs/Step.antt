@@ -8,7 +8,7 @@ use Rattle.tally_rules.specs.Constituency.{Constituency}
 use Rattle.tally_rules.specs.Setup.{constituency_with, station_with}
 use Rattle.tally_rules.specs.declared.constituency.Station.{Station}
 use Rattle.tally_returns.specs.Checks.{first_refusal, refused_or}
-use Rattle.tally_returns.specs.Decide.{decided_return, show_checks}
+use Rattle.tally_returns.specs.Decide.{return_change, show_checks}
 use Rattle.tally_returns.specs.GoneCandidate.{GoneCandidate}
 use Rattle.tally_returns.specs.Lodge.{lodge_answer}
 use Rattle.tally_returns.specs.Named.{con_named, station_named}
@@ -28,7 +28,7 @@ use Rattle.tally_returns.specs.declared.reply.LodgeReply.{LodgeReply}
 use Rattle.tally_returns.specs.declared.reply.LodgeReply.TheVariants as lodge
 use Rattle.tally_returns.specs.declared.reply.Reply.{Reply}
 use Rattle.tally_returns.specs.declared.reply.Reply.TheVariants as reply
-use Rattle.tally_steps.specs.Certification.{Certifies, Draws, IsCertifyRefusal, IsDrawRefusal, reopened, vacates}
+use Rattle.tally_steps.specs.Certification.{Certifies, Draws, IsCertifyRefusal, IsDrawRefusal, reopen_result, vacate_result}
 use Rattle.tally_steps.specs.Outcome.{HasSeats}
 
 -- ---- answers
@@ -55,9 +55,9 @@ answer_seen (reply.Con view) = con_shown view
 answer_seen (reply.Progress rows) = progress_shown rows.items
 
 -- a reply or refusal, as contracts see it
-abbrev pub seen : Result Reply Refusal → Result Answer Refusal
-seen (Ok reply) = Ok (answer_seen reply)
-seen (Err refusal) = Err refusal
+abbrev pub reply_seen : Result Reply Refusal → Result Answer Refusal
+reply_seen (Ok reply) = Ok (answer_seen reply)
+reply_seen (Err refusal) = Err refusal
 
 -- ---- commands on returns, and the one that shows how far constituencies have come
 
@@ -72,15 +72,15 @@ is_certified setup s station =
     option_map_or (λ code. (con_state s code).certified) (con_of_station setup station) false
 
 -- what is decided of a command that names this station, or none
-abbrev pub decided_at_station : List Constituency → State → Ask → Option (List ℕ)
+abbrev pub change_at_station : List Constituency → State → Ask → Option (List ℕ)
     → Result Change Refusal
-decided_at_station setup s ask None = Ok Same
-decided_at_station setup s ask (Some station) =
-    decided_return (stations_of setup station) (is_certified setup s station)
+change_at_station setup s ask None = Ok Same
+change_at_station setup s ask (Some station) =
+    return_change (stations_of setup station) (is_certified setup s station)
     (get s.returns station) ask
 
-abbrev pub decided_in : List Constituency → State → Ask → Result Change Refusal
-decided_in setup s ask = decided_at_station setup s ask (station_named ask)
+abbrev pub change_in_state : List Constituency → State → Ask → Result Change Refusal
+change_in_state setup s ask = change_at_station setup s ask (station_named ask)
 
 -- without the lot of this constituency
 abbrev pub without_lot : State → Option (List ℕ) → State
@@ -99,14 +99,14 @@ with_return s None standing = s
 with_return s (Some station) standing = record s { returns = insert s.returns station standing }
 
 -- the state after what was decided: a refusal leaves it
-abbrev pub after : List Constituency → State → Ask → Result Change Refusal → State
-after setup s ask (Ok (PutReturn standing)) =
+abbrev pub state_after : List Constituency → State → Ask → Result Change Refusal → State
+state_after setup s ask (Ok (PutReturn standing)) =
     with_return (after_put setup s ask) (station_named ask) standing
-after setup s ask other = s
+state_after setup s ask other = s
 
 -- the state that a command on a return leaves
 abbrev pub after_return : List Constituency → State → Ask → State
-after_return setup s ask = after setup s ask (decided_in setup s ask)
+after_return setup s ask = state_after setup s ask (change_in_state setup s ask)
 
 -- what a Lodge is answered
 abbrev pub lodge_reply : Result LodgeReply Refusal → Result Answer Refusal
@@ -135,7 +135,7 @@ answer setup s (ShowReturn station) =
     refused_or (first_refusal (show_checks (stations_of setup station) (get s.returns station)))
     (return_reply (get s.returns station))
 answer setup s ShowProgress = Ok (progress_shown (progress setup s))
-answer setup s ask = move_reply (decided_in setup s ask)
+answer setup s ask = move_reply (change_in_state setup s ask)
 
 -- A step on a return, or one that shows how far constituencies have come.
 abbrev pub IsReturnStepSeen : List Constituency → State → Ask → Result Answer Refusal → State
@@ -164,24 +164,24 @@ con_change (SetCertified seats) = Some (certified_with seats.items)
 con_change (SetReopened note past) = Some (open_again (string_bytes note) past)
 con_change (SetGone candidate next) = Some (gone_for_good candidate next)
 
-abbrev pub changed_by : {X : Type 0} → (X → ConChange) → Result X Refusal → Result ConChange Refusal
-changed_by change (Ok x) = Ok (change x)
-changed_by change (Err refusal) = Err refusal
+abbrev pub change_of_result : {X : Type 0} → (X → ConChange) → Result X Refusal → Result ConChange Refusal
+change_of_result change (Ok x) = Ok (change x)
+change_of_result change (Err refusal) = Err refusal
 
 -- What is decided of a command on a constituency with this view.
 abbrev pub Decides : Constituency → View → Ask → Result ConChange Refusal → Type 0
 Decides con view (Draw code edition order) decided =
     (places : Result (List ℕ) Refusal) × Draws con view edition order.items places
-    × (decided ≡ changed_by lot_set places)
+    × (decided ≡ change_of_result lot_set places)
 Decides con view (Certify code edition) decided =
     (seats : Result (List ℕ) Refusal) × Certifies con view edition seats
-    × (decided ≡ changed_by certified_with seats)
+    × (decided ≡ change_of_result certified_with seats)
 Decides con view (Reopen code edition note) decided =
-    decided ≡ changed_by (λ (r : List ℕ × PastSeats). open_again r.0 r.1)
-    (reopened view edition (string_bytes note))
+    decided ≡ change_of_result (λ (r : List ℕ × PastSeats). open_again r.0 r.1)
+    (reopen_result view edition (string_bytes note))
 Decides con view (Vacate code list place note) decided =
-    decided ≡ changed_by (λ (v : GoneCandidate × Option ℕ). gone_for_good v.0 v.1)
-    (vacates con view list place (string_bytes note))
+    decided ≡ change_of_result (λ (v : GoneCandidate × Option ℕ). gone_for_good v.0 v.1)
+    (vacate_result con view list place (string_bytes note))
 Decides con view (ShowCon code) decided = decided ≡ Ok no_change
 Decides con view other decided = ⊥
 
@@ -204,17 +204,17 @@ abbrev pub IsView : Constituency → State → View → Type 0
 IsView con s view = (view ≡ view_of con s view.seats) × HasSeats con view view.certified
 
 -- what the constituency has come to after a change
-abbrev pub changed : ConState → ConChange → ConState
-changed c no_change = c
-changed c (lot_set places) = record c { edition = c.edition + 1; lot = places }
-changed c (certified_with seats) = record c { edition = c.edition + 1; certified = true }
-changed c (open_again note past) = record c {
+abbrev pub con_state_after : ConState → ConChange → ConState
+con_state_after c no_change = c
+con_state_after c (lot_set places) = record c { edition = c.edition + 1; lot = places }
+con_state_after c (certified_with seats) = record c { edition = c.edition + 1; certified = true }
+con_state_after c (open_again note past) = record c {
   edition = c.edition + 1;
   certified = false;
   note = note;
   past = insert c.past past.edition past.seats;
 }
-changed c (gone_for_good candidate next) =
+con_state_after c (gone_for_good candidate next) =
     record c { gone = insert c.gone (candidate.list ∷ candidate.place ∷ []) candidate.note }
 
 -- the state in which the constituency of a code has come to this
@@ -224,7 +224,7 @@ with_con s code c = record s { cons = insert s.cons code c }
 -- the state after what was decided: a refusal leaves it
 abbrev pub after_change : State → List ℕ → Result ConChange Refusal → State
 after_change s code (Ok no_change) = s
-after_change s code (Ok change) = with_con s code (changed (con_state s code) change)
+after_change s code (Ok change) = with_con s code (con_state_after (con_state s code) change)
 after_change s code (Err refusal) = s
 
 -- what a command on a constituency with this view is answered where this was decided of it
@@ -259,10 +259,10 @@ IsStepSeen setup s ask seen_as t = IsStepSeenAt (con_named ask) setup s ask seen
 
 -- the same of a reply or refusal
 abbrev pub IsConStep : Option Constituency → State → Ask → Result Reply Refusal → State → Type 0
-IsConStep found s ask r t = IsConStepSeen found s ask (seen r) t
+IsConStep found s ask r t = IsConStepSeen found s ask (reply_seen r) t
 
 abbrev pub IsStep : List Constituency → State → Ask → Result Reply Refusal → State → Type 0
-IsStep setup s ask r t = IsStepSeen setup s ask (seen r) t
+IsStep setup s ask r t = IsStepSeen setup s ask (reply_seen r) t
 
 -- The request was not accepted: it was out of memory, or the store failed.
 abbrev pub IsNotAccepted : Result Reply Refusal → Type 0

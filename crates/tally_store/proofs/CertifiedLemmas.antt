@@ -19,7 +19,7 @@ use Rattle.tally_steps.specs.Step.{IsView}
 use Rattle.tally_steps.proofs.ViewLemmas.{constituency-code}
 use Rattle.tally_statements.specs.declared.table.KeyedTable.TheVariants.{Seats}
 use Rattle.tally_statements.specs.Office.{rows_in, tree_of}
-use Rattle.tally_tables.specs.Cells.{item_row, numbered, seat_rows}
+use Rattle.tally_tables.specs.Cells.{item_row, numbers_with_places, seat_rows}
 use Rattle.tally_store.specs.Certified.{HasCertificates}
 use Rattle.tally_opening.specs.Office.{IsOffice}
 use Rattle.tally_opening.proofs.ShownLemmas.{items_keyed}
@@ -33,11 +33,11 @@ stands : (setup : List Constituency) (s : State) (con : Constituency) → IsLawf
 stands setup s con lawful found = found-some (get s.cons con.code) (lawful.known con.code ∙ ap is_some found)
 
 seats-rows : (s : State) (given : List ℕ → List ℕ) (code : List ℕ) (c : ConState) (seen : Seen) → get s.cons code ≡ Some c → AreRowsOf (seat_rows given) s.cons (seen.now.trees (tree_of Seats))
-    → IsPermutation (map (item_row code) (numbered 1 (given code))) (filter (has_key code) (rows_in Seats seen))
+    → IsPermutation (map (item_row code) (numbers_with_places 1 (given code))) (filter (has_key code) (rows_in Seats seen))
 seats-rows s given code c seen is held =
-    subst (λ rows. IsPermutation rows (filter (has_key code) (rows_in Seats seen))) (append-nil (map (item_row code) (numbered 1 (given code))))
+    subst (λ rows. IsPermutation rows (filter (has_key code) (rows_in Seats seen))) (append-nil (map (item_row code) (numbers_with_places 1 (given code))))
     (subst (λ o. IsPermutation (flat_map (seat_rows given) (map (λ v. (code, v)) (option_to_list o))) (filter (has_key code) (rows_in Seats seen))) is
-    (rows_of_key (seat_rows given) (λ e. items_keyed e.0 (numbered 1 (given e.0))) s.cons code (seen.now.trees (tree_of Seats)) held))
+    (rows_of_key (seat_rows given) (λ e. items_keyed e.0 (numbers_with_places 1 (given e.0))) s.cons code (seen.now.trees (tree_of Seats)) held))
 
 pub has-certificates : (setup : List Constituency) (s : State) (seen : Seen) → CertificatesStand → IsSetup setup → IsLawfulState setup s → IsOffice setup s seen → HasCertificates setup seen
 has-certificates setup s seen stand limits lawful office = record {

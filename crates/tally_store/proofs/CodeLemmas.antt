@@ -15,7 +15,7 @@ use Rattle.tally_rules.specs.Reading.{◌>>=◌, array_at, code_at, constituenci
 use Rattle.tally_rules.specs.Setup.{all_station_codes, constituency_codes}
 use Rattle.tally_rules.specs.declared.constituency.Station.{Station}
 use Rattle.tally_rules.specs.declared.profile.Profile.{Profile}
-use Rattle.tally_judge.specs.Found.{HasCodes}
+use Rattle.tally_judge.specs.internal.Found.{HasCodes}
 
 -- the step after one that is no fault
 bind_ok : {A B : Type 0} (r : Result A Fault) (step : A → Result B Fault) (b : B) → (r >>= step) ≡ Ok b → (a : A) × (r ≡ Ok a) × (step a ≡ Ok b)

@@ -21,7 +21,7 @@ use Rattle.tally_judge.specs.OfficeRows.{AreOfficeRows}
 use Rattle.tally_judge.proofs.StateLemmas.{IsHeld, all_held, under_held, view_entry, view_is, views_of}
 use Rattle.tally_judge.proofs.VerdictLemmas.{known_state, must_read, must_view}
 use Rattle.tally_store.specs.Content.{con_entry, con_seen, cons_read, content_of, gone_entry, office_rows, past_entry, state_read, state_with, with_returns}
-use Rattle.tally_opening.specs.Opening.{ShowsOffice}
+use Rattle.tally_opening.specs.internal.Opening.{ShowsOffice}
 use Rattle.tally_opening.specs.Office.{IsOffice}
 use Rattle.tally_store.proofs.CodeLemmas.{setup_codes}
 use Rattle.tally_store.proofs.SortedLemmas.{sorted_shows}

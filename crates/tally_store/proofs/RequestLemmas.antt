@@ -17,6 +17,7 @@ use Rattle.tally_rules.specs.Code.{code_cmp}
 use Rattle.tally_rules.specs.Reading.{setup_of_text}
 use Rattle.tally_returns.specs.Return.{Returns}
 use Rattle.tally_returns.specs.State.{State}
+use Rattle.tally_returns.specs.View.{view_of}
 use Rattle.tally_returns.specs.declared.ask.Ask.{Ask}
 use Rattle.tally_returns.specs.declared.refusal.Refusal.{Refusal}
 use Rattle.tally_returns.specs.declared.refusal.Refusal.TheVariants as refusal
@@ -25,9 +26,10 @@ use Rattle.tally_steps.specs.LawStatements.{ViewsAreLawful}
 use Rattle.tally_steps.specs.LawfulState.{IsLawfulState}
 use Rattle.tally_steps.specs.Step.{IsAnswered, IsNotAccepted}
 use Rattle.tally_steps.proofs.LawLemmas.{answered-lawful}
+use Rattle.tally_judge.specs.Numbers.{HasNumbers}
 use Rattle.tally_keeper.specs.Events.{BringsCodes}
 use Rattle.tally_keeper.specs.Keeper.{Event, Happens, Imports, IsFault, IsImportOf, failed_import, request, whole_import}
-use Rattle.tally_keeper.specs.Source.{Coming, Ending}
+use Rattle.tally_keeper.specs.Source.{Delivery}
 use Rattle.tally_keeper.specs.declared.import.ImportCount.{ImportCount}
 use Rattle.tally_keeper.specs.declared.source.ImportFault.{ImportFault}
 use Rattle.tally_keeper.proofs.EventLemmas.{happen-lawful}
@@ -39,13 +41,14 @@ use Rattle.tally_statements.specs.Inside.{StaysInside}
 use Rattle.tally_statements.specs.declared.table.KeyedTable.{KeyedTable}
 use Rattle.tally_statements.specs.Office.{IsInside, tree_of}
 use Rattle.tally_tables.specs.TablesOfState.{AreTables}
+use Rattle.tally_tables.specs.Views.{statuses_of}
 use Rattle.tally_tables.specs.declared.views.Statuses.{Statuses}
 use Rattle.tally_store.specs.Content.{content_of}
 use Rattle.tally_store.specs.Crash.{AreTablesAfter, AreTablesImported}
 use Rattle.tally_opening.specs.Create.{IsAsBefore}
-use Rattle.tally_store.specs.Requests.{Does, DoesImport, IsDone, IsAllDone, IsAllKnown, IsImportDone, IsNothing, KnowsAfter, KnowsImported}
+use Rattle.tally_store.specs.internal.Requests.{Does, DoesImport, IsDone, IsAllDone, IsAllKnown, IsImportDone, IsNothing, KnowsAfter, KnowsImported}
 use Rattle.tally_opening.specs.Office.{HasState, IsOffice}
-use Rattle.tally_store.specs.Store.{IsKnownOf, IsServed, IsStored, KeepsText}
+use Rattle.tally_store.specs.Store.{IsServed, IsStored, KeepsText}
 use Rattle.tally_opening.proofs.WholeLemmas.{whole_inside}
 use Rattle.tally_store.proofs.ContentLemmas.{content_is, content_shut}
 
@@ -121,15 +124,15 @@ tables_after setup text s ask r last h = record { answer = r; state = h.state; a
 
 -- ---- an import
 
-pub all_committed : (setup : List Constituency) (text : List ℕ) (s : State) (known : Option Coming) (count : ImportCount) (last new : Seen) → IsImported setup text s known count last → Shows last new last.now last.now false
-    → IsAllDone setup text s known count new
-all_committed setup text s known count last new h shown = record { state = h.state; imported = h.imported; has = state_committed setup text h.state last new h.in_state shown }
+pub all_committed : (setup : List Constituency) (text : List ℕ) (s : State) (d : Delivery) (count : ImportCount) (last new : Seen) → IsImported setup text s d count last → Shows last new last.now last.now false
+    → IsAllDone setup text s d count new
+all_committed setup text s d count last new h shown = record { state = h.state; imported = h.imported; has = state_committed setup text h.state last new h.in_state shown }
 
-pub tables_imported : (setup : List Constituency) (text : List ℕ) (s : State) (known : Option Coming) (count : ImportCount) (last : Seen) → IsImported setup text s known count last → AreTablesImported setup text s known last.now.trees
-tables_imported setup text s known count last h = record { count = count; state = h.state; imported = h.imported; whole = whole_inside setup text h.state last h.in_state.inside h.in_state.tables }
+pub tables_imported : (setup : List Constituency) (text : List ℕ) (s : State) (d : Delivery) (count : ImportCount) (last : Seen) → IsImported setup text s d count last → AreTablesImported setup text s d last.now.trees
+tables_imported setup text s d count last h = record { count = count; state = h.state; imported = h.imported; whole = whole_inside setup text h.state last h.in_state.inside h.in_state.tables }
 
-import-lawful : (setup : List Constituency) (s t : State) (known : Option Coming) (count : ImportCount) → IsSetup setup → IsLawfulState setup s → IsImportOf setup (Some s) known count (Some t) → IsLawfulState setup t
-import-lawful setup s t known count limits lawful is =
+import-lawful : (setup : List Constituency) (s t : State) (d : Delivery) (count : ImportCount) → IsSetup setup → IsLawfulState setup s → IsImportOf setup (Some s) d count (Some t) → IsLawfulState setup t
+import-lawful setup s t d count limits lawful is =
     let event : Event = whole_import is.0 is.1 count in
     happen-lawful setup s t (event ∷ []) (All-from_recursion BringsCodes (event ∷ []) (tt, tt)) limits lawful (Some t, is.3, refl)
 
@@ -195,22 +198,21 @@ module _ (setup : List Constituency) (old new : Seen) (ask : Ask) (r : Result Re
       go false false before shut = subst₂ (λ a b. Happens setup a (request ask r) b) (sym (content_shut setup old before)) (sym (content_shut setup new shut)) (h.shut clean shut)
 
 -- what is known of an import on the connection of a store
-pub record Took (setup : List Constituency) (old new : Seen) (known : Option Coming) (ending : Ending) (r : Result ImportCount ImportFault) : Type 0 where
+pub record Took (setup : List Constituency) (old new : Seen) (d : Delivery) (r : Result ImportCount ImportFault) : Type 0 where
   pub ended : new.in_transaction ≡ false
   pub clean : HasCleanDisk new → HasCleanDisk old
-  pub done : DoesImport setup known old new r
-  pub came : OnOk r (ending ≡ Some None)
-  pub fault : IfErr r (IsFault known ending)
+  pub done : DoesImport setup d old new r
+  pub fault : IfErr r (IsFault d)
   pub shut : HasCleanDisk new → new.is_open ≡ false → IsErr r
   pub was_open : HasCleanDisk new → IsTrue new.is_open → IsTrue old.is_open
 
-module _ (setup : List Constituency) (old new : Seen) (known : Option Coming) (ending : Ending) where
-  after_all : (r : Result ImportCount ImportFault) (s : State) → IsSetup setup → IsLawfulState setup s → (office : IsOffice setup s old) → IsImportDone setup office.text s known r new → (t : State) × IsLawfulState setup t × IsOffice setup t new
+module _ (setup : List Constituency) (old new : Seen) (d : Delivery) where
+  after_all : (r : Result ImportCount ImportFault) (s : State) → IsSetup setup → IsLawfulState setup s → (office : IsOffice setup s old) → IsImportDone setup office.text s d r new → (t : State) × IsLawfulState setup t × IsOffice setup t new
   after_all (Ok count) s limits lawful office done =
-      (done.state, import-lawful setup s done.state known count limits lawful done.imported, record { text = office.text; reads = office.reads; has = done.has })
+      (done.state, import-lawful setup s done.state d count limits lawful done.imported, record { text = office.text; reads = office.reads; has = done.has })
   after_all (Err fault) s limits lawful office done = (s, lawful, record { text = office.text; reads = office.reads; has = done })
 
-  pub stored_import : (r : Result ImportCount ImportFault) → IsStored setup old → Took setup old new known ending r → IsStored setup new
+  pub stored_import : (r : Result ImportCount ImportFault) → IsStored setup old → Took setup old new d r → IsStored setup new
   stored_import r was h = record {
     limits = was.limits;
     autocommit = h.ended;
@@ -219,22 +221,22 @@ module _ (setup : List Constituency) (old new : Seen) (known : Option Coming) (e
         after_all r before.0 was.limits before.1 before.2 (h.done clean now before.2.text before.0 before.1 before.2.has);
   }
 
-  pub imports_after : (r : Result ImportCount ImportFault) → ViewsAreLawful → IsStored setup old → Took setup old new known ending r → HasCleanDisk new → Imports setup (content_of setup old) known ending r (content_of setup new)
+  pub imports_after : (r : Result ImportCount ImportFault) → ViewsAreLawful → IsStored setup old → Took setup old new d r → HasCleanDisk new → Imports setup (content_of setup old) d r (content_of setup new)
   unfolding after_all
-  imports_after (Ok count) views was h clean = (h.came, go old.is_open new.is_open refl refl)
+  imports_after (Ok count) views was h clean = go old.is_open new.is_open refl refl
     where
-      go : (b d : Bool) → old.is_open ≡ b → new.is_open ≡ d → IsImportOf setup (content_of setup old) known count (content_of setup new)
+      go : (a b : Bool) → old.is_open ≡ a → new.is_open ≡ b → IsImportOf setup (content_of setup old) d count (content_of setup new)
       go true true before now =
           let office = was.office (h.clean clean) before in
           let done = h.done clean now office.2.text office.0 office.1 office.2.has in
           let next = after_all (Ok count) office.0 was.limits office.1 office.2 done in
-          subst₂ (λ a b. IsImportOf setup a known count b) (sym (content_is setup office.0 old views was.limits office.1 office.2 before)) (sym (content_is setup next.0 new views was.limits next.1 next.2 now)) done.imported
+          subst₂ (λ a b. IsImportOf setup a d count b) (sym (content_is setup office.0 old views was.limits office.1 office.2 before)) (sym (content_is setup next.0 new views was.limits next.1 next.2 now)) done.imported
       go false true before now = absurd (true≢false (sym (h.was_open clean now) ∙ before))
       go true false before shut = absurd (true≢false (sym (h.shut clean shut)))
       go false false before shut = absurd (true≢false (sym (h.shut clean shut)))
   imports_after (Err fault) views was h clean = (h.fault, go old.is_open new.is_open refl refl)
     where
-      go : (b d : Bool) → old.is_open ≡ b → new.is_open ≡ d → Happens setup (content_of setup old) (failed_import fault) (content_of setup new)
+      go : (a b : Bool) → old.is_open ≡ a → new.is_open ≡ b → Happens setup (content_of setup old) (failed_import fault) (content_of setup new)
       go true true before now =
           let office = was.office (h.clean clean) before in
           let same = h.done clean now office.2.text office.0 office.1 office.2.has in
@@ -255,11 +257,16 @@ nothing-known setup returns known nothing con here = rw (nothing con.code) tt
 pub empty-nothing : (t : BTreeMap (List ℕ) Statuses) → t.entries ≡ [] → IsNothing (known_of t)
 empty-nothing t empty code = get-tree t code ∙ ap (lookup (is_at (code_cmp code))) empty
 
-pub empty-known : (setup : List Constituency) (seen : Seen) (t : BTreeMap (List ℕ) Statuses) → t.entries ≡ [] → IsKnownOf setup seen (known_of t)
-empty-known setup seen t empty clean text s lawful has = nothing-known setup s.returns (known_of t) (empty-nothing t empty)
+pub empty-known : (setup : List Constituency) (returns : Returns) (t : BTreeMap (List ℕ) Statuses) → t.entries ≡ [] → AreKnown setup returns (known_of t)
+empty-known setup returns t empty = nothing-known setup returns (known_of t) (empty-nothing t empty)
+
+-- what was counted at an opening is known
+pub numbers-known : (setup : List Constituency) (s : State) (numbers : Known) → HasNumbers setup s numbers → AreKnown setup s.returns numbers
+numbers-known setup s numbers has con there =
+    subst (λ (o : Option Statuses). IfSome o (λ statuses. statuses ≡ statuses_of (view_of con s []))) (sym (has con there)) refl
 
 -- a database is that of one lawful state
-one_state : (setup : List Constituency) (s t : State) (text : List ℕ) (seen : Seen) → ViewsAreLawful → IsSetup setup → IsLawfulState setup s → HasState setup text s seen → IsLawfulState setup t → IsOffice setup t seen → IsTrue seen.is_open → t ≡ s
+pub one_state : (setup : List Constituency) (s t : State) (text : List ℕ) (seen : Seen) → ViewsAreLawful → IsSetup setup → IsLawfulState setup s → HasState setup text s seen → IsLawfulState setup t → IsOffice setup t seen → IsTrue seen.is_open → t ≡ s
 one_state setup s t text seen views limits lawful has lawful_too office now =
     let rows = sym office.has.tables.setup_is ∙ has.tables.setup_is in
     let same : office.text ≡ text = (let e = rows in cc) in
@@ -270,7 +277,7 @@ one_state setup s t text seen views limits lawful has lawful_too office now =
 pub served_after : (setup : List Constituency) (old new : Seen) (ask : Ask) (r : Result Reply Refusal) (known : Known) → ViewsAreLawful → IsStored setup old → Served setup old new ask r → KnowsAfter setup ask old new r known → IsServed setup new known
 served_after setup old new ask r known views was h knows = record {
   stored = stored_after setup old new ask r was h;
-  true_is = λ clean text s lawful has. go clean text s lawful has (knows clean);
+  true_is = λ clean now text s lawful has. go clean text s lawful has (knows clean);
 }
   where
     go : HasCleanDisk new → (text : List ℕ) (s : State) → IsLawfulState setup s → HasState setup text s new
@@ -284,27 +291,27 @@ served_after setup old new ask r known views was h knows = record {
         (one_state setup s done.state text new views was.limits lawful has (answered-lawful setup office.0 done.state ask r h.codes was.limits office.1 done.answered) next told.0)
         (told.1 office.2.text office.0 done.state office.1 office.2.has done.answered)
 
-pub all_known : (setup : List Constituency) (text : List ℕ) (s : State) (coming : Option Coming) (before after : Known) (count : ImportCount) (last new : Seen) → IsImportedKnown setup text s coming before after count last → AreKnown setup s.returns before
-    → Shows last new last.now last.now false → IsAllKnown setup text s coming count new after
-all_known setup text s coming before after count last new h held shown =
+pub all_known : (setup : List Constituency) (text : List ℕ) (s : State) (d : Delivery) (before after : Known) (count : ImportCount) (last new : Seen) → IsImportedKnown setup text s d before after count last → AreKnown setup s.returns before
+    → Shows last new last.now last.now false → IsAllKnown setup text s d count new after
+all_known setup text s d before after count last new h held shown =
     (record { state = h.0.state; imported = h.0.imported; has = state_committed setup text h.0.state last new h.0.in_state shown }, h.1 held)
 
-pub served_import : (setup : List Constituency) (old new : Seen) (coming : Option Coming) (ending : Ending) (r : Result ImportCount ImportFault) (known : Known) → ViewsAreLawful → IsStored setup old → Took setup old new coming ending r
-    → KnowsImported setup coming old new r known → IsServed setup new known
-served_import setup old new coming ending (Ok count) known views was h knows = record {
-  stored = stored_import setup old new coming ending (Ok count) was h;
-  true_is = λ clean text s lawful has.
+pub served_import : (setup : List Constituency) (old new : Seen) (d : Delivery) (r : Result ImportCount ImportFault) (known : Known) → ViewsAreLawful → IsStored setup old → Took setup old new d r
+    → KnowsImported setup d old new r known → IsServed setup new known
+served_import setup old new d (Ok count) known views was h knows = record {
+  stored = stored_import setup old new d (Ok count) was h;
+  true_is = λ clean now text s lawful has.
       let told = knows clean in
       let office = was.office (h.clean clean) (h.was_open clean told.0) in
       let all = told.1 office.2.text office.0 office.1 office.2.has in
       let next : IsOffice setup all.0.state new = record { text = office.2.text; reads = office.2.reads; has = all.0.has } in
       subst (λ (x : State). AreKnown setup x.returns known)
-      (one_state setup s all.0.state text new views was.limits lawful has (import-lawful setup office.0 all.0.state coming count was.limits office.1 all.0.imported) next told.0)
+      (one_state setup s all.0.state text new views was.limits lawful has (import-lawful setup office.0 all.0.state d count was.limits office.1 all.0.imported) next told.0)
       all.1;
 }
-served_import setup old new coming ending (Err fault) known views was h knows = record {
-  stored = stored_import setup old new coming ending (Err fault) was h;
-  true_is = λ clean text s lawful has. nothing-known setup s.returns known knows;
+served_import setup old new d (Err fault) known views was h knows = record {
+  stored = stored_import setup old new d (Err fault) was h;
+  true_is = λ clean now text s lawful has. nothing-known setup s.returns known knows;
 }
 
 -- ---- the text of the setup
@@ -314,9 +321,9 @@ keeps_text setup old new ask r does clean now text s lawful h =
     let done = does clean now text s lawful h in
     (done.state, done.has)
 
-text_imported : (setup : List Constituency) (text : List ℕ) (s : State) (known : Option Coming) (r : Result ImportCount ImportFault) (new : Seen) → IsImportDone setup text s known r new → (t : State) × HasState setup text t new
-text_imported setup text s known (Ok count) new done = (done.state, done.has)
-text_imported setup text s known (Err fault) new done = (s, done)
+text_imported : (setup : List Constituency) (text : List ℕ) (s : State) (d : Delivery) (r : Result ImportCount ImportFault) (new : Seen) → IsImportDone setup text s d r new → (t : State) × HasState setup text t new
+text_imported setup text s d (Ok count) new done = (done.state, done.has)
+text_imported setup text s d (Err fault) new done = (s, done)
 
-pub keeps_text_imported : (setup : List Constituency) (old new : Seen) (known : Option Coming) (r : Result ImportCount ImportFault) → DoesImport setup known old new r → HasCleanDisk new → IsTrue new.is_open → KeepsText setup old new
-keeps_text_imported setup old new known r does clean now text s lawful h = text_imported setup text s known r new (does clean now text s lawful h)
+pub keeps_text_imported : (setup : List Constituency) (old new : Seen) (d : Delivery) (r : Result ImportCount ImportFault) → DoesImport setup d old new r → HasCleanDisk new → IsTrue new.is_open → KeepsText setup old new
+keeps_text_imported setup old new d r does clean now text s lawful h = text_imported setup text s d r new (does clean now text s lawful h)

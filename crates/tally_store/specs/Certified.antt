@@ -11,7 +11,7 @@ use Rattle.tally_steps.specs.Outcome.{IsCertificate}
 use Rattle.tally_steps.specs.Step.{IsView}
 use Rattle.tally_statements.specs.declared.table.KeyedTable.TheVariants.{Seats}
 use Rattle.tally_statements.specs.Office.{rows_in}
-use Rattle.tally_tables.specs.Cells.{item_row, numbered}
+use Rattle.tally_tables.specs.Cells.{item_row, numbers_with_places}
 use Rattle.tally_opening.specs.Office.{IsOffice}
 
 -- The rows of `seats` of this constituency, in any order: one for each list, with the seats of a
@@ -20,7 +20,7 @@ pub record HasSeatRows (con : Constituency) (s : State) (seen : Seen) : Type 0 w
   pub view : View
   pub is_view : IsView con s view
   pub certificate : IsCertificate con view
-  pub rows : IsPermutation (map (item_row con.code) (numbered 1 view.seats)) (filter (has_key con.code) (rows_in Seats seen))
+  pub rows : IsPermutation (map (item_row con.code) (numbers_with_places 1 view.seats)) (filter (has_key con.code) (rows_in Seats seen))
 
 -- The database is that of a lawful state, and has such rows of each constituency that is certified
 -- in it.

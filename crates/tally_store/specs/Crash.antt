@@ -1,5 +1,5 @@
 -- What a crash may leave of a store.
-use Rattle.std.specs.Prelude.{◌≡◌, List, ℕ, IsTrue, Option, Some, Result}
+use Rattle.std.specs.Prelude.{◌≡◌, List, ℕ, IsTrue, Some, Result}
 use Rattle.sqlite.specs.State.{State as Seen}
 use Rattle.sqlite_trees.specs.Tree.{Trees}
 use Rattle.tally_rules.specs.Constituency.{Constituency}
@@ -10,7 +10,7 @@ use Rattle.tally_returns.specs.declared.ask.Ask.{Ask}
 use Rattle.tally_returns.specs.declared.refusal.Refusal.{Refusal}
 use Rattle.tally_returns.specs.declared.reply.Reply.{Reply}
 use Rattle.tally_keeper.specs.Keeper.{IsImportOf}
-use Rattle.tally_keeper.specs.Source.{Coming}
+use Rattle.tally_keeper.specs.Source.{Delivery}
 use Rattle.tally_keeper.specs.declared.import.ImportCount.{ImportCount}
 use Rattle.tally_opening.specs.Office.{HasState, IsOffice, IsWholeOffice}
 
@@ -31,23 +31,23 @@ pub record LeavesAfter (setup : List Constituency) (ask : Ask) (old : Seen) (db 
   pub has : HasState setup text state old
   pub after : AreTablesAfter setup text state ask db
 
--- The tables of the state after an import of all rows that come, where it is known what comes of
--- the source, and no others.
-pub record AreTablesImported (setup : List Constituency) (text : List ℕ) (s : State) (known : Option Coming) (db : Trees) : Type 0 where
+-- The tables of the state after an import of all rows that the source gave, which is at its end,
+-- and no others.
+pub record AreTablesImported (setup : List Constituency) (text : List ℕ) (s : State) (d : Delivery) (db : Trees) : Type 0 where
   pub count : ImportCount
   pub state : State
-  pub imported : IsImportOf setup (Some s) known count (Some state)
+  pub imported : IsImportOf setup (Some s) d count (Some state)
   pub whole : IsWholeOffice setup text state db
 
 -- Beside what it could leave before: the store was open, with a lawful state, and what is left are
 -- the tables after the import.
-pub record LeavesImported (setup : List Constituency) (known : Option Coming) (old : Seen) (db : Trees) : Type 0 where
+pub record LeavesImported (setup : List Constituency) (d : Delivery) (old : Seen) (db : Trees) : Type 0 where
   pub was_open : IsTrue old.is_open
   pub text : List ℕ
   pub state : State
   pub lawful : IsLawfulState setup state
   pub has : HasState setup text state old
-  pub after : AreTablesImported setup text state known db
+  pub after : AreTablesImported setup text state d db
 
 -- Between calls: the database is that of a lawful state, and a crash leaves its tables and nothing
 -- else.

@@ -28,15 +28,25 @@ IsOfLawfulState setup seen =
     HasCleanDisk seen → IsTrue seen.is_open
     → (s : State) × IsLawfulState setup s × IsOffice setup s seen
 
+-- and what is known of constituencies is true of that state
+abbrev pub IsOfKnownState : List Constituency → Seen → Known → Type 0
+IsOfKnownState setup seen known =
+    HasCleanDisk seen → IsTrue seen.is_open
+    → (s : State) × IsLawfulState setup s × IsOffice setup s seen × AreKnown setup s.returns known
+
 -- No transaction is open, and the database is that of a lawful state.
 pub record IsStored (setup : List Constituency) (seen : Seen) : Type 0 where
   pub limits : IsSetup setup
   pub autocommit : seen.in_transaction ≡ false
   pub office : IsOfLawfulState setup seen
 
--- What is known of constituencies is true of every lawful state whose database it is.
+-- While the connection is open, what is known of constituencies is true of every lawful state whose
+-- database it is.
 abbrev pub IsKnownOf : List Constituency → Seen → Known → Type 0
-IsKnownOf setup seen known = HasCleanDisk seen → (text : List ℕ) (s : State) → IsLawfulState setup s → HasState setup text s seen → AreKnown setup s.returns known
+IsKnownOf setup seen known =
+    HasCleanDisk seen → IsTrue seen.is_open
+    → (text : List ℕ) (s : State) → IsLawfulState setup s → HasState setup text s seen
+    → AreKnown setup s.returns known
 
 -- What a store keeps true of its connection, and of what it knows.
 pub record IsServed (setup : List Constituency) (seen : Seen) (known : Known) : Type 0 where

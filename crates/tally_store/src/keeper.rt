@@ -3,6 +3,7 @@
 ghost use Rattle.std.specs.Prelude.{◌≡◌, IfOk, IfSome, IsTrue};
 ghost use Rattle.sqlite.specs.State.{HasCleanDisk, Survives};
 ghost use Rattle.sqlite.specs.Held.{state};
+ghost use Rattle.tally_keeper.specs.Delivery.{delivery};
 ghost use Rattle.tally_keeper.specs.Keeper.{Happens, Imports, request};
 ghost use Rattle.tally_steps.specs.Kinds.{IsReplyTo};
 ghost use Rattle.tally_store.specs.Content.{content_of};
@@ -40,15 +41,17 @@ impl<S: Alter> Keeper for Store<S> {
     /// before, or the tables after this request.
     fn answer(&mut self, ask: &Ask) -> Result<Reply, Refusal>
         ensures setup { self.new.setup ≡ self.old.setup }
-        ensures trusted { HasCleanDisk (state S.Store self.new.conn) → HasCleanDisk (state S.Store self.old.conn) }
+        ensures trusted { HasCleanDisk (state S.Store self.new.conn) →
+            HasCleanDisk (state S.Store self.old.conn) }
         ensures kind { IfOk result (IsReplyTo self.old.setup ask.now) }
         ensures step { HasCleanDisk (state S.Store self.new.conn) →
-            Happens self.old.setup (content_of self.old.setup (state S.Store self.old.conn)) (request ask.now result)
-            (content_of self.new.setup (state S.Store self.new.conn)) }
+            Happens self.old.setup (content_of self.old.setup (state S.Store self.old.conn))
+            (request ask.now result) (content_of self.new.setup (state S.Store self.new.conn)) }
         ensures tables { HasCleanDisk (state S.Store self.new.conn) →
             IfSome (content_of self.new.setup (state S.Store self.new.conn))
             (λ s. IsOffice self.new.setup s (state S.Store self.new.conn)) }
-        ensures text { HasCleanDisk (state S.Store self.new.conn) → IsTrue (state S.Store self.new.conn).is_open →
+        ensures text { HasCleanDisk (state S.Store self.new.conn) →
+            IsTrue (state S.Store self.new.conn).is_open →
             KeepsText self.old.setup (state S.Store self.old.conn) (state S.Store self.new.conn) }
         ensures crash { Survives (state S.Store self.old.conn) (state S.Store self.new.conn)
             (LeavesAfter self.old.setup ask.now (state S.Store self.old.conn)) }
@@ -67,20 +70,24 @@ impl<S: Alter> Keeper for Store<S> {
     /// Lodges the rows of a source in one transaction. The database is then that of the store's
     /// state, with the same text of the setup, or a failed disk has shut the store. A crash at the
     /// end of the call, and so a disk that stops anywhere within it, leaves what it could leave
-    /// before, or the tables after an import of all rows that come, where it is known what comes.
+    /// before, or the tables after an import of all rows that the source gave until its end.
     fn lodge_from<R: RowSource>(&mut self, rows: &mut R) -> Result<ImportCount, ImportFault>
         ensures setup { self.new.setup ≡ self.old.setup }
-        ensures trusted { HasCleanDisk (state S.Store self.new.conn) → HasCleanDisk (state S.Store self.old.conn) }
+        ensures trusted { HasCleanDisk (state S.Store self.new.conn) →
+            HasCleanDisk (state S.Store self.old.conn) }
         ensures imported { HasCleanDisk (state S.Store self.new.conn) →
             Imports self.old.setup (content_of self.old.setup (state S.Store self.old.conn))
-            (R.coming rows.old) (R.ended rows.new) result (content_of self.new.setup (state S.Store self.new.conn)) }
+            (delivery R.RowSource rows.old rows.new) result
+            (content_of self.new.setup (state S.Store self.new.conn)) }
         ensures tables { HasCleanDisk (state S.Store self.new.conn) →
             IfSome (content_of self.new.setup (state S.Store self.new.conn))
             (λ s. IsOffice self.new.setup s (state S.Store self.new.conn)) }
-        ensures text { HasCleanDisk (state S.Store self.new.conn) → IsTrue (state S.Store self.new.conn).is_open →
+        ensures text { HasCleanDisk (state S.Store self.new.conn) →
+            IsTrue (state S.Store self.new.conn).is_open →
             KeepsText self.old.setup (state S.Store self.old.conn) (state S.Store self.new.conn) }
         ensures crash { Survives (state S.Store self.old.conn) (state S.Store self.new.conn)
-            (LeavesImported self.old.setup (R.coming rows.old) (state S.Store self.old.conn)) }
+            (LeavesImported self.old.setup (delivery R.RowSource rows.old rows.new)
+            (state S.Store self.old.conn)) }
     {
         // Called for what its contract says: a constituency has a view in each lawful state.
         laws::a_constituency_has_a_view();

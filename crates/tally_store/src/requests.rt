@@ -1,9 +1,11 @@
 //! Requests and imports over a connection, each in a transaction of its own.
 
-ghost use Rattle.std.specs.Prelude.{◌≡◌, ◌⊎◌, false, Some, None, IfErr, IfOk, IsErr, IsTrue, OnOk};
+ghost use Rattle.std.specs.Prelude.{◌≡◌, ◌⊎◌, false, IfErr, IfOk, IsErr, IsTrue, OnOk};
 ghost use Rattle.sqlite.specs.State.{HasCleanDisk, Survives};
 ghost use Rattle.sqlite.specs.Held.{state};
+ghost use Rattle.tally_keeper.specs.Delivery.{delivery};
 ghost use Rattle.tally_keeper.specs.Keeper.{IsFault, IsOwnFault};
+ghost use Rattle.tally_keeper.specs.Source.{GaveAll};
 ghost use Rattle.tally_steps.specs.Kinds.{IsReplyTo};
 ghost use Rattle.tally_steps.specs.Step.{IsNotAccepted};
 ghost use Rattle.tally_returns.specs.Named.{BringsCode};
@@ -12,7 +14,7 @@ ghost use Rattle.tally_statements.specs.Inside.{OnlyReads, StaysInside};
 ghost use Rattle.tally_requests.specs.Inside.{StaysInState};
 ghost use Rattle.tally_requests.specs.Known.{known_of};
 ghost use Rattle.tally_requests.specs.Requests.{CarriesOutKnown, ImportsRows, KeepsKnown};
-ghost use Rattle.tally_store.specs.Requests.{Does, DoesImport, KnowsAfter, KnowsImported};
+ghost use Rattle.tally_store.specs.internal.Requests.{Does, DoesImport, IsNothing, KnowsAfter, KnowsImported};
 ghost use Rattle.tally_store.specs.Store.{IsKnownOf, IsOfLawfulState};
 
 use sqlite::{Alter, Connection, Error, ErrorCode, Transaction};
@@ -43,8 +45,10 @@ pub(crate) fn answer_request<S: Alter>(
     ensures done { Does setup.now ask.now (state S.Store conn.old) (state S.Store conn.new) result }
     ensures known { KnowsAfter setup.now ask.now
         (state S.Store conn.old) (state S.Store conn.new) result (known_of known.new) }
-    ensures shut { HasCleanDisk (state S.Store conn.new) → (state S.Store conn.new).is_open ≡ false → IsNotAccepted result }
-    ensures was_open { HasCleanDisk (state S.Store conn.new) → IsTrue (state S.Store conn.new).is_open →
+    ensures shut { HasCleanDisk (state S.Store conn.new) →
+        (state S.Store conn.new).is_open ≡ false → IsNotAccepted result }
+    ensures was_open { HasCleanDisk (state S.Store conn.new) →
+        IsTrue (state S.Store conn.new).is_open →
         IsTrue (state S.Store conn.old).is_open }
     ensures crash { Survives (state S.Store conn.old) (state S.Store conn.new)
         (LeavesAfter setup.now ask.now (state S.Store conn.old)) }
@@ -55,15 +59,11 @@ pub(crate) fn answer_request<S: Alter>(
     match answer_open(alloc, &mut tx, setup, known, ask) {
         Ok(answer) => match tx.commit() {
             Ok(()) => answer,
-            Err(error) => {
-                known.clear();
-                Err(refusal_of(&error))
-            }
+            Err(error) => Err(forget(known, &error)),
         },
         Err(error) => {
             tx.rollback();
-            known.clear();
-            Err(refusal_of(&error))
+            Err(forget(known, &error))
         }
     }
 }
@@ -81,17 +81,19 @@ pub(crate) fn import_rows<S: Alter, R: RowSource>(
     requires office { IsOfLawfulState setup.now (state S.Store conn.old) }
     requires known { IsKnownOf setup.now (state S.Store conn.old) (known_of known.old) }
     ensures ended { conn.new.in_transaction ≡ false }
-    ensures done { DoesImport setup.now (R.coming source.old)
+    ensures done { DoesImport setup.now (delivery R.RowSource source.old source.new)
         (state S.Store conn.old) (state S.Store conn.new) result }
-    ensures known { KnowsImported setup.now (R.coming source.old)
+    ensures known { KnowsImported setup.now (delivery R.RowSource source.old source.new)
         (state S.Store conn.old) (state S.Store conn.new) result (known_of known.new) }
-    ensures came { OnOk result (R.ended source.new ≡ Some None) }
-    ensures fault { IfErr result (IsFault (R.coming source.old) (R.ended source.new)) }
-    ensures shut { HasCleanDisk (state S.Store conn.new) → (state S.Store conn.new).is_open ≡ false → IsErr result }
-    ensures was_open { HasCleanDisk (state S.Store conn.new) → IsTrue (state S.Store conn.new).is_open →
+    ensures fault { IfErr result (IsFault (delivery R.RowSource source.old source.new)) }
+    ensures shut { HasCleanDisk (state S.Store conn.new) →
+        (state S.Store conn.new).is_open ≡ false → IsErr result }
+    ensures was_open { HasCleanDisk (state S.Store conn.new) →
+        IsTrue (state S.Store conn.new).is_open →
         IsTrue (state S.Store conn.old).is_open }
     ensures crash { Survives (state S.Store conn.old) (state S.Store conn.new)
-        (LeavesImported setup.now (R.coming source.old) (state S.Store conn.old)) }
+        (LeavesImported setup.now (delivery R.RowSource source.old source.new)
+        (state S.Store conn.old)) }
 {
     let mut tx = conn.transaction();
     match take_open(alloc, &mut tx, setup, known, source) {
@@ -151,10 +153,11 @@ fn take_open<S: Alter, R: RowSource>(
     ensures stays { StaysInState setup.now S.Store tx.old tx.new }
     ensures was_open { HasCleanDisk (state S.Store tx.new.conn.now) →
         OnOk result (IsTrue (state S.Store tx.old.conn.now).is_open) }
-    ensures imported { ImportsRows setup.now (R.coming source.old) (known_of known.old) (known_of known.new)
+    ensures imported { ImportsRows setup.now (delivery R.RowSource source.old source.new)
+        (known_of known.old) (known_of known.new)
         (state S.Store tx.old.conn.now) (state S.Store tx.new.conn.now) result }
-    ensures ended { OnOk result (R.ended source.new ≡ Some None) }
-    ensures fault { IfErr result (IsFault (R.coming source.old) (R.ended source.new)) }
+    ensures gave { OnOk result (GaveAll (delivery R.RowSource source.old source.new)) }
+    ensures fault { IfErr result (IsFault (delivery R.RowSource source.old source.new)) }
 {
     match see_open(tx) {
         Ok(()) => take_rows(alloc, tx, setup, known, source),
@@ -165,6 +168,16 @@ fn take_open<S: Alter, R: RowSource>(
 /// Whether a call failed because it was out of memory.
 fn is_memory(error: &Error) -> bool {
     matches!(error, Error::SqliteFailure(ErrorCode::OutOfMemory))
+}
+
+/// Forgets what was known, where a call failed, and says why a request was not accepted.
+fn forget(known: &mut BTreeMap<Code, Statuses>, error: &Error) -> Refusal
+    ensures forgot { IsNothing (known_of known.new) }
+    ensures own { (result ≡ Refusal.Memory) ⊎ (result ≡ Refusal.Store) }
+{
+    let refusal = refusal_of(error);
+    known.clear();
+    refusal
 }
 
 fn refusal_of(error: &Error) -> Refusal

@@ -8,7 +8,8 @@ ghost use Rattle.tally_opening.specs.Crash.{HasPast, IsUnwritten, LeavesOpening,
 ghost use Rattle.tally_opening.specs.Create.{IsCreateFault, no_schema};
 ghost use Rattle.tally_opening.specs.Open.{IsOpenFault, IsSetupOf};
 ghost use Rattle.tally_store.specs.Create.{HasOpeningTables, IsGivenBack, ShowsFound, ShowsState};
-ghost use Rattle.tally_store.specs.Store.{IsOfLawfulState, IsStored};
+ghost use Rattle.tally_requests.specs.Known.{known_of};
+ghost use Rattle.tally_store.specs.Store.{IsOfKnownState, IsStored};
 
 use sqlite::{Alter, Connection};
 use std::alloc::Global;
@@ -22,8 +23,8 @@ use tally_tables::Statuses;
 
 /// Keeps the office's state in a database: a connection that is in no transaction, the setup whose
 /// text the database has, and what is known of how many returns of a constituency are in each
-/// status. What is known is found when it is first asked for, moves with the returns, and is
-/// forgotten after an error.
+/// status. What is known is counted as the database is opened, moves with the returns, and is
+/// forgotten after an error; then it is found when it is next asked for.
 #[derive(Drop)]
 pub struct Store<S: Alter> {
     pub(crate) conn: Connection<S>,
@@ -46,10 +47,15 @@ impl<S: Alter> Model for Store<S> {
     ghost invariant = { λ s. IsServed s.setup (state S.Store s.conn) (known_of s.known) };
 }
 
-/// The store of a connection to the tables of an office.
-fn store_over<S: Alter>(alloc: Global, conn: Connection<S>, setup: Setup) -> Store<S>
+/// The store of a connection to the tables of an office, of which this is known.
+fn store_over<S: Alter>(
+    alloc: Global,
+    conn: Connection<S>,
+    setup: Setup,
+    known: BTreeMap<Code, Statuses>,
+) -> Store<S>
     requires autocommit { conn.in_transaction ≡ false }
-    requires office { IsOfLawfulState setup (state S.Store conn) }
+    requires office { IsOfKnownState setup (state S.Store conn) (known_of known) }
     ensures conn { result.conn ≡ conn }
     ensures setup { result.setup ≡ setup }
     ensures content { ShowsState setup (state S.Store conn) }
@@ -61,7 +67,7 @@ fn store_over<S: Alter>(alloc: Global, conn: Connection<S>, setup: Setup) -> Sto
     Store {
         conn,
         setup,
-        known: BTreeMap::new(alloc),
+        known,
         alloc,
     }
 }
@@ -89,7 +95,7 @@ impl<S: Alter> Store<S> {
             Survives (state S.Store conn) (state S.Store e.0) (LeavesOpening text.now)) }
     {
         match create_in(alloc, &mut conn, text) {
-            Ok(setup) => Ok(store_over(alloc, conn, setup)),
+            Ok(setup) => Ok(store_over(alloc, conn, setup, BTreeMap::new(alloc))),
             Err(fault) => Err((conn, fault)),
         }
     }
@@ -123,8 +129,9 @@ impl<S: Alter> Store<S> {
             HasPast (state S.Store conn).now → HasCleanDisk (state S.Store store.conn) →
             KeepsCounts (state S.Store conn) (state S.Store store.conn)) }
     {
-        match open_in(alloc, &mut conn) {
-            Ok(setup) => Ok(store_over(alloc, conn, setup)),
+        let mut known = BTreeMap::new(alloc);
+        match open_in(alloc, &mut conn, &mut known) {
+            Ok(setup) => Ok(store_over(alloc, conn, setup, known)),
             Err(fault) => Err((conn, fault)),
         }
     }

@@ -1,5 +1,5 @@
 //! Imports into an office in a database, which is opened again after each. Texts of other forms are
-//! tried over an office in memory (`tally_core_tests`), and what the tables hold then from outside.
+//! tried over an office in memory (`tally_import_tests`), and what the tables hold then from outside.
 
 use crate::offices::{made, opened};
 use sqlite::Alter;

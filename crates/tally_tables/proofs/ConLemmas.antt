@@ -15,7 +15,7 @@ use Rattle.tally_returns.specs.PastSeats.{PastSeats}
 use Rattle.tally_returns.specs.View.{View}
 use Rattle.tally_rows.specs.Cells.{text_of, number_of, wide_number_of}
 use Rattle.tally_schema.specs.Cells.{flag}
-use Rattle.tally_tables.specs.Cells.{item_row, numbered, items_of, gone_row, past_row, record_rows}
+use Rattle.tally_tables.specs.Cells.{item_row, numbers_with_places, items_of, gone_row, past_row, record_rows}
 use Rattle.tally_tables.specs.Reading.{with_text, utf8_of, numbers_from, sums_of, flag_of, note_in, standing_of, gone_of, all_gone_of, past_for, past_from, record_of, records_of, past_of, read_all}
 use Rattle.tally_tables.specs.Views.{Tables, statuses_of, view_in}
 use Rattle.tally_tables.specs.declared.views.Statuses.{Statuses}
@@ -171,7 +171,7 @@ past_again con edition place n small is =
 abbrev pub past_entry : PastSeats → ℕ × List ℕ
 past_entry p = (p.edition, p.seats)
 
-seats_rows_are : (con : List ℕ) (edition first : ℕ) (seats : List ℕ) → rows_from (λ place n. past_row con edition (place, n)) first seats ≡ map (past_row con edition) (numbered first seats)
+seats_rows_are : (con : List ℕ) (edition first : ℕ) (seats : List ℕ) → rows_from (λ place n. past_row con edition (place, n)) first seats ≡ map (past_row con edition) (numbers_with_places first seats)
 seats_rows_are con edition first [] = refl
 seats_rows_are con edition first (n ∷ seats) = ap (λ l. past_row con edition (first, n) ∷ l) (seats_rows_are con edition (first + 1) seats)
 
@@ -198,7 +198,7 @@ record_again con lists p some fine =
     ap (option_and_then (λ edition. option_map (made edition) (past_from con edition 1 rows))) (first p.seats (omega (arith, some, fine.long)))
     ∙ ap (option_map (made p.edition)) all
   where
-    first : (seats : List ℕ) → 1 ≤ length seats → number_of (column (slice_index_or (map (past_row con p.edition) (numbered 1 seats)) 0 []) 1) ≡ Some p.edition
+    first : (seats : List ℕ) → 1 ≤ length seats → number_of (column (slice_index_or (map (past_row con p.edition) (numbers_with_places 1 seats)) 0 []) 1) ≡ Some p.edition
     first [] none = absurd (omega (arith, none))
     first (n ∷ seats) some = number_reads p.edition fine.edition
 
@@ -217,7 +217,7 @@ past_are con lists (suc most) (row ∷ rows) past h =
     (sym (take-append-drop lists all) ∙ ap₂ ◌++◌ (record_is con (take lists all) one.0 one.1) (past_are con lists most (drop lists all) rest.0 rest.1))
 
 length_record : (con : List ℕ) (p : PastSeats) → length (record_rows con (past_entry p)) ≡ length p.seats
-length_record con p = length-map (numbered 1 p.seats) (past_row con p.edition) ∙ length_numbered 1 p.seats
+length_record con p = length-map (numbers_with_places 1 p.seats) (past_row con p.edition) ∙ length_numbered 1 p.seats
 
 pub past_again_all : (con : List ℕ) (lists most : ℕ) (past : List PastSeats) → 1 ≤ lists → length past ≤ most → AllByRecursion (IsReadablePast lists) past → records_of con lists most (all_past_rows con past) ≡ Some past
 past_again_all con lists most [] some enough fine = refl

@@ -17,7 +17,7 @@ use Rattle.tally_returns.specs.Return.{StationReturn}
 use Rattle.tally_returns.specs.declared.returns.Status.{Status}
 use Rattle.tally_returns.specs.declared.returns.Status.TheVariants.{Received, Queried, Corrected, Closed}
 use Rattle.tally_rows.specs.Cells.{text_of, number_of}
-use Rattle.tally_tables.specs.Cells.{status_number, item_row, numbered, items_of, spoiled_item, constituency_of, return_row, return_rows, count_rows}
+use Rattle.tally_tables.specs.Cells.{status_number, item_row, numbers_with_places, items_of, spoiled_item, constituency_of, return_row, return_rows, count_rows}
 use Rattle.tally_tables.specs.Reading.{with_text, utf8_of, status_of, item_for, items_from, counts_by, counts_of, return_of, station_of_row, entry_of, next_entry, entries_in}
 use Rattle.tally_tables.proofs.ItemLemmas.{and_then_some, map_some, if_some, text_is, number_is, number_reads, same_text, with_text_is, with_text_there, IsExact, IsRead, item_for_is, item_again, number_rows, items_are, items_again}
 
@@ -48,7 +48,7 @@ last_is x y middle = ap (λ n. slice_index_or (x ∷ middle ++ y ∷ []) n []) (
 
 -- the rows of counts, the first and the last apart
 count_rows_are : (key : List ℕ) (c : VoteCounts) → map (item_row key) (items_of c) ≡ item_row key (0, c.blank) ∷ number_rows key 1 c.votes ++ item_row key (spoiled_item, c.spoiled) ∷ []
-count_rows_are key c = ap (λ l. item_row key (0, c.blank) ∷ l) (map-append (item_row key) (numbered 1 c.votes) ((spoiled_item, c.spoiled) ∷ []))
+count_rows_are key c = ap (λ l. item_row key (0, c.blank) ∷ l) (map-append (item_row key) (numbers_with_places 1 c.votes) ((spoiled_item, c.spoiled) ∷ []))
 
 pub counts_are : (read : Value → Option ℕ) → IsExact read → (key : List ℕ) (rows : List Row) (c : VoteCounts) → counts_by read key rows ≡ Some c → rows ≡ map (item_row key) (items_of c)
 counts_are read exact key rows c h =
@@ -228,13 +228,13 @@ pub record IsPlaced (setup : List Constituency) (e : List ℕ × StationReturn) 
   pub lists : length e.1.counts.votes ≡ length place.0.lists
   pub fine : IsReadable e.1
 
-pub length_numbered : (first : ℕ) (ns : List ℕ) → length (numbered first ns) ≡ length ns
+pub length_numbered : (first : ℕ) (ns : List ℕ) → length (numbers_with_places first ns) ≡ length ns
 length_numbered first [] = refl
 length_numbered first (n ∷ ns) = omega (arith, length_numbered (first + 1) ns)
 
 length_count_rows : (e : List ℕ × StationReturn) → length (count_rows e) ≡ length e.1.counts.votes + 2
 length_count_rows e =
-    length-map (items_of e.1.counts) (item_row e.0) ∙ omega (arith, length-append (numbered 1 e.1.counts.votes) ((spoiled_item, e.1.counts.spoiled) ∷ []), length_numbered 1 e.1.counts.votes)
+    length-map (items_of e.1.counts) (item_row e.0) ∙ omega (arith, length-append (numbers_with_places 1 e.1.counts.votes) ((spoiled_item, e.1.counts.spoiled) ∷ []), length_numbered 1 e.1.counts.votes)
 
 place_again : (setup : List Constituency) (con : List ℕ) (e : List ℕ × StationReturn) (h : IsPlaced setup e) → station_of_row setup (return_row con e) ≡ Some h.place
 place_again setup con e h = ap (λ b. option_and_then (λ code. station_with code setup) (cond b (Some e.0) None)) h.code ∙ h.found

@@ -19,9 +19,9 @@ use Rattle.tally_returns.specs.View.{View}
 use Rattle.tally_rows.specs.Cells.{text_of}
 use Rattle.tally_rows.specs.Rows.{text_cmp}
 use Rattle.tally_rows.proofs.RowsLemmas.{text_same}
-use Rattle.tally_tables.specs.Cells.{item_row, numbered, items_of, gone_row, past_row, record_rows}
+use Rattle.tally_tables.specs.Cells.{item_row, numbers_with_places, items_of, gone_row, past_row, record_rows}
 use Rattle.tally_tables.specs.Reading.{has_text}
-use Rattle.tally_tables.specs.Views.{Tables, in_each, is_empty, key_len, rows_of_key, rows_behind, statuses_of, view_in, con_at, found_at, next_view, views_from}
+use Rattle.tally_tables.specs.Views.{Tables, in_each, is_empty, key_len, rows_of_key, rows_behind, statuses_of, view_in, con_at, view_with_code, next_view, views_from}
 use Rattle.tally_tables.proofs.ItemLemmas.{and_then_some, map_some, same_text}
 use Rattle.tally_tables.proofs.ConLemmas.{gone_entry, past_entry, sums_of_view, row_of_view, tables_of_view, view_is, view_again, IsReadableView}
 
@@ -78,7 +78,7 @@ views_are setup counted [] tables vs h = none (is_empty tables) refl h
 views_are setup counted (row ∷ rows) tables vs h =
     let con = and_then_some _ (con_at setup row) vs h in
     let code = con.0.code in
-    let e = and_then_some _ (found_at (counted con.0) row (in_each (rows_of_key code) tables) con.0) vs con.2 in
+    let e = and_then_some _ (view_with_code (counted con.0) row (in_each (rows_of_key code) tables) con.0) vs con.2 in
     let rest = map_some _ (views_from setup counted rows (in_each (rows_behind code) tables)) vs e.2 in
     let v = map_some _ (view_in con.0 (statuses_of (counted con.0)) row (in_each (rows_of_key code) tables)) e.0 e.1 in
     let told = view_is con.0 (statuses_of (counted con.0)) row (in_each (rows_of_key code) tables) v.0 v.1 in
@@ -118,11 +118,11 @@ pub record AreKeyed (P : Row → Type 0) (t : Tables) : Type 0 where
 
 tables_keyed : (key : List ℕ) (v : View) → AreKeyed (IsKeyed key) (tables_of_view key v)
 tables_keyed key v = record {
-  lots = keyed_map key (item_row key) (λ x. refl) (numbered 1 v.lot);
-  seats = keyed_map key (item_row key) (λ x. refl) (numbered 1 v.seats);
+  lots = keyed_map key (item_row key) (λ x. refl) (numbers_with_places 1 v.lot);
+  seats = keyed_map key (item_row key) (λ x. refl) (numbers_with_places 1 v.seats);
   gone = keyed_map key (λ g. gone_row key (gone_entry g)) (λ x. refl) v.gone;
   totals = keyed_map key (item_row key) (λ x. refl) (items_of (sums_of_view v));
-  past = all_flat (IsKeyed key) (λ p. record_rows key (past_entry p)) v.past (each_one _ (λ (p : PastSeats). keyed_map key (past_row key p.edition) (λ x. refl) (numbered 1 p.seats)) v.past);
+  past = all_flat (IsKeyed key) (λ p. record_rows key (past_entry p)) v.past (each_one _ (λ (p : PastSeats). keyed_map key (past_row key p.edition) (λ x. refl) (numbers_with_places 1 p.seats)) v.past);
 }
 
 pub never_below : (key : List ℕ) → text_cmp key key ≡ Less → ⊥
@@ -201,7 +201,7 @@ next_again others setup counted e vs h above is =
     ap (λ k. in_each (rows_of_key k) tables) h.same ∙ fronts_are e.0 (tables_of_view e.0 e.1) (all_tables vs) mine apart ∙ ap (λ k. tables_of_view k e.1) (sym h.same) in
     let back : in_each (rows_behind h.con.code) tables ≡ all_tables vs =
     ap (λ k. in_each (rows_behind k) tables) h.same ∙ backs_are e.0 (tables_of_view e.0 e.1) (all_tables vs) mine apart in
-    let one : found_at (counted h.con) row (in_each (rows_of_key h.con.code) tables) h.con ≡ Some e =
+    let one : view_with_code (counted h.con) row (in_each (rows_of_key h.con.code) tables) h.con ≡ Some e =
     ap (option_map (λ view. (h.con.code, view)))
     (ap (λ t. view_in h.con (statuses_of (counted h.con)) row t) front ∙ ap (λ s. view_in h.con s row (tables_of_view h.con.code e.1)) h.statuses
     ∙ ap (λ k. view_in h.con (statuses_of e.1) (row_of_view k e.1) (tables_of_view h.con.code e.1)) (sym h.same) ∙ view_again h.con e.1 h.some_list h.fine)
@@ -245,18 +245,18 @@ no_con setup counted so_far rows tables i row low at is = at_row setup counted s
 
 -- with a constituency
 with_found : (setup : List Constituency) (counted : Constituency → View) (so_far : List (List ℕ × View)) (rows : List Row) (tables : Tables) (i : ℕ) (row : Row) (con : Constituency) (o : Option (List ℕ × View)) → i < length rows → row ≡ get_or rows i row
-    → Some con ≡ con_at setup row → o ≡ found_at (counted con) row (in_each (rows_of_key con.code) tables) con
+    → Some con ≡ con_at setup row → o ≡ view_with_code (counted con) row (in_each (rows_of_key con.code) tables) con
     → Reading setup counted so_far (drop i rows) tables ≡ option_map (λ es. so_far ++ es) (option_and_then (λ e. option_map (λ es. e ∷ es) (views_from setup counted (drop (i + 1) rows) (in_each (rows_behind con.code) tables))) o)
 with_found setup counted so_far rows tables i row con o low at is e =
     at_row setup counted so_far rows tables i row (Some con) low at is
     ∙ ap (λ p. option_map (λ es. so_far ++ es) (option_and_then (λ e. option_map (λ es. e ∷ es) (views_from setup counted (drop (i + 1) rows) (in_each (rows_behind con.code) tables))) p)) (sym e)
 
 pub not_found : (setup : List Constituency) (counted : Constituency → View) (so_far : List (List ℕ × View)) (rows : List Row) (tables : Tables) (i : ℕ) (row : Row) (con : Constituency) → i < length rows → row ≡ get_or rows i row
-    → Some con ≡ con_at setup row → None ≡ found_at (counted con) row (in_each (rows_of_key con.code) tables) con → Reading setup counted so_far (drop i rows) tables ≡ None
+    → Some con ≡ con_at setup row → None ≡ view_with_code (counted con) row (in_each (rows_of_key con.code) tables) con → Reading setup counted so_far (drop i rows) tables ≡ None
 not_found setup counted so_far rows tables i row con low at is e = with_found setup counted so_far rows tables i row con None low at is e
 
 pub one_found : (setup : List Constituency) (counted : Constituency → View) (so_far : List (List ℕ × View)) (rows : List Row) (tables : Tables) (i : ℕ) (row : Row) (con : Constituency) (e : List ℕ × View) → i < length rows → row ≡ get_or rows i row
-    → Some con ≡ con_at setup row → Some e ≡ found_at (counted con) row (in_each (rows_of_key con.code) tables) con
+    → Some con ≡ con_at setup row → Some e ≡ view_with_code (counted con) row (in_each (rows_of_key con.code) tables) con
     → Reading setup counted so_far (drop i rows) tables ≡ Reading setup counted (so_far ++ e ∷ []) (drop (i + 1) rows) (in_each (rows_behind con.code) tables)
 one_found setup counted so_far rows tables i row con e low at is found =
     with_found setup counted so_far rows tables i row con (Some e) low at is found ∙ moved (views_from setup counted (drop (i + 1) rows) (in_each (rows_behind con.code) tables))

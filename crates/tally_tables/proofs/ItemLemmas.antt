@@ -9,7 +9,7 @@ use Rattle.sqlite_value.specs.declared.value.Value.{Value}
 use Rattle.sqlite_value.specs.declared.value.Value.TheVariants.{Null, Int, Real, Text, Blob}
 use Rattle.sqlite_value.specs.Order.{Row, column}
 use Rattle.tally_rows.specs.Cells.{text_of, number_of, wide_number_of}
-use Rattle.tally_tables.specs.Cells.{item_row, numbered}
+use Rattle.tally_tables.specs.Cells.{item_row, numbers_with_places}
 use Rattle.tally_tables.specs.Reading.{has_text, with_text, item_for, items_from}
 
 -- ---- steps that gave a value
@@ -108,7 +108,7 @@ item_again read key item n is =
 -- ---- rows of numbers
 
 abbrev pub number_rows : List ℕ → ℕ → List ℕ → List Row
-number_rows key first ns = map (item_row key) (numbered first ns)
+number_rows key first ns = map (item_row key) (numbers_with_places first ns)
 
 pub items_are : (read : Value → Option ℕ) → IsExact read → (key : List ℕ) (first : ℕ) (rows : List Row) (ns : List ℕ) → items_from read key first rows ≡ Some ns → rows ≡ number_rows key first ns
 items_are read exact key first [] ns h = let e : ◌≡◌ {A = List ℕ} [] ns = (let k = h in cc) in subst (λ l. [] ≡ number_rows key first l) e refl

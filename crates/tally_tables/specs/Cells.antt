@@ -30,9 +30,9 @@ abbrev pub item_row : List ℕ → ℕ × ℕ → Row
 item_row key item = Text key ∷ Int (pos item.0) ∷ Int (pos item.1) ∷ []
 
 -- each number with its place, counted from this one
-abbrev pub numbered : ℕ → List ℕ → List (ℕ × ℕ)
-numbered first [] = []
-numbered first (n ∷ ns) = (first, n) ∷ numbered (first + 1) ns
+abbrev pub numbers_with_places : ℕ → List ℕ → List (ℕ × ℕ)
+numbers_with_places first [] = []
+numbers_with_places first (n ∷ ns) = (first, n) ∷ numbers_with_places (first + 1) ns
 
 -- the item of the spoiled votes: after those of 60 lists
 abbrev pub spoiled_item : ℕ
@@ -41,7 +41,7 @@ spoiled_item = 61
 -- the blank votes are item 0, those of a list are the item of its place, and the spoiled ones are
 -- the last item
 abbrev pub items_of : VoteCounts → List (ℕ × ℕ)
-items_of counts = (0, counts.blank) ∷ numbered 1 counts.votes ++ (spoiled_item, counts.spoiled) ∷ []
+items_of counts = (0, counts.blank) ∷ numbers_with_places 1 counts.votes ++ (spoiled_item, counts.spoiled) ∷ []
 
 -- ---- returns
 
@@ -65,12 +65,12 @@ con_rows e = (Text e.0 ∷ Int (pos e.1.edition) ∷ Int (pos (flag e.1.certifie
 
 -- for each place of the lot, from 1, the place of its list in the setup
 abbrev pub lot_rows : List ℕ × ConState → List Row
-lot_rows e = map (item_row e.0) (numbered 1 e.1.lot)
+lot_rows e = map (item_row e.0) (numbers_with_places 1 e.1.lot)
 
 -- for each list, by its place from 1, the seats that the certificate gave it; a constituency that
 -- is not certified has no seats
 abbrev pub seat_rows : (List ℕ → List ℕ) → List ℕ × ConState → List Row
-seat_rows seats e = map (item_row e.0) (numbered 1 (seats e.0))
+seat_rows seats e = map (item_row e.0) (numbers_with_places 1 (seats e.0))
 
 -- for each candidate who is gone, the place of the list, the candidate's own place there, and the
 -- note
@@ -94,7 +94,7 @@ abbrev pub past_row : List ℕ → ℕ → ℕ × ℕ → Row
 past_row con edition item = Text con ∷ Int (pos edition) ∷ Int (pos item.0) ∷ Int (pos item.1) ∷ []
 
 abbrev pub record_rows : List ℕ → ℕ × List ℕ → List Row
-record_rows con entry = map (past_row con entry.0) (numbered 1 entry.1)
+record_rows con entry = map (past_row con entry.0) (numbers_with_places 1 entry.1)
 
 abbrev pub past_rows : List ℕ × ConState → List Row
 past_rows e = flat_map (record_rows e.0) (entries e.1.past)

@@ -1,5 +1,6 @@
 -- What rows read as, or nothing. Whether what they read as is lawful is judged elsewhere.
-use Rattle.std.specs.Prelude.{◌==◌, ◌+◌, ◌-◌, if◌then◌else◌, ℕ, zero, suc, nat_le, Bool, true, false, Option, Some, None, option_map, option_and_then, List, [], ◌∷◌, length, bytes_eq, slice_index_or, slice_range, take, drop}
+use Rattle.std.specs.Prelude.{◌==◌, ◌+◌, ◌-◌, if◌then◌else◌, ℕ, zero, suc, nat_le, Bool, true, false, Option, Some, None, option_map, option_and_then, List, [], ◌∷◌, length, bytes_eq, slice_index_or, slice_range, take, drop, ◌≡◌, Result, IfOk, Vec}
+use Rattle.std.specs.declared.alloc.Global.{Global}
 use Rattle.std.specs.Option.{option_map_or}
 use Rattle.std.specs.Str.{is_utf8}
 use Rattle.sqlite_value.specs.Order.{Row, column}
@@ -16,6 +17,12 @@ use Rattle.tally_returns.specs.Return.{StationReturn}
 use Rattle.tally_returns.specs.declared.returns.Status.{Status}
 use Rattle.tally_returns.specs.declared.returns.Status.TheVariants.{Received, Queried, Corrected, Closed}
 use Rattle.tally_tables.specs.Cells.{spoiled_item}
+
+-- ---- what a call says that reads rows
+
+-- the rows were read as these values, or as nothing; or it was out of memory
+abbrev pub AreRead : {X E : Type 0} → Result (Option (Vec X Global)) E → Option (List X) → Type 0
+AreRead result values = IfOk result (λ found. option_map (λ v. v.items) found ≡ values)
 
 -- ---- columns
 

@@ -8,6 +8,7 @@ use Rattle.tally_rules.specs.Constituency.{Constituency}
 use Rattle.tally_rules.specs.Setup.{constituency_with}
 use Rattle.tally_returns.specs.View.{View}
 use Rattle.tally_tables.specs.Reading.{has_text, standing_of, numbers_from, all_gone_of, sums_of, past_of}
+use Rattle.tally_tables.specs.declared.constituencies.Standing.{Standing}
 use Rattle.tally_tables.specs.declared.parts.ConTables.{ConTables}
 use Rattle.tally_tables.specs.declared.views.Statuses.{Statuses}
 
@@ -39,6 +40,10 @@ rows_of_key key rows = take (key_len key rows) rows
 
 abbrev pub rows_behind : List ℕ → List Row → List Row
 rows_behind key rows = drop (key_len key rows) rows
+
+-- what a row of `cons` has beside its code
+abbrev pub standing_value : Standing → ℕ × Bool × List ℕ
+standing_value standing = (standing.edition, standing.certified, standing.note.now)
 
 -- the numbers of stations and of returns in each status, of what is seen
 abbrev pub statuses_of : View → Statuses
@@ -76,12 +81,12 @@ con_counted setup counted row = option_map (λ con. (con, counted con)) (con_at 
 
 -- a constituency with its code, by its row of `cons` and its rows of the other tables; the numbers
 -- of its returns are those that were counted
-abbrev pub found_at : View → Row → Tables → Constituency → Option (List ℕ × View)
-found_at counted row tables con = option_map (λ view. (con.code, view)) (view_in con (statuses_of counted) row tables)
+abbrev pub view_with_code : View → Row → Tables → Constituency → Option (List ℕ × View)
+view_with_code counted row tables con = option_map (λ view. (con.code, view)) (view_in con (statuses_of counted) row tables)
 
 -- the first constituency, and those that the other rows read as
 abbrev pub next_view : (Tables → Option (List (List ℕ × View))) → View → Row → Tables → Constituency → Option (List (List ℕ × View))
-next_view others counted row tables con = option_and_then (λ e. option_map (λ es. e ∷ es) (others (in_each (rows_behind con.code) tables))) (found_at counted row (in_each (rows_of_key con.code) tables) con)
+next_view others counted row tables con = option_and_then (λ e. option_map (λ es. e ∷ es) (others (in_each (rows_behind con.code) tables))) (view_with_code counted row (in_each (rows_of_key con.code) tables) con)
 
 -- the constituencies whose rows the tables hold, one after the other, in whatever order
 abbrev pub views_from : List Constituency → (Constituency → View) → List Row → Tables → Option (List (List ℕ × View))

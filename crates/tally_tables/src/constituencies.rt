@@ -1,7 +1,9 @@
 //! Rows of what constituencies have come to.
 
 ghost use Rattle.std.specs.Prelude.{◌≡◌, IfOk, option_map};
-ghost use Rattle.tally_tables.specs.Reading.{all_gone_of, flag_of, gone_of, standing_of};
+ghost use Rattle.tally_tables.specs.Reading.{AreRead, all_gone_of, flag_of, gone_of, standing_of};
+ghost use Rattle.tally_tables.specs.Views.{standing_value};
+ghost use Rattle.tally_tables.specs.internal.Parts.{place_value};
 
 use crate::columns::{has_text, note_in};
 use sqlite::Row;
@@ -32,7 +34,7 @@ fn flag_of(number: u32) -> Option<bool>
 
 /// What a row of `cons` says of the constituency of a code. `None` where it is not such a row.
 pub fn standing_in<'a>(row: &'a Row, con: &[u8]) -> Option<Standing<'a>>
-    ensures { option_map (λ s. (s.edition, s.certified, s.note.now)) result ≡ standing_of con.now row.now }
+    ensures { option_map standing_value result ≡ standing_of con.now row.now }
 {
     if row.column_count() != 4 || !has_text(row, 0, con) {
         return None;
@@ -56,7 +58,7 @@ struct Place<'a> {
 }
 
 fn place_in<'a>(row: &'a Row, con: &[u8]) -> Option<Place<'a>>
-    ensures { option_map (λ p. record { list = p.list; place = p.place; note = p.note.now }) result ≡ gone_of con.now row.now }
+    ensures { option_map place_value result ≡ gone_of con.now row.now }
 {
     if row.column_count() != 4 || !has_text(row, 0, con) {
         return None;
@@ -83,7 +85,7 @@ fn gone_in(alloc: Global, row: &Row, con: &[u8]) -> Result<Option<Gone>, AllocEr
 /// The candidates of a constituency who are gone, one for each row. `None` where these are not such
 /// rows.
 pub fn all_gone_in(alloc: Global, rows: &[Row], con: &[u8]) -> Result<Option<Vec<Gone>>, AllocError>
-    ensures { IfOk result (λ found. option_map (λ v. v.items) found ≡ all_gone_of con.now rows.now) }
+    ensures { AreRead result (all_gone_of con.now rows.now) }
 {
     let mut all = Vec::new(alloc);
     for row in rows {

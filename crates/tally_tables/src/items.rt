@@ -1,7 +1,7 @@
 //! Rows of a key, an item and a number, as the tables of counts, lots, seats and totals have them.
 
-ghost use Rattle.std.specs.Prelude.{◌≡◌, IfOk, option_map};
-ghost use Rattle.tally_tables.specs.Reading.{counts_of, number_for, numbers_from};
+ghost use Rattle.std.specs.Prelude.{◌≡◌, IfOk};
+ghost use Rattle.tally_tables.specs.Reading.{AreRead, counts_of, number_for, numbers_from};
 
 use crate::columns::has_text;
 use sqlite::Row;
@@ -28,7 +28,7 @@ fn number_for(row: &Row, key: &[u8], item: u64) -> Option<u32>
 /// The numbers that the rows of a key have for the items from 1 on, one row for each and in order.
 /// `None` where they are not such rows.
 pub fn numbers_in(alloc: Global, rows: &[Row], key: &[u8]) -> Result<Option<Vec<u32>>, AllocError>
-    ensures { IfOk result (λ found. option_map (λ v. v.items) found ≡ numbers_from key.now 1 rows.now) }
+    ensures { AreRead result (numbers_from key.now 1 rows.now) }
 {
     let mut numbers = Vec::new(alloc);
     let mut item = 1;

@@ -1,7 +1,7 @@
 //! Rows of certificates that were reopened.
 
-ghost use Rattle.std.specs.Prelude.{◌≡◌, IfOk, option_map};
-ghost use Rattle.tally_tables.specs.Reading.{past_for, past_from, past_of, record_of};
+ghost use Rattle.std.specs.Prelude.{◌≡◌, IfOk};
+ghost use Rattle.tally_tables.specs.Reading.{AreRead, past_for, past_from, past_of, record_of};
 
 use crate::columns::has_text;
 use sqlite::Row;
@@ -33,7 +33,7 @@ fn seats_in(
     con: &[u8],
     edition: u32,
 ) -> Result<Option<Vec<u32>>, AllocError>
-    ensures { IfOk result (λ found. option_map (λ v. v.items) found ≡ past_from con.now edition 1 rows.now) }
+    ensures { AreRead result (past_from con.now edition 1 rows.now) }
 {
     let mut seats = Vec::new(alloc);
     let mut place = 1;
@@ -70,7 +70,7 @@ pub fn past_in(
     con: &[u8],
     lists: usize,
 ) -> Result<Option<Vec<Past>>, AllocError>
-    ensures { IfOk result (λ found. option_map (λ v. v.items) found ≡ past_of con.now lists rows.now) }
+    ensures { AreRead result (past_of con.now lists rows.now) }
 {
     let mut past = Vec::new(alloc);
     let mut left = rows;

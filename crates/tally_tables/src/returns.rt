@@ -2,7 +2,8 @@
 
 ghost use Rattle.std.specs.Prelude.{◌≡◌, IfOk, option_map};
 ghost use Rattle.tally_returns.specs.Counts.{VoteCounts};
-ghost use Rattle.tally_tables.specs.Reading.{entries_in, entry_of, station_of_row, return_of};
+ghost use Rattle.tally_tables.specs.Reading.{AreRead, entries_in, entry_of, return_of, station_of_row};
+ghost use Rattle.tally_tables.specs.internal.Parts.{with_counts};
 
 use crate::columns::{has_text, note_in};
 use crate::items::counts_in;
@@ -24,7 +25,8 @@ struct Head<'a> {
 }
 
 fn head_of<'a>(row: &'a Row, station: &[u8], con: &[u8]) -> Option<Head<'a>>
-    ensures { (counts : VoteCounts) → option_map (λ h. record { rev = h.rev; slip = h.slip; status = h.status; note = h.note.now; counts = counts }) result ≡ return_of station.now con.now counts row.now }
+    ensures { (counts : VoteCounts) →
+        option_map (with_counts counts) result ≡ return_of station.now con.now counts row.now }
 {
     if row.column_count() != 6 || !has_text(row, 0, station) || !has_text(row, 1, con) {
         return None;
@@ -81,7 +83,7 @@ impl Model for Entry {
 
 /// The station that a row of `returns` names, with its constituency.
 fn station_of_row<'a>(setup: &'a Setup, row: &Row) -> Option<(&'a Constituency, &'a Station)>
-    ensures { option_map (λ place. (place.0.now, place.1.now)) result ≡ station_of_row setup.now row.now }
+    ensures { option_map (λ p. (p.0.now, p.1.now)) result ≡ station_of_row setup.now row.now }
 {
     setup.station(Code::new(text_at(row, 0)?)?)
 }
@@ -110,7 +112,7 @@ pub fn entries_in(
     rows: &[Row],
     counts: &[Row],
 ) -> Result<Option<Vec<Entry>>, AllocError>
-    ensures { IfOk result (λ found. option_map (λ v. v.items) found ≡ entries_in setup.now rows.now counts.now) }
+    ensures { AreRead result (entries_in setup.now rows.now counts.now) }
 {
     let mut entries = Vec::new(alloc);
     let mut left = counts;

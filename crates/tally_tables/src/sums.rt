@@ -1,8 +1,8 @@
 //! Rows of sums.
 
-ghost use Rattle.std.specs.Prelude.{◌≡◌, IfOk, option_map};
+ghost use Rattle.std.specs.Prelude.{◌≡◌, IfOk};
 ghost use Rattle.tally_rows.specs.Cells.{wide_number_of};
-ghost use Rattle.tally_tables.specs.Reading.{item_for, items_from, sums_of};
+ghost use Rattle.tally_tables.specs.Reading.{AreRead, item_for, items_from, sums_of};
 
 use crate::columns::has_text;
 use crate::items::SPOILED_ITEM;
@@ -42,7 +42,7 @@ fn sum_for(row: &Row, key: &[u8], item: u64) -> Option<u64>
 
 /// The numbers that the rows of a key have for the items from 1 on, one row for each and in order.
 fn votes_in(alloc: Global, rows: &[Row], key: &[u8]) -> Result<Option<Vec<u64>>, AllocError>
-    ensures { IfOk result (λ found. option_map (λ v. v.items) found ≡ items_from wide_number_of key.now 1 rows.now) }
+    ensures { AreRead result (items_from wide_number_of key.now 1 rows.now) }
 {
     let mut votes = Vec::new(alloc);
     let mut item = 1;

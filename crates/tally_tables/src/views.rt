@@ -32,7 +32,7 @@ pub fn view_in(
     row: &Row,
     tables: ConTables<'_>,
 ) -> Result<Option<ConView>, AllocError>
-    ensures { IfOk result (λ found. found ≡ view_in con.now statuses row.now (tables_in tables.entry)) }
+    ensures { IfOk result (λ v. v ≡ view_in con.now statuses row.now (tables_in tables.entry)) }
 {
     let code = con.code.as_bytes();
     let Some(standing) = standing_in(row, code) else {

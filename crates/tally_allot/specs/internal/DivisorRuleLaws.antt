@@ -2,7 +2,7 @@
 -- caller speaks of it.
 use Rattle.std.specs.Prelude.{ℕ, ◌<◌, ◌≤◌}
 use Rattle.std.proofs.Common.{arith}
-use Rattle.tally_frac.specs.DivisorLaws.{modified-positive, modified-rises, modified-at_most}
+use Rattle.tally_frac.specs.internal.DivisorLaws.{modified-positive, modified-rises, modified-at_most}
 use Rattle.tally_frac.specs.Limits.{greatest_divisor, last_divisor}
 use Rattle.tally_allot.specs.declared.divisor_rule.DivisorRule.{DivisorRule}
 use Rattle.tally_allot.specs.declared.divisor_rule.DivisorRule.TheVariants.{DHondt, SainteLague}

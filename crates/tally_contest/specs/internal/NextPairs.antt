@@ -5,7 +5,7 @@ use Rattle.std.specs.Ordering.{nat_cmp, ordering_then}
 use Rattle.std.specs.declared.cmp.Ordering.{Ordering}
 use Rattle.tally_frac.specs.Limits.{last_divisor}
 use Rattle.tally_frac.specs.Rank.{Pair, IsWithinLimits}
-use Rattle.tally_frac.specs.RankOrder.{rank_cmp}
+use Rattle.tally_frac.specs.internal.RankOrder.{rank_cmp}
 use Rattle.tally_contest.specs.internal.Terms.{Terms, pair_on}
 use Rattle.tally_contest.specs.internal.Won.{none_held}
 use Rattle.tally_law.specs.Poll.{Poll, IsEligible}

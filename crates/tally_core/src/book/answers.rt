@@ -1,10 +1,10 @@
 //! What a keeper in memory answers.
 
 ghost use Rattle.std.specs.Prelude.{◌≡◌, ◌⊎◌, true, false, Some, Err, IsSome};
-ghost use Rattle.tally_keeper.specs.Held.{IsAnsweredInMemory, IsHeld, IsLodged, IsMoved, is_query, lodge_answer_in, moves_return};
+ghost use Rattle.tally_keeper.specs.internal.Held.{IsAnsweredInMemory, IsHeld, IsLodged, IsMoved, is_query, lodge_answer_in, moves_return};
 ghost use Rattle.tally_ledger.specs.Kept.{state_in, with_no_lot};
 ghost use Rattle.tally_returns.specs.Named.{con_named, station_named};
-ghost use Rattle.tally_steps.specs.Step.{answer, seen};
+ghost use Rattle.tally_steps.specs.Step.{answer, reply_seen};
 ghost use Rattle.tally_rules.specs.Setup.{constituency_with};
 ghost use Rattle.tally_returns.specs.declared.ask.Ask.TheVariants.{ShowReturn};
 ghost use Rattle.tally_returns.specs.declared.refusal.Refusal.TheVariants.{Memory};
@@ -118,7 +118,8 @@ fn take_lot(ledger: &mut Ledger, con: Code, ask: &Ask)
 }
 
 fn show_return(alloc: Global, ledger: &Ledger, station: Code) -> Result<Reply, Refusal>
-    ensures { (seen result ≡ answer ledger.now.setup (state_in ledger.now) (ShowReturn station))
+    ensures { (reply_seen result ≡
+        answer ledger.now.setup (state_in ledger.now) (ShowReturn station))
         ⊎ (result ≡ Err Memory) }
 {
     if ledger.setup().station(station).is_none() {

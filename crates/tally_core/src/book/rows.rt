@@ -1,7 +1,8 @@
 //! An import into a keeper in memory.
 
-ghost use Rattle.std.specs.Prelude.{◌≡◌, ◌≢◌, Some, None, true, IfErr, IfOk, OnErr, OnOk};
-ghost use Rattle.tally_keeper.specs.Held.{after_row_in, lodge_answer_in, lodge_in, row_answer_in, without};
+ghost use Rattle.std.specs.Prelude.{◌≡◌, ◌≢◌, Some, true, IfErr, IfOk, OnErr, OnOk};
+ghost use Rattle.tally_keeper.specs.Delivery.{delivery};
+ghost use Rattle.tally_keeper.specs.internal.Held.{after_row_in, lodge_answer_in, lodge_in, row_answer_in, returns_without};
 ghost use Rattle.tally_keeper.specs.Import.{IsCodedRow};
 ghost use Rattle.tally_keeper.specs.Keeper.{IsFault, IsImportOf};
 ghost use Rattle.tally_keeper.specs.declared.import.Row.{Row};
@@ -19,21 +20,20 @@ use tally_rules::Code;
 
 /// Lodges the rows of a source, and adds the stations that were lodged to a list, so that a fault
 /// can be undone.
-pub(super) fn take_rows<R: RowSource>(
+pub(super) fn take_source<R: RowSource>(
     alloc: Global,
     ledger: &mut Ledger,
     lodged: &mut Vec<Code>,
     source: &mut R,
 ) -> Result<ImportCount, ImportFault>
     ensures imported { IfOk result (λ count.
-        IsImportOf ledger.old.setup (Some (state_in ledger.old)) (R.coming source.old) count
-        (Some (state_in ledger.new))) }
-    ensures ended { OnOk result (R.ended source.new ≡ Some None) }
-    ensures fault { IfErr result (IsFault (R.coming source.old) (R.ended source.new)) }
+        IsImportOf ledger.old.setup (Some (state_in ledger.old))
+        (delivery R.RowSource source.old source.new) count (Some (state_in ledger.new))) }
+    ensures fault { IfErr result (IsFault (delivery R.RowSource source.old source.new)) }
     ensures own { IfErr result (λ fault. fault ≢ Store) }
     ensures kept { ledger.new ≡ record ledger.old { returns = ledger.new.returns } }
-    ensures undone { without lodged.new.items ledger.new.returns
-        ≡ without lodged.old.items ledger.old.returns }
+    ensures undone { returns_without lodged.new.items ledger.new.returns
+        ≡ returns_without lodged.old.items ledger.old.returns }
 {
     let mut count = ImportCount::new();
     for before in 0..ROW_LIMIT + 1 {
@@ -57,8 +57,8 @@ fn take_row(
     ensures answer { IfOk result (λ answer. row_answer_in ledger.old row ≡ answer) }
     ensures returns { OnOk result (ledger.new.returns ≡ after_row_in ledger.old row) }
     ensures kept { ledger.new ≡ record ledger.old { returns = ledger.new.returns } }
-    ensures undone { without lodged.new.items ledger.new.returns
-        ≡ without lodged.old.items ledger.old.returns }
+    ensures undone { returns_without lodged.new.items ledger.new.returns
+        ≡ returns_without lodged.old.items ledger.old.returns }
 {
     let Row::Lodge(ask) = row else {
         return Ok(None);
@@ -76,8 +76,8 @@ fn take_ask(
     ensures answer { IfOk result (λ answer. row_answer_in ledger.old (Row.Lodge ask) ≡ answer) }
     ensures returns { OnOk result (ledger.new.returns ≡ after_row_in ledger.old (Row.Lodge ask)) }
     ensures kept { ledger.new ≡ record ledger.old { returns = ledger.new.returns } }
-    ensures undone { without lodged.new.items ledger.new.returns
-        ≡ without lodged.old.items ledger.old.returns }
+    ensures undone { returns_without lodged.new.items ledger.new.returns
+        ≡ returns_without lodged.old.items ledger.old.returns }
 {
     let Ask::Lodge {
         station,
@@ -106,8 +106,8 @@ fn take_return(
         answer ≡ lodge_answer_in ledger.old station slip counts) }
     ensures returns { OnOk result (ledger.new.returns ≡ lodge_in ledger.old station slip counts) }
     ensures kept { ledger.new ≡ record ledger.old { returns = ledger.new.returns } }
-    ensures undone { without lodged.new.items ledger.new.returns
-        ≡ without lodged.old.items ledger.old.returns }
+    ensures undone { returns_without lodged.new.items ledger.new.returns
+        ≡ returns_without lodged.old.items ledger.old.returns }
 {
     // Called for what its contract says: a slip is a code.
     let _slip = slip.as_bytes();
@@ -123,7 +123,8 @@ fn take_return(
 
 /// Takes out the returns of these stations. It takes no memory.
 pub(super) fn take_out(ledger: &mut Ledger, stations: &[Code])
-    ensures { ledger.new ≡ record ledger.old { returns = without stations.now ledger.old.returns } }
+    ensures { ledger.new ≡
+        record ledger.old { returns = returns_without stations.now ledger.old.returns } }
 {
     for station in stations {
         ledger.take_out(*station);

@@ -2,15 +2,28 @@
 use Rattle.std.specs.Prelude.{◌≡◌, ◌&&◌, Bool, true, false, List, is_some}
 use Rattle.std.specs.Prelude.{codes, if◌then◌else◌}
 use Rattle.std.specs.Str.{bytes_eq}
-use Rattle.clap.specs.Words.{Row, Text, first_of, kind_of}
+use Rattle.clap.specs.Words.{Row, Text, first_of, found_of, kind_of, rows_of}
+use Rattle.clap.specs.declared.parser.matches.ArgMatches.{ArgMatches}
 use Rattle.clap.specs.declared.error.ErrorKind.TheVariants.{InvalidValue}
 use Rattle.tally_line.specs.declared.line.LineFault.{LineFault}
 use Rattle.tally_line.specs.declared.line.LineFault.TheVariants.{Usage, NoCon, Memory}
-use Rattle.tally_line.specs.Line.{lacks_con, lacks_report, number_of}
+use Rattle.tally_line.specs.Line.{lacks_con, lacks_report, most_count, most_port, number_of}
+
+-- what was given of the arguments of a command, and what stands for those that were not
+abbrev pub given_rows : ArgMatches → List Row
+given_rows arguments = rows_of (found_of arguments)
 
 -- the argument has a value
 abbrev pub has : Text → List Row → Bool
 has id rows = is_some (first_of id rows)
+
+-- so has that of the port, a port
+abbrev pub has_port : List Row → Bool
+has_port rows = is_some (number_of (codes "port") 1 most_port rows)
+
+-- and that of the connections, a number of connections
+abbrev pub has_count : List Row → Bool
+has_count rows = is_some (number_of (codes "count") 1 most_count rows)
 
 -- what the command wants is given
 abbrev pub has_arguments : Text × List Row → Bool
@@ -19,8 +32,7 @@ has_arguments p =
     else if bytes_eq p.0 (codes "new") then has (codes "db") p.1 && has (codes "setup") p.1
     else if bytes_eq p.0 (codes "import") then has (codes "db") p.1 && (has (codes "con") p.1 && has (codes "csv") p.1)
     else if bytes_eq p.0 (codes "show") then has (codes "db") p.1 && has (codes "report") p.1
-    else if bytes_eq p.0 (codes "serve") then has (codes "db") p.1
-    && (is_some (number_of (codes "port") 1 65535 p.1) && is_some (number_of (codes "count") 1 1000000 p.1))
+    else if bytes_eq p.0 (codes "serve") then has (codes "db") p.1 && (has_port p.1 && has_count p.1)
     else false
 
 -- why there is no line

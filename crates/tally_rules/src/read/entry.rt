@@ -8,7 +8,7 @@ ghost use Rattle.tally_frac.specs.Limits.{most_lists};
 ghost use Rattle.tally_rules.specs.Constituency.{list_codes, station_codes};
 ghost use Rattle.tally_rules.specs.Codes.{AreDistinct};
 ghost use Rattle.tally_rules.specs.Limits.{IsConstituency, IsListEntry, IsStation};
-ghost use Rattle.tally_rules.specs.Found.{key_name, IsFoundIn, is_kind};
+ghost use Rattle.tally_rules.specs.internal.Found.{key_name, IsFoundIn, is_kind};
 ghost use Rattle.tally_rules.specs.Reading.{array_at, candidates_of, constituency_entry};
 ghost use Rattle.tally_rules.specs.Reading.{list_entry, lists_of, station_entry, stations_of};
 ghost use Rattle.tally_rules.specs.Text.{IsName};

@@ -1,7 +1,7 @@
 //! Faults, as they are passed on within the reading.
 
 ghost use Rattle.std.specs.Prelude.{◌≡◌};
-ghost use Rattle.tally_rules.specs.Found.{key_name, IsFoundIn};
+ghost use Rattle.tally_rules.specs.internal.Found.{key_name, IsFoundIn};
 ghost use Rattle.tally_rules.specs.Fault.{IsFaultIn};
 ghost use Rattle.tally_rules.specs.Reading.{Reading};
 ghost use Rattle.tally_rules.specs.declared.read.fault.KeyFault.TheVariants.{Memory};

@@ -5,7 +5,7 @@ ghost use Rattle.std.specs.Prelude.{string_bytes};
 ghost use Rattle.toml.specs.View.{view};
 ghost use Rattle.tally_rules.specs.Code.{is_code};
 ghost use Rattle.tally_rules.specs.Codes.{AreDistinct};
-ghost use Rattle.tally_rules.specs.Found.{key_name, IsFoundIn};
+ghost use Rattle.tally_rules.specs.internal.Found.{key_name, IsFoundIn};
 ghost use Rattle.tally_rules.specs.Reading.{base_of, code_at, lot_rule_of, method_of, name_from};
 ghost use Rattle.tally_rules.specs.Reading.{name_of, new_code, number_at, number_in, text_at};
 ghost use Rattle.tally_rules.specs.Reading.{value_at};

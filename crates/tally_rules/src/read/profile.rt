@@ -2,7 +2,7 @@
 
 ghost use Rattle.std.specs.Prelude.{◌≡◌, ◌≤◌, ◌++◌, ◌∷◌, [], Ok, IfOk, IfErr, IfSome};
 ghost use Rattle.toml.specs.View.{view};
-ghost use Rattle.tally_rules.specs.Found.{IsFoundIn};
+ghost use Rattle.tally_rules.specs.internal.Found.{IsFoundIn};
 ghost use Rattle.tally_rules.specs.Reading.{profile_entry, profile_with, profiles_of};
 
 use crate::code::Code;

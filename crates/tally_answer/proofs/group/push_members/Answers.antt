@@ -1,8 +1,8 @@
 use Rattle.std.proofs.Common.{◌≡◌, ◌++◌, ◌||◌, Bool, List, ℕ, suc, ap, sym, ◌∙◌, append_assoc, arith, take, get_or, slice_index_or, false}
 use Rattle.tally_rules.specs.ListSet.{has_place}
 use Rattle.tally_rules.specs.Constituency.{ListEntry}
-use Rattle.tally_answer.specs.Outcome.{marked, separated}
-use Rattle.tally_answer.specs.Group.{is_begun, code_of}
+use Rattle.tally_answer.specs.Outcome.{marked_lists, quoted_codes}
+use Rattle.tally_answer.specs.internal.Group.{is_begun, code_of}
 use Rattle.tally_answer.proofs.GroupLemmas.{written_next, begun_by}
 use Rattle.tally_answer.proofs.group.push_members.Goals as goal
 
@@ -13,7 +13,7 @@ loop-list-preserved c =
     let group = c.args.group.now in
     let i = c.loop-list.list-index in
     let list = c.list-item.result in
-    let so_far = marked (take i lists) group in
+    let so_far = marked_lists (take i lists) group in
     let at : c.loop-list.place ≡ suc i = omega (arith, c.loop-list.invariant.place) in
     let mark : c.has.result ≡ slice_index_or group i false = c.has.ensures ∙ ap (has_place group) at in
     let within = c.loop-list-test.true in
@@ -29,8 +29,8 @@ loop-list-preserved c =
           ∙ sym (begun_by lists group i list within);
       items = c.push_marked-begun.ensures.items
           ∙ ap (λ (l : List ℕ). l ++ code_of c.loop-list.begun c.has.result list) c.loop-list.invariant.items
-          ∙ append_assoc old (separated so_far) (code_of c.loop-list.begun c.has.result list)
-          ∙ ap (λ (l : List ℕ). old ++ l) (ap (λ (l : List ℕ). separated so_far ++ l) piece ∙ sym (written_next lists group i list within));
+          ∙ append_assoc old (quoted_codes so_far) (code_of c.loop-list.begun c.has.result list)
+          ∙ ap (λ (l : List ℕ). old ++ l) (ap (λ (l : List ℕ). quoted_codes so_far ++ l) piece ∙ sym (written_next lists group i list within));
       len = omega (arith, c.push_marked-begun.ensures.len, c.loop-list.invariant.len);
       room = omega (arith, c.push_marked-begun.ensures.room, c.loop-list.invariant.room);
     }

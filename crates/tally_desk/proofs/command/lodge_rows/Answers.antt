@@ -1,16 +1,14 @@
-use Rattle.std.proofs.Common.{ap, subst}
-use Rattle.tally_keeper.specs.Keeper.{Imports}
-use Rattle.tally_import.specs.ReturnRowsValue.{coming}
+use Rattle.std.proofs.Common.{ap}
+use Rattle.tally_keeper.specs.Source.{Delivery, SourceAt}
+use Rattle.tally_import.specs.ReturnRowsValue.{ReturnRows, coming}
 use Rattle.tally_desk.proofs.command.lodge_rows.Goals as goal
+
+-- how the rows of a text stand as a source
+abbrev rows_at : ReturnRows → SourceAt
+rows_at rows = record { coming = coming rows; given = rows.given; ended = rows.ended }
 
 pub returns-clause-imports : goal.returns-clause-imports
 returns-clause-imports g c sure =
-    let k = g.K.Keeper in
-    let setup = k.constituencies c.args.keeper.now in
-    let old = k.content c.args.keeper.now in
-    let lodged = c.lodge_from-outcome in (
-      lodged.new.rows.ended,
-      lodged.result,
-      subst (λ known. Imports setup old known lodged.new.rows.ended lodged.result (k.content lodged.new.self)) (ap coming c.new-rows.ensures) (lodged.ensures.imported sure),
-      c.import_answer.ensures,
-    )
+    let lodged = c.lodge_from-outcome in
+    let d : Delivery = record { start = rows_at c.new-rows.result; finish = rows_at lodged.new.rows } in
+    (d, lodged.result, (ap coming c.new-rows.ensures, lodged.ensures.imported sure), c.import_answer.ensures)

@@ -10,7 +10,7 @@ use Rattle.tally_rules.specs.Constituency.{Constituency}
 use Rattle.tally_rules.specs.Setup.{constituency_with}
 use Rattle.tally_returns.specs.declared.ask.Ask.TheVariants.{ShowReturn}
 use Rattle.tally_returns.specs.declared.reply.Reply.TheVariants as reply
-use Rattle.tally_desk.specs.Gives.{as_return}
+use Rattle.tally_desk.specs.internal.Gives.{as_return}
 use Rattle.tally_desk.specs.Reports.{IsReportText}
 use Rattle.tally_desk.specs.Requests.{AtStation, ShowsReturn}
 use Rattle.tally_desk.proofs.DeskLemmas.{gives, station-answer}

@@ -5,7 +5,7 @@ use Rattle.sqlite.specs.Held.{state}
 use Rattle.tally_rows.specs.Rows.{others}
 use Rattle.tally_statements.specs.declared.table.KeyedTable.TheVariants.{Lots}
 use Rattle.tally_statements.specs.Office.{rows_in}
-use Rattle.tally_tables.specs.Cells.{item_row, numbered}
+use Rattle.tally_tables.specs.Cells.{item_row, numbers_with_places}
 use Rattle.tally_entries.proofs.ConLemmas.{lot_written}
 use Rattle.tally_entries.proofs.LotLemmas.{added_beside}
 use Rattle.tally_entries.proofs.constituencies.put_lot.Goals as goal
@@ -18,7 +18,7 @@ returns-clause-put g c clean inside =
     let con = c.args.con.now in
     let early : HasCleanDisk mid = omega (arith, c.insert_numbers.ensures.stays.survives.clean) in
     let gone = c.in_ok-delete_lot.ensures.deleted early inside in
-    IfOk-weaker c.insert_numbers.result _ _ (λ _ more. added_beside Lots (map (item_row con) (numbered 1 c.args.lot.now)) (others con (rows_in Lots old)) old mid new gone more) (c.insert_numbers.ensures.added clean gone.inside)
+    IfOk-weaker c.insert_numbers.result _ _ (λ _ more. added_beside Lots (map (item_row con) (numbers_with_places 1 c.args.lot.now)) (others con (rows_in Lots old)) old mid new gone more) (c.insert_numbers.ensures.added clean gone.inside)
 
 pub returns-clause-lots : goal.returns-clause-lots
 returns-clause-lots g c clean inside =

@@ -15,5 +15,5 @@ returns-clause-written g c clean inside =
     let con = c.args.con.now in
     let shown : PastSeats = record { edition = c.past.inside.edition; seats = c.past.inside.seats.items } in
     IfOk-weaker c.insert_record.result _ _
-    (λ _ put. subst (λ (p : PastSeats). ChangesOnly Past old new × MovesRows Past past_rows con (HasRecord p.edition p.seats) old new) c.past.view_is (record_written con shown.edition shown.seats old new put))
+    (λ _ put. subst (λ (p : PastSeats). ChangesOnly Past old new × MovesRows Past past_rows con (HasRecord p) old new) c.past.view_is (record_written con shown.edition shown.seats old new put))
     ((rw c.as_slice.ensures.value at c.insert_record.ensures.added) clean inside)

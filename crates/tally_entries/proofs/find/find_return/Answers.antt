@@ -1,10 +1,19 @@
-use Rattle.std.proofs.Common.{subst, arith}
+use Rattle.std.proofs.Common.{◌≡◌, ◌∙◌, length, sym, subst, arith}
+use Rattle.std.specs.Prelude.{vec_len}
+use Rattle.std.proofs.lemmas.Bool.{eqb-true}
 use Rattle.sqlite.specs.State.{HasCleanDisk, IsUnchanged}
 use Rattle.sqlite.specs.Held.{state}
 use Rattle.tally_statements.specs.declared.table.KeyedTable.TheVariants.{Returns, Counts}
 use Rattle.tally_statements.specs.Office.{IsFound}
-use Rattle.tally_entries.proofs.FindLemmas.{finds_return, inside_still, found_before}
+use Rattle.tally_entries.proofs.FindLemmas.{finds_none, finds_return, inside_still, found_before}
 use Rattle.tally_entries.proofs.find.find_return.Goals as goal
+
+pub returns-then-is_empty-clause-found : goal.returns-then-is_empty-clause-found
+returns-then-is_empty-clause-found g c clean inside =
+    let old = state g.S.Store c.args.tx.now.conn.now in
+    let none : length c.in_ok-heads.heads.items ≡ 0 = omega (arith, eqb-true (vec_len c.in_ok-heads.heads) 0 (sym c.is_empty.ensures ∙ c.if-is_empty.true), c.in_ok-heads.heads.ok.0) in
+    let heads : IsFound Returns c.args.station old c.in_ok-heads.heads.items = subst (λ k. IsFound Returns k old c.in_ok-heads.heads.items) c.as_str.ensures.text (c.in_ok-heads.ensures.found clean inside) in
+    finds_none c.args.setup.now c.args.station old c.in_ok-heads.heads.items none heads
 
 pub returns-clause-found : goal.returns-clause-found
 returns-clause-found g c clean inside =

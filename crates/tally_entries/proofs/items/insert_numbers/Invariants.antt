@@ -2,7 +2,7 @@ use Rattle.std.proofs.Common.{◌≡◌, ◌+◌, map, take}
 use Rattle.sqlite.specs.State.{HasCleanDisk}
 use Rattle.sqlite.specs.Held.{state}
 use Rattle.tally_statements.specs.Office.{IsInside}
-use Rattle.tally_tables.specs.Cells.{item_row, numbered}
+use Rattle.tally_tables.specs.Cells.{item_row, numbers_with_places}
 use Rattle.tally_entries.specs.Entries.{Adds, keyed_table}
 use Rattle.tally_statements.specs.Inside.{Stays}
 use Rattle.tally_entries.proofs.items.insert_numbers.Given as goal
@@ -14,5 +14,5 @@ invariant-loop-n g l =
     record {
       place : l.item ≡ l.n-index + 1;
       stays : Stays g.S.Store l.fn.tx l.tx;
-      rows : HasCleanDisk now → IsInside old → Adds (keyed_table l.table) (map (item_row l.key) (numbered 1 (take l.n-index l.numbers))) old now;
+      rows : HasCleanDisk now → IsInside old → Adds (keyed_table l.table) (map (item_row l.key) (numbers_with_places 1 (take l.n-index l.numbers))) old now;
     }

@@ -2,7 +2,7 @@ use Rattle.std.proofs.Common.{◌∙◌, ap, subst, arith}
 use Rattle.sqlite.specs.State.{HasCleanDisk, IsUnchanged}
 use Rattle.sqlite.specs.Held.{state}
 use Rattle.tally_rules.specs.Constituency.{Constituency}
-use Rattle.tally_entries.specs.Found.{FindsStage}
+use Rattle.tally_entries.specs.internal.Found.{FindsStage}
 use Rattle.tally_entries.proofs.FindLemmas.{inside_still}
 use Rattle.tally_entries.proofs.StatusLemmas.{finds_row, known_before}
 use Rattle.tally_entries.proofs.views.find_progress_row.Goals as goal

@@ -4,7 +4,7 @@ use Rattle.sqlite.specs.Held.{state}
 use Rattle.sqlite.proofs.Callers.{unchanged_then}
 use Rattle.sqlite.proofs.StateLemmas.{unchanged}
 use Rattle.tally_statements.specs.Office.{IsInside}
-use Rattle.tally_entries.specs.Found.{AreWithin, FindsStatus, FindsStatuses}
+use Rattle.tally_entries.specs.internal.Found.{AreWithin, FindsStatus, FindsStatuses}
 use Rattle.tally_entries.proofs.FindLemmas.{inside_still}
 use Rattle.tally_statements.specs.Inside.{IsOpenInside}
 use Rattle.tally_statements.proofs.StaysLemmas.{stays-same, stays-then}
@@ -17,8 +17,8 @@ loop-station-init g c =
     record {
       stays = stays-same IsOpenInside g.S.Store c.args.tx.now;
       within = record { stations = omega arith; received = omega arith; queried = omega arith; corrected = omega arith; closed = omega arith };
-      same = λ _ inside goes. unchanged old goes;
-      found = λ _ inside goes. finds_first c.args.stations.now old;
+      same = λ _ at. unchanged old at.1;
+      found = λ _ at. finds_first c.args.stations.now old;
     }
 
 pub with_station-found-requires : goal.with_station-found-requires
@@ -34,15 +34,15 @@ loop-station-preserved g c =
     let i = c.loop-station.station-index in
     let station = c.station-item.result in
     record {
-      stays = stays-then IsOpenInside IsInside g.S.Store c.args.tx.now c.loop-station.tx c.find_status.new.tx (λ early at. inside_still old mid (was.same early at.0 at.1) at.0) was.stays told.stays;
+      stays = stays-then IsOpenInside IsInside g.S.Store c.args.tx.now c.loop-station.tx c.find_status.new.tx (λ early at. inside_still old mid (was.same early at) at.0) was.stays told.stays;
       within = subst (AreWithin (i + 1)) (sym c.with_station-found.ensures) (within_more i c.loop-station.found c.in_ok-status.status was.within);
-      same = λ clean inside goes.
-          let before : IsUnchanged old mid = was.same (omega (arith, told.stays.survives.clean)) inside goes in
-          unchanged_then old mid new before (c.in_ok-status.ensures.reads.same clean (inside_still old mid before inside));
-      found = λ clean inside goes.
-          let before : IsUnchanged old mid = was.same (omega (arith, told.stays.survives.clean)) inside goes in
-          let so_far = was.found (omega (arith, told.stays.survives.clean)) inside goes in
-          let one : FindsStatus station.code mid c.in_ok-status.status = subst (λ k. FindsStatus k mid c.in_ok-status.status) c.as_str.ensures.text (c.in_ok-status.ensures.found clean (inside_still old mid before inside)) in
+      same = λ clean at.
+          let before : IsUnchanged old mid = was.same (omega (arith, told.stays.survives.clean)) at in
+          unchanged_then old mid new before (c.in_ok-status.ensures.reads.same clean (inside_still old mid before at.0));
+      found = λ clean at.
+          let before : IsUnchanged old mid = was.same (omega (arith, told.stays.survives.clean)) at in
+          let so_far = was.found (omega (arith, told.stays.survives.clean)) at in
+          let one : FindsStatus station.code mid c.in_ok-status.status = subst (λ k. FindsStatus k mid c.in_ok-status.status) c.as_str.ensures.text (c.in_ok-status.ensures.found clean (inside_still old mid before at.0)) in
           subst (FindsStatuses (take (i + 1) c.args.stations.now) old) (sym c.with_station-found.ensures)
           (finds_more c.args.stations.now i station c.loop-station.found c.in_ok-status.status old (omega (arith, c.loop-station-test.true)) c.station-item.is so_far (status_before station.code old mid c.in_ok-status.status before one));
     }
@@ -52,9 +52,9 @@ returns-in_err-status-clause-stays g c =
     let old = state g.S.Store c.args.tx.now.conn.now in
     let mid = state g.S.Store c.loop-station.tx.conn.now in
     let was = c.loop-station.invariant in
-    stays-then IsOpenInside IsInside g.S.Store c.args.tx.now c.loop-station.tx c.find_status.new.tx (λ early at. inside_still old mid (was.same early at.0 at.1) at.0) was.stays c.find_status.ensures.reads.stays
+    stays-then IsOpenInside IsInside g.S.Store c.args.tx.now c.loop-station.tx c.find_status.new.tx (λ early at. inside_still old mid (was.same early at) at.0) was.stays c.find_status.ensures.reads.stays
 
 pub returns-clause-found : goal.returns-clause-found
-returns-clause-found g c clean inside goes =
+returns-clause-found g c clean at =
     let old = state g.S.Store c.args.tx.now.conn.now in
-    finds_all c.args.stations.now c.loop-station.station-index c.loop-station.found old (omega (arith, c.loop-station-test.false)) (c.loop-station.invariant.found clean inside goes)
+    finds_all c.args.stations.now c.loop-station.station-index c.loop-station.found old (omega (arith, c.loop-station-test.false)) (c.loop-station.invariant.found clean at)

@@ -1,9 +1,7 @@
 use Rattle.std.proofs.Common.{take}
-use Rattle.std.specs.Prelude.{IsTrue}
 use Rattle.sqlite.specs.State.{HasCleanDisk, IsUnchanged}
 use Rattle.sqlite.specs.Held.{state}
-use Rattle.tally_statements.specs.Office.{IsInside}
-use Rattle.tally_entries.specs.Found.{AreWithin, FindsStatuses}
+use Rattle.tally_entries.specs.internal.Found.{AreWithin, FindsStatuses}
 use Rattle.tally_statements.specs.Inside.{IsOpenInside, StaysFrom}
 use Rattle.tally_entries.proofs.views.find_statuses.Given as goal
 
@@ -14,6 +12,6 @@ invariant-loop-station g l =
     record {
       stays : StaysFrom IsOpenInside g.S.Store l.fn.tx l.tx;
       within : AreWithin l.station-index l.found;
-      same : HasCleanDisk now → IsInside old → IsTrue old.is_open → IsUnchanged old now;
-      found : HasCleanDisk now → IsInside old → IsTrue old.is_open → FindsStatuses (take l.station-index l.stations) old l.found;
+      same : HasCleanDisk now → IsOpenInside old → IsUnchanged old now;
+      found : HasCleanDisk now → IsOpenInside old → FindsStatuses (take l.station-index l.stations) old l.found;
     }

@@ -3,7 +3,7 @@ use Rattle.sqlite.specs.State.{HasCleanDisk, IsUnchanged}
 use Rattle.sqlite.specs.Held.{state}
 use Rattle.tally_rules.specs.Constituency.{Constituency}
 use Rattle.tally_rules.specs.Limits.{IsConstituency}
-use Rattle.tally_entries.specs.Found.{AreFound}
+use Rattle.tally_entries.specs.internal.Found.{AreFound}
 use Rattle.tally_entries.proofs.FindLemmas.{inside_still}
 use Rattle.tally_entries.proofs.StatusLemmas.{known_before}
 use Rattle.tally_entries.proofs.WholeViewLemmas.{finds_view}

@@ -4,15 +4,15 @@ use Rattle.csv.specs.Records.{fields_of}
 use Rattle.tally_import.specs.Check.{check_text, rows_of_records}
 use Rattle.tally_import.specs.Header.{header_lists}
 use Rattle.tally_records.specs.Input.{AreAll}
-use Rattle.tally_import.specs.Rounds.{AreBehind}
+use Rattle.tally_import.specs.internal.Rounds.{AreBehind}
 use Rattle.tally_import.specs.declared.check.CheckFault.TheVariants.{BadHeader}
 use Rattle.tally_import.proofs.FoundLemmas.{Found-fault, Found-rows, Found-text, no-lists}
 use Rattle.tally_import.proofs.HeaderLemmas.{header-few}
 use Rattle.tally_records.proofs.WorkLemmas.{HasGiven-partly, IfOk-then}
 use Rattle.tally_import.proofs.check.checked_text.Goals as goal
 
-pub import_rows-requires-clause-lists : goal.import_rows-requires-clause-lists
-import_rows-requires-clause-lists g c =
+pub check_rows-requires-clause-lists : goal.check_rows-requires-clause-lists
+check_rows-requires-clause-lists g c =
     let named : Some c.in-Some-2.lists.items ≡ header_lists (fields_of c.next.new.into) = ap (option_map (λ l. l.items)) (sym c.in-Some-2.is) ∙ c.in_ok-lists.ensures in
     omega (arith, header-few (fields_of c.next.new.into) c.in-Some-2.lists.items named, c.len.ensures, c.in-Some-2.lists.ok.0)
 
@@ -41,7 +41,7 @@ returns-in_default-2-clause-finds g c =
 pub returns-in-Ok-clause-finds : goal.returns-in-Ok-clause-finds
 returns-in-Ok-clause-finds g c =
     let text = g.R.Read.remaining c.args.reader.now in
-    let left = g.R.Read.remaining c.import_rows.new.reader in
+    let left = g.R.Read.remaining c.check_rows.new.reader in
     let header = fields_of c.next.new.into in
     let lists = c.in-Some-2.lists.items in
     let goes : c.in_ok-end.field-0 ≡ None = search rules in
@@ -60,7 +60,7 @@ returns-in-Ok-clause-finds g c =
 pub returns-clause-finds : goal.returns-clause-finds
 returns-clause-finds g c =
     let text = g.R.Read.remaining c.args.reader.now in
-    let left = g.R.Read.remaining c.import_rows.new.reader in
+    let left = g.R.Read.remaining c.check_rows.new.reader in
     let header = fields_of c.next.new.into in
     let goes : c.in_ok-end.field-0 ≡ None = search rules in
     let named : Some c.in-Some-2.lists.items ≡ header_lists header = ap (option_map (λ l. l.items)) (sym c.in-Some-2.is) ∙ c.in_ok-lists.ensures in

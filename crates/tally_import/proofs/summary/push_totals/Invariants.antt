@@ -1,7 +1,7 @@
 use Rattle.std.proofs.Common.{◌≡◌, ◌++◌, List, drop, length, string_bytes}
 use Rattle.tally_returns.specs.Counts.{VoteCounts}
 use Rattle.tally_import.specs.Check.{lists_text, totals_text}
-use Rattle.tally_import.specs.Totals.{AreTotals}
+use Rattle.tally_import.specs.internal.Totals.{AreTotals}
 use Rattle.tally_import.proofs.summary.push_totals.Given as goal
 
 abbrev pub invariant-loop-place : goal.invariant-loop-place

@@ -1,8 +1,8 @@
 use Rattle.std.proofs.Common.{◌≡◌, IsTrue, length, rules, true}
 use Rattle.std.specs.Prelude.{All}
 use Rattle.tally_steps.proofs.CertificationLemmas.{on_ok}
-use Rattle.tally_judge.specs.Entries.{rises}
-use Rattle.tally_judge.specs.Found.{AreAllLawful, IsLawfulFound}
+use Rattle.tally_judge.specs.internal.Entries.{rises}
+use Rattle.tally_judge.specs.internal.Found.{AreAllLawful, IsLawfulFound}
 use Rattle.tally_judge.proofs.cons.are_all_lawful.Goals as goal
 
 pub returns-clause-lawful : goal.returns-clause-lawful

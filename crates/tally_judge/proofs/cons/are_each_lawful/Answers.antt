@@ -1,5 +1,5 @@
 use Rattle.std.proofs.Common.{rules, arith, IsTrue}
-use Rattle.tally_judge.specs.Found.{IsLawfulFound}
+use Rattle.tally_judge.specs.internal.Found.{IsLawfulFound}
 use Rattle.tally_judge.proofs.AllLemmas.{all_more, all_end}
 use Rattle.tally_judge.proofs.cons.are_each_lawful.Goals as goal
 

@@ -1,5 +1,5 @@
 use Rattle.std.proofs.Common.{All, take}
-use Rattle.tally_judge.specs.Found.{IsLawfulFound}
+use Rattle.tally_judge.specs.internal.Found.{IsLawfulFound}
 use Rattle.tally_judge.proofs.cons.are_each_lawful.Given as goal
 
 abbrev pub invariant-loop-con : goal.invariant-loop-con

@@ -1,6 +1,6 @@
 use Rattle.std.proofs.Common.{◌∙◌, IsTrue, Some, ap, sym}
 use Rattle.tally_steps.proofs.CertificationLemmas.{on_ok}
-use Rattle.tally_judge.specs.Found.{AreAllLawful, AreLawfulCons}
+use Rattle.tally_judge.specs.internal.Found.{AreAllLawful, AreLawfulCons}
 use Rattle.tally_tables.specs.Views.{tables_in}
 use Rattle.tally_judge.proofs.VerdictLemmas.{found_lawful, not_found_lawful}
 use Rattle.tally_judge.proofs.cons.are_lawful_cons.Goals as goal

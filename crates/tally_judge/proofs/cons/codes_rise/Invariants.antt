@@ -1,5 +1,5 @@
 use Rattle.std.proofs.Common.{◌≡◌, ◌-◌, drop}
-use Rattle.tally_judge.specs.Entries.{rises_on, key_of}
+use Rattle.tally_judge.specs.internal.Entries.{rises_on, key_of}
 use Rattle.tally_rows.specs.Rows.{text_cmp}
 use Rattle.tally_judge.proofs.cons.codes_rise.Given as goal
 

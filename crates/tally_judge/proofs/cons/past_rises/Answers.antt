@@ -1,6 +1,6 @@
 use Rattle.std.proofs.Common.{sym, ◌∙◌, arith}
 use Rattle.std.specs.Ordering.{nat_cmp}
-use Rattle.tally_judge.specs.Found.{past_edition}
+use Rattle.tally_judge.specs.internal.Found.{past_edition}
 use Rattle.tally_judge.proofs.OrderLemmas.{rises_end, rises_step}
 use Rattle.tally_judge.proofs.cons.past_rises.Goals as goal
 

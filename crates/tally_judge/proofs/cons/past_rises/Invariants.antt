@@ -1,6 +1,6 @@
 use Rattle.std.proofs.Common.{◌≡◌, ◌-◌, drop}
-use Rattle.tally_judge.specs.Entries.{rises_on}
-use Rattle.tally_judge.specs.Found.{past_edition}
+use Rattle.tally_judge.specs.internal.Entries.{rises_on}
+use Rattle.tally_judge.specs.internal.Found.{past_edition}
 use Rattle.std.specs.Ordering.{nat_cmp}
 use Rattle.tally_judge.proofs.cons.past_rises.Given as goal
 

@@ -3,7 +3,7 @@ use Rattle.sqlite_value.specs.Order.{Row}
 use Rattle.tally_ledger.specs.Kept.{view_in}
 use Rattle.tally_returns.specs.View.{View}
 use Rattle.tally_rules.specs.Constituency.{Constituency}
-use Rattle.tally_tables.specs.Views.{con_at, con_counted, found_at, in_each, rows_behind, rows_of_key, tables_in}
+use Rattle.tally_tables.specs.Views.{con_at, con_counted, view_with_code, in_each, rows_behind, rows_of_key, tables_in}
 use Rattle.tally_tables.proofs.FoundLemmas.{Reading, not_found, one_found}
 use Rattle.tally_tables.proofs.ItemLemmas.{map_some}
 use Rattle.tally_judge.proofs.found.views_from.Goals as goal
@@ -29,7 +29,7 @@ loop-row-preserved c =
     let code : c.as_bytes.result.now ≡ con.code = search rules in
     let front = c.split.ensures.front ∙ ap (λ k. in_each (rows_of_key k) left) code in
     let back = c.split.ensures.back ∙ ap (λ k. in_each (rows_behind k) left) code in
-    let found = sym c.in-Some-2.is ∙ c.in_ok-found.ensures ∙ ap₂ (λ v t. found_at v row t con) place.1 front in
+    let found = sym c.in-Some-2.is ∙ c.in_ok-found.ensures ∙ ap₂ (λ v t. view_with_code v row t con) place.1 front in
     ap₂ (λ es t. Reading setup counted es (drop (i + 1) rows) t) c.in_ok-push-in-Some-2.ensures.items back
     ∙ sym (one_found setup counted c.loop-row.all.items rows left i row con _ (omega (arith, c.loop-row-test.true)) c.row-item.is place.0 found) ∙ c.loop-row.invariant
 
@@ -45,5 +45,5 @@ returns-in-None c =
     let place = named setup counted row con c.in-Some.counted.now c.in-Some.ensures in
     let code : c.as_bytes.result.now ≡ con.code = search rules in
     let front = c.split.ensures.front ∙ ap (λ k. in_each (rows_of_key k) left) code in
-    let none = sym c.in-None.is ∙ c.in_ok-found.ensures ∙ ap₂ (λ v t. found_at v row t con) place.1 front in
+    let none = sym c.in-None.is ∙ c.in_ok-found.ensures ∙ ap₂ (λ v t. view_with_code v row t con) place.1 front in
     sym (not_found setup counted c.loop-row.all.items rows left c.loop-row.row-index row con (omega (arith, c.loop-row-test.true)) c.row-item.is place.0 none) ∙ c.loop-row.invariant

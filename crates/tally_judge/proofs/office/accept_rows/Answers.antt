@@ -1,8 +1,10 @@
 use Rattle.std.proofs.Common.{◌∙◌, IsTrue, ap, rules, subst, sym, true≢false}
 use Rattle.std.specs.Prelude.{All}
-use Rattle.tally_judge.specs.Entries.{IsLawfulEntry, rises}
+use Rattle.tally_judge.specs.internal.Entries.{IsLawfulEntry, rises}
+use Rattle.tally_judge.specs.Numbers.{numbers_of}
 use Rattle.tally_judge.specs.OfficeRows.{rows_in}
 use Rattle.tally_judge.proofs.VerdictLemmas.{IsBetween, must_be_lawful, must_read_some, must_rise, rows_passed, setup_has_codes}
+use Rattle.tally_judge.proofs.NumberLemmas.{numbers_stated}
 use Rattle.tally_judge.proofs.OneStateLemmas.{rows_of_one}
 use Rattle.tally_judge.proofs.office.accept_rows.Goals as goal
 
@@ -52,3 +54,9 @@ returns-clause-passed c =
     let passed : IsTrue c.in_ok-are_lawful_cons.field-0 = search rules in
     rows_of_one setup rows c.cons-cons.ensures.limits (setup_has_codes c.args.setup c.cons-cons.ensures.limits) c.a_constituency_has_a_view.ensures.lawful
     (rows_passed setup rows c.in-Some.entries.items c.in_ok-ledger.ledger c.in_ok-ledger.ensures read rise each (c.in_ok-are_lawful_cons.ensures.lawful passed))
+
+pub returns-clause-numbers : goal.returns-clause-numbers
+returns-clause-numbers c =
+    let setup = c.args.setup in
+    let read = rw c.in-Some.is at c.in_ok-entries.ensures in
+    numbers_stated setup (rows_in c.args.rows) c.in-Some.entries.items c.in_ok-ledger.ledger (numbers_of c.put_all.new.known) (setup_has_codes setup c.cons-cons.ensures.limits) c.in_ok-ledger.ensures read c.in_ok-put_all.ensures

@@ -1,5 +1,5 @@
 use Rattle.std.proofs.Common.{rules, arith, subst, sym, IsTrue}
-use Rattle.tally_judge.specs.Entries.{IsLawfulEntry}
+use Rattle.tally_judge.specs.internal.Entries.{IsLawfulEntry}
 use Rattle.tally_judge.proofs.AllLemmas.{all_more, all_end}
 use Rattle.tally_judge.proofs.returns.are_lawful.Goals as goal
 

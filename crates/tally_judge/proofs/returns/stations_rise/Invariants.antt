@@ -1,5 +1,5 @@
 use Rattle.std.proofs.Common.{◌≡◌, ◌-◌, drop}
-use Rattle.tally_judge.specs.Entries.{rises}
+use Rattle.tally_judge.specs.internal.Entries.{rises}
 use Rattle.tally_judge.proofs.returns.stations_rise.Given as goal
 
 abbrev pub invariant-loop-i : goal.invariant-loop-i

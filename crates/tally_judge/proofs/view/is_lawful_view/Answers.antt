@@ -2,7 +2,7 @@ use Rattle.std.proofs.Common.{◌∙◌, IsTrue, ap, rules, sym}
 use Rattle.tally_steps.proofs.CertificationLemmas.{on_ok}
 use Rattle.tally_steps.specs.Outcome.{IsLawfulView}
 use Rattle.tally_returns.specs.View.{View}
-use Rattle.tally_judge.specs.Seen.{IsOpen}
+use Rattle.tally_judge.specs.internal.Seen.{IsOpen}
 use Rattle.tally_judge.proofs.SeenLemmas.{certificate_of, certified_view, frame_of, open_of, open_view}
 use Rattle.tally_judge.proofs.view.is_lawful_view.Goals as goal
 

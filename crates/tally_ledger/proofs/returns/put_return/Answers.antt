@@ -9,8 +9,8 @@ use Rattle.tally_returns.specs.Lodge.{StationLimits}
 use Rattle.tally_returns.specs.Return.{StationReturn}
 use Rattle.tally_returns.specs.State.{stations_of}
 use Rattle.tally_returns.specs.View.{View}
-use Rattle.tally_ledger.specs.Rows.{IsTallied, cons_of, returns_of, seats_of, views_of, with_view, without_former}
-use Rattle.tally_ledger.specs.Sums.{CanCount, with_return_counted}
+use Rattle.tally_ledger.specs.internal.Rows.{IsTallied, cons_of, returns_of, seats_of, views_of, with_view, without_former}
+use Rattle.tally_ledger.specs.internal.Sums.{CanCount, with_return_counted}
 use Rattle.tally_ledger.proofs.TallyLemmas.{counted-con, counted-seats, former-can, former-cons, former-seats, limits-at, put-can, tallied-former, tallied-put}
 use Rattle.tally_ledger.proofs.TreeLemmas.{cons_of-kept, get-tree, seats_of-kept, tree-insert}
 use Rattle.tally_ledger.proofs.returns.put_return.Goals as goal

@@ -3,8 +3,8 @@ use Rattle.std.specs.FinMap.{get, remove}
 use Rattle.std.specs.Option.{ForSome}
 use Rattle.tally_rules.specs.Constituency.{Constituency}
 use Rattle.tally_rules.specs.Setup.{station_with}
-use Rattle.tally_ledger.specs.Rows.{IsTallied, cons_of, returns_of, seats_of, views_of, without_former}
-use Rattle.tally_ledger.specs.Sums.{CanCount}
+use Rattle.tally_ledger.specs.internal.Rows.{IsTallied, cons_of, returns_of, seats_of, views_of, without_former}
+use Rattle.tally_ledger.specs.internal.Sums.{CanCount}
 use Rattle.tally_ledger.proofs.TallyLemmas.{former-can, former-cons, former-seats, no_station-none, removed-none, tallied-former}
 use Rattle.tally_ledger.proofs.TreeLemmas.{get-tree, tree-remove}
 use Rattle.tally_ledger.proofs.returns.take_return.Goals as goal

@@ -2,7 +2,7 @@ use Rattle.std.proofs.Common.{◌≡◌, ◌∙◌, true, sym, ap, subst}
 use Rattle.tally_returns.specs.Progress.{is_closed}
 use Rattle.tally_returns.specs.Return.{StationReturn}
 use Rattle.tally_returns.specs.View.{View}
-use Rattle.tally_ledger.specs.Sums.{CanMoveCounts}
+use Rattle.tally_ledger.specs.internal.Sums.{CanMoveCounts}
 use Rattle.tally_ledger.proofs.SumLemmas.{counts-after_status}
 use Rattle.tally_ledger.proofs.sums.count_return.Goals as goal
 

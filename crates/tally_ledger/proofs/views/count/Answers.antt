@@ -1,5 +1,5 @@
 use Rattle.tally_returns.specs.View.{View}
-use Rattle.tally_ledger.specs.Sums.{CanCount, with_return_counted}
+use Rattle.tally_ledger.specs.internal.Sums.{CanCount, with_return_counted}
 use Rattle.tally_ledger.proofs.TreeLemmas.{not_written, of_lent, written}
 use Rattle.tally_ledger.proofs.views.count.Goals as goal
 

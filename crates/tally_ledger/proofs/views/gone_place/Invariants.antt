@@ -1,5 +1,5 @@
 use Rattle.std.proofs.Common.{◌≡◌, ◌+◌, drop}
-use Rattle.tally_ledger.specs.Rows.{gone_place}
+use Rattle.tally_ledger.specs.internal.Rows.{gone_place}
 use Rattle.tally_ledger.proofs.views.gone_place.Given as goal
 
 -- those so far stand before the candidate

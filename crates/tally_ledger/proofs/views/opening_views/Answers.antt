@@ -3,7 +3,7 @@ use Rattle.std.specs.FinMap.{insert}
 use Rattle.std.proofs.lemmas.List.{take_more}
 use Rattle.tally_rules.specs.Constituency.{Constituency}
 use Rattle.tally_rules.specs.Limits.{IsSetup}
-use Rattle.tally_ledger.specs.Rows.{opening_views}
+use Rattle.tally_ledger.specs.internal.Rows.{opening_views}
 use Rattle.tally_ledger.proofs.OpeningLemmas.{opening_views-more}
 use Rattle.tally_ledger.proofs.TreeLemmas.{tree-insert}
 use Rattle.tally_ledger.proofs.views.opening_views.Goals as goal

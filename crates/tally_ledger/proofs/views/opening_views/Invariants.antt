@@ -1,5 +1,5 @@
 use Rattle.std.proofs.Common.{◌≡◌, take}
-use Rattle.tally_ledger.specs.Rows.{opening_views, views_of}
+use Rattle.tally_ledger.specs.internal.Rows.{opening_views, views_of}
 use Rattle.tally_ledger.proofs.views.opening_views.Given as goal
 
 -- what is seen of the constituencies so far

@@ -2,7 +2,7 @@ use Rattle.std.proofs.Common.{◌≡◌, ◌∙◌, Result, Ok, Err, ap}
 use Rattle.std.specs.Prelude.{OnErr}
 use Rattle.tally_returns.specs.View.{View}
 use Rattle.tally_returns.specs.contracts.view.ConView.{the_view}
-use Rattle.tally_ledger.specs.Rows.{views_of, with_gone}
+use Rattle.tally_ledger.specs.internal.Rows.{views_of, with_gone}
 use Rattle.tally_ledger.proofs.TreeLemmas.{not_written, with_view-same, written}
 use Rattle.tally_ledger.proofs.views.set_gone.Goals as goal
 

@@ -1,7 +1,7 @@
 use Rattle.std.proofs.Common.{◌<◌, ◌+◌, ◌^◌, ◌∙◌, string_bytes, Result, Ok, Err}
 use Rattle.std.specs.Prelude.{OnErr, OnOk}
 use Rattle.tally_returns.specs.View.{View}
-use Rattle.tally_ledger.specs.Rows.{views_of, with_reopening}
+use Rattle.tally_ledger.specs.internal.Rows.{views_of, with_reopening}
 use Rattle.tally_ledger.proofs.TreeLemmas.{not_written, of_lent, with_view-same, written}
 use Rattle.tally_ledger.proofs.views.set_reopened.Goals as goal
 

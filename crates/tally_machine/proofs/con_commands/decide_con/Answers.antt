@@ -1,6 +1,6 @@
 use Rattle.std.proofs.Common.{◌≡◌, Ok, Err, IfErr, List, ℕ, refl, sym, ap, subst, string_bytes, rules}
-use Rattle.tally_steps.specs.Certification.{Draws, IsDrawRefusal, reopened, vacates}
-use Rattle.tally_steps.specs.Step.{Decides, IsConRefusal, certified_with, changed_by, gone_for_good, lot_set, open_again}
+use Rattle.tally_steps.specs.Certification.{Draws, IsDrawRefusal, reopen_result, vacate_result}
+use Rattle.tally_steps.specs.Step.{Decides, IsConRefusal, certified_with, change_of_result, gone_for_good, lot_set, open_again}
 use Rattle.tally_returns.specs.declared.ask.Ask.{Ask}
 use Rattle.tally_machine.proofs.con_commands.decide_con.Goals as goal
 
@@ -28,9 +28,9 @@ returns-in_ok-reopening-in-Reopen-clause-decided c =
     let view = c.args.view.now in
     let note = string_bytes c.in_ok-reopening-in-Reopen.reopening.note in
     let past = c.in_ok-reopening-in-Reopen.reopening.past in
-    let kept : reopened view c.in-Reopen.edition (string_bytes c.in-Reopen.note) ≡ Ok (note, past) =
-    subst (λ (n : List ℕ). reopened view c.in-Reopen.edition n ≡ Ok (note, past)) c.deref-in-Reopen.ensures c.in_ok-reopening-in-Reopen.ensures.reopened in
-    (open_again note past, refl, subst (λ (ask : Ask). Decides con view ask (Ok (open_again note past))) (sym c.in-Reopen.is) (sym (ap (changed_by (λ r. open_again r.0 r.1)) kept)))
+    let kept : reopen_result view c.in-Reopen.edition (string_bytes c.in-Reopen.note) ≡ Ok (note, past) =
+    subst (λ (n : List ℕ). reopen_result view c.in-Reopen.edition n ≡ Ok (note, past)) c.deref-in-Reopen.ensures c.in_ok-reopening-in-Reopen.ensures.reopened in
+    (open_again note past, refl, subst (λ (ask : Ask). Decides con view ask (Ok (open_again note past))) (sym c.in-Reopen.is) (sym (ap (change_of_result (λ r. open_again r.0 r.1)) kept)))
 
 pub returns-in_ok-vacancy-in-Vacate-clause-decided :
     goal.returns-in_ok-vacancy-in-Vacate-clause-decided
@@ -39,9 +39,9 @@ returns-in_ok-vacancy-in-Vacate-clause-decided c =
     let view = c.args.view.now in
     let gone = c.in_ok-vacancy-in-Vacate.vacancy.gone in
     let next = c.in_ok-vacancy-in-Vacate.vacancy.next in
-    let left : vacates con view c.in-Vacate.list c.in-Vacate.place (string_bytes c.in-Vacate.note) ≡ Ok (gone, next) =
-    subst (λ (n : List ℕ). vacates con view c.in-Vacate.list c.in-Vacate.place n ≡ Ok (gone, next)) c.deref-in-Vacate.ensures c.in_ok-vacancy-in-Vacate.ensures.vacated in
-    (gone_for_good gone next, refl, subst (λ (ask : Ask). Decides con view ask (Ok (gone_for_good gone next))) (sym c.in-Vacate.is) (sym (ap (changed_by (λ v. gone_for_good v.0 v.1)) left)))
+    let left : vacate_result con view c.in-Vacate.list c.in-Vacate.place (string_bytes c.in-Vacate.note) ≡ Ok (gone, next) =
+    subst (λ (n : List ℕ). vacate_result con view c.in-Vacate.list c.in-Vacate.place n ≡ Ok (gone, next)) c.deref-in-Vacate.ensures c.in_ok-vacancy-in-Vacate.ensures.vacated in
+    (gone_for_good gone next, refl, subst (λ (ask : Ask). Decides con view ask (Ok (gone_for_good gone next))) (sym c.in-Vacate.is) (sym (ap (change_of_result (λ v. gone_for_good v.0 v.1)) left)))
 
 pub returns-in_err-draw-in-Draw-clause-refused : goal.returns-in_err-draw-in-Draw-clause-refused
 returns-in_err-draw-in-Draw-clause-refused c =

@@ -1,6 +1,6 @@
 use Rattle.std.proofs.Common.{◌≡◌, ◌∙◌, ℕ, ◌+◌, List, ◌∷◌, ◌++◌, [], length, sym, ap, arith}
 use Rattle.std.proofs.lemmas.List.{length_push}
-use Rattle.tally_steps.specs.Holders.{is_among, staying}
+use Rattle.tally_steps.specs.Holders.{is_among, remaining_candidates}
 use Rattle.tally_steps.proofs.HolderLemmas.{staying-more, staying-same}
 use Rattle.tally_steps.proofs.LotLemmas.{among-turned}
 use Rattle.tally_machine.proofs.HolderLemmas.{all_seats}
@@ -12,7 +12,7 @@ returns-then-len-seats c =
     let n = c.loop-candidate.candidate in
     let places = c.loop-candidate.places in
     let found = c.loop-candidate.invariant.found in
-    let full : length (staying n c.args.gone.now) ≡ c.args.seats = omega (arith, ap length found, c.if-len-seats.true, c.len.ensures, places.ok.0) in
+    let full : length (remaining_candidates n c.args.gone.now) ≡ c.args.seats = omega (arith, ap length found, c.if-len-seats.true, c.len.ensures, places.ok.0) in
     found ∙ all_seats c.args.candidates c.args.seats n c.args.gone.now (omega (arith, c.loop-candidate-test.true)) full
 
 pub loop-candidate-preserved : goal.loop-candidate-preserved

@@ -1,9 +1,9 @@
 use Rattle.std.proofs.Common.{◌≡◌, ◌≤◌, length}
-use Rattle.tally_steps.specs.Holders.{staying}
+use Rattle.tally_steps.specs.Holders.{remaining_candidates}
 use Rattle.tally_machine.proofs.seat_holders.holders.Given as goal
 
 abbrev pub invariant-loop-candidate : goal.invariant-loop-candidate
 invariant-loop-candidate l = record {
-  found : l.places.items ≡ staying l.candidate l.gone;
+  found : l.places.items ≡ remaining_candidates l.candidate l.gone;
   few : length l.places.items ≤ l.seats;
 }

@@ -2,7 +2,7 @@ use Rattle.std.proofs.Common.{◌≡◌, ◌+◌, ◌<◌, ◌++◌, ◌∷◌, 
 use Rattle.std.specs.Prelude.{IfNone}
 use Rattle.std.proofs.Math.Seq.{take-suc}
 use Rattle.httparse.specs.Grammar.{HasNoRequest}
-use Rattle.tally_message.specs.Lines.{no_lines, lines_with, lines_after}
+use Rattle.tally_message.specs.internal.Lines.{no_lines, lines_with, lines_after}
 use Rattle.tally_message.specs.declared.lines.Lines.{Lines}
 use Rattle.tally_message.proofs.LineLemmas.{lines_append, none_in_front, none_with}
 use Rattle.tally_message.proofs.head.head_since.Goals as goal

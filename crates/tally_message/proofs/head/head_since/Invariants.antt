@@ -1,6 +1,6 @@
 use Rattle.std.proofs.Common.{◌≡◌, length, take}
 use Rattle.httparse.specs.Grammar.{HasNoRequest}
-use Rattle.tally_message.specs.Lines.{no_lines, lines_after}
+use Rattle.tally_message.specs.internal.Lines.{no_lines, lines_after}
 use Rattle.tally_message.specs.Message.{field_limit}
 use Rattle.tally_message.proofs.head.head_since.Given as goal
 

@@ -2,7 +2,7 @@ use Rattle.std.proofs.Common.{◌≡◌, ◌≤◌, ◌++◌, ℕ, [], Err, leng
 use Rattle.std.proofs.lemmas.List.{length-take}
 use Rattle.httparse.specs.Grammar.{HasNoRequest}
 use Rattle.tally_door.specs.Connection.{Connection}
-use Rattle.tally_message.specs.Lines.{no_lines, lines_after}
+use Rattle.tally_message.specs.internal.Lines.{no_lines, lines_after}
 use Rattle.tally_message.specs.Message.{head_limit, FailsAs}
 use Rattle.tally_message.specs.declared.message.MessageFault.{MessageFault}
 use Rattle.tally_message.proofs.HeadLemmas.{overflowing_head, too_long_head}

@@ -1,7 +1,7 @@
 use Rattle.std.proofs.Common.{◌≡◌, ◌≤◌, ◌-◌, ◌++◌, true, length, take}
 use Rattle.httparse.specs.Grammar.{HasNoRequest}
 use Rattle.tally_door.specs.Connection.{ChangesCurrent}
-use Rattle.tally_message.specs.Lines.{no_lines, lines_after}
+use Rattle.tally_message.specs.internal.Lines.{no_lines, lines_after}
 use Rattle.tally_message.specs.Message.{head_limit, field_limit, OnlyReads}
 use Rattle.tally_message.proofs.head.read_head.Given as goal
 

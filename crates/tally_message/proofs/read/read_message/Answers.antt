@@ -1,8 +1,8 @@
 use Rattle.std.proofs.Common.{◌≡◌, ◌++◌, List, ℕ, Bool, Err, Ok, take, sym, ap, subst, refl, arith}
 use Rattle.tally_door.specs.Connection.{Connection}
 use Rattle.tally_message.specs.Message.{IsFault, IsMessageOrFault}
-use Rattle.tally_message.specs.Reading.{IsBodyOrFault}
-use Rattle.tally_message.specs.Start.{IsStart}
+use Rattle.tally_message.specs.internal.Reading.{IsBodyOrFault}
+use Rattle.tally_message.specs.internal.Start.{IsStart}
 use Rattle.tally_message.specs.declared.message.Message.{Message}
 use Rattle.tally_message.proofs.StartLemmas.{short_body, whole_fault, cut_fault, whole_message, reads_on}
 use Rattle.tally_message.proofs.read.read_message.Goals as goal

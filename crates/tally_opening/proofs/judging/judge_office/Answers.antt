@@ -1,11 +1,11 @@
-use Rattle.std.proofs.Common.{Option, Some, None, subst}
-use Rattle.std.specs.Prelude.{IsSome, OnSome, List}
+use Rattle.std.proofs.Common.{subst}
+use Rattle.std.specs.Prelude.{IsSome}
 use Rattle.std.proofs.lemmas.Result.{IfOk-weaker}
 use Rattle.sqlite.specs.Held.{state}
-use Rattle.tally_rules.specs.Constituency.{Constituency}
 use Rattle.tally_rules.specs.Limits.{IsSetup}
-use Rattle.tally_opening.specs.Opening.{AreReadOf, rows_found}
-use Rattle.tally_opening.proofs.JudgingLemmas.{judged, judged_none}
+use Rattle.tally_judge.specs.Numbers.{numbers_of}
+use Rattle.tally_opening.specs.internal.Opening.{AreReadOf, rows_found}
+use Rattle.tally_opening.proofs.JudgingLemmas.{judged, judged_none, numbers_judged, on_some}
 use Rattle.tally_opening.proofs.judging.judge_office.Goals as goal
 
 pub returns-clause-accepted : goal.returns-clause-accepted
@@ -15,10 +15,6 @@ returns-clause-accepted g c clean has =
     let read : AreReadOf old rows = c.in_ok-rows.ensures.shown clean has in
     let here = judged c.args.setup old rows (subst IsSetup c.setup.view_is c.setup.invariant.limits) read.shown read.distinct in
     IfOk-weaker c.accept.result _ _ (λ found passed. on_some found here passed) c.accept.ensures.passed
-  where
-    on_some : {P Q : Type 0} (found : Option (List Constituency)) → (P → Q) → OnSome found P → OnSome found Q
-    on_some None f h = tt
-    on_some (Some x) f h = f h
 
 pub returns-clause-refused : goal.returns-clause-refused
 returns-clause-refused g c clean has =
@@ -26,3 +22,11 @@ returns-clause-refused g c clean has =
     let rows = rows_found c.in_ok-rows.rows in
     let read : AreReadOf old rows = c.in_ok-rows.ensures.shown clean has in
     IfOk-weaker c.accept.result _ _ (λ found must none. judged_none c.args.setup old rows (subst IsSetup c.setup.view_is c.setup.invariant.limits) read.shown (λ lawful. let k = subst IsSome none (must lawful) in cc)) c.accept.ensures.must_pass
+
+pub returns-clause-numbers : goal.returns-clause-numbers
+returns-clause-numbers g c clean has =
+    let old = state g.S.Store c.args.tx.now.conn.now in
+    let rows = rows_found c.in_ok-rows.rows in
+    let read : AreReadOf old rows = c.in_ok-rows.ensures.shown clean has in
+    let here = numbers_judged c.args.setup old rows (numbers_of c.accept.new.known) (subst IsSetup c.setup.view_is c.setup.invariant.limits) read.shown in
+    IfOk-weaker c.accept.result _ _ (λ found told. on_some found here told) c.accept.ensures.numbers

@@ -5,7 +5,7 @@ use Rattle.sqlite_value.specs.declared.value.Value.TheVariants.{Int, Text}
 use Rattle.tally_rules.specs.Constituency.{Constituency}
 use Rattle.tally_statements.specs.declared.table.KeyedTable.TheVariants.{Cons}
 use Rattle.tally_statements.specs.Office.{HasRows, rows_in}
-use Rattle.tally_opening.specs.Making.{AddsTotals, no_vote_rows}
+use Rattle.tally_opening.specs.internal.Making.{AddsTotals, no_vote_rows}
 use Rattle.tally_opening.proofs.AddLemmas.{opening_last}
 use Rattle.tally_opening.proofs.making.insert_opening.Goals as goal
 

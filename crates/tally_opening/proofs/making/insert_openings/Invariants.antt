@@ -3,7 +3,7 @@ use Rattle.sqlite.specs.State.{HasCleanDisk}
 use Rattle.sqlite.specs.Held.{state}
 use Rattle.tally_statements.specs.Inside.{Stays}
 use Rattle.tally_statements.specs.Office.{IsInside}
-use Rattle.tally_opening.specs.Making.{AddsCons}
+use Rattle.tally_opening.specs.internal.Making.{AddsCons}
 use Rattle.tally_opening.proofs.making.insert_openings.Given as goal
 
 abbrev pub invariant-loop-con : goal.invariant-loop-con

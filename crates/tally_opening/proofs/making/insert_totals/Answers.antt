@@ -2,7 +2,7 @@ use Rattle.std.proofs.Common.{◌∷◌, ◌++◌, [], refl, arith, subst, OnOk}
 use Rattle.sqlite.specs.State.{HasCleanDisk}
 use Rattle.sqlite.specs.Held.{state}
 use Rattle.tally_tables.specs.Cells.{item_row}
-use Rattle.tally_opening.specs.Making.{AddsTotals, no_list_rows}
+use Rattle.tally_opening.specs.internal.Making.{AddsTotals, no_list_rows}
 use Rattle.tally_opening.proofs.AddLemmas.{totals_then, totals_last, no_votes_split}
 use Rattle.tally_opening.proofs.making.insert_totals.Goals as goal
 

@@ -1,10 +1,11 @@
 use Rattle.std.proofs.Common.{◌≡◌, ◌∙◌, sym, ap, true, true≢false}
 use Rattle.std.specs.Prelude.{codes}
-use Rattle.std.proofs.lemmas.Result.{IfErr-weaker}
+use Rattle.std.proofs.lemmas.Result.{IfErr-weaker, IfOk-weaker}
 use Rattle.sqlite.specs.Held.{state}
+use Rattle.tally_judge.specs.Numbers.{numbers_of}
 use Rattle.tally_schema.specs.Made.{has_former_tables, has_table}
-use Rattle.tally_schema.specs.Tables.{office_schema}
-use Rattle.tally_opening.proofs.OpenedLemmas.{fault_today, today_each}
+use Rattle.tally_schema.specs.Tables.{former_schema, office_schema}
+use Rattle.tally_opening.proofs.OpenedLemmas.{fault_today, numbers_former, numbers_today, today_each}
 use Rattle.tally_opening.proofs.UnwrittenLemmas.{untouched, unwritten_by}
 use Rattle.tally_opening.proofs.open.open_in.Goals as goal
 
@@ -46,3 +47,17 @@ returns-in-Ok-false-clause-counts g c past clean =
 pub returns-in-Err-clause-unwritten : goal.returns-in-Err-clause-unwritten
 returns-in-Err-clause-unwritten g c past =
     untouched (state g.S.Store c.args.conn.now) (λ db now may. g.met.S.Store.settled c.args.conn.now.store db now may) (λ now. c.is_autocommit.ensures.settled c.if-not-is_autocommit.false now)
+
+pub returns-in-Ok-true-clause-numbers : goal.returns-in-Ok-true-clause-numbers
+returns-in-Ok-true-clause-numbers g c clean =
+    let old = state g.S.Store c.args.conn.now in
+    let today = c.in-Ok-true.ensures.today c.in-Ok-true.field-0-test in
+    let schema : old.now.schema ≡ office_schema = sym c.schema.ensures.value ∙ today.0 in
+    IfOk-weaker c.open_today.result _ _ (λ setup told. numbers_today setup old (numbers_of c.open_today.new.known) schema told) (c.open_today.ensures.numbers clean)
+
+pub returns-in-Ok-false-clause-numbers : goal.returns-in-Ok-false-clause-numbers
+returns-in-Ok-false-clause-numbers g c clean =
+    let old = state g.S.Store c.args.conn.now in
+    let former = c.in-Ok-false.ensures.former c.in-Ok-false.field-0-test in
+    let schema : old.now.schema ≡ former_schema = sym c.schema.ensures.value ∙ former.0 in
+    IfOk-weaker c.open_former.result _ _ (λ setup told. numbers_former setup old (numbers_of c.open_former.new.known) schema told) (c.open_former.ensures.numbers clean)

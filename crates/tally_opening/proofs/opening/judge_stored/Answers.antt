@@ -1,8 +1,9 @@
 use Rattle.std.proofs.Common.{inr, arith, sym, subst}
 use Rattle.sqlite.specs.State.{HasCleanDisk, IsUnchanged}
 use Rattle.sqlite.specs.Held.{state}
-use Rattle.tally_opening.specs.Opening.{AreTablesOfNone, IsJudged, HasSetupRow}
-use Rattle.tally_opening.proofs.JudgingLemmas.{judged_before, none_before, tables_still}
+use Rattle.tally_judge.specs.Numbers.{numbers_of}
+use Rattle.tally_opening.specs.internal.Opening.{AreTablesOfNone, HasNumbersOfTables, IsJudged, HasSetupRow}
+use Rattle.tally_opening.proofs.JudgingLemmas.{judged_before, none_before, numbers_now, tables_still}
 use Rattle.tally_opening.proofs.opening.judge_stored.Goals as goal
 
 pub returns-in-Some-clause-judged : goal.returns-in-Some-clause-judged
@@ -24,3 +25,14 @@ returns-in-None-clause-fault g c clean has =
     let none : AreTablesOfNone c.in-Ok.setup mid = c.in_ok-setup-2.ensures.refused clean (tables_still old mid has same) c.in-None.is in
     let stored : HasSetupRow c.args.number c.in-Ok.setup old = rw c.in-Ok.is at (c.in_ok-setup.ensures.stored early has) in
     inr (c.in-Ok.setup, stored, none_before c.in-Ok.setup old mid same none)
+
+pub returns-in-Some-clause-numbers : goal.returns-in-Some-clause-numbers
+returns-in-Some-clause-numbers g c clean has =
+    let old = state g.S.Store c.args.tx.now.conn.now in
+    let mid = state g.S.Store c.read_stored.new.tx.conn.now in
+    let numbers = numbers_of c.judge_office.new.known in
+    let early : HasCleanDisk mid = omega (arith, c.judge_office.ensures.reads.stays.survives.clean) in
+    let same : IsUnchanged old mid = c.in_ok-setup.ensures.reads.same early has in
+    let told : HasNumbersOfTables c.in-Ok.setup mid numbers = rw c.in-Some.is at (c.in_ok-setup-2.ensures.numbers clean (tables_still old mid has same)) in
+    let again = rw c.in-Some.is at c.in_ok-setup-2.ensures.setup in
+    numbers_now c.in-Some.setup old mid numbers same.0.now_is (subst (λ s. HasNumbersOfTables s mid numbers) (sym again) told)

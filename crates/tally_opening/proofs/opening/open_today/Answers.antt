@@ -2,8 +2,9 @@ use Rattle.std.proofs.Common.{◌≡◌, arith, refl, rules, subst, sym, ap}
 use Rattle.std.proofs.lemmas.Result.{IfOk-weaker, IfErr-weaker}
 use Rattle.sqlite.specs.State.{HasCleanDisk, KeepsCounts}
 use Rattle.sqlite.specs.Held.{state}
+use Rattle.tally_judge.specs.Numbers.{numbers_of}
 use Rattle.tally_statements.specs.Office.{HasTables}
-use Rattle.tally_opening.proofs.JudgingLemmas.{judged_now, today_fault}
+use Rattle.tally_opening.proofs.JudgingLemmas.{judged_now, numbers_now, today_fault}
 use Rattle.tally_opening.proofs.UnwrittenLemmas.{counts_after}
 use Rattle.tally_opening.proofs.opening.open_today.Goals as goal
 
@@ -49,3 +50,16 @@ returns-in-Ok-clause-counts g c clean =
     let whole : KeepsCounts old end = record { changes = moved.changes; last_rowid = moved.last_rowid } in
     let there = subst (λ (h : _). KeepsCounts old (state g.S.Store h)) ends whole in
     IfOk-weaker c.in-Ok.told _ _ (λ _ _. there) (c.in-Ok.ensures.judged early has)
+
+pub returns-in-Ok-clause-numbers : goal.returns-in-Ok-clause-numbers
+returns-in-Ok-clause-numbers g c clean =
+    let old = state g.S.Store c.args.conn.now in
+    let bare = state g.S.Store c.transaction-tx.result.conn.now in
+    let begun = c.transaction-tx.ensures.begun in
+    let last = state g.S.Store c.judge_stored-judged.new.tx.conn.now in
+    let ends : c.rollback.new.self.0 ≡ c.conn-1.given.0 = search rules in
+    let clean_end : HasCleanDisk (state g.S.Store c.rollback.new.self.0) = subst (λ (h : _). HasCleanDisk (state g.S.Store h)) (sym ends) clean in
+    let early : HasCleanDisk last = omega (arith, c.rollback.ensures.survives.clean) in
+    let same : bare.now ≡ old.now = ap (λ (h : _). (state g.S.Store h).now) begun in
+    let has : HasTables bare = rw begun (record { schema = c.requires.schema; sound = c.requires.sound; inside = refl }) in
+    IfOk-weaker c.in-Ok.told _ _ (λ setup told. numbers_now setup old bare (numbers_of c.judge_stored-judged.new.known) same told) (c.in-Ok.ensures.numbers early has)

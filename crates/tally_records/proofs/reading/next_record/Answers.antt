@@ -1,7 +1,7 @@
 use Rattle.std.proofs.Common.{subst}
 use Rattle.csv.specs.Reading.{ReadRecord}
 use Rattle.csv.specs.Records.{fields_of}
-use Rattle.tally_records.specs.Text.{text_left}
+use Rattle.tally_records.specs.internal.Text.{text_left}
 use Rattle.tally_records.proofs.ReadingLemmas.{rows_left-next, IsReading-next}
 use Rattle.tally_records.proofs.reading.next_record.Goals as goal
 

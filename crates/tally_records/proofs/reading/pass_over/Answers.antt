@@ -1,5 +1,5 @@
 use Rattle.std.proofs.Common.{arith}
-use Rattle.tally_records.specs.Reading.{rows_left}
+use Rattle.tally_records.specs.internal.Reading.{rows_left}
 use Rattle.tally_records.proofs.PassedLemmas.{left-more, left-none}
 use Rattle.tally_records.proofs.reading.pass_over.Goals as goal
 

@@ -1,5 +1,5 @@
 use Rattle.std.proofs.Common.{◌≡◌, drop}
-use Rattle.tally_records.specs.Reading.{IsReading, rows_left}
+use Rattle.tally_records.specs.internal.Reading.{IsReading, rows_left}
 use Rattle.tally_records.proofs.reading.pass_over.Given as goal
 
 abbrev pub invariant-loop-passed : goal.invariant-loop-passed

@@ -1,5 +1,5 @@
 use Rattle.std.proofs.Common.{map, take, length}
-use Rattle.tally_report.specs.GoneByList.{AreByList}
+use Rattle.tally_report.specs.internal.GoneByList.{AreByList}
 use Rattle.tally_report.proofs.holders.gone_by_list.Given as goal
 
 abbrev pub invariant-loop-candidate : goal.invariant-loop-candidate

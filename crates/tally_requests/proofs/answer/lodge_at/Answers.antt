@@ -1,5 +1,5 @@
 use Rattle.std.proofs.Common.{◌∙◌, Ok, Err, sym, ap}
-use Rattle.tally_steps.specs.Step.{lodge_reply, seen}
+use Rattle.tally_steps.specs.Step.{lodge_reply, reply_seen}
 use Rattle.tally_requests.specs.Known.{known_of}
 use Rattle.tally_requests.proofs.KnownLemmas.{lodged-known}
 use Rattle.tally_requests.proofs.LodgeLemmas.{lodged-carried, seen-reply}
@@ -9,14 +9,14 @@ pub returns-in-Ok-clause-step : goal.returns-in-Ok-clause-step
 returns-in-Ok-clause-step g c clean inside text s lawful held tables =
     let done = c.in_ok-reply.ensures.lodged clean inside text s lawful tables in
     lodged-carried c.args.setup.now text s c.args.station c.args.slip c.args.counts.now c.in_ok-reply.field-0 (Ok c.from.result) _
-    (ap (λ r. seen (Ok r)) c.from.ensures ∙ seen-reply c.in-Ok.reply ∙ ap lodge_reply (sym c.in-Ok.is)) done
+    (ap (λ r. reply_seen (Ok r)) c.from.ensures ∙ seen-reply c.in-Ok.reply ∙ ap lodge_reply (sym c.in-Ok.is)) done
 
 pub returns-in-Ok-clause-known : goal.returns-in-Ok-clause-known
 returns-in-Ok-clause-known g c clean inside text s t lawful held tables answered =
     let told = c.in_ok-reply.ensures in
     let done = told.lodged clean inside text s lawful tables in
     lodged-known c.args.setup.now s t c.args.station c.args.slip c.args.counts.now c.in_ok-reply.field-0 (Ok c.from.result) (known_of c.args.known.now) (known_of c.lodge.new.known) told.limits done.answered
-    (ap (λ r. seen (Ok r)) c.from.ensures ∙ seen-reply c.in-Ok.reply ∙ ap lodge_reply (sym c.in-Ok.is)) told.known held answered
+    (ap (λ r. reply_seen (Ok r)) c.from.ensures ∙ seen-reply c.in-Ok.reply ∙ ap lodge_reply (sym c.in-Ok.is)) told.known held answered
 
 pub returns-in-Err-clause-step : goal.returns-in-Err-clause-step
 returns-in-Err-clause-step g c clean inside text s lawful held tables =

@@ -2,7 +2,7 @@ use Rattle.std.proofs.Common.{ap, subst}
 use Rattle.std.specs.Prelude.{string_bytes}
 use Rattle.sqlite.specs.Held.{state}
 use Rattle.tally_steps.specs.Step.{certified_with, con_change, gone_for_good, lot_set, open_again}
-use Rattle.tally_requests.specs.Changes.{CarriesDecided}
+use Rattle.tally_requests.specs.internal.Changes.{CarriesDecided}
 use Rattle.tally_requests.proofs.ChangeLemmas.{change_carried}
 use Rattle.tally_requests.proofs.changes.carry_out.Goals as goal
 

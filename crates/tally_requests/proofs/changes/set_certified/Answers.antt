@@ -3,7 +3,7 @@ use Rattle.sqlite.specs.Held.{state}
 use Rattle.tally_rules.specs.Constituency.{Constituency}
 use Rattle.tally_rules.specs.Limits.{IsConstituency}
 use Rattle.tally_returns.specs.View.{View}
-use Rattle.tally_requests.specs.Changes.{HasWrittenSeats}
+use Rattle.tally_requests.specs.internal.Changes.{HasWrittenSeats}
 use Rattle.tally_requests.proofs.ChangeLemmas.{holds, certified_carried}
 use Rattle.tally_requests.proofs.DecidedLemmas.{seats_few}
 use Rattle.tally_requests.proofs.changes.set_certified.Goals as goal

@@ -2,7 +2,7 @@ use Rattle.std.proofs.Common.{◌≡◌, ◌∙◌, ◌+◌, ap, subst}
 use Rattle.sqlite.specs.Held.{state}
 use Rattle.tally_rules.specs.Constituency.{Constituency}
 use Rattle.tally_returns.specs.View.{View}
-use Rattle.tally_requests.specs.Changes.{HasWrittenLot}
+use Rattle.tally_requests.specs.internal.Changes.{HasWrittenLot}
 use Rattle.tally_requests.proofs.ChangeLemmas.{holds, lot_carried}
 use Rattle.tally_requests.proofs.DecidedLemmas.{lot_few}
 use Rattle.tally_requests.proofs.changes.set_lot.Goals as goal

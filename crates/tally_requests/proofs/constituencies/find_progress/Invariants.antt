@@ -8,7 +8,7 @@ use Rattle.tally_statements.specs.Office.{IsInside}
 use Rattle.tally_tables.specs.TablesOfState.{AreTables}
 use Rattle.tally_statements.specs.Inside.{StaysInside}
 use Rattle.tally_requests.specs.Known.{AreKnown, known_of}
-use Rattle.tally_requests.specs.Seen.{FindsKnown, IsStill}
+use Rattle.tally_requests.specs.internal.Seen.{FindsKnown, IsStill}
 use Rattle.tally_requests.proofs.constituencies.find_progress.Given as goal
 
 -- the rows of the constituencies so far, of every lawful state whose tables there are

@@ -3,7 +3,7 @@ use Rattle.sqlite.specs.State.{HasCleanDisk}
 use Rattle.sqlite.specs.Held.{state}
 use Rattle.tally_rules.specs.Constituency.{Constituency}
 use Rattle.tally_requests.specs.Known.{after_lodge, known_of}
-use Rattle.tally_requests.specs.Lodging.{IsLodgeAnswer}
+use Rattle.tally_requests.specs.internal.Lodging.{IsLodgeAnswer}
 use Rattle.tally_requests.proofs.KnownLemmas.{lodge-counted}
 use Rattle.tally_requests.proofs.LodgedLemmas.{lodged-first, lodged-refused, lodged-same, still}
 use Rattle.tally_requests.proofs.returns.lodge.Goals as goal

@@ -1,7 +1,7 @@
 use Rattle.std.proofs.Common.{Err, sym, subst}
 use Rattle.std.specs.Option.{ForSome}
 use Rattle.sqlite.specs.Held.{state}
-use Rattle.tally_returns.specs.Decide.{IsUnlessMemory, decided_there, limits_of}
+use Rattle.tally_returns.specs.Decide.{IsUnlessMemory, return_change_at, limits_of}
 use Rattle.tally_returns.specs.Lawful.{IsLawful}
 use Rattle.tally_requests.proofs.FoundLemmas.{move-refused}
 use Rattle.tally_requests.proofs.returns.move_found.Goals as goal
@@ -16,5 +16,5 @@ returns-in-Err-clause-step g c clean inside text s lawful flag found tables =
     let ask = c.args.ask.now in
     move-refused c.args.setup.now text s ask c.args.station con place c.args.certified c.args.found c.in-Err.refusal (state g.S.Store c.args.tx.now.conn.now) c.requires.named c.requires.moves
     (record { known = c.requires.known; certified_is = flag; found_is = found })
-    (subst (λ f. IsUnlessMemory (Err c.in-Err.refusal) (decided_there con place c.args.certified f ask)) c.as_ref.ensures.value c.in-Err.ensures.decided)
+    (subst (λ f. IsUnlessMemory (Err c.in-Err.refusal) (return_change_at con place c.args.certified f ask)) c.as_ref.ensures.value c.in-Err.ensures.decided)
     (record { inside = inside; tables = tables })

@@ -1,17 +1,19 @@
 use Rattle.std.proofs.Common.{[], Ok, refl, subst, arith}
+use Rattle.std.proofs.lemmas.Result.{err_from_is_err_and}
 use Rattle.sqlite.specs.State.{HasCleanDisk}
 use Rattle.sqlite.specs.Held.{state}
-use Rattle.tally_keeper.specs.Source.{GivesNext}
+use Rattle.tally_keeper.proofs.TakenLemmas.{GivesAt}
+use Rattle.tally_keeper.specs.Delivery.{source_at}
 use Rattle.tally_statements.specs.Office.{IsInside}
 use Rattle.tally_requests.specs.Inside.{IsLawfulInside}
 use Rattle.tally_requests.specs.Known.{known_of}
-use Rattle.tally_requests.proofs.RowLemmas.{came-next, came-start, counted-next, rows-end, rows-next, rows-start}
+use Rattle.tally_requests.proofs.RowLemmas.{came-end, came-fault, came-next, came-own, came-start, counted-next, rows-end, rows-next, rows-start}
 use Rattle.tally_statements.proofs.StaysLemmas.{stays-same, stays-then}
 use Rattle.tally_requests.proofs.rows.take_rows.Goals as goal
 
 pub loop-before-init : goal.loop-before-init
 loop-before-init g c =
-    let all = g.R.RowSource.coming c.args.source.now in
+    let all = source_at g.R.RowSource c.args.source.now in
     let old = state g.S.Store c.args.tx.now.conn.now in
     record {
       stays = stays-same (IsLawfulInside c.args.setup.now) g.S.Store c.args.tx.now;
@@ -22,8 +24,9 @@ loop-before-init g c =
 
 pub returns-in_default-clause-imported : goal.returns-in_default-clause-imported
 returns-in_default-clause-imported g c clean inside text s lawful tables =
-    let left = g.R.RowSource.coming in
-    let given = subst (λ r. GivesNext (left c.loop-before.source) (Ok r) (left c.next_row.new.self)) c.in_default.is c.in_ok-row.ensures.gives in
+    let left = source_at g.R.RowSource in
+    let told = c.in_ok-row.ensures in
+    let given = subst (λ r. GivesAt (left c.loop-before.source) (Ok r) (left c.next_row.new.self)) c.in_default.is (told.gives, told.gave, told.ends) in
     rows-end c.args.setup.now text s (left c.args.source.now) (left c.loop-before.source) (left c.next_row.new.self) c.loop-before.count c.loop-before.before (known_of c.args.known.now) (known_of c.loop-before.known) _
     (c.loop-before.invariant.taken clean inside text s lawful tables) (omega (arith, c.loop-before-test.true)) given
 
@@ -35,7 +38,7 @@ returns-in_err-answer-clause-stays g c =
 
 pub loop-before-preserved : goal.loop-before-preserved
 loop-before-preserved g c =
-    let left = g.R.RowSource.coming in
+    let left = source_at g.R.RowSource in
     let setup = c.args.setup.now in
     let all = left c.args.source.now in
     let old = state g.S.Store c.args.tx.now.conn.now in
@@ -44,7 +47,8 @@ loop-before-preserved g c =
     let row = c.in-Some.row in
     let came = left c.loop-before.source in
     let comes = left c.next_row.new.self in
-    let given = subst (λ r. GivesNext came (Ok r) comes) c.in-Some.is c.in_ok-row.ensures.gives in
+    let told = c.in_ok-row.ensures in
+    let given = subst (λ r. GivesAt came (Ok r) comes) c.in-Some.is (told.gives, told.gave, told.ends) in
     let was = c.loop-before.invariant in
     record {
       stays = stays-then (IsLawfulInside setup) IsInside g.S.Store c.args.tx.now c.loop-before.tx c.take_row.new.tx
@@ -57,3 +61,29 @@ loop-before-preserved g c =
           rows-next setup text s all came comes c.loop-before.count c.add_row.new.self c.loop-before.before row c.in_ok-answer.answer (known_of c.args.known.now) (known_of c.loop-before.known) (known_of c.take_row.new.known) mid new c.cons-cons.ensures.limits so_far c.take_row.ensures.codes given
           (c.in_ok-answer.ensures.taken clean so_far.in_state.inside text (record s { returns = so_far.returns }) so_far.lawful so_far.in_state.tables) c.in_ok-answer.ensures.known c.add_row.ensures;
     }
+
+pub returns-in_err-row-clause-fault : goal.returns-in_err-row-clause-fault
+returns-in_err-row-clause-fault g c =
+    let left = source_at g.R.RowSource in
+    let told = c.in_err-row.ensures in
+    let p = err_from_is_err_and c.from_residual.result c.from_residual.ensures.1 in
+    rw (p.1, p.2) (
+    came-fault (left c.args.source.now) (left c.loop-before.source) (left c.next_row.new.self) c.loop-before.before c.in_err-row.field-0.0 c.loop-before.invariant.came (told.gives, told.gave, told.ends))
+
+pub returns-in_err-answer-clause-fault : goal.returns-in_err-answer-clause-fault
+returns-in_err-answer-clause-fault g c =
+    let left = source_at g.R.RowSource in
+    let came = left c.loop-before.source in
+    let comes = left c.next_row.new.self in
+    let told = c.in_ok-row.ensures in
+    let given = subst (λ r. GivesAt came (Ok r) comes) c.in-Some.is (told.gives, told.gave, told.ends) in
+    let p = err_from_is_err_and c.from_residual-in_err-answer.result c.from_residual-in_err-answer.ensures.1 in
+    rw (p.1, p.2) (
+    came-own (left c.args.source.now) came comes c.loop-before.before c.in-Some.row c.in_err-answer.field-0.0 c.loop-before.invariant.came given c.in_err-answer.ensures.own)
+
+pub returns-in_default-clause-gave : goal.returns-in_default-clause-gave
+returns-in_default-clause-gave g c =
+    let left = source_at g.R.RowSource in
+    let told = c.in_ok-row.ensures in
+    let given = subst (λ r. GivesAt (left c.loop-before.source) (Ok r) (left c.next_row.new.self)) c.in_default.is (told.gives, told.gave, told.ends) in
+    came-end (left c.args.source.now) (left c.loop-before.source) (left c.next_row.new.self) c.loop-before.before c.loop-before.invariant.came (omega (arith, c.loop-before-test.true)) given

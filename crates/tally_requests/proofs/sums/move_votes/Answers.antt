@@ -2,14 +2,14 @@ use Rattle.std.proofs.Common.{◌≡◌, ◌+◌, ◌<◌, ◌≤◌, ◌⊎◌,
 use Rattle.std.specs.Prelude.{Option, SomeIff, slice_set}
 use Rattle.std.proofs.Math.Nat.{eq-or-lt_of_le}
 use Rattle.std.proofs.lemmas.List.{get_or-set_other, get_or-set_same, length-set}
-use Rattle.tally_ledger.specs.Sums.{moved_sum}
+use Rattle.tally_ledger.specs.Sums.{CanMove, moved_sum}
 use Rattle.tally_ledger.proofs.SumLemmas.{mapped-is}
-use Rattle.tally_requests.specs.Sums.{FitEach, FitsMoved}
+use Rattle.tally_requests.specs.internal.Sums.{FitEach}
 use Rattle.tally_requests.proofs.sums.move_votes.Goals as goal
 use Rattle.tally_requests.proofs.sums.move_votes.Invariants.{Moved}
 
 -- one place more is moved
-step : (place : ℕ) (old new by : List ℕ) (add : Bool) (sum : ℕ) → place < length old → Moved place old new by add → FitsMoved (slice_index new place) (slice_index by place) add
+step : (place : ℕ) (old new by : List ℕ) (add : Bool) (sum : ℕ) → place < length old → Moved place old new by add → CanMove (slice_index new place) (slice_index by place) add
     → sum ≡ moved_sum (slice_index new place) (slice_index by place) add → Moved (place + 1) old (slice_set new place sum) by add
 step place old new by add sum within so_far fits is = record {
   lists = length-set new place sum ∙ so_far.lists;
@@ -21,8 +21,8 @@ step place old new by add sum within so_far fits is = record {
     was : slice_index new place ≡ slice_index old place
     was = so_far.behind place (omega arith)
 
-    fit : (k : ℕ) → (k ≡ place) ⊎ (k < place) → FitsMoved (slice_index old k) (slice_index by k) add
-    fit k (inl same) = subst (λ q. FitsMoved (slice_index old q) (slice_index by q) add) (sym same) (subst (λ n. FitsMoved n (slice_index by place) add) was fits)
+    fit : (k : ℕ) → (k ≡ place) ⊎ (k < place) → CanMove (slice_index old k) (slice_index by k) add
+    fit k (inl same) = subst (λ q. CanMove (slice_index old q) (slice_index by q) add) (sym same) (subst (λ n. CanMove n (slice_index by place) add) was fits)
     fit k (inr less) = so_far.fit k less
 
     before : (k : ℕ) → (k ≡ place) ⊎ (k < place) → slice_index (slice_set new place sum) k ≡ moved_sum (slice_index old k) (slice_index by k) add
@@ -39,7 +39,7 @@ pub returns-in_err-votes-clause-fit : goal.returns-in_err-votes-clause-fit
 returns-in_err-votes-clause-fit c =
     let place = c.loop-place.place in
     subst (λ (r : Option (Unit {0})). SomeIff r (FitEach c.args.votes.now c.args.by.now c.args.add) tt) (sym c.from_residual.ensures) (λ fit.
-    c.in_err-votes.ensures (subst (λ n. FitsMoved n (slice_index c.args.by.now place) c.args.add) (sym (c.loop-place.invariant.behind place (omega arith))) (fit.each place c.loop-place-test.true)))
+    c.in_err-votes.ensures (subst (λ n. CanMove n (slice_index c.args.by.now place) c.args.add) (sym (c.loop-place.invariant.behind place (omega arith))) (fit.each place c.loop-place-test.true)))
 
 pub returns-clause-fit : goal.returns-clause-fit
 returns-clause-fit c =

@@ -1,12 +1,11 @@
 use Rattle.std.proofs.Common.{◌≡◌, ◌<◌, ◌≤◌, ℕ, List, Bool, length, slice_index}
-use Rattle.tally_ledger.specs.Sums.{moved_sum}
-use Rattle.tally_requests.specs.Sums.{FitsMoved}
+use Rattle.tally_ledger.specs.Sums.{CanMove, moved_sum}
 use Rattle.tally_requests.proofs.sums.move_votes.Given as goal
 
 -- the sums before this place are moved, each of which could be, and the others are as they were
 pub record Moved (place : ℕ) (old new by : List ℕ) (add : Bool) : Type 0 where
   pub lists : length new ≡ length old
-  pub fit : (k : ℕ) → k < place → FitsMoved (slice_index old k) (slice_index by k) add
+  pub fit : (k : ℕ) → k < place → CanMove (slice_index old k) (slice_index by k) add
   pub before : (k : ℕ) → k < place → slice_index new k ≡ moved_sum (slice_index old k) (slice_index by k) add
   pub behind : (k : ℕ) → place ≤ k → slice_index new k ≡ slice_index old k
 

@@ -1,7 +1,7 @@
 use Rattle.std.proofs.Common.{rules, ◌≡◌, Some, None, Err, length, ap, sym, subst, ◌∙◌}
 use Rattle.std.specs.Option.{option_copied}
 use Rattle.tally_returns.specs.Checks.{first_refusal}
-use Rattle.tally_returns.specs.Decide.{IsUnlessMemory, decided_return, limits_of}
+use Rattle.tally_returns.specs.Decide.{IsUnlessMemory, return_change, limits_of}
 use Rattle.tally_returns.specs.Lodge.{counts_checks, limits_for}
 use Rattle.tally_returns.proofs.DecideLemmas.{answered-lawful, lawful-last, correct-passed, correct-refused}
 use Rattle.tally_returns.proofs.decide.decide_at.Goals as goal
@@ -18,13 +18,13 @@ decide_close-requires c = lawful-last (limits_of c.args.con.now c.args.station.n
 pub returns-in-Lodge-clause-lawful : goal.returns-in-Lodge-clause-lawful
 returns-in-Lodge-clause-lawful c =
     let limits = limits_of c.args.con.now c.args.station.now in
-    let is : IsUnlessMemory c.decide_first.result (decided_return (Some limits) c.args.certified (option_copied c.args.found) c.args.ask.now) = search rules in
+    let is : IsUnlessMemory c.decide_first.result (return_change (Some limits) c.args.certified (option_copied c.args.found) c.args.ask.now) = search rules in
     answered-lawful limits c.args.certified (option_copied c.args.found) c.args.ask.now c.decide_first.result c.slip-slip.ensures.code c.requires.lawful is
 
 pub returns-in-Query-clause-lawful : goal.returns-in-Query-clause-lawful
 returns-in-Query-clause-lawful c =
     let limits = limits_of c.args.con.now c.args.station.now in
-    let is : IsUnlessMemory c.decide_query.result (decided_return (Some limits) c.args.certified (option_copied c.args.found) c.args.ask.now) = search rules in
+    let is : IsUnlessMemory c.decide_query.result (return_change (Some limits) c.args.certified (option_copied c.args.found) c.args.ask.now) = search rules in
     answered-lawful limits c.args.certified (option_copied c.args.found) c.args.ask.now c.decide_query.result c.slip-slip.ensures.code c.requires.lawful is
 
 pub returns-in_err-check_counts-in-Correct-clause-decided :
@@ -40,8 +40,8 @@ returns-in_err-check_counts-in-Correct-clause-decided c =
     subst (λ n. first_refusal (counts_checks (limits_for n c.args.station.now.electors) way.counts) ≡ Some e) lists
     c.in_err-check_counts-in-Correct.ensures.refused in
     let refused = correct-refused limits c.args.certified found way.rev way.slip way.counts e some in
-    subst (λ r. IsUnlessMemory r (decided_return (Some limits) c.args.certified found c.args.ask.now)) (sym is)
-    (λ other. ap (decided_return (Some limits) c.args.certified found) way.is ∙ refused)
+    subst (λ r. IsUnlessMemory r (return_change (Some limits) c.args.certified found c.args.ask.now)) (sym is)
+    (λ other. ap (return_change (Some limits) c.args.certified found) way.is ∙ refused)
 
 pub returns-in_ok-check_counts-in-Correct-clause-decided :
     goal.returns-in_ok-check_counts-in-Correct-clause-decided
@@ -54,12 +54,12 @@ returns-in_ok-check_counts-in-Correct-clause-decided c =
     subst (λ n. first_refusal (counts_checks (limits_for n c.args.station.now.electors) way.counts) ≡ None) lists
     c.in_ok-check_counts-in-Correct.ensures.passed in
     let passed = correct-passed limits c.args.certified found way.rev way.slip way.counts none in
-    subst (IsUnlessMemory c.decide_correct.result) (sym (ap (decided_return (Some limits) c.args.certified found) way.is ∙ passed)) c.decide_correct.ensures
+    subst (IsUnlessMemory c.decide_correct.result) (sym (ap (return_change (Some limits) c.args.certified found) way.is ∙ passed)) c.decide_correct.ensures
 
 pub returns-in-Close-clause-lawful : goal.returns-in-Close-clause-lawful
 returns-in-Close-clause-lawful c =
     let limits = limits_of c.args.con.now c.args.station.now in
-    let is : IsUnlessMemory c.decide_close.result (decided_return (Some limits) c.args.certified (option_copied c.args.found) c.args.ask.now) = search rules in
+    let is : IsUnlessMemory c.decide_close.result (return_change (Some limits) c.args.certified (option_copied c.args.found) c.args.ask.now) = search rules in
     answered-lawful limits c.args.certified (option_copied c.args.found) c.args.ask.now c.decide_close.result c.slip-slip.ensures.code c.requires.lawful is
 
 pub returns-in_ok-check_counts-in-Correct-clause-lawful :

@@ -1,5 +1,5 @@
 use Rattle.std.proofs.Common.{◌≡◌, ◌++◌}
-use Rattle.tally_rules.specs.Index.{places_in}
+use Rattle.tally_rules.specs.internal.Index.{places_in}
 use Rattle.tally_rules.proofs.setup.push_places.Given as goal
 
 abbrev pub invariant-loop-station : goal.invariant-loop-station

@@ -1,7 +1,7 @@
 use Rattle.std.proofs.Common.{◌≡◌, Some, length, add-one, ◌++◌, rules}
 use Rattle.std.specs.List.{slice_get}
 use Rattle.std.proofs.lemmas.Option.{slice_get_read}
-use Rattle.tally_rules.specs.Index.{places_in}
+use Rattle.tally_rules.specs.internal.Index.{places_in}
 use Rattle.tally_rules.proofs.SetupLemmas.{places-more}
 use Rattle.tally_rules.proofs.setup.station_places.Goals as goal
 

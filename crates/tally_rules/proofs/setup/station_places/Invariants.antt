@@ -1,5 +1,5 @@
 use Rattle.std.proofs.Common.{◌≡◌, map, take, Some}
-use Rattle.tally_rules.specs.Index.{station_at}
+use Rattle.tally_rules.specs.internal.Index.{station_at}
 use Rattle.tally_rules.specs.Setup.{all_stations}
 use Rattle.tally_rules.proofs.setup.station_places.Given as goal
 

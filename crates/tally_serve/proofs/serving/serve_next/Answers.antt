@@ -1,7 +1,7 @@
 use Rattle.std.proofs.Common.{◌≡◌, ◌++◌, List, [], Some, None, option_to_list, false, sym, subst, refl}
 use Rattle.tally_door.specs.Connection.{Connection, connections}
 use Rattle.tally_serve.specs.Serving.{IsExchange}
-use Rattle.tally_serve.specs.Next.{IsNext}
+use Rattle.tally_serve.specs.internal.Next.{IsNext}
 use Rattle.tally_serve.proofs.serving.serve_next.Goals as goal
 
 pub returns-in-Ok-clause-next : goal.returns-in-Ok-clause-next

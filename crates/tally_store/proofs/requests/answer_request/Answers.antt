@@ -5,8 +5,8 @@ use Rattle.sqlite.specs.Held.{state}
 use Rattle.tally_statements.specs.Office.{IsInside}
 use Rattle.tally_tables.specs.TablesOfState.{AreTables}
 use Rattle.tally_store.specs.Crash.{LeavesAfter}
-use Rattle.tally_store.specs.Requests.{IsDone}
-use Rattle.tally_store.proofs.RequestLemmas.{done_committed, done_failed, empty-nothing, survives_commit, tables_after}
+use Rattle.tally_store.specs.internal.Requests.{IsDone}
+use Rattle.tally_store.proofs.RequestLemmas.{done_committed, done_failed, survives_commit, tables_after}
 use Rattle.tally_opening.proofs.ReturnLemmas.{Began, failed, rolled_back}
 use Rattle.tally_store.proofs.requests.answer_request.Goals as goal
 
@@ -23,7 +23,7 @@ returns-in-Ok-commit-clause-done g c clean now text s lawful has =
     let here : IsInside bare = rw begun (record { schema = has.schema; sound = has.sound; distinct = has.distinct; inside = refl }) in
     let held : AreTables setup text s bare.now.trees = rw begun has.tables in
     let inside = survives_begin g.S.Store c.args.conn.now last _ (rw begun at c.answer_open.ensures.stays.survives) in
-    let known = c.requires.known (omega (arith, early, inside.clean)) text s lawful has in
+    let known = c.requires.known (omega (arith, early, inside.clean)) (rw begun at (c.in-Ok.ensures.was_open early)) text s lawful has in
     let carried = c.in-Ok.ensures.step early here text s lawful known held in
     let shown = (c.in-Ok-commit.ensures.ok clean_end).1 in
     subst (λ (h : _). IsDone setup text s c.args.ask.now c.in-Ok.answer (state g.S.Store h)) same
@@ -46,15 +46,15 @@ returns-in-Ok-commit-clause-known g c clean =
       λ text s t lawful has answered.
           let here : IsInside bare = rw begun (record { schema = has.schema; sound = has.sound; distinct = has.distinct; inside = refl }) in
           let held : AreTables setup text s bare.now.trees = rw begun has.tables in
-          let known = c.requires.known (omega (arith, early, inside.clean)) text s lawful has in
+          let known = c.requires.known (omega (arith, early, inside.clean)) (rw begun at (c.in-Ok.ensures.was_open early)) text s lawful has in
           c.in-Ok.ensures.known early here text s t lawful known held answered,
     )
 
 pub returns-in-Err-commit-clause-known : goal.returns-in-Err-commit-clause-known
-returns-in-Err-commit-clause-known g c clean = inl (empty-nothing c.clear.new.self c.clear.ensures.empty)
+returns-in-Err-commit-clause-known g c clean = inl c.forget.ensures.forgot
 
 pub returns-in-Err-clause-known : goal.returns-in-Err-clause-known
-returns-in-Err-clause-known g c clean = inl (empty-nothing c.clear-in-Err.new.self c.clear-in-Err.ensures.empty)
+returns-in-Err-clause-known g c clean = inl c.forget-in-Err.ensures.forgot
 
 pub returns-in-Ok-commit-clause-crash : goal.returns-in-Ok-commit-clause-crash
 returns-in-Ok-commit-clause-crash g c =
@@ -78,7 +78,7 @@ returns-in-Ok-commit-clause-crash g c =
     let has = office.2.has in
     let here : IsInside bare = rw begun (record { schema = has.schema; sound = has.sound; distinct = has.distinct; inside = refl }) in
     let held : AreTables setup text s bare.now.trees = rw begun has.tables in
-    let known = c.requires.known (omega (arith, early, inside.clean)) text s lawful has in
+    let known = c.requires.known (omega (arith, early, inside.clean)) (rw begun at (c.in-Ok.ensures.was_open early)) text s lawful has in
     record { was_open = was_open; text = text; state = s; lawful = lawful; has = has; after = tables_after setup text s c.args.ask.now c.in-Ok.answer last (c.in-Ok.ensures.step early here text s lawful known held) }))
 
 pub returns-in-Err-commit-clause-done : goal.returns-in-Err-commit-clause-done
@@ -96,14 +96,14 @@ returns-in-Err-commit-clause-done g c clean now text s lawful has =
     let here : IsInside bare = rw begun (record { schema = has.schema; sound = has.sound; distinct = has.distinct; inside = refl }) in
     let held : AreTables setup text s bare.now.trees = rw begun has.tables in
     let inside = survives_begin g.S.Store c.args.conn.now last _ (rw begun at c.answer_open.ensures.stays.survives) in
-    let known = c.requires.known (omega (arith, early, inside.clean)) text s lawful has in
+    let known = c.requires.known (omega (arith, early, inside.clean)) (rw begun at (c.in-Ok.ensures.was_open early)) text s lawful has in
     let carried = c.in-Ok.ensures.step early here text s lawful known held in
     let kept = c.answer_open.ensures.stays.kept early here in
     let was_open = rw begun at kept.was_open in
     let committed = rw begun at kept.committed in
     let began : Began old last = record { settled = λ _. sym has.settled; was_open = was_open; committed = committed } in
-    subst (λ (h : _). IsDone setup text s c.args.ask.now (Err c.refusal_of.result) (state g.S.Store h)) same
-    (done_failed setup text s c.args.ask.now c.refusal_of.result old new c.refusal_of.ensures has
+    subst (λ (h : _). IsDone setup text s c.args.ask.now (Err c.forget.result) (state g.S.Store h)) same
+    (done_failed setup text s c.args.ask.now c.forget.result old new c.forget.ensures.own has
     (failed old last new c.in-Err-commit.error began carried.in_state.inside.inside (c.in-Err-commit.ensures.err clean_end) open_end))
 
 pub returns-in-Err-commit-clause-crash : goal.returns-in-Err-commit-clause-crash
@@ -128,7 +128,7 @@ returns-in-Err-commit-clause-crash g c =
     let has = office.2.has in
     let here : IsInside bare = rw begun (record { schema = has.schema; sound = has.sound; distinct = has.distinct; inside = refl }) in
     let held : AreTables setup text s bare.now.trees = rw begun has.tables in
-    let known = c.requires.known (omega (arith, early, inside.clean)) text s lawful has in
+    let known = c.requires.known (omega (arith, early, inside.clean)) (rw begun at (c.in-Ok.ensures.was_open early)) text s lawful has in
     record { was_open = was_open; text = text; state = s; lawful = lawful; has = has; after = tables_after setup text s c.args.ask.now c.in-Ok.answer last (c.in-Ok.ensures.step early here text s lawful known held) }))
 
 pub returns-in-Err-clause-done : goal.returns-in-Err-clause-done
@@ -148,6 +148,6 @@ returns-in-Err-clause-done g c clean now text s lawful has =
     let was_open = rw begun at kept.was_open in
     let committed = rw begun at kept.committed in
     let began : Began old last = record { settled = λ _. sym has.settled; was_open = was_open; committed = committed } in
-    subst (λ (h : _). IsDone setup text s c.args.ask.now (Err c.refusal_of-in-Err.result) (state g.S.Store h)) same
-    (done_failed setup text s c.args.ask.now c.refusal_of-in-Err.result old new c.refusal_of-in-Err.ensures has
+    subst (λ (h : _). IsDone setup text s c.args.ask.now (Err c.forget-in-Err.result) (state g.S.Store h)) same
+    (done_failed setup text s c.args.ask.now c.forget-in-Err.result old new c.forget-in-Err.ensures.own has
     (rolled_back old last new began (c.rollback.ensures.undone clean_end) open_end))

@@ -4,9 +4,11 @@ use Rattle.sqlite.specs.State.{HasCleanDisk, Survives}
 use Rattle.sqlite.specs.Held.{state}
 use Rattle.tally_statements.specs.Office.{IsInside}
 use Rattle.tally_tables.specs.TablesOfState.{AreTables}
+use Rattle.tally_keeper.specs.Delivery.{delivery}
+use Rattle.tally_keeper.proofs.TakenLemmas.{own-last}
 use Rattle.tally_requests.specs.Known.{known_of}
 use Rattle.tally_store.specs.Crash.{LeavesImported}
-use Rattle.tally_store.specs.Requests.{IsAllDone, IsAllKnown}
+use Rattle.tally_store.specs.internal.Requests.{IsAllDone, IsAllKnown}
 use Rattle.tally_opening.specs.Office.{HasState}
 use Rattle.tally_store.proofs.RequestLemmas.{all_committed, all_known, empty-nothing, state_back, survives_commit, tables_imported}
 use Rattle.tally_opening.proofs.ReturnLemmas.{Began, failed, rolled_back}
@@ -15,7 +17,7 @@ use Rattle.tally_store.proofs.requests.import_rows.Goals as goal
 pub returns-in-Ok-commit-clause-done : goal.returns-in-Ok-commit-clause-done
 returns-in-Ok-commit-clause-done g c clean now text s lawful has =
     let setup = c.args.setup.now in
-    let known = g.R.RowSource.coming c.args.source.now in
+    let came = delivery g.R.RowSource c.args.source.now c.take_open.new.source in
     let bare = state g.S.Store c.transaction-tx.result.conn.now in
     let last = state g.S.Store c.take_open.new.tx.conn.now in
     let new = state g.S.Store c.commit.new.self.0 in
@@ -27,12 +29,12 @@ returns-in-Ok-commit-clause-done g c clean now text s lawful has =
     let held : AreTables setup text s bare.now.trees = rw begun has.tables in
     let all = (c.in-Ok.ensures.imported early here text s lawful held).0 in
     let shown = (c.in-Ok-commit.ensures.ok clean_end).1 in
-    subst (λ (h : _). IsAllDone setup text s known c.in-Ok.count (state g.S.Store h)) same (all_committed setup text s known c.in-Ok.count last new all shown)
+    subst (λ (h : _). IsAllDone setup text s came c.in-Ok.count (state g.S.Store h)) same (all_committed setup text s came c.in-Ok.count last new all shown)
 
 pub returns-in-Ok-commit-clause-known : goal.returns-in-Ok-commit-clause-known
 returns-in-Ok-commit-clause-known g c clean =
     let setup = c.args.setup.now in
-    let known = g.R.RowSource.coming c.args.source.now in
+    let came = delivery g.R.RowSource c.args.source.now c.take_open.new.source in
     let bare = state g.S.Store c.transaction-tx.result.conn.now in
     let last = state g.S.Store c.take_open.new.tx.conn.now in
     let new = state g.S.Store c.commit.new.self.0 in
@@ -46,9 +48,9 @@ returns-in-Ok-commit-clause-known g c clean =
       λ text s lawful has.
           let here : IsInside bare = rw begun (record { schema = has.schema; sound = has.sound; distinct = has.distinct; inside = refl }) in
           let held : AreTables setup text s bare.now.trees = rw begun has.tables in
-          let true_is = c.requires.known (omega (arith, early, inside.clean)) text s lawful has in
-          subst (λ (h : _). IsAllKnown setup text s known c.in-Ok.count (state g.S.Store h) (known_of c.take_open.new.known)) same
-          (all_known setup text s known (known_of c.args.known.now) (known_of c.take_open.new.known) c.in-Ok.count last new (c.in-Ok.ensures.imported early here text s lawful held) true_is shown),
+          let true_is = c.requires.known (omega (arith, early, inside.clean)) (rw begun at (c.in-Ok.ensures.was_open early)) text s lawful has in
+          subst (λ (h : _). IsAllKnown setup text s came c.in-Ok.count (state g.S.Store h) (known_of c.take_open.new.known)) same
+          (all_known setup text s came (known_of c.args.known.now) (known_of c.take_open.new.known) c.in-Ok.count last new (c.in-Ok.ensures.imported early here text s lawful held) true_is shown),
     )
 
 pub returns-in-Err-commit-clause-known : goal.returns-in-Err-commit-clause-known
@@ -60,13 +62,13 @@ returns-in-Err-clause-known g c = empty-nothing c.clear-in-Err.new.self c.clear-
 pub returns-in-Ok-commit-clause-crash : goal.returns-in-Ok-commit-clause-crash
 returns-in-Ok-commit-clause-crash g c =
     let setup = c.args.setup.now in
-    let known = g.R.RowSource.coming c.args.source.now in
+    let came = delivery g.R.RowSource c.args.source.now c.take_open.new.source in
     let old = c.args.conn.now in
     let bare = state g.S.Store c.transaction-tx.result.conn.now in
     let last = state g.S.Store c.take_open.new.tx.conn.now in
     let new = state g.S.Store c.commit.new.self.0 in
     let begun = c.transaction-tx.ensures.begun in
-    let P = LeavesImported setup known (state g.S.Store old) in
+    let P = LeavesImported setup came (state g.S.Store old) in
     let inside = survives_begin g.S.Store old last _ (rw begun at c.take_open.ensures.stays.survives) in
     let same : c.commit.new.self.0 ≡ c.conn-1.given.0 = search rules in
     subst (λ (h : _). Survives (state g.S.Store old) (state g.S.Store h) P) same
@@ -80,7 +82,7 @@ returns-in-Ok-commit-clause-crash g c =
     let has = office.2.has in
     let here : IsInside bare = rw begun (record { schema = has.schema; sound = has.sound; distinct = has.distinct; inside = refl }) in
     let held : AreTables setup text s bare.now.trees = rw begun has.tables in
-    record { was_open = was_open; text = text; state = s; lawful = lawful; has = has; after = tables_imported setup text s known c.in-Ok.count last (c.in-Ok.ensures.imported early here text s lawful held).0 }))
+    record { was_open = was_open; text = text; state = s; lawful = lawful; has = has; after = tables_imported setup text s came c.in-Ok.count last (c.in-Ok.ensures.imported early here text s lawful held).0 }))
 
 pub returns-in-Err-commit-clause-done : goal.returns-in-Err-commit-clause-done
 returns-in-Err-commit-clause-done g c clean now text s lawful has =
@@ -107,13 +109,13 @@ returns-in-Err-commit-clause-done g c clean now text s lawful has =
 pub returns-in-Err-commit-clause-crash : goal.returns-in-Err-commit-clause-crash
 returns-in-Err-commit-clause-crash g c =
     let setup = c.args.setup.now in
-    let known = g.R.RowSource.coming c.args.source.now in
+    let came = delivery g.R.RowSource c.args.source.now c.take_open.new.source in
     let old = c.args.conn.now in
     let bare = state g.S.Store c.transaction-tx.result.conn.now in
     let last = state g.S.Store c.take_open.new.tx.conn.now in
     let new = state g.S.Store c.commit.new.self.0 in
     let begun = c.transaction-tx.ensures.begun in
-    let P = LeavesImported setup known (state g.S.Store old) in
+    let P = LeavesImported setup came (state g.S.Store old) in
     let inside = survives_begin g.S.Store old last _ (rw begun at c.take_open.ensures.stays.survives) in
     let same : c.commit.new.self.0 ≡ c.conn-1.given.0 = search rules in
     subst (λ (h : _). Survives (state g.S.Store old) (state g.S.Store h) P) same
@@ -127,7 +129,7 @@ returns-in-Err-commit-clause-crash g c =
     let has = office.2.has in
     let here : IsInside bare = rw begun (record { schema = has.schema; sound = has.sound; distinct = has.distinct; inside = refl }) in
     let held : AreTables setup text s bare.now.trees = rw begun has.tables in
-    record { was_open = was_open; text = text; state = s; lawful = lawful; has = has; after = tables_imported setup text s known c.in-Ok.count last (c.in-Ok.ensures.imported early here text s lawful held).0 }))
+    record { was_open = was_open; text = text; state = s; lawful = lawful; has = has; after = tables_imported setup text s came c.in-Ok.count last (c.in-Ok.ensures.imported early here text s lawful held).0 }))
 
 pub returns-in-Err-clause-done : goal.returns-in-Err-clause-done
 returns-in-Err-clause-done g c clean now text s lawful has =
@@ -149,3 +151,7 @@ returns-in-Err-clause-done g c clean now text s lawful has =
     let began : Began old last = record { settled = λ _. sym has.settled; was_open = was_open; committed = committed } in
     subst (λ (h : _). HasState setup text s (state g.S.Store h)) same
     (state_back setup text s old new has (rolled_back old last new began (c.rollback.ensures.undone clean_end) open_end))
+
+pub returns-in-Err-commit-clause-fault : goal.returns-in-Err-commit-clause-fault
+returns-in-Err-commit-clause-fault g c =
+    own-last (delivery g.R.RowSource c.args.source.now c.take_open.new.source) c.import_fault_of.result c.in-Ok.ensures.gave c.import_fault_of.ensures

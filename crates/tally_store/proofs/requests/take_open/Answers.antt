@@ -3,6 +3,8 @@ use Rattle.std.proofs.lemmas.Result.{IfOk-weaker}
 use Rattle.sqlite.specs.Effect.{Database}
 use Rattle.sqlite.specs.State.{HasCleanDisk, IsUnchanged}
 use Rattle.sqlite.specs.Held.{state}
+use Rattle.tally_keeper.specs.Delivery.{source_at}
+use Rattle.tally_keeper.proofs.TakenLemmas.{own-first}
 use Rattle.tally_requests.specs.Inside.{IsLawfulInside}
 use Rattle.tally_statements.proofs.StaysLemmas.{stays-then}
 use Rattle.tally_tables.specs.TablesOfState.{AreTables}
@@ -35,3 +37,6 @@ returns-in-Ok-clause-imported g c clean inside =
 
 pub returns-in-Err-clause-stays : goal.returns-in-Err-clause-stays
 returns-in-Err-clause-stays g c = stays_in_state c.args.setup.now g.S.Store c.args.tx.now c.see_open.new.tx c.in-Err.ensures.reads.stays
+
+pub returns-in-Err-clause-fault : goal.returns-in-Err-clause-fault
+returns-in-Err-clause-fault g c = own-first (source_at g.R.RowSource c.args.source.now) c.import_fault_of.result c.import_fault_of.ensures

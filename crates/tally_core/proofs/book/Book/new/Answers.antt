@@ -1,5 +1,5 @@
 use Rattle.std.proofs.Common.{sym, subst}
-use Rattle.tally_keeper.specs.Held.{IsHeld}
+use Rattle.tally_keeper.specs.internal.Held.{IsHeld}
 use Rattle.tally_keeper.proofs.HeldLemmas.{held-opening}
 use Rattle.tally_core.proofs.book.Book.new.Goals as goal
 

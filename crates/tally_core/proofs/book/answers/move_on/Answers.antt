@@ -3,7 +3,7 @@ use Rattle.tally_rules.specs.Constituency.{Constituency}
 use Rattle.tally_rules.specs.Setup.{constituency_with, station_with}
 use Rattle.tally_returns.specs.View.{View}
 use Rattle.std.specs.Option.{option_copied}
-use Rattle.tally_keeper.specs.Held.{IsMoved, is_query}
+use Rattle.tally_keeper.specs.internal.Held.{IsMoved, is_query}
 use Rattle.tally_returns.specs.Return.{StationReturn}
 use Rattle.tally_returns.specs.declared.reply.Reply.TheVariants.{Moved}
 use Rattle.tally_ledger.specs.Kept.{with_no_lot}

@@ -2,7 +2,7 @@ use Rattle.std.proofs.Common.{◌≡◌, ◌∷◌, ◌∙◌, ◌+◌, drop, sy
 use Rattle.std.specs.FinMap.{remove}
 use Rattle.std.proofs.lemmas.List.{drop_more}
 use Rattle.tally_ledger.specs.Kept.{Kept}
-use Rattle.tally_keeper.specs.Held.{without}
+use Rattle.tally_keeper.specs.internal.Held.{returns_without}
 use Rattle.tally_keeper.proofs.TakenLemmas.{kept-next}
 use Rattle.tally_core.proofs.book.rows.take_out.Goals as goal
 
@@ -19,5 +19,5 @@ loop-station-preserved c =
     let returns = ap (λ (k : Kept). k.returns) out in
     record {
       kept = kept-next c.args.ledger.now mid new c.loop-station.invariant.kept (out ∙ ap (λ m. record mid { returns = m }) (sym returns));
-      left = ap (without (drop (i + 1) stations)) returns ∙ sym (ap (λ l. without l mid.returns) next) ∙ c.loop-station.invariant.left;
+      left = ap (returns_without (drop (i + 1) stations)) returns ∙ sym (ap (λ l. returns_without l mid.returns) next) ∙ c.loop-station.invariant.left;
     }

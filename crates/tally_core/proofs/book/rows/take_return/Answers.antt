@@ -4,7 +4,7 @@ use Rattle.tally_ledger.specs.Kept.{Kept}
 use Rattle.tally_returns.specs.Lawful.{IsLawful}
 use Rattle.tally_returns.specs.State.{stations_of}
 use Rattle.tally_returns.specs.declared.reply.LodgeReply.TheVariants.{Lodged}
-use Rattle.tally_keeper.specs.Held.{without}
+use Rattle.tally_keeper.specs.internal.Held.{returns_without}
 use Rattle.tally_keeper.proofs.LodgeLemmas.{lodged-none}
 use Rattle.tally_keeper.proofs.StepLemmas.{first-lawful}
 use Rattle.tally_keeper.proofs.WithoutLemmas.{without-push}
@@ -29,5 +29,5 @@ returns-clause-undone c =
     let none : get m station ≡ None = lodged-none (stations_of k.setup) m station c.args.slip c.args.counts way.field-0-0 (sym c.decide_first-answer.ensures ∙ answer) in
     let items : c.push.new.self.items ≡ c.args.lodged.now.items ++ station ∷ [] = c.in_ok-push.ensures.items ∙ ap (λ l. l ++ station ∷ []) c.reserve.ensures.items in
     let put : c.put.new.self.returns ≡ insert m station c.lodged.result = ap (λ (k : Kept). k.returns) c.in_ok-put.ensures.put in
-    ap (λ l. without l c.put.new.self.returns) items ∙ ap (without (c.args.lodged.now.items ++ station ∷ [])) put
+    ap (λ l. returns_without l c.put.new.self.returns) items ∙ ap (returns_without (c.args.lodged.now.items ++ station ∷ [])) put
     ∙ without-push c.args.lodged.now.items m station c.lodged.result none

@@ -4,8 +4,8 @@ use Rattle.std.specs.Option.{option_copied}
 use Rattle.tally_returns.proofs.CountsLemmas.{are_counts-lodged, length-counts}
 use Rattle.tally_returns.specs.declared.reply.LodgeReply.TheVariants.{Lodged}
 use Rattle.tally_import.specs.Check.{every_code}
-use Rattle.tally_import.specs.Progress.{Holds, lodged_of}
-use Rattle.tally_import.specs.Totals.{AreTotals}
+use Rattle.tally_import.specs.internal.Progress.{Holds, lodged_of}
+use Rattle.tally_import.specs.internal.Totals.{AreTotals}
 use Rattle.tally_import.proofs.ProgressLemmas.{Holds-insert, lodge-lodged, answer-held}
 use Rattle.tally_import.proofs.import.Import.lodge.Goals as goal
 

@@ -2,7 +2,7 @@ use Rattle.std.proofs.Common.{◌∙◌, sym, ap, subst}
 use Rattle.std.specs.Prelude.{IsSome}
 use Rattle.tally_rules.specs.Setup.{constituency_with}
 use Rattle.tally_ledger.specs.Kept.{Kept, with_no_lot}
-use Rattle.tally_ledger.specs.Rows.{IsTallied, returns_of, views_of}
+use Rattle.tally_ledger.specs.internal.Rows.{IsTallied, returns_of, views_of}
 use Rattle.tally_ledger.proofs.ChangeLemmas.{kept, without-kept, without-seen, tallied-changed, without_lot}
 use Rattle.tally_ledger.proofs.ledger.Ledger.drop_lot.Goals as goal
 

@@ -1,6 +1,6 @@
 use Rattle.std.proofs.Common.{◌∙◌, sym, subst}
 use Rattle.std.specs.FinMap.{empty, from_entries}
-use Rattle.tally_ledger.specs.Rows.{IsTallied, views_of}
+use Rattle.tally_ledger.specs.internal.Rows.{IsTallied, views_of}
 use Rattle.tally_ledger.proofs.ChangeLemmas.{kept}
 use Rattle.tally_ledger.proofs.OpeningLemmas.{opening-kept, opening-tallied}
 use Rattle.tally_ledger.proofs.ledger.Ledger.new.Goals as goal

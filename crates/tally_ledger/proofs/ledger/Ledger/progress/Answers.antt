@@ -5,7 +5,7 @@ use Rattle.std.proofs.lemmas.List.{map-append, take_more}
 use Rattle.tally_rules.specs.Constituency.{Constituency}
 use Rattle.tally_returns.specs.Progress.{progress_row}
 use Rattle.tally_ledger.specs.Kept.{Kept, state_in}
-use Rattle.tally_ledger.specs.Rows.{returns_of, row_of, views_of}
+use Rattle.tally_ledger.specs.internal.Rows.{returns_of, row_of, views_of}
 use Rattle.tally_ledger.proofs.ChangeLemmas.{held-has, row-is}
 use Rattle.tally_ledger.proofs.SetupLemmas.{Has, has-at}
 use Rattle.tally_ledger.proofs.ledger.Ledger.progress.Goals as goal

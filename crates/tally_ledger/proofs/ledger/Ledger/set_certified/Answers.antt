@@ -4,7 +4,7 @@ use Rattle.tally_rules.specs.Setup.{constituency_with}
 use Rattle.tally_steps.specs.Step.{certified_with}
 use Rattle.tally_returns.specs.State.{con_state}
 use Rattle.tally_ledger.specs.Kept.{Kept, state_in, with_change}
-use Rattle.tally_ledger.specs.Rows.{IsTallied, returns_of, views_of}
+use Rattle.tally_ledger.specs.internal.Rows.{IsTallied, returns_of, views_of}
 use Rattle.tally_ledger.proofs.ChangeLemmas.{edition-room, kept, seats-kept, seats-seen, tallied-changed, with_seats}
 use Rattle.tally_ledger.proofs.ledger.Ledger.set_certified.Goals as goal
 

@@ -5,7 +5,7 @@ use Rattle.tally_rules.specs.Setup.{constituency_with}
 use Rattle.tally_steps.specs.Step.{gone_for_good}
 use Rattle.tally_returns.specs.State.{con_state}
 use Rattle.tally_ledger.specs.Kept.{Kept, state_in, with_change}
-use Rattle.tally_ledger.specs.Rows.{IsTallied, returns_of, views_of}
+use Rattle.tally_ledger.specs.internal.Rows.{IsTallied, returns_of, views_of}
 use Rattle.tally_ledger.proofs.GoneLemmas.{key_of}
 use Rattle.tally_ledger.proofs.ChangeLemmas.{gone-kept, gone-seen, kept, one_gone, tallied-changed, was-here}
 use Rattle.tally_ledger.proofs.ledger.Ledger.set_gone.Goals as goal

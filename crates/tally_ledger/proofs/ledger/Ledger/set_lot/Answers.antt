@@ -4,7 +4,7 @@ use Rattle.tally_rules.specs.Setup.{constituency_with}
 use Rattle.tally_steps.specs.Step.{lot_set}
 use Rattle.tally_returns.specs.State.{con_state}
 use Rattle.tally_ledger.specs.Kept.{Kept, state_in, with_change}
-use Rattle.tally_ledger.specs.Rows.{IsTallied, returns_of, views_of}
+use Rattle.tally_ledger.specs.internal.Rows.{IsTallied, returns_of, views_of}
 use Rattle.tally_ledger.proofs.ChangeLemmas.{edition-room, kept, lot-kept, lot-seen, tallied-changed, with_lot}
 use Rattle.tally_ledger.proofs.ledger.Ledger.set_lot.Goals as goal
 

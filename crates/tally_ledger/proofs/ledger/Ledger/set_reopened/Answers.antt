@@ -4,7 +4,7 @@ use Rattle.tally_rules.specs.Setup.{constituency_with}
 use Rattle.tally_steps.specs.Step.{open_again}
 use Rattle.tally_returns.specs.State.{con_state}
 use Rattle.tally_ledger.specs.Kept.{AreEarlier, Kept, state_in, with_change}
-use Rattle.tally_ledger.specs.Rows.{IsTallied, returns_of, views_of, with_reopening}
+use Rattle.tally_ledger.specs.internal.Rows.{IsTallied, returns_of, views_of, with_reopening}
 use Rattle.tally_ledger.proofs.ChangeLemmas.{edition-room, held-earlier, kept, reopening-kept, reopening-seen, tallied-changed}
 use Rattle.tally_ledger.proofs.ledger.Ledger.set_reopened.Goals as goal
 

@@ -2,7 +2,7 @@ use Rattle.std.proofs.Common.{◌∙◌, ap}
 use Rattle.std.specs.Prelude.{option_map}
 use Rattle.tally_rules.specs.Setup.{constituency_with}
 use Rattle.tally_ledger.specs.Kept.{Kept, view_in}
-use Rattle.tally_ledger.specs.Rows.{returns_of, views_of}
+use Rattle.tally_ledger.specs.internal.Rows.{returns_of, views_of}
 use Rattle.tally_ledger.proofs.ChangeLemmas.{view-is}
 use Rattle.tally_ledger.proofs.ledger.Ledger.view.Goals as goal
 

@@ -1,7 +1,7 @@
 use Rattle.std.proofs.Common.{◌≡◌, ◌∙◌, [], ap, length, drop, sym, arith, length-drop}
-use Rattle.tally_records.specs.Pieces.{text_rows}
-use Rattle.tally_records.specs.Reading.{rows_left}
-use Rattle.tally_records.specs.Text.{bytes_left}
+use Rattle.tally_records.specs.internal.Pieces.{text_rows}
+use Rattle.tally_records.specs.internal.Reading.{rows_left}
+use Rattle.tally_records.specs.internal.Text.{bytes_left}
 use Rattle.tally_records.proofs.piece.Rest.new.Goals as goal
 
 pub unreachable-requires-then-not-branch-2 : goal.unreachable-requires-then-not-branch-2

@@ -1,6 +1,6 @@
 use Rattle.std.proofs.Common.{◌≡◌, ◌<◌, ◌≤◌, ◌++◌, [], drop, length, take}
 use Rattle.std.specs.Io.Cursor.{cursor_inner, cursor_position}
-use Rattle.tally_records.specs.Text.{bytes_left}
+use Rattle.tally_records.specs.internal.Text.{bytes_left}
 use Rattle.tally_records.proofs.text.TextRead.read.Given as goal
 
 abbrev pub invariant-loop-count : goal.invariant-loop-count

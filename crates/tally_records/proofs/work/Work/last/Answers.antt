@@ -1,19 +1,19 @@
 use Rattle.std.proofs.Common.{◌≡◌, ◌≤◌, ◌+◌, ◌++◌, ◌∷◌, ◌∙◌, Global, List, Vec, ℕ, [], Some, sym, ap, subst, arith, length, drop}
 use Rattle.std.specs.Prelude.{if◌then◌else◌}
 use Rattle.std.proofs.lemmas.List.{take_all}
-use Rattle.tally_records.specs.Pieces.{IsRest, is_whole, text_rows}
+use Rattle.tally_records.specs.internal.Pieces.{IsRest, is_whole, text_rows}
 use Rattle.tally_records.specs.Separator.{separator}
-use Rattle.tally_records.specs.Text.{bytes_left, joined}
+use Rattle.tally_records.specs.internal.Text.{bytes_left, bytes_of_parts}
 use Rattle.tally_records.proofs.WorkLemmas.{IsBegunIn-room, IsRest-last}
 use Rattle.tally_records.proofs.work.Work.last.Goals as goal
 
 -- the bytes that are held, with those behind them
 abbrev all : goal.In_ok-text-2 → List ℕ
-all c = c.args.held.bytes.items ++ joined c.args.more.items
+all c = c.args.held.bytes.items ++ bytes_of_parts c.args.more.items
 
 -- the text is these bytes
 all-is : (c : goal.In_ok-text-2) → bytes_left c.in_ok-text.text ≡ all c
-all-is c = c.in_ok-text.ensures ∙ ap (λ (bytes : Vec ℕ Global). bytes.items ++ joined c.args.more.items) c.replace-bytes.ensures.value
+all-is c = c.in_ok-text.ensures ∙ ap (λ (bytes : Vec ℕ Global). bytes.items ++ bytes_of_parts c.args.more.items) c.replace-bytes.ensures.value
 
 -- and this is what the reader gets of it
 text-is : (c : goal.In_ok-text-2) → bytes_left c.in_ok-text-2.text ≡ (if is_whole (Some c.args.end) then all c else all c ++ separator c.args.sep ∷ [])
@@ -34,7 +34,7 @@ returns-clause-reading c =
     let held = c.args.held in
     let bytes = bytes_left c.of-last.result.value in
     let is = ap bytes_left c.of-last.ensures ∙ c.in_ok-text.ensures
-    ∙ ap (λ (front : Vec ℕ Global). front.items ++ joined c.args.more.items) c.replace-bytes.ensures.value in
+    ∙ ap (λ (front : Vec ℕ Global). front.items ++ bytes_of_parts c.args.more.items) c.replace-bytes.ensures.value in
     let few : length bytes ≤ held.taken + 1 = subst (λ b. length b ≤ held.taken + 1) (sym is) c.requires.few in
     let within : length bytes ≤ 18446744073709551615 = omega (arith, few, held.counted.1) in
     let whole = c.ended_itself-is_whole.ensures in

@@ -1,6 +1,6 @@
 use Rattle.std.proofs.Common.{◌≡◌, ◌∙◌, sym, subst}
 use Rattle.tally_records.specs.Input.{AreAll}
-use Rattle.tally_records.specs.Pieces.{HasGivenAt}
+use Rattle.tally_records.specs.internal.Pieces.{HasGivenAt}
 use Rattle.tally_records.specs.Watch.{flag_after_end}
 use Rattle.tally_records.specs.declared.end.End.{End}
 use Rattle.tally_records.proofs.WorkLemmas.{HasGiven-all}

@@ -1,5 +1,5 @@
 use Rattle.std.proofs.Common.{◌≡◌, Bool, List, ℕ, Option}
-use Rattle.tally_records.specs.Pieces.{HasGivenAt, IsWorking, left_size}
+use Rattle.tally_records.specs.internal.Pieces.{HasGivenAt, IsWorking, left_size}
 use Rattle.tally_records.specs.Watch.{flag_after_end}
 use Rattle.tally_records.proofs.work.Work.next.Given as goal
 

@@ -1,7 +1,7 @@
 use Rattle.std.proofs.Common.{◌≡◌, ◌∙◌, ◌+◌, ◌++◌, ◌∷◌, [], sym, ap, subst, arith, true, false}
 use Rattle.csv.specs.Records.{fields_of}
-use Rattle.tally_records.specs.Pieces.{HasGivenAt}
-use Rattle.tally_records.specs.Reading.{rows_left}
+use Rattle.tally_records.specs.internal.Pieces.{HasGivenAt}
+use Rattle.tally_records.specs.internal.Reading.{rows_left}
 use Rattle.tally_records.specs.declared.piece.Rest.{Rest}
 use Rattle.tally_records.proofs.WorkLemmas.{HasGiven-next, IsReadingOn-next, given-few, given_record}
 use Rattle.tally_records.proofs.work.Work.next_in_piece.Goals as goal
@@ -19,7 +19,7 @@ returns-then-not-ended_itself-clause-reading c found =
     (ap rows_left (sym c.deref_mut.ensures.value) ∙ rw c.if-not-branch.false at c.in_ok-next_record.ensures.record) (λ whole. ap fields_of c.swap.ensures.y_after)
 
 pub returns-then-not-ended_itself-clause-given : goal.returns-then-not-ended_itself-clause-given
-returns-then-not-ended_itself-clause-given c found text left given has =
+returns-then-not-ended_itself-clause-given c found left text given has =
     let old = c.args.self.now in
     let fields = fields_of c.next_record.new.into in
     let rest : Rest = record { ahead = c.swap.new.y; reader = record c.args.self.now.rest.reader { reader = record c.args.self.now.rest.reader.reader { value = c.next_record.new.reader } } } in
@@ -35,7 +35,7 @@ returns-else-not-ended_itself-clause-reading c found =
     (ap rows_left (sym c.deref_mut.ensures.value) ∙ rw c.if-not-branch.false at c.in_ok-next_record.ensures.record) (λ not. let never : false ≡ true = sym not ∙ whole in cc never)
 
 pub returns-else-not-ended_itself-clause-given : goal.returns-else-not-ended_itself-clause-given
-returns-else-not-ended_itself-clause-given c found text left given has =
+returns-else-not-ended_itself-clause-given c found left text given has =
     let old = c.args.self.now in
     let fields = fields_of c.next_record.new.into in
     let rest : Rest = record { ahead = old.rest.ahead; reader = record c.args.self.now.rest.reader { reader = record c.args.self.now.rest.reader.reader { value = c.next_record.new.reader } } } in

@@ -1,8 +1,8 @@
 use Rattle.std.proofs.Common.{◌≡◌, ◌≤◌, ◌<◌, ◌++◌, ◌∷◌, ◌∙◌, ℕ, [], None, true, length, take, sym, ap, subst}
 use Rattle.std.proofs.lemmas.List.{append-nil}
-use Rattle.tally_records.specs.Pieces.{ends_line, text_rows}
+use Rattle.tally_records.specs.internal.Pieces.{ends_line, text_rows}
 use Rattle.tally_records.specs.Separator.{separator}
-use Rattle.tally_records.specs.Text.{bytes_left}
+use Rattle.tally_records.specs.internal.Text.{bytes_left}
 use Rattle.tally_records.proofs.WorkLemmas.{Begun-none, Begun-room}
 use Rattle.tally_records.proofs.work.Work.read.Goals as goal
 

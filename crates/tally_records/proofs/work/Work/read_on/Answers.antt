@@ -1,8 +1,7 @@
 use Rattle.std.proofs.Common.{◌≡◌, ◌<◌, ◌≤◌, ◌∙◌, ◌∷◌, [], None, true, length, take, drop, sym, ap, subst, arith}
 use Rattle.std.proofs.lemmas.List.{length-take-le, take-take}
-use Rattle.tally_records.specs.Pieces.{Begun, Fills, bytes_of, ends_line, piece_rows}
+use Rattle.tally_records.specs.internal.Pieces.{Begun, Fills, bytes_of, ends_line, nothing, piece_rows}
 use Rattle.tally_records.specs.declared.held.Held.{Held}
-use Rattle.tally_records.proofs.PieceLemmas.{nothing}
 use Rattle.tally_records.proofs.WorkLemmas.{Begun-spent, HasGiven-dropped, HasGiven-grown, bytes_of-open}
 use Rattle.tally_records.proofs.work.Work.read_on.Goals as goal
 

@@ -2,7 +2,7 @@ use Rattle.std.proofs.Common.{◌≡◌, true, false, length, Some, not, ap, ◌
 use Rattle.std.specs.BTreeMap.{Updates}
 use Rattle.tally_rules.specs.Code.{code_cmp}
 use Rattle.tally_rules.specs.Codes.{is_among}
-use Rattle.tally_rules.specs.Index.{IsIndex}
+use Rattle.tally_rules.specs.internal.Index.{IsIndex}
 use Rattle.tally_rules.proofs.CodesLemmas.{is_some-index, IsIndex-push}
 use Rattle.tally_rules.proofs.codes.Codes.insert.Goals as goal
 

@@ -4,7 +4,7 @@ use Rattle.std.specs.List.{list_all}
 use Rattle.std.proofs.lemmas.Bool.{lt-ltb, le-ltb}
 use Rattle.toml.specs.Data.{as_array}
 use Rattle.toml.specs.View.{view, items_view}
-use Rattle.tally_rules.specs.Found.{is_kind}
+use Rattle.tally_rules.specs.internal.Found.{is_kind}
 use Rattle.tally_rules.proofs.ReadLemmas.{array_at-checked}
 use Rattle.tally_rules.proofs.read.entry.array_at.Goals as goal
 

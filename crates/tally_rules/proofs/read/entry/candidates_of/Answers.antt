@@ -4,7 +4,7 @@ use Rattle.std.proofs.lemmas.List.Elements.{All-push}
 use Rattle.std.proofs.lemmas.Result.{err_from_is_err_and}
 use Rattle.toml.specs.Data.{Data}
 use Rattle.tally_rules.specs.Fault.{Fault}
-use Rattle.tally_rules.specs.Found.{key_name}
+use Rattle.tally_rules.specs.internal.Found.{key_name}
 use Rattle.tally_rules.specs.Reading.{candidates_of, name_from}
 use Rattle.tally_rules.specs.Text.{IsName}
 use Rattle.tally_rules.specs.declared.read.fault.Key.TheVariants.{Candidates}

@@ -1,5 +1,5 @@
 use Rattle.std.proofs.Common.{map, string_bytes, All}
-use Rattle.tally_rules.specs.Found.{key_name}
+use Rattle.tally_rules.specs.internal.Found.{key_name}
 use Rattle.tally_rules.specs.Reading.{name_from}
 use Rattle.tally_rules.specs.Text.{IsName}
 use Rattle.tally_rules.specs.declared.read.fault.Key.TheVariants.{Candidates}

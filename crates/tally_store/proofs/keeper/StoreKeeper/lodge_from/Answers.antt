@@ -1,5 +1,6 @@
 use Rattle.std.proofs.Common.{arith, subst}
 use Rattle.sqlite.specs.Held.{state}
+use Rattle.tally_keeper.specs.Delivery.{delivery}
 use Rattle.tally_keeper.specs.Keeper.{Imports}
 use Rattle.tally_requests.specs.Known.{known_of}
 use Rattle.tally_store.specs.Content.{content_of}
@@ -15,37 +16,34 @@ invariant_of-self g c =
     let setup = c.self.inside.setup in
     let old = state g.S.Store c.self.inside.conn in
     let new = state g.S.Store c.import_rows.new.conn in
-    let known = g.R.RowSource.coming c.args.rows.now in
-    let ending = g.R.RowSource.ended c.import_rows.new.source in
+    let came = delivery g.R.RowSource c.args.rows.now c.import_rows.new.source in
     let told = c.import_rows.ensures in
     let r = c.import_rows.result in
-    let took : Took setup old new known ending r = record { ended = told.ended; clean = λ clean. omega (arith, clean, told.crash.clean); done = told.done; came = told.came; fault = told.fault; shut = told.shut; was_open = told.was_open } in
-    served_import setup old new known ending r (known_of c.import_rows.new.known) c.a_constituency_has_a_view.ensures.lawful c.self.invariant.stored took told.known
+    let took : Took setup old new came r = record { ended = told.ended; clean = λ clean. omega (arith, clean, told.crash.clean); done = told.done; fault = told.fault; shut = told.shut; was_open = told.was_open } in
+    served_import setup old new came r (known_of c.import_rows.new.known) c.a_constituency_has_a_view.ensures.lawful c.self.invariant.stored took told.known
 
 pub returns-clause-imported : goal.returns-clause-imported
 returns-clause-imported g c clean =
     let setup = c.self.inside.setup in
     let old = state g.S.Store c.self.inside.conn in
     let new = state g.S.Store c.import_rows.new.conn in
-    let known = g.R.RowSource.coming c.args.rows.now in
-    let ending = g.R.RowSource.ended c.import_rows.new.source in
+    let came = delivery g.R.RowSource c.args.rows.now c.import_rows.new.source in
     let told = c.import_rows.ensures in
     let r = c.import_rows.result in
-    let took : Took setup old new known ending r = record { ended = told.ended; clean = λ clean. omega (arith, clean, told.crash.clean); done = told.done; came = told.came; fault = told.fault; shut = told.shut; was_open = told.was_open } in
-    subst (λ (h : Stored _). Imports h.setup (content_of h.setup (state g.S.Store h.conn)) known ending r (content_of setup new)) c.self.view_is
-    (imports_after setup old new known ending r c.a_constituency_has_a_view.ensures.lawful c.self.invariant.stored took clean)
+    let took : Took setup old new came r = record { ended = told.ended; clean = λ clean. omega (arith, clean, told.crash.clean); done = told.done; fault = told.fault; shut = told.shut; was_open = told.was_open } in
+    subst (λ (h : Stored _). Imports h.setup (content_of h.setup (state g.S.Store h.conn)) came r (content_of setup new)) c.self.view_is
+    (imports_after setup old new came r c.a_constituency_has_a_view.ensures.lawful c.self.invariant.stored took clean)
 
 pub returns-clause-tables : goal.returns-clause-tables
 returns-clause-tables g c clean =
     let setup = c.self.inside.setup in
     let old = state g.S.Store c.self.inside.conn in
     let new = state g.S.Store c.import_rows.new.conn in
-    let known = g.R.RowSource.coming c.args.rows.now in
-    let ending = g.R.RowSource.ended c.import_rows.new.source in
+    let came = delivery g.R.RowSource c.args.rows.now c.import_rows.new.source in
     let told = c.import_rows.ensures in
     let r = c.import_rows.result in
-    let took : Took setup old new known ending r = record { ended = told.ended; clean = λ clean. omega (arith, clean, told.crash.clean); done = told.done; came = told.came; fault = told.fault; shut = told.shut; was_open = told.was_open } in
-    shows_tables setup new c.a_constituency_has_a_view.ensures.lawful (stored_import setup old new known ending r c.self.invariant.stored took) clean
+    let took : Took setup old new came r = record { ended = told.ended; clean = λ clean. omega (arith, clean, told.crash.clean); done = told.done; fault = told.fault; shut = told.shut; was_open = told.was_open } in
+    shows_tables setup new c.a_constituency_has_a_view.ensures.lawful (stored_import setup old new came r c.self.invariant.stored took) clean
 
 pub returns-clause-text : goal.returns-clause-text
 returns-clause-text g c clean now =
@@ -53,4 +51,4 @@ returns-clause-text g c clean now =
     let old = state g.S.Store c.self.inside.conn in
     let new = state g.S.Store c.import_rows.new.conn in
     subst (λ (h : Stored _). KeepsText h.setup (state g.S.Store h.conn) new) c.self.view_is
-    (keeps_text_imported setup old new (g.R.RowSource.coming c.args.rows.now) c.import_rows.result c.import_rows.ensures.done clean now)
+    (keeps_text_imported setup old new (delivery g.R.RowSource c.args.rows.now c.import_rows.new.source) c.import_rows.result c.import_rows.ensures.done clean now)

@@ -5,12 +5,18 @@ use Rattle.tally_returns.specs.State.{opening}
 use Rattle.tally_steps.proofs.ReturnStepLemmas.{opening-lawful}
 use Rattle.tally_opening.specs.Office.{HasState}
 use Rattle.tally_store.specs.Create.{HasOpeningTables}
+use Rattle.tally_store.proofs.RequestLemmas.{empty-known}
 use Rattle.tally_store.proofs.store.Store.create.Goals as goal
 
 pub store_over-requires-clause-office : goal.store_over-requires-clause-office
 store_over-requires-clause-office g c clean now =
     let told = c.in-Ok.ensures in
-    (opening c.in-Ok.setup, opening-lawful c.in-Ok.setup told.limits, record { text = c.args.text.now; reads = told.setup; has = told.made clean })
+    let setup = c.in-Ok.setup in (
+      opening setup,
+      opening-lawful setup told.limits,
+      record { text = c.args.text.now; reads = told.setup; has = told.made clean },
+      empty-known setup (opening setup).returns c.new.result c.new.ensures.empty,
+    )
 
 pub returns-in-Ok-clause-made : goal.returns-in-Ok-clause-made
 returns-in-Ok-clause-made g c clean =

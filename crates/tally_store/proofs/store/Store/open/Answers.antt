@@ -2,12 +2,17 @@ use Rattle.std.proofs.Common.{sym, subst, subst₂}
 use Rattle.sqlite.specs.State.{HasCleanDisk, KeepsCounts}
 use Rattle.sqlite.specs.Held.{state}
 use Rattle.tally_opening.specs.Crash.{IsUnwritten}
-use Rattle.tally_opening.proofs.OpenedLemmas.{office_opened}
+use Rattle.tally_requests.specs.Known.{known_of}
 use Rattle.tally_store.specs.Create.{ShowsFound}
+use Rattle.tally_store.proofs.RequestLemmas.{numbers-known}
 use Rattle.tally_store.proofs.store.Store.open.Goals as goal
 
 pub store_over-requires-clause-office : goal.store_over-requires-clause-office
-store_over-requires-clause-office g c clean now = office_opened c.in-Ok.setup (state g.S.Store c.args.conn) (state g.S.Store c.open_in.new.conn) (c.in-Ok.ensures.opened clean) now
+store_over-requires-clause-office g c clean now =
+    let setup = c.in-Ok.setup in
+    let opened = c.in-Ok.ensures.opened clean in
+    let numbers = c.in-Ok.ensures.numbers clean opened.text opened.state opened.found.lawful opened.found.found in
+    (opened.state, opened.found.lawful, record { text = opened.text; reads = opened.found.found.0; has = opened.has now }, numbers-known setup opened.state (known_of c.open_in.new.known) numbers)
 
 pub returns-in-Ok-clause-opened : goal.returns-in-Ok-clause-opened
 returns-in-Ok-clause-opened g c clean =

@@ -1,7 +1,7 @@
 use Rattle.std.proofs.Common.{◌≡◌, Option, Some, None, ap, ◌∙◌, sym, option_copied, option_map, ℕ, List}
 use Rattle.std.specs.List.{slice_get}
 use Rattle.std.specs.Option.{option_and_then}
-use Rattle.tally_rules.specs.Index.{index_of}
+use Rattle.tally_rules.specs.internal.Index.{index_of}
 use Rattle.tally_rules.specs.Reading.{profile_with, profile_codes}
 use Rattle.tally_rules.specs.declared.profile.Profile.{Profile}
 use Rattle.tally_rules.proofs.ProfileLemmas.{lookup-index_of}

@@ -1,0 +1,53 @@
+-- How far an import into the empty map has come.
+use Rattle.std.specs.Prelude.{◌≡◌, ◌≤◌, ℕ, List, [], ◌∷◌, nat_eq, Result, Ok, Err}
+use Rattle.std.specs.Cmp.Lexicographic.{pointwise}
+use Rattle.std.specs.FinMap as map
+use Rattle.std.specs.HashMap as table
+use Rattle.std.specs.declared.hash.BuildHasherDefault.{BuildHasherDefault}
+use Rattle.std.specs.declared.hash.FoldHasher.{FoldHasher}
+use Rattle.tally_returns.specs.Counts.{VoteCounts}
+use Rattle.tally_returns.specs.Return.{StationReturn, Returns}
+use Rattle.tally_returns.specs.Lodge.{Stations}
+use Rattle.tally_keeper.specs.Import.{RowAnswer, answers, returns_after_import, count_of, lodged_counts}
+use Rattle.tally_keeper.specs.declared.import.Row.{Row}
+use Rattle.tally_returns.specs.declared.refusal.Refusal.{Refusal}
+use Rattle.tally_returns.specs.declared.reply.LodgeReply.{LodgeReply}
+use Rattle.tally_returns.specs.declared.reply.LodgeReply.TheVariants.{Lodged, Same}
+use Rattle.tally_import.specs.Check.{every_code}
+use Rattle.tally_import.specs.internal.Totals.{AreTotals}
+use Rattle.tally_import.specs.declared.import.Import.{Import}
+
+-- a table of returns by the codes of their stations
+abbrev pub Table : Type 0
+Table = table.HashMap (List ℕ) StationReturn (BuildHasherDefault FoldHasher)
+
+-- the table holds these returns
+abbrev pub Holds : Table → Returns → Type 0
+Holds held returns = (code : List ℕ) → table.get (pointwise nat_eq) held code ≡ map.get returns code
+
+-- the counts that an answer adds to those that were lodged
+abbrev pub lodged_of : VoteCounts → Result LodgeReply Refusal → List VoteCounts
+lodged_of counts (Ok (Lodged rev)) = counts ∷ []
+lodged_of counts (Ok (Same rev)) = []
+lodged_of counts (Err refusal) = []
+
+-- rows, under a header of so many lists
+pub record Taken : Type 0 where
+  pub lists : ℕ
+  pub rows : List Row
+
+-- the stations of an import
+abbrev pub stations : Taken → Stations
+stations taken = every_code taken.lists
+
+-- what the rows were answered
+abbrev pub taken_answers : Taken → List RowAnswer
+taken_answers taken = answers (stations taken) map.empty taken.rows
+
+-- the import has taken these rows
+pub record HasTaken (taken : Taken) (import : Import) : Type 0 where
+  pub few : taken.lists ≤ 60
+  pub lists : import.lists ≡ taken.lists
+  pub table : Holds import.returns (returns_after_import (stations taken) map.empty taken.rows)
+  pub count : import.count ≡ count_of (taken_answers taken)
+  pub totals : AreTotals taken.lists (lodged_counts taken.rows (taken_answers taken)) import.totals

@@ -1,0 +1,45 @@
+-- What the parts of a check leave.
+use Rattle.std.specs.Prelude.{◌≡◌, ◌<◌, ◌≤◌, ◌++◌, ◌⊎◌, ⊤, ℕ, Bool, true, List, length, Option, Some, None, option_map, Result, Ok, Err, String, string_bytes}
+use Rattle.std.specs.declared.alloc.Global.{Global}
+use Rattle.tally_keeper.specs.Source.{row_limit}
+use Rattle.tally_import.specs.Check.{Found, check_fault, rows_of_records}
+use Rattle.tally_import.specs.internal.Progress.{HasTaken}
+use Rattle.tally_records.specs.Input.{AreAll}
+use Rattle.tally_records.specs.Given.{HasGiven, sep_of}
+use Rattle.tally_records.specs.declared.end.Stop.{Stop}
+use Rattle.tally_records.specs.RecordsValue.{Records}
+use Rattle.tally_import.specs.declared.check.CheckFault.{CheckFault}
+use Rattle.tally_import.specs.declared.check.CheckFault.TheVariants.{BadHeader, TooLong, Read, Memory, Write}
+use Rattle.tally_import.specs.declared.import.Import.{Import}
+use Rattle.tally_records.specs.declared.separator.Sep.{Sep}
+
+-- an import whose text came to its end, or what stopped it
+abbrev pub ended_import : Option Stop → Import → Result Import CheckFault
+ended_import None import = Ok import
+ended_import (Some stop) import = Err (check_fault stop)
+
+-- After the records given so far these are the complete ones of what comes of a text.
+abbrev pub AreBehind : Option (List ℕ) → Option (List ℕ) → Records → List (List (List ℕ)) → Option Stop → Type 0
+AreBehind old_left left r rows stop = (text : Option (List ℕ)) (before : List (List (List ℕ))) → HasGiven text old_left before r → AreAll (sep_of r) text left (before ++ rows) stop
+
+-- The import, under a header of so many lists, of rows that are all, or the fault of too many, or
+-- what stopped them. Out of memory may come at any place.
+abbrev pub Imports : ℕ → (List (List (List ℕ)) → Option Stop → Type 0) → Result Import CheckFault → Type 0
+Imports lists AreRows (Ok import) = (rows : List (List (List ℕ))) × AreRows rows None
+    × HasTaken (record { lists = lists; rows = rows_of_records lists rows }) import × (length rows ≤ row_limit)
+Imports lists AreRows (Err fault) = (fault ≡ Memory) ⊎ ((rows : List (List (List ℕ))) × (stop : Option Stop) × AreRows rows stop
+    × (((fault ≡ TooLong) × (row_limit < length rows)) ⊎ ((option_map check_fault stop ≡ Some fault) × (length rows ≤ row_limit))))
+
+-- The check text that is found in a text, or the fault that comes first; out of memory may come at
+-- any place.
+abbrev pub Finds : Sep → List ℕ → Option (List ℕ) → Result (String Global) CheckFault → Type 0
+Finds sep text left (Ok found) = Found sep text left (λ f. f ≡ Ok (string_bytes found))
+Finds sep text left (Err fault) = (fault ≡ Memory) ⊎ Found sep text left (λ f. f ≡ Err fault)
+
+-- A fault that comes before anything is written: Read only where a read failed, and never Write.
+abbrev pub IsOfReading : CheckFault → Bool → Type 0
+IsOfReading BadHeader failed = ⊤
+IsOfReading TooLong failed = ⊤
+IsOfReading Read failed = failed ≡ true
+IsOfReading Memory failed = ⊤
+IsOfReading Write failed = ⊥

@@ -1,0 +1,5 @@
+-- Words of private contracts and of proofs. No promise to a caller speaks of them.
+pub mod Entries
+pub mod Found
+pub mod Seen
+pub mod Tree

@@ -1,0 +1,67 @@
+-- Constituencies that were read and are those of a lawful state.
+use Rattle.std.specs.Prelude.{◌≡◌, ◌==◌, ◌&&◌, ℕ, Bool, true, List, [], ◌∷◌, Some, All, length}
+use Rattle.std.specs.Prelude.{nat_eq}
+use Rattle.std.specs.Ordering.{nat_cmp}
+use Rattle.std.specs.Cmp.Lexicographic.{pointwise}
+use Rattle.sqlite_value.specs.Order.{Row}
+use Rattle.tally_ledger.specs.Kept.{Kept, view_in}
+use Rattle.tally_steps.specs.Outcome.{IsLawfulView}
+use Rattle.tally_returns.specs.GoneCandidate.{GoneCandidate}
+use Rattle.tally_returns.specs.PastSeats.{PastSeats}
+use Rattle.tally_returns.specs.View.{View}
+use Rattle.tally_rows.specs.Rows.{text_cmp}
+use Rattle.tally_rules.specs.Code.{is_code}
+use Rattle.tally_rules.specs.Constituency.{Constituency}
+use Rattle.tally_rules.specs.Setup.{constituency_with}
+use Rattle.tally_rules.specs.declared.constituency.Station.{Station}
+use Rattle.tally_judge.specs.internal.Entries.{rises, rises_on}
+use Rattle.tally_tables.specs.Views.{Tables, views_from}
+
+-- the same numbers of returns and the same sums
+abbrev pub same_numbers : View → View → Bool
+same_numbers counted view =
+    (view.stations == counted.stations) && (view.received == counted.received)
+    && (view.queried == counted.queried) && (view.corrected == counted.corrected)
+    && (view.closed == counted.closed) && pointwise nat_eq view.votes counted.votes
+    && (view.blank == counted.blank) && (view.spoiled == counted.spoiled)
+
+-- the places of one who is gone: that of the list and the candidate's own
+abbrev pub gone_places : GoneCandidate → List ℕ
+gone_places gone = gone.list ∷ gone.place ∷ []
+
+abbrev pub past_edition : PastSeats → ℕ
+past_edition past = past.edition
+
+-- the numbers and sums are those that were counted, and those who are gone and the certificates
+-- that were reopened are in order
+abbrev pub is_as_counted : View → View → Bool
+is_as_counted counted view =
+    same_numbers counted view && rises_on gone_places text_cmp view.gone
+    && rises_on past_edition nat_cmp view.past
+
+-- What was read of a constituency, under its code, is what a lawful state with these returns shows
+-- of it.
+pub record IsLawfulFound (kept : Kept) (e : List ℕ × View) : Type 0 where
+  pub con : Constituency
+  pub known : constituency_with e.0 kept.setup ≡ Some con
+  pub numbers : same_numbers (view_in kept con) e.1 ≡ true
+  pub gone : rises_on gone_places text_cmp e.1.gone ≡ true
+  pub past : rises_on past_edition nat_cmp e.1.past ≡ true
+  pub lawful : IsLawfulView con e.1
+
+-- The code of a constituency and those of its stations are codes.
+pub record HasCodes (con : Constituency) : Type 0 where
+  pub own : is_code con.code ≡ true
+  pub stations : All (λ (s : Station). is_code s.code ≡ true) con.stations
+
+-- What was read are the constituencies of a lawful state with these returns, in the order of their
+-- codes.
+pub record AreAllLawful (kept : Kept) (found : List (List ℕ × View)) : Type 0 where
+  pub many : length found ≡ length kept.setup
+  pub rise : rises found ≡ true
+  pub each : All (IsLawfulFound kept) found
+
+-- These rows read as them.
+abbrev pub AreLawfulCons : Kept → List Row → Tables → Type 0
+AreLawfulCons kept cons tables = (found : List (List ℕ × View)) ×
+    (views_from kept.setup (view_in kept) cons tables ≡ Some found) × AreAllLawful kept found

@@ -1,0 +1,7 @@
+-- Words of private contracts and of proofs. No promise to a caller speaks of them.
+pub mod Lodging
+pub mod Seen
+pub mod Found
+pub mod Changes
+pub mod Moves
+pub mod Sums

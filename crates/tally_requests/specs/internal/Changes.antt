@@ -1,0 +1,69 @@
+-- What a change of a constituency writes.
+use Rattle.std.specs.Prelude.{◌≡◌, ◌≢◌, ◌∷◌, ℕ, Bool, false, List, [], Some, Result, IfOk, OnOk}
+use Rattle.std.specs.FinMap.{FinMap, get}
+use Rattle.std.specs.List.{AllByRecursion}
+use Rattle.sqlite.specs.declared.error.Error.{Error}
+use Rattle.sqlite.specs.State.{State as Seen, HasCleanDisk}
+use Rattle.tally_rows.specs.Rows.{AreRowsOf}
+use Rattle.tally_rules.specs.Code.{code_cmp}
+use Rattle.tally_rules.specs.Constituency.{Constituency}
+use Rattle.tally_returns.specs.State.{ConState, State}
+use Rattle.tally_returns.specs.PastSeats.{PastSeats}
+use Rattle.tally_returns.specs.View.{View}
+use Rattle.tally_returns.specs.declared.reply.Reply.{Reply}
+use Rattle.tally_steps.specs.LawfulState.{IsLawfulState}
+use Rattle.tally_steps.specs.Step.{ConChange, IsView}
+use Rattle.tally_schema.specs.Tables.{setup_tree}
+use Rattle.tally_statements.specs.declared.table.KeyedTable.{KeyedTable}
+use Rattle.tally_statements.specs.declared.table.KeyedTable.TheVariants.{Cons, Lots, Seats, Past}
+use Rattle.tally_statements.specs.Office.{IsInside, tree_of}
+use Rattle.tally_tables.specs.Cells.{con_rows, lot_rows, past_rows}
+use Rattle.tally_tables.specs.TablesOfState.{AreTables}
+use Rattle.tally_entries.specs.Entries.{stored_in}
+use Rattle.tally_entries.specs.Constituencies.{HasLot, HasRecord, IsAt, MovesRows, MovesSeats}
+use Rattle.tally_requests.specs.Requests.{IsChangeCarriedOut}
+
+-- The office's tables are open in a transaction, and only these may have changed.
+pub record ChangesAmong (tables : List KeyedTable) (old new : Seen) : Type 0 where
+  pub inside : IsInside new
+  pub others : (u : KeyedTable) → AllByRecursion (λ t. tree_of u ≢ tree_of t) tables → stored_in u new ≡ stored_in u old
+  pub setup_is : new.now.trees setup_tree ≡ old.now.trees setup_tree
+
+-- The rows of `cons` and of `lots` of a constituency are these.
+pub record HasWrittenLot (code : List ℕ) (edition : ℕ) (certified : Bool) (note lot : List ℕ) (old new : Seen) : Type 0 where
+  pub only : ChangesAmong (Cons ∷ Lots ∷ []) old new
+  pub cons : MovesRows Cons con_rows code (IsAt edition certified note) old new
+  pub lots : MovesRows Lots lot_rows code (HasLot lot) old new
+
+-- The rows of `cons` and of `seats` of a constituency are these.
+pub record HasWrittenSeats (code : List ℕ) (edition : ℕ) (certified : Bool) (note given : List ℕ) (old new : Seen) : Type 0 where
+  pub only : ChangesAmong (Cons ∷ Seats ∷ []) old new
+  pub cons : MovesRows Cons con_rows code (IsAt edition certified note) old new
+  pub seats : MovesSeats code given old new
+
+-- The rows of `cons` of a constituency are these. It has none in `seats`, and one certificate more
+-- is on record.
+pub record HasWrittenRecord (code : List ℕ) (edition : ℕ) (note : List ℕ) (standing : PastSeats) (old new : Seen) : Type 0 where
+  pub only : ChangesAmong (Cons ∷ Seats ∷ Past ∷ []) old new
+  pub cons : MovesRows Cons con_rows code (IsAt edition false note) old new
+  pub seats : MovesSeats code [] old new
+  pub past : MovesRows Past past_rows code (HasRecord standing) old new
+
+-- The rows of `cons` are those of constituencies of which this is one.
+pub record HoldsCon (code : List ℕ) (s : Seen) : Type 0 where
+  pub cons : FinMap code_cmp ConState
+  pub before : ConState
+  pub is : get cons code ≡ Some before
+  pub rows : AreRowsOf con_rows cons (stored_in Cons s)
+
+-- What holds after a call that writes this of a constituency that was there, where the disk
+-- returned what was written.
+abbrev pub WritesSo : List ℕ → (Seen → Seen → Type 0) → Seen → Seen → Result Unit Error → Type 0
+WritesSo code Written old new result = HasCleanDisk new → IsInside old → HoldsCon code old → OnOk result (Written old new)
+
+-- What holds after a call that carries out what was decided, where the disk returned what was
+-- written.
+abbrev pub CarriesDecided : List Constituency → Constituency → View → ConChange → Seen → Seen → Result Reply Error → Type 0
+CarriesDecided setup con view decided old new result =
+    HasCleanDisk new → IsInside old → IfOk result (λ reply. (text : List ℕ) (s : State) → IsLawfulState setup s → IsView con s view → AreTables setup text s old.now.trees
+    → IsChangeCarriedOut setup text s con view decided reply new)

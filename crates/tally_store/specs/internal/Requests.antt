@@ -1,0 +1,69 @@
+-- What a request or an import leaves of a connection. No public contract speaks of this.
+use Rattle.std.specs.Prelude.{◌≡◌, ◌⊎◌, List, ℕ, IsTrue, None, Some, Result, Ok, Err}
+use Rattle.std.specs.FinMap.{get}
+use Rattle.sqlite.specs.State.{State as Seen, HasCleanDisk}
+use Rattle.tally_rules.specs.Constituency.{Constituency}
+use Rattle.tally_steps.specs.LawfulState.{IsLawfulState}
+use Rattle.tally_steps.specs.Step.{IsAnswered}
+use Rattle.tally_returns.specs.State.{State}
+use Rattle.tally_returns.specs.declared.ask.Ask.{Ask}
+use Rattle.tally_returns.specs.declared.refusal.Refusal.{Refusal}
+use Rattle.tally_returns.specs.declared.reply.Reply.{Reply}
+use Rattle.tally_keeper.specs.Keeper.{IsImportOf}
+use Rattle.tally_keeper.specs.Source.{Delivery}
+use Rattle.tally_keeper.specs.declared.import.ImportCount.{ImportCount}
+use Rattle.tally_keeper.specs.declared.source.ImportFault.{ImportFault}
+use Rattle.tally_requests.specs.Known.{AreKnown, Known}
+use Rattle.tally_opening.specs.Office.{HasState}
+
+-- A request was answered as in this state, and the database is that of the state after it.
+pub record IsDone (setup : List Constituency) (text : List ℕ) (s : State) (ask : Ask) (r : Result Reply Refusal) (new : Seen) : Type 0 where
+  pub state : State
+  pub answered : IsAnswered setup s ask r state
+  pub has : HasState setup text state new
+
+-- and so for every lawful state that the database was of, where the disk returned what was written
+-- and has not failed
+abbrev pub Does : List Constituency → Ask → Seen → Seen → Result Reply Refusal → Type 0
+Does setup ask old new r =
+    HasCleanDisk new → IsTrue new.is_open → (text : List ℕ) (s : State) → IsLawfulState setup s → HasState setup text s old → IsDone setup text s ask r new
+
+-- All rows that a source gave were lodged as in this state, and the database is that of the state
+-- after that.
+pub record IsAllDone (setup : List Constituency) (text : List ℕ) (s : State) (d : Delivery) (count : ImportCount) (new : Seen) : Type 0 where
+  pub state : State
+  pub imported : IsImportOf setup (Some s) d count (Some state)
+  pub has : HasState setup text state new
+
+-- that, or with a fault the database is still that of the same state
+abbrev pub IsImportDone : List Constituency → List ℕ → State → Delivery → Result ImportCount ImportFault → Seen → Type 0
+IsImportDone setup text s d (Ok count) new = IsAllDone setup text s d count new
+IsImportDone setup text s d (Err fault) new = HasState setup text s new
+
+-- and so for every lawful state that the database was of, where the disk returned what was written
+-- and has not failed
+abbrev pub DoesImport : List Constituency → Delivery → Seen → Seen → Result ImportCount ImportFault → Type 0
+DoesImport setup d old new r =
+    HasCleanDisk new → IsTrue new.is_open → (text : List ℕ) (s : State) → IsLawfulState setup s → HasState setup text s old → IsImportDone setup text s d r new
+
+-- ---- what is known
+
+abbrev pub IsNothing : Known → Type 0
+IsNothing known = (code : List ℕ) → get known code ≡ None
+
+-- After a request, where the disk returned what was written, nothing is known, or the connection is
+-- open and what is known is true of the state after it.
+abbrev pub KnowsAfter : List Constituency → Ask → Seen → Seen → Result Reply Refusal → Known → Type 0
+KnowsAfter setup ask old new r after =
+    HasCleanDisk new → IsNothing after ⊎ (IsTrue new.is_open × ((text : List ℕ) (s t : State) → IsLawfulState setup s → HasState setup text s old → IsAnswered setup s ask r t → AreKnown setup t.returns after))
+
+-- All rows that a source gave were lodged, and what is known is true of the state after that.
+abbrev pub IsAllKnown : List Constituency → List ℕ → State → Delivery → ImportCount → Seen → Known → Type 0
+IsAllKnown setup text s d count new after = (done : IsAllDone setup text s d count new) × AreKnown setup done.state.returns after
+
+-- After an import, where the disk returned what was written, the connection is open and what is
+-- known is true of the state after it. With a fault nothing is known.
+abbrev pub KnowsImported : List Constituency → Delivery → Seen → Seen → Result ImportCount ImportFault → Known → Type 0
+KnowsImported setup d old new (Ok count) after =
+    HasCleanDisk new → IsTrue new.is_open × ((text : List ℕ) (s : State) → IsLawfulState setup s → HasState setup text s old → IsAllKnown setup text s d count new after)
+KnowsImported setup d old new (Err fault) after = IsNothing after
