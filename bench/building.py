@@ -82,16 +82,8 @@ class Kept:
         self.sum = self.path.with_suffix(".sum")
 
     def crates(self):
-        """The crates that it is made of."""
-        lines = [line.partition(":") for line in (ROOT / "crates.txt").read_text().splitlines()]
-        below = {name: deps.split() for name, _, deps in lines}
-        found, left = set(), [library.rpartition("/")[2] for library in self.libraries]
-        while left:
-            name = left.pop()
-            if name in below and name not in found:
-                found.add(name)
-                left += below[name]
-        return sorted(found)
+        """The crates of the repository that it is made of."""
+        return sorted(crates_in_turn([library.rpartition("/")[2] for library in self.libraries]))
 
     def sum_of_sources(self):
         """A checksum of its source, of those of the crates below it, and of the toolchain, by its name."""
@@ -158,9 +150,9 @@ def processor():
     return (names or ["an unknown processor"])[0]
 
 
-def crates_in_turn():
-    """The crates of the program with those of the repository that each uses, in the order in which `rt` takes them: by how
-    many are below.
+def crates_in_turn(tops=(PROGRAM,)):
+    """These crates and those below them, with those of the repository that each uses, in the order in which `rt` takes them: by
+    how many are below.
     """
     lines = [line.partition("#")[0].partition(":") for line in (ROOT / "crates.txt").read_text().splitlines()]
     all_uses = {name.split()[0]: used.split() for name, _, used in lines if name.strip()}
@@ -174,7 +166,9 @@ def crates_in_turn():
         uses[crate] = used
         below[crate] = {*used}.union(*(below[it] for it in used))
 
-    add(PROGRAM)
+    for top in tops:
+        if top in all_uses and top not in uses:
+            add(top)
     return {crate: uses[crate] for crate in sorted(uses, key=lambda it: len(below[it]))}
 
 
