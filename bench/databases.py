@@ -84,9 +84,9 @@ def import_returns(program, db, con, returns):
     return taken
 
 
-def import_message(con):
-    """The message that imports a return of each of the constituency's stations."""
-    return post(f"/con/{con.code}/import", con.text_of(con.returns()).encode())
+def import_message(con, returns=None):
+    """The message that imports these returns, or one of each of the constituency's stations."""
+    return post(f"/con/{con.code}/import", con.text_of(returns or con.returns()).encode())
 
 
 def import_command(program, db, con, text):

@@ -53,6 +53,9 @@ GOALS = [
     *((kind, "none on record", 1.15) for kind in ("GET con", "GET tally", "query, correct, close", "certify, reopen")),
 ]
 
+# The returns of one import over HTTP, some 700 KB of 60 lists.
+IN_A_MESSAGE = 2_000
+
 # The milliseconds that the progress of the country may take.
 PROGRESS_GOAL = 10
 
@@ -130,7 +133,10 @@ def ask_memory(folder, built, con, kinds, taken):
     """Asks the desk over a keeper in memory, in which the returns are imported and closed first."""
     setup = folder / "memory.toml"
     setup.write_text(setup_of([con]))
-    before = [import_message(con), *closes_of(con)]
+    returns = con.returns()
+    # (all of them would be more than a body may have)
+    imports = [import_message(con, returns[at : at + IN_A_MESSAGE]) for at in range(0, len(returns), IN_A_MESSAGE)]
+    before = [*imports, *closes_of(con)]
     port = free_port()
     with Server([built, setup, port, len(before) + count_of(kinds)], port) as server:
         server.ask_all(before)

@@ -1502,9 +1502,33 @@ def requests_on_five_thousand(con):
     yield from NINE_LOOKS
 
 
+def requests_on_a_second_recount(con):
+    """It is opened again, returns are queried, imported beside, corrected and closed, and it is certified, opened again and certified."""
+    text = "station,slip,blank,spoiled,A,B,C\n" + "".join(f"s{n},p1,0,0,1000000,0,0\n" for n in range(0, 5000, 100))
+    yield post("/con/c1/reopen", edition=con.edition, note="another recount")
+    yield from LOOKS
+    for station in ("s0", "s2500", "s4999"):
+        rev = con.returns[station]["rev"]
+        for path, body in (("query", {"note": "sum"}), ("correct", {"slip": "p3", "votes": [1, 2, 3], "blank": 4, "spoiled": 5}), ("close", {})):
+            yield post(f"/station/{station}/{path}", rev=con.returns[station]["rev"], **body)
+            yield from LOOKS
+            yield post("/con/c1/certify", edition=con.edition - 1)
+            yield post("/con/c1/draw", edition=con.edition, order=["A", "B"])
+            yield "POST", "/con/c1/import", text
+            yield post(f"/station/{station}/{path}", rev=rev, **body)
+    yield post("/con/c1/certify", edition=con.edition)
+    yield from NINE_LOOKS
+    yield "POST", "/con/c1/import", text
+    yield post("/con/c1/reopen", edition=con.edition, note="at once")
+    yield from LOOKS
+    yield post("/con/c1/certify", edition=con.edition)
+    yield from NINE_LOOKS
+
+
 def test_an_office_of_five_thousand_stations():
     """As many as a constituency may have, each with as many votes as it may have. It is closed, certified, imported into, opened again
-    and corrected while it is served; each certificate and each reopening is the first that an office just opened is asked."""
+    and corrected while it is served; each certificate and each reopening is the first that an office just opened is asked. Then all that
+    a second recount takes is asked in one serving."""
     setup = five_thousand_stations()
     plain = model.Office(tomllib.loads(setup))
     new(setup)
@@ -1512,6 +1536,7 @@ def test_an_office_of_five_thousand_stations():
     first, second = (text for path, status, text in answers if path == "/con/c1/awards" and status == 200)
     same(first.splitlines()[-1], " 500 A                500    5000000000   500    10000000")
     same([line.split()[1] for line in second.splitlines()[1:]].count("B"), 1)
+    answered_as(plain, "office.db", requests_on_a_second_recount(plain.cons["c1"]))
     shown_as(plain, "office.db", ["c1"], ("progress", "tally", "awards", "past"))
 
 

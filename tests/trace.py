@@ -23,11 +23,14 @@ DOCUMENTS = sorted(
 LAW = ROOT / "docs/LAW.md"
 COLUMNS = ["The law or the rule", "Definition", "Code", "Clause", "Test", "Wrong body"]
 LINK = re.compile(r"\[([^\]]*)\]\(([^)\s]+)\)")
+# Where a link or a picture leads, in each form that Markdown has for it.
+TARGET = re.compile(r"""\]\(\s*<?([^)\s>]+)|^ {0,3}\[[^\]]+\]:\s*<?([^\s>]+)|\b(?:href|src)=["']([^"'\s]+)""", re.M)
 # A link with a name as its text, and the labels that follow it.
 NAMED = re.compile(r"\[`([^`\]]+)`\]\(([^)\s]+)\)(: `[^`]+`(?:(?:, | and )`[^`]+`)*)?")
 
-# What is not written, and what is written for it. The words are looked for in the documents, and there in the text and
-# not in names and examples. Comments and help texts of the crates are not looked at: some of them have such words still.
+# What is not written, and what is written for it. The words are looked for in the documents, in the help texts and in the
+# comments of `src` and `specs`, and there in the text and not in names and examples. Comments of proofs and of scripts are not
+# looked at: some of them have such words still.
 WORDS = {
     r"\bwant of memory\b|\bmemory ran out\b": "out of memory",
     r"\bstands?\b(?! (?:out|for|alone|apart))": "is, exists, is recorded",
@@ -56,19 +59,42 @@ def shown(path):
     return str(path.relative_to(ROOT))
 
 
+def without_blocks(text):
+    """The text without what stands between lines of back quotes or tildes."""
+    return re.sub(r"^(?:```|~~~).*?^(?:```|~~~)", "", text, flags=re.M | re.S)
+
+
 def prose(text):
     """The text without its blocks, names and links: what is left is words."""
-    text = re.sub(r"^(?:```|~~~).*?^(?:```|~~~)", "", text, flags=re.M | re.S)
+    text = without_blocks(text)
     text = "\n".join("" if line.startswith("    ") else line for line in text.split("\n"))
     text = re.sub(r"`[^`\n]*`", "`", text)
     return re.sub(r"\]\([^)\s]*\)", "]", text)
+
+
+def words_of_code(path):
+    """What a file of code or of definitions says in words, each with its line: its comments, and of a help all of it."""
+    for number, line in enumerate(text_of(path).split("\n"), 1):
+        comment = re.search(r"//[/!]?\s(.*)|--\s(.*)", line)
+        if comment or path.name == "help.rt":
+            text = comment[1] or comment[2] or "" if comment else line
+            yield number, re.sub(r"`[^`]*`", "`", text)
+
+
+def targets(path):
+    """Where the links of a document lead that lead into this repository."""
+    text = re.sub(r"`[^`\n]*`", "`", without_blocks(text_of(path)))
+    for found in TARGET.findall(text):
+        target = "".join(found)
+        if "://" not in target and not target.startswith("mailto:"):
+            yield target
 
 
 @cache
 def anchors(path):
     """The anchors of the headings of a document, as a browser of repositories makes them."""
     found = {}
-    for heading in re.findall(r"^#+ +(.*)$", re.sub(r"^```.*?^```", "", text_of(path), flags=re.M | re.S), re.M):
+    for heading in re.findall(r"^#+ +(.*)$", without_blocks(text_of(path)), re.M):
         heading = LINK.sub(r"\1", heading)
         name = re.sub(r"[^\w\- ]", "", heading.lower()).replace(" ", "-")
         count = found.get(name, 0)
@@ -132,8 +158,8 @@ def rows(path):
 def test_every_link_leads_to_a_file():
     wrong, count = [], 0
     for path in DOCUMENTS:
-        for _, target in LINK.findall(text_of(path)):
-            if "://" not in target and not target.startswith(("#", "mailto:")):
+        for target in targets(path):
+            if not target.startswith("#"):
                 count += 1
                 if not (path.parent / target.split("#")[0]).exists():
                     wrong.append(f"{shown(path)}: {target}")
@@ -143,10 +169,10 @@ def test_every_link_leads_to_a_file():
 def test_every_anchor_is_a_heading():
     wrong, count = [], 0
     for path in DOCUMENTS:
-        for _, target in LINK.findall(text_of(path)):
+        for target in targets(path):
             file, _, anchor = target.partition("#")
             to = (path.parent / file).resolve() if file else path
-            if "://" not in target and anchor and to.suffix == ".md" and to.is_file():
+            if anchor and to.suffix == ".md" and to.is_file():
                 count += 1
                 if anchor not in anchors(to):
                     wrong.append(f"{shown(path)}: {target}")
@@ -177,7 +203,7 @@ def test_the_labels_behind_a_link_are_clauses():
 def test_each_name_of_a_recipe_or_a_page_is_in_the_sources():
     """Names in backticks in HOW_TO_CHANGE, ARCHITECTURE, PROMISES and the pages of the crates, linked or not."""
     sources = [path for folder in ("crates", "tests", "examples") for path in (ROOT / folder).rglob("*") if "out" not in path.parts]
-    sources = [path for path in sources if path.is_file() and path.suffix != ".md"]
+    sources = [path for path in sources if path.is_file() and path.suffix != ".md"] + [ROOT / "docs/openapi.json"]
     words = {word for path in sources for word in re.findall(r"\w[\w-]*", path.stem + " " + path.read_text(encoding="utf-8", errors="ignore"))}
     documents = [ROOT / f"docs/{name}.md" for name in ("HOW_TO_CHANGE", "ARCHITECTURE", "PROMISES")]
     documents += [path for path in DOCUMENTS if path.parent.parent == ROOT / "crates"]
@@ -253,15 +279,41 @@ def test_each_wrong_body_is_named_by_its_definition():
     return len(edits), sorted(path.stem for path in edits if f"[`{path.stem}`]" not in text)
 
 
+def test_each_wrong_body_can_be_planted():
+    # `rt must-fail` says so only of those that it tries. What an edit takes away has to be there once, after its earlier pairs.
+    edits = [*ROOT.glob("crates/*/must-fail/*.edit"), *ROOT.glob("tests/wrong_bodies/*/*.edit")]
+    wrong = []
+    for path in sorted(edits):
+        crate = path.parent.parent.name if path.parent.name == "must-fail" else path.parent.name
+        text = old = ""
+        for line in path.read_text().splitlines():
+            key, _, rest = line.partition(": ")
+            if key == "file":
+                text = text_of(ROOT / "crates" / crate / rest.strip())
+            elif key == "old":
+                old = rest
+                if text.count(old) != 1:
+                    wrong.append(f"{shown(path)}: {old.strip()!r} is there {text.count(old)} times")
+            elif key == "new":
+                text = text.replace(old, rest, 1)
+    return len(edits), wrong
+
+
+def unwanted(path, lines):
+    """The words of lines that are not to be written."""
+    for number, line in lines:
+        for pattern, better in WORDS.items():
+            for found in re.findall(pattern, line, re.I):
+                yield f"{shown(path)}:{number}: {found!r} (write: {better})"
+
+
 def test_the_words_of_the_documents():
-    wrong, count = [], 0
-    for path in DOCUMENTS:
-        count += 1
-        for number, line in enumerate(prose(text_of(path)).split("\n"), 1):
-            for pattern, better in WORDS.items():
-                for found in re.findall(pattern, line, re.I):
-                    wrong.append(f"{shown(path)}:{number}: {found!r} (write: {better})")
-    return count, wrong
+    return len(DOCUMENTS), [wrong for path in DOCUMENTS for wrong in unwanted(path, enumerate(prose(text_of(path)).split("\n"), 1))]
+
+
+def test_the_words_of_comments_and_of_the_help():
+    paths = [path for kind in ("src/**/*.rt", "specs/**/*.antt", "specs.antt") for path in sorted(ROOT.glob(f"crates/*/{kind}"))]
+    return len(paths), [wrong for path in paths for wrong in unwanted(path, words_of_code(path))]
 
 
 def test_no_document_names_a_place_on_one_machine():

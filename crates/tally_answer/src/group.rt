@@ -1,6 +1,7 @@
 //! The codes of a group of lists.
 
 ghost use Rattle.std.specs.Prelude.{◌≡◌, ◌≤◌, ◌+◌, ◌++◌, ◌||◌, length, vec_len, vec_capacity};
+ghost use Rattle.tally_frac.specs.Limits.{most_lists};
 ghost use Rattle.tally_answer.specs.Outcome.{group_text, marked_lists, quoted_code, quoted_codes};
 ghost use Rattle.tally_answer.specs.internal.Group.{code_of};
 
@@ -42,7 +43,7 @@ fn push_marked(out: &mut Vec<u8>, list: &ListEntry, others: bool, mark: bool) ->
 }
 
 fn push_members(out: &mut Vec<u8>, lists: &[ListEntry], group: &ListSet)
-    requires few { length lists.now ≤ 60 }
+    requires few { length lists.now ≤ most_lists }
     requires room { vec_len out.old + 1140 ≤ vec_capacity out.old }
     ensures items { out.new.items ≡
         out.old.items ++ quoted_codes (marked_lists lists.now group.now) }
@@ -59,7 +60,7 @@ fn push_members(out: &mut Vec<u8>, lists: &[ListEntry], group: &ListSet)
 
 /// Appends the codes of a group of lists, in order of place.
 pub(crate) fn push_group(out: &mut Vec<u8>, lists: &[ListEntry], group: &ListSet)
-    requires few { length lists.now ≤ 60 }
+    requires few { length lists.now ≤ most_lists }
     requires room { vec_len out.old + 1142 ≤ vec_capacity out.old }
     ensures items { out.new.items ≡ out.old.items ++ group_text lists.now group.now }
     ensures len { vec_len out.new ≤ vec_len out.old + 1142 }

@@ -1,6 +1,7 @@
 //! The answers to commands.
 
 ghost use Rattle.std.specs.Prelude.{◌≡◌, ◌≤◌, ◌+◌, ◌++◌, List, [], length, vec_len, vec_capacity};
+ghost use Rattle.tally_frac.specs.Limits.{most_lists};
 ghost use Rattle.tally_rules.specs.Constituency.{ListEntry};
 ghost use Rattle.tally_returns.specs.declared.refusal.Refusal.TheVariants.{WrongStatus, LotWrongGroup, LotMissing};
 ghost use Rattle.tally_answer.specs.Outcome.{reply_body, refusal_answer, status_word, outcome_answer, outcome_text};
@@ -85,7 +86,7 @@ fn push_wrong_status(out: &mut Vec<u8>, status: Status)
 }
 
 fn push_wrong_group(out: &mut Vec<u8>, lists: &[ListEntry], group: &ListSet)
-    requires few { length lists.now ≤ 60 }
+    requires few { length lists.now ≤ most_lists }
     requires room { vec_len out.old + 1280 ≤ vec_capacity out.old }
     ensures items { out.new.items
         ≡ out.old.items ++ (refusal_answer lists.now (LotWrongGroup group.now)).1 }
@@ -98,7 +99,7 @@ fn push_wrong_group(out: &mut Vec<u8>, lists: &[ListEntry], group: &ListSet)
 }
 
 fn push_lot_missing(out: &mut Vec<u8>, lists: &[ListEntry], group: &ListSet, seats: u32)
-    requires few { length lists.now ≤ 60 }
+    requires few { length lists.now ≤ most_lists }
     requires room { vec_len out.old + 1280 ≤ vec_capacity out.old }
     ensures items { out.new.items
         ≡ out.old.items ++ (refusal_answer lists.now (LotMissing group.now seats)).1 }
@@ -116,7 +117,7 @@ fn push_lot_missing(out: &mut Vec<u8>, lists: &[ListEntry], group: &ListSet, sea
 }
 
 fn push_refusal(out: &mut Vec<u8>, lists: &[ListEntry], refusal: &Refusal)
-    requires few { length lists.now ≤ 60 }
+    requires few { length lists.now ≤ most_lists }
     requires room { vec_len out.old + 1280 ≤ vec_capacity out.old }
     ensures items { out.new.items ≡ out.old.items ++ (refusal_answer lists.now refusal.now).1 }
     ensures len { vec_len out.new ≤ vec_len out.old + 1280 }
@@ -168,7 +169,7 @@ fn push_refusal(out: &mut Vec<u8>, lists: &[ListEntry], refusal: &Refusal)
 }
 
 fn push_outcome(out: &mut Vec<u8>, lists: &[ListEntry], outcome: &Result<Reply, Refusal>)
-    requires few { length lists.now ≤ 60 }
+    requires few { length lists.now ≤ most_lists }
     requires room { vec_len out.old + 1280 ≤ vec_capacity out.old }
     ensures items { out.new.items ≡ out.old.items ++ (outcome_answer lists.now outcome.now).1 }
     ensures len { vec_len out.new ≤ vec_len out.old + 1280 }
@@ -190,7 +191,7 @@ pub fn write_outcome(
 )
     requires empty { out.old.items ≡ [] }
     requires no_body { body.old.items ≡ [] }
-    requires few { length lists.now ≤ 60 }
+    requires few { length lists.now ≤ most_lists }
     requires room { 2048 ≤ vec_capacity out.old }
     requires body_room { 1280 ≤ vec_capacity body.old }
     ensures { out.new.items ≡ outcome_text lists.now outcome.now }

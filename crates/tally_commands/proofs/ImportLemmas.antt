@@ -1,16 +1,19 @@
 -- Imports that were not begun, and what comes of a text of which nothing was read.
-use Rattle.std.proofs.Common.{◌≡◌, ℕ, List, [], Option, Some, None, Err, option_map, refl, ap, ◌∙◌, inl}
+use Rattle.std.proofs.Common.{◌≡◌, ◌⊎◌, ℕ, List, [], Option, Some, None, Result, Ok, Err, IfErr, IfOk, OnOk, option_map, refl, sym, ap, ◌∙◌, inl, inr}
 use Rattle.tally_rules.specs.Constituency.{Constituency}
 use Rattle.tally_returns.specs.State.{State}
-use Rattle.tally_keeper.specs.Keeper.{Happens, Imports, failed_import}
-use Rattle.tally_keeper.specs.Source.{SourceAt}
+use Rattle.tally_keeper.specs.Keeper.{Happens, Imports, IsFault, IsOwnFault, failed_import}
+use Rattle.tally_keeper.specs.Source.{Delivery, SourceAt}
 use Rattle.tally_keeper.proofs.TakenLemmas.{own-first}
 use Rattle.tally_import.specs.ReturnRows.{text_coming}
 use Rattle.tally_import.specs.ReturnRowsValue.{ReturnRows, coming, unread_rows}
 use Rattle.tally_records.specs.declared.separator.Sep.{Sep}
-use Rattle.tally_commands.specs.Imported.{IsFindTrouble, IsTroubleIn, coming_of}
+use Rattle.tally_commands.specs.Imported.{IsFindTrouble, IsImported, IsImportTrouble, IsTroubleIn, coming_of}
+use Rattle.tally_commands.specs.Trouble.{import_trouble}
 use Rattle.tally_commands.specs.declared.trouble.Trouble.{Trouble}
-use Rattle.tally_keeper.specs.declared.source.ImportFault.TheVariants.{Memory}
+use Rattle.tally_commands.specs.declared.trouble.Trouble.TheVariants as trouble
+use Rattle.tally_keeper.specs.declared.source.ImportFault.{ImportFault}
+use Rattle.tally_keeper.specs.declared.source.ImportFault.TheVariants.{BadHeader, TooLong, Read, Memory, Store}
 
 -- an import that was not done for want of memory
 pub memory-import : (setup : List Constituency) (old : Option State) (at : SourceAt) → Imports setup old (record { start = at; finish = at }) (Err Memory) old
@@ -39,3 +42,37 @@ first-coming con sep text rows is = ap coming is ∙ go text
     go : (o : Option (List ℕ)) → coming (unread_rows con sep o) ≡ option_map (text_coming con sep) o
     go None = refl
     go (Some t) = refl
+
+-- ---- failed reads
+
+own-no-read : IsOwnFault Read → ⊥
+own-no-read (inl is) = cc
+own-no-read (inr is) = cc
+
+read-of-source : (d : Delivery) (fault : ImportFault) → IsFault d fault → import_trouble fault ≡ trouble.Read → d.finish.ended ≡ Some (Some Read)
+read-of-source d BadHeader is told = cc
+read-of-source d TooLong is told = cc
+read-of-source d Read (rows, given, inl own) told = absurd (own-no-read own)
+read-of-source d Read (rows, given, inr (inl source)) told = source.0
+read-of-source d Read (rows, given, inr (inr many)) told = let is = many.0 in cc
+read-of-source d Memory is told = cc
+read-of-source d Store is told = cc
+
+-- a failed read is told only of a source that ended with one
+pub read-ended : {S : Type 0} (setup : List Constituency) (old new : Option State) (d : Delivery) (r : Result S Trouble)
+    → IfErr r (λ t. IsImportTrouble setup old d t new) → r ≡ Err trouble.Read → d.finish.ended ≡ Some (Some Read)
+read-ended setup old new d (Ok text) told is = cc
+read-ended setup old new d (Err t) (fault, imports, told) is =
+    let same : t ≡ trouble.Read = cc in
+    read-of-source d fault imports.0 (sym told ∙ same)
+
+-- the rows of a source were imported only once it came to its end
+pub end-then : {S : Type 0} (setup : List Constituency) (old new : Option State) (d : Delivery) (bytes : S → List ℕ) (Then : Type 0) (r : Result S Trouble)
+    → IfOk r (λ t. IsImported setup old d (bytes t) new) → (d.finish.ended ≡ Some None → Then) → OnOk r Then
+end-then setup old new d bytes Then (Ok text) (count, imports, is) then = then imports.2.2
+end-then setup old new d bytes Then (Err t) imported then = tt
+
+-- no read failed where no constituency was found, or its copy ran out of memory
+pub find-no-read : (found : Option Constituency) (t : Trouble) → IsFindTrouble found t → t ≡ trouble.Read → ⊥
+find-no-read None t is read = cc
+find-no-read (Some con) t is read = cc

@@ -1,6 +1,18 @@
--- What is reported of a server that has ended.
+-- What a server says when it listens, and what is reported of one that has ended.
 use Rattle.std.specs.Prelude.{◌≡◌, ◌+◌, ◌++◌, ℕ, List, codes}
 use Rattle.std.specs.Fmt.{decimal}
+
+-- where a server listens: this machine, at this port
+abbrev pub listening_at : ℕ → List ℕ
+listening_at port = codes "listening on 127.0.0.1:" ++ decimal port
+
+-- for so many connections
+abbrev pub for_connections : ℕ → List ℕ
+for_connections count = codes " for " ++ decimal count ++ codes " connections\n"
+
+-- the line of a server that listens at this port for so many connections
+abbrev pub listening_line : ℕ → ℕ → List ℕ
+listening_line port count = listening_at port ++ for_connections count
 
 -- the line of so many connections that were answered, and so many that failed
 abbrev pub served_line : ℕ → ℕ → List ℕ

@@ -1,6 +1,6 @@
 -- Why a command was not done: the line on standard error, the exit status, and the faults that
 -- it comes of.
-use Rattle.std.specs.Prelude.{◌≡◌, ◌⊎◌, ◌++◌, ℕ, List, Result, Ok, Err, codes}
+use Rattle.std.specs.Prelude.{◌≡◌, ◌≢◌, ◌⊎◌, ◌++◌, ℕ, List, Result, Ok, Err, codes}
 use Rattle.tally_rules.specs.declared.fault.SetupFault.{SetupFault}
 use Rattle.tally_rules.specs.declared.fault.SetupFault.TheVariants as setup
 use Rattle.tally_import.specs.declared.CheckFault.{CheckFault}
@@ -80,6 +80,7 @@ trouble_status Port = 3
 -- ---- faults
 
 abbrev pub create_trouble : CreateFault → Trouble
+create_trouble (create.Setup setup.Memory) = Memory
 create_trouble (create.Setup fault) = Setup fault
 create_trouble create.NotEmpty = NotEmpty
 create_trouble create.Memory = Memory
@@ -117,9 +118,13 @@ check_trouble check.Write = Write
 abbrev pub IsTroubleOfDatabase : Trouble → Type 0
 IsTroubleOfDatabase t = (t ≡ Memory) ⊎ (t ≡ Store)
 
+-- of a text that is not a setup
+abbrev pub IsTroubleOfSetup : Trouble → Type 0
+IsTroubleOfSetup t = (fault : SetupFault) × (t ≡ Setup fault) × (fault ≢ setup.Memory)
+
 -- of making an office
 abbrev pub IsTroubleOfMaking : Trouble → Type 0
-IsTroubleOfMaking t = ((fault : SetupFault) × (t ≡ Setup fault)) ⊎ (t ≡ NotEmpty) ⊎ IsTroubleOfDatabase t
+IsTroubleOfMaking t = IsTroubleOfSetup t ⊎ (t ≡ NotEmpty) ⊎ IsTroubleOfDatabase t
 
 -- of opening one
 abbrev pub IsTroubleOfOpening : Trouble → Type 0

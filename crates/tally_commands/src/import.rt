@@ -1,23 +1,21 @@
 //! Imports of returns.
 
-ghost use Rattle.std.specs.Prelude.{◌≡◌, IfErr, IfOk, Some, is_some, string_bytes};
+ghost use Rattle.std.specs.Prelude.{◌≡◌, Err, IfErr, IfOk, OnOk, Some, false, is_some, string_bytes, true};
 ghost use Rattle.tally_rules.specs.Setup.{constituency_with};
+ghost use Rattle.tally_records.specs.Watch.{NotesNothing, has_failed};
 ghost use Rattle.tally_keeper.specs.Delivery.{delivery};
 ghost use Rattle.tally_commands.specs.Imported.{IsCountText, IsFindTrouble, IsImportTrouble, IsImported};
 ghost use Rattle.tally_commands.specs.Imported.{IsImportedComing, IsTextImported, IsTextTrouble, IsTroubleComing, coming_of};
 ghost use Rattle.tally_commands.specs.Trouble.{IsTroubleOfText, IsTroubleOfRows};
 
 use crate::named::con_named;
-use crate::room::push_count;
 use crate::trouble::Trouble;
 use std::alloc::Global;
 use std::io::Read;
-use tally_import::{ReturnRows, Sep};
+use tally_import::room::{COUNT_ROOM, push_count};
+use tally_import::{ReturnRows, Sep, Watch};
 use tally_keeper::{Keeper, RowSource};
 use tally_rules::{Constituency, Setup};
-
-/// The most bytes that the counts of an import have as text.
-const COUNT_ROOM: usize = 128;
 
 /// Whether the setup has a constituency of this code.
 pub fn has_con(setup: &Setup, code: &str) -> bool
@@ -41,18 +39,23 @@ fn find_con(alloc: Global, setup: &Setup, code: &str) -> Result<Constituency, Tr
 }
 
 /// Imports the rows of a text into the constituency of a code: all of them, or with a trouble none,
-/// unless a disk that failed has shut the keeper. Answers how many were lodged, as text.
+/// unless a disk that failed has shut the keeper. Answers how many were lodged, as text. A failed
+/// read is answered only where one was noted on the watch; where the rows were imported, none was.
 pub fn import_text<K: Keeper, R: Read + Drop>(
     alloc: Global,
     keeper: &mut K,
     code: &str,
     sep: Sep,
     reader: R,
+    watch: &mut Watch<R>,
 ) -> Result<String, Trouble>
     ensures setup { K.constituencies keeper.new ≡ K.constituencies keeper.old }
     ensures trusted { K.IsTrusted keeper.new → K.IsTrusted keeper.old }
     ensures text { IfOk result (λ text. IsCountText (string_bytes text)) }
     ensures named { IfErr result IsTroubleOfText }
+    ensures read { K.IsTrusted keeper.new →
+        result ≡ Err Trouble.Read → has_failed watch.new ≡ true }
+    ensures all_read { K.IsTrusted keeper.new → OnOk result (NotesNothing watch.old watch.new) }
     ensures imported { K.IsTrusted keeper.new → IfOk result (λ text.
         IsTextImported code.now sep (R.remaining reader)
         (K.constituencies keeper.old) (K.content keeper.old)
@@ -62,7 +65,7 @@ pub fn import_text<K: Keeper, R: Read + Drop>(
         (K.constituencies keeper.old) (K.content keeper.old) trouble (K.content keeper.new)) }
 {
     match find_con(alloc, keeper.setup(), code) {
-        Ok(con) => import_constituency(alloc, keeper, con, sep, reader),
+        Ok(con) => import_constituency(alloc, keeper, con, sep, reader, watch),
         Err(trouble) => Err(trouble),
     }
 }
@@ -74,11 +77,15 @@ fn import_constituency<K: Keeper, R: Read + Drop>(
     con: Constituency,
     sep: Sep,
     reader: R,
+    watch: &mut Watch<R>,
 ) -> Result<String, Trouble>
     ensures setup { K.constituencies keeper.new ≡ K.constituencies keeper.old }
     ensures trusted { K.IsTrusted keeper.new → K.IsTrusted keeper.old }
     ensures text { IfOk result (λ text. IsCountText (string_bytes text)) }
     ensures named { IfErr result IsTroubleOfRows }
+    ensures read { K.IsTrusted keeper.new →
+        result ≡ Err Trouble.Read → has_failed watch.new ≡ true }
+    ensures all_read { K.IsTrusted keeper.new → OnOk result (NotesNothing watch.old watch.new) }
     ensures imported { K.IsTrusted keeper.new → IfOk result (λ text.
         IsImportedComing (K.constituencies keeper.old) (K.content keeper.old)
         (coming_of con sep (R.remaining reader)) (string_bytes text) (K.content keeper.new)) }
@@ -87,7 +94,19 @@ fn import_constituency<K: Keeper, R: Read + Drop>(
         (coming_of con sep (R.remaining reader)) trouble (K.content keeper.new)) }
 {
     let mut rows = ReturnRows::new(alloc, reader, sep, con);
-    import_from(alloc, keeper, &mut rows)
+    let outcome = import_from(alloc, keeper, &mut rows);
+    note(watch, rows.into_watch());
+    outcome
+}
+
+/// Notes on a watch what another one of the same stream noted.
+fn note<R>(watch: &mut Watch<R>, other: Watch<R>)
+    ensures failed { has_failed other ≡ true → has_failed watch.new ≡ true }
+    ensures kept { has_failed other ≡ false → NotesNothing watch.old watch.new }
+{
+    if other.has_failed() {
+        *watch = other;
+    }
 }
 
 /// Imports the rows of a source: all that it gives, or with a trouble none, unless a disk that

@@ -5,7 +5,6 @@
 mod import;
 mod make;
 mod named;
-mod room;
 mod serve;
 mod show;
 mod standard_error;
@@ -13,9 +12,9 @@ mod trouble;
 
 pub use import::{has_con, import_from, import_text};
 pub use make::{CONSTITUENCIES_ROOM, constituencies_text};
-pub use serve::{SERVED_ROOM, served_text};
+pub use serve::{LISTENING_ROOM, SERVED_ROOM, listening_text, served_text};
 pub use show::{show_progress, show_report};
 pub use standard_error::tell;
-pub use tally_import::Sep;
+pub use tally_import::{Sep, Watch};
 pub use tally_report::Report;
 pub use trouble::{FAILED, REFUSED, Trouble};

@@ -3,8 +3,8 @@
 ghost use Rattle.std.specs.Prelude.{◌≡◌, ◌≤◌, ◌+◌, ◌++◌, IsOk, OnErr, OnOk, string_bytes, string_len, string_capacity};
 ghost use Rattle.tally_commands.specs.Made.{constituencies_text};
 
-use crate::room::push_number;
 use std::alloc::AllocError;
+use tally_import::room::push_number;
 use tally_rules::Setup;
 
 /// The most bytes that the number of constituencies has as text.

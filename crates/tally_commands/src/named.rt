@@ -9,10 +9,12 @@ use tally_rules::{Code, Constituency, Setup};
 pub(crate) fn con_named<'a>(setup: &'a Setup, text: &str) -> Option<&'a Constituency>
     ensures { option_copied result ≡ constituency_with text.now setup.now }
 {
-    setup
-        .cons()
-        .iter()
-        .find(|con| text.as_bytes() == con.code.as_bytes())
+    // Called for what its contract says: the codes of a setup are codes.
+    let _cons = setup.cons();
+    let Some(code) = Code::new(text.as_bytes()) else {
+        return None;
+    };
+    setup.con(code)
 }
 
 /// The code of the constituency whose code a text is.

@@ -1,6 +1,8 @@
 //! Why a command was not done.
 
-ghost use Rattle.std.specs.Prelude.{◌≡◌};
+ghost use Rattle.std.specs.Prelude.{◌≡◌, ◌≢◌};
+ghost use Rattle.tally_rules.specs.declared.fault.SetupFault.{SetupFault};
+ghost use Rattle.tally_commands.specs.declared.trouble.Trouble.TheVariants.{Setup};
 ghost use Rattle.tally_commands.specs.Told.{Told};
 ghost use Rattle.tally_commands.specs.Trouble.{check_trouble, create_trouble, import_trouble, open_trouble, report_trouble};
 ghost use Rattle.tally_commands.specs.Trouble.{IsTroubleOfMaking, IsTroubleOfOpening, IsTroubleOfReport, IsTroubleOfRows};
@@ -24,7 +26,7 @@ pub const FAILED: u8 = 3;
 /// Why a command was not done.
 #[derive(Clone, Copy, Debug, PartialEq, Eq)]
 pub enum Trouble {
-    /// The text is not a setup, or its reading is out of memory.
+    /// The text is not a setup.
     Setup(SetupFault),
     /// The database has tables of these names.
     NotEmpty,
@@ -65,9 +67,9 @@ impl Trouble {
         ensures named { IsTroubleOfMaking result }
     {
         match fault {
+            CreateFault::Setup(SetupFault::Memory) | CreateFault::Memory => Trouble::Memory,
             CreateFault::Setup(fault) => Trouble::Setup(copy_of(fault)),
             CreateFault::NotEmpty => Trouble::NotEmpty,
-            CreateFault::Memory => Trouble::Memory,
             CreateFault::Store => Trouble::Store,
         }
     }
@@ -166,21 +168,32 @@ impl Trouble {
     {
         match self {
             Trouble::Setup(fault) => tell_setup(fault, errors),
-            Trouble::NotEmpty => tell("refused: not_empty\n", errors),
-            Trouble::NoTables => tell("refused: no_tables\n", errors),
-            Trouble::BadTables => tell("refused: bad_tables\n", errors),
-            Trouble::BadSetup => tell("refused: bad_setup\n", errors),
-            Trouble::NoConstituency => tell("refused: no_constituency\n", errors),
-            Trouble::BadHeader => tell("refused: bad_header\n", errors),
-            Trouble::TooLong => tell("refused: too_long\n", errors),
-            Trouble::NotCertified => tell("refused: not_certified\n", errors),
-            Trouble::OtherMethod => tell("refused: other_method\n", errors),
-            Trouble::Memory => tell("failed: memory\n", errors),
-            Trouble::Store => tell("failed: store\n", errors),
-            Trouble::File => tell("failed: file\n", errors),
-            Trouble::Read => tell("failed: read\n", errors),
-            Trouble::Write => tell("failed: write\n", errors),
-            Trouble::Port => tell("failed: port\n", errors),
+            _ => tell(self.line(), errors),
+        }
+    }
+
+    /// Its line, where it is not of a setup.
+    fn line(&self) -> &'static str
+        requires { (fault : SetupFault) → self.now ≢ Setup fault }
+        ensures { result.now ≡ trouble_line self.now }
+    {
+        match self {
+            Trouble::Setup(_) => unreachable!(),
+            Trouble::NotEmpty => "refused: not_empty\n",
+            Trouble::NoTables => "refused: no_tables\n",
+            Trouble::BadTables => "refused: bad_tables\n",
+            Trouble::BadSetup => "refused: bad_setup\n",
+            Trouble::NoConstituency => "refused: no_constituency\n",
+            Trouble::BadHeader => "refused: bad_header\n",
+            Trouble::TooLong => "refused: too_long\n",
+            Trouble::NotCertified => "refused: not_certified\n",
+            Trouble::OtherMethod => "refused: other_method\n",
+            Trouble::Memory => "failed: memory\n",
+            Trouble::Store => "failed: store\n",
+            Trouble::File => "failed: file\n",
+            Trouble::Read => "failed: read\n",
+            Trouble::Write => "failed: write\n",
+            Trouble::Port => "failed: port\n",
         }
     }
 }

@@ -1,5 +1,5 @@
 -- What the steps of an answer leave is an answer.
-use Rattle.std.proofs.Common.{◌≡◌, ◌⊎◌, ◌∙◌, ℕ, List, [], Option, Some, None, Result, Ok, Err, IfSome, option_map, option_and_then, refl, sym, ap, subst, inl, inr}
+use Rattle.std.proofs.Common.{◌≡◌, ◌∙◌, ℕ, List, [], Option, Some, None, Ok, IfSome, option_map, option_and_then, refl, sym, ap, subst, inl, inr}
 use Rattle.std.specs.Option.{option_map_or}
 use Rattle.serde_json.specs.Data.{Data}
 use Rattle.tally_rules.specs.Constituency.{Constituency, ListEntry}
@@ -20,13 +20,12 @@ use Rattle.tally_steps.specs.Step.{IsConStepSeen, con_shown}
 use Rattle.tally_keeper.specs.Keeper.{Happens, request}
 use Rattle.tally_message.specs.declared.message.Message.{Message}
 use Rattle.tally_asks.specs.Routes.{con_of_target, station_of_target}
-use Rattle.tally_asks.specs.Bodies.{IsBody}
-use Rattle.tally_answer.specs.Words.{word_text}
-use Rattle.tally_answer.specs.declared.word.Word.TheVariants.{BadBody}
+use Rattle.tally_asks.specs.Bodies.{IsBody, IsCommand}
 use Rattle.std.proofs.Common.{Vec, Global}
 use Rattle.tally_records.specs.declared.separator.Sep.{Sep}
-use Rattle.tally_desk.specs.internal.Gives.{Gives}
-use Rattle.tally_desk.specs.internal.Named.{lists_of_con, lists_of_station}
+use Rattle.tally_desk.specs.internal.Gives.{Gives, OrdersRead}
+use Rattle.tally_desk.specs.declared.named.Subject.TheVariants as on
+use Rattle.tally_desk.specs.internal.Named.{lists_of}
 use Rattle.tally_desk.specs.Requests.{Commands, Imports, ImportsText, Named, AtCon, AtNamed, AtStation, Orders, OrdersOf, con_named, station_named}
 
 -- ---- what is shown
@@ -124,32 +123,28 @@ station-answer s setup old new m t code r F text named setup_is target_is found 
 
 -- ---- commands
 
-order-done : (setup : List Constituency) (old new : Option State) (m : Message) (con : Constituency) (read : Data → Option AskSeen) (code body text : List ℕ) (value : Option Data) (a : Ask)
-    (lists : List ListEntry) → body ≡ m.body.items → IsBody body value → Some (ask_seen a) ≡ option_and_then read value → lists ≡ con.lists
-    → Commands setup old lists a text new → Orders setup old con read m text new
-order-done setup old new m con read code body text value a lists body_is is seen lists_are asks =
+order-read : (setup : List Constituency) (old new : Option State) (m : Message) (con : Constituency) (read : Data → Option AskSeen) (body text : List ℕ) (asked : Option Ask)
+    (lists : List ListEntry) → body ≡ m.body.items → IsCommand read body (option_map ask_seen asked) → lists ≡ con.lists → OrdersRead setup old lists asked text new
+    → Orders setup old con read m text new
+order-read setup old new m con read body text None lists body_is (value, is, seen) lists_are said =
+    (value, subst (λ (b : List ℕ). IsBody b value) body_is is, subst (λ o. OrdersOf setup old con o text new) seen said)
+order-read setup old new m con read body text (Some a) lists body_is (value, is, seen) lists_are asks =
     let commands : Commands setup old con.lists a text new = subst (λ (l : List ListEntry). Commands setup old l a text new) lists_are asks in
     (value, subst (λ (b : List ℕ). IsBody b value) body_is is, subst (λ o. OrdersOf setup old con o text new) seen (a, refl, commands))
 
-pub con-ordered : (setup : List Constituency) (old new : Option State) (m : Message) (con : Constituency) (read : Data → Option AskSeen) (code body text : List ℕ) (value : Option Data) (a : Ask)
-    → body ≡ m.body.items → IsBody body value → Some (ask_seen a) ≡ option_and_then read value → constituency_with code setup ≡ Some con
-    → Commands setup old (lists_of_con setup code) a text new → Orders setup old con read m text new
-con-ordered setup old new m con read code body text value a body_is is seen found asks =
-    order-done setup old new m con read code body text value a (lists_of_con setup code) body_is is seen
-    (ap (λ o. option_map_or (λ (c : Constituency). c.lists) o []) found) asks
+pub con-ordered : (setup : List Constituency) (old new : Option State) (m : Message) (con : Constituency) (read : Data → Option AskSeen) (code body text : List ℕ) (asked : Option Ask)
+    → body ≡ m.body.items → IsCommand read body (option_map ask_seen asked) → constituency_with code setup ≡ Some con
+    → OrdersRead setup old (lists_of setup (on.Con code)) asked text new → Orders setup old con read m text new
+con-ordered setup old new m con read code body text asked body_is is found orders =
+    order-read setup old new m con read body text asked (lists_of setup (on.Con code)) body_is is
+    (ap (λ o. option_map_or (λ (c : Constituency). c.lists) o []) found) orders
 
-pub station-ordered : (setup : List Constituency) (old new : Option State) (m : Message) (place : Constituency × Station) (read : Data → Option AskSeen) (code body text : List ℕ) (value : Option Data) (a : Ask)
-    → body ≡ m.body.items → IsBody body value → Some (ask_seen a) ≡ option_and_then read value → station_with code setup ≡ Some place
-    → Commands setup old (lists_of_station setup code) a text new → Orders setup old place.0 read m text new
-station-ordered setup old new m place read code body text value a body_is is seen found asks =
-    order-done setup old new m place.0 read code body text value a (lists_of_station setup code) body_is is seen
-    (ap (λ o. option_map_or (λ (p : Constituency × Station). p.0.lists) o []) found) asks
-
--- a body that is no command of its route
-pub order-bad : (setup : List Constituency) (old : Option State) (m : Message) (con : Constituency) (read : Data → Option AskSeen) (code body text : List ℕ) (value : Option Data)
-    → body ≡ m.body.items → IsBody body value → None ≡ option_and_then read value → text ≡ word_text BadBody → Orders setup old con read m text old
-order-bad setup old m con read code body text value body_is is none said =
-    (value, subst (λ (b : List ℕ). IsBody b value) body_is is, subst (λ o. OrdersOf setup old con o text old) none (said, refl))
+pub station-ordered : (setup : List Constituency) (old new : Option State) (m : Message) (place : Constituency × Station) (read : Data → Option AskSeen) (code body text : List ℕ) (asked : Option Ask)
+    → body ≡ m.body.items → IsCommand read body (option_map ask_seen asked) → station_with code setup ≡ Some place
+    → OrdersRead setup old (lists_of setup (on.Station code)) asked text new → Orders setup old place.0 read m text new
+station-ordered setup old new m place read code body text asked body_is is found orders =
+    order-read setup old new m place.0 read body text asked (lists_of setup (on.Station code)) body_is is
+    (ap (λ o. option_map_or (λ (p : Constituency × Station). p.0.lists) o []) found) orders
 
 -- ---- imports
 

@@ -8,6 +8,7 @@ use Rattle.std.specs.Prelude.{◌≡◌, ◌⊎◌, Bool, true, false, List, ℕ
 use Rattle.matchit.specs.Router.{RouteOf}
 use Rattle.tally_rules.specs.Constituency.{Constituency}
 use Rattle.tally_returns.specs.State.{State}
+use Rattle.tally_keeper.specs.declared.keeper.Keeper.{Ghosts}
 use Rattle.tally_message.specs.declared.message.Message.{Message}
 use Rattle.tally_message.specs.declared.message.MessageFault.{MessageFault}
 use Rattle.tally_message.specs.declared.message.MessageFault.TheVariants as fault
@@ -80,6 +81,10 @@ pub record Office : Type 0 where
 
 abbrev pub office : List Constituency → Option State → Office
 office setup state = record { setup = setup; state = state }
+
+-- a keeper as an office
+abbrev pub office_of : {K : Type 0} (g : Ghosts K) → K → Office
+office_of g keeper = office (g.constituencies keeper) (g.content keeper)
 
 -- A message is answered, or nothing was accepted and nothing has changed. The setup stays.
 abbrev pub Answers : Office → Result Message MessageFault → List ℕ → Office → Type 0

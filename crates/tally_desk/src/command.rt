@@ -2,17 +2,14 @@
 
 ghost use Rattle.std.specs.Prelude.{◌≡◌, IfSome, Some, Result};
 ghost use Rattle.tally_rules.specs.Setup.{constituency_with};
-ghost use Rattle.tally_keeper.specs.Keeper.{Happens, request};
 ghost use Rattle.tally_returns.specs.declared.refusal.Refusal.TheVariants.{NoConstituency, NoStation};
-ghost use Rattle.tally_returns.specs.declared.reply.Reply.{Reply};
 ghost use Rattle.tally_returns.specs.declared.refusal.Refusal.{Refusal};
 ghost use Rattle.tally_asks.specs.declared.routes.Route.TheVariants as route;
-ghost use Rattle.tally_answer.specs.Outcome.{outcome_text};
-ghost use Rattle.tally_desk.specs.internal.Gives.{GivesOn};
-ghost use Rattle.tally_desk.specs.internal.Named.{lists_of_con, lists_of_station};
-ghost use Rattle.tally_desk.specs.Requests.{Asks, ImportsText, imported_text};
+ghost use Rattle.tally_desk.specs.internal.Gives.{Answered, GivesOn, OrdersRead};
+ghost use Rattle.tally_desk.specs.internal.Named.{lists_of};
+ghost use Rattle.tally_desk.specs.Requests.{ImportsText, imported_text};
 
-use crate::named::{con_named, lists_of_con, lists_of_station, station_named};
+use crate::named::{Subject, con_named, lists_of, station_named};
 use crate::room::Room;
 use std::alloc::Global;
 use tally_answer::Word;
@@ -22,30 +19,19 @@ use tally_keeper::{Ask, ImportCount, ImportFault, Keeper, Refusal};
 use tally_message::Message;
 use tally_rules::{Code, Constituency, Setup};
 
-/// Carries out a command on a station. Its answer takes no memory.
-fn command_on_station<K: Keeper>(room: Room, keeper: &mut K, station: Code, ask: &Ask) -> Vec<u8>
+/// Carries out the command that a body was read as. Its answer takes no memory.
+fn order<K: Keeper>(room: Room, keeper: &mut K, subject: Subject, ask: Option<Ask>) -> Vec<u8>
     ensures setup { K.constituencies keeper.new ≡ K.constituencies keeper.old }
     ensures trusted { K.IsTrusted keeper.new → K.IsTrusted keeper.old }
-    ensures asks { K.IsTrusted keeper.new
-        → Asks (K.constituencies keeper.old) (K.content keeper.old) ask.now
-        (λ r t. t ≡ outcome_text (lists_of_station (K.constituencies keeper.old) station) r)
-        result.items (K.content keeper.new) }
+    ensures orders { Answered K.Keeper
+        (λ setup state. OrdersRead setup state (lists_of setup subject) ask)
+        keeper.old result.items keeper.new }
 {
-    let outcome = keeper.answer(ask);
-    room.outcome(lists_of_station(keeper.setup(), station), &outcome)
-}
-
-/// Carries out a command on a constituency. Its answer takes no memory.
-fn command_on_con<K: Keeper>(room: Room, keeper: &mut K, con: Code, ask: &Ask) -> Vec<u8>
-    ensures setup { K.constituencies keeper.new ≡ K.constituencies keeper.old }
-    ensures trusted { K.IsTrusted keeper.new → K.IsTrusted keeper.old }
-    ensures asks { K.IsTrusted keeper.new
-        → Asks (K.constituencies keeper.old) (K.content keeper.old) ask.now
-        (λ r t. t ≡ outcome_text (lists_of_con (K.constituencies keeper.old) con) r)
-        result.items (K.content keeper.new) }
-{
-    let outcome = keeper.answer(ask);
-    room.outcome(lists_of_con(keeper.setup(), con), &outcome)
+    let Some(ask) = ask else {
+        return room.word(Word::BadBody);
+    };
+    let outcome = keeper.answer(&ask);
+    room.outcome(lists_of(keeper.setup(), subject), &outcome)
 }
 
 /// Carries out the command on a station that a message has in its body.
@@ -57,16 +43,15 @@ pub(crate) fn order_on_station<K: Keeper>(
 ) -> Option<Vec<u8>>
     ensures setup { K.constituencies keeper.new ≡ K.constituencies keeper.old }
     ensures trusted { K.IsTrusted keeper.new → K.IsTrusted keeper.old }
-    ensures gives { K.IsTrusted keeper.new → GivesOn (route.OnStation command) message.now
-        (K.constituencies keeper.old) (K.content keeper.old) result (K.content keeper.new) }
+    ensures gives { GivesOn K.Keeper (route.OnStation command) message.now
+        keeper.old result keeper.new }
 {
     let room = Room::reserve(alloc)?;
     let Some(station) = station_named(keeper.setup(), &message.target) else {
         return Some(room.refusal(Refusal::NoStation));
     };
     match ask_on_station(alloc, command, station, &message.body) {
-        Ok(Some(ask)) => Some(command_on_station(room, keeper, station, &ask)),
-        Ok(None) => Some(room.word(Word::BadBody)),
+        Ok(ask) => Some(order(room, keeper, Subject::Station(station), ask)),
         Err(_) => None,
     }
 }
@@ -80,16 +65,15 @@ pub(crate) fn order_on_con<K: Keeper>(
 ) -> Option<Vec<u8>>
     ensures setup { K.constituencies keeper.new ≡ K.constituencies keeper.old }
     ensures trusted { K.IsTrusted keeper.new → K.IsTrusted keeper.old }
-    ensures gives { K.IsTrusted keeper.new → GivesOn (route.OnCon command) message.now
-        (K.constituencies keeper.old) (K.content keeper.old) result (K.content keeper.new) }
+    ensures gives { GivesOn K.Keeper (route.OnCon command) message.now
+        keeper.old result keeper.new }
 {
     let room = Room::reserve(alloc)?;
     let Some(con) = con_named(keeper.setup(), &message.target) else {
         return Some(room.refusal(Refusal::NoConstituency));
     };
     match ask_on_con(alloc, command, con, &message.body) {
-        Ok(Some(ask)) => Some(command_on_con(room, keeper, con, &ask)),
-        Ok(None) => Some(room.word(Word::BadBody)),
+        Ok(ask) => Some(order(room, keeper, Subject::Con(con), ask)),
         Err(_) => None,
     }
 }
@@ -126,9 +110,8 @@ fn lodge_rows<K: Keeper>(
 ) -> Vec<u8>
     ensures setup { K.constituencies keeper.new ≡ K.constituencies keeper.old }
     ensures trusted { K.IsTrusted keeper.new → K.IsTrusted keeper.old }
-    ensures imports { K.IsTrusted keeper.new
-        → ImportsText (K.constituencies keeper.old) (K.content keeper.old) con sep text.now
-        result.items (K.content keeper.new) }
+    ensures imports { Answered K.Keeper (λ setup state. ImportsText setup state con sep text.now)
+        keeper.old result.items keeper.new }
 {
     let mut rows = ReturnRows::new(alloc, text, sep, con);
     let outcome = keeper.lodge_from(&mut rows);
@@ -144,8 +127,7 @@ pub(crate) fn import<K: Keeper>(
 ) -> Option<Vec<u8>>
     ensures setup { K.constituencies keeper.new ≡ K.constituencies keeper.old }
     ensures trusted { K.IsTrusted keeper.new → K.IsTrusted keeper.old }
-    ensures gives { K.IsTrusted keeper.new → GivesOn (route.Import sep) message.now
-        (K.constituencies keeper.old) (K.content keeper.old) result (K.content keeper.new) }
+    ensures gives { GivesOn K.Keeper (route.Import sep) message.now keeper.old result keeper.new }
 {
     let room = Room::reserve(alloc)?;
     let Some(code) = con_named(keeper.setup(), &message.target) else {

@@ -5,7 +5,7 @@ ghost use Rattle.tally_asks.specs.Routes.{desk_rows};
 ghost use Rattle.tally_answer.specs.Words.{word_text};
 ghost use Rattle.tally_answer.specs.declared.word.Word.TheVariants.{Unavailable};
 ghost use Rattle.tally_serve.specs.Serving.{IsServing};
-ghost use Rattle.tally_desk.specs.Respond.{Answers, Office, office};
+ghost use Rattle.tally_desk.specs.Respond.{Answers, Office, office_of};
 
 use crate::respond::respond;
 use matchit::Router;
@@ -44,7 +44,7 @@ impl Desk {
 impl<K: Keeper> Responder<K> for Desk {
     ghost Content = { Office };
 
-    ghost content = { λ k. office (K.constituencies k) (K.content k) };
+    ghost content = { office_of K.Keeper };
 
     ghost IsTrusted = { K.IsTrusted };
 
@@ -77,8 +77,7 @@ pub fn serve<K: Keeper, D: Door>(alloc: Global, keeper: &mut K, door: &mut D, co
     ensures trusted { K.IsTrusted keeper.new → K.IsTrusted keeper.old }
     ensures serves { IsServing Answers (K.IsTrusted keeper.new) count result.answered
         (D.known door.old) (D.known door.new)
-        (office (K.constituencies keeper.old) (K.content keeper.old))
-        (office (K.constituencies keeper.new) (K.content keeper.new)) }
+        (office_of K.Keeper keeper.old) (office_of K.Keeper keeper.new) }
 {
     let desk = Desk::new(alloc);
     tally_serve::serve(alloc, &desk, keeper, door, count)

@@ -1,13 +1,21 @@
 //! What the path of a message names.
 
 ghost use Rattle.std.specs.Prelude.{◌≡◌, ◌≤◌, length, option_map, option_copied, []};
+ghost use Rattle.tally_frac.specs.Limits.{most_lists};
 ghost use Rattle.tally_rules.specs.Constituency as value;
 ghost use Rattle.tally_rules.specs.Setup.{constituency_with, station_with};
 ghost use Rattle.tally_desk.specs.Requests.{con_named, station_named};
-ghost use Rattle.tally_desk.specs.internal.Named.{lists_of_con, lists_of_station};
+ghost use Rattle.tally_desk.specs.internal.Named.{lists_of};
 
 use tally_asks::{con_of_target, station_of_target};
 use tally_rules::{Code, ListEntry, Setup};
+
+/// What a command is on, by its code.
+#[derive(Clone, Copy)]
+pub(crate) enum Subject {
+    Station(Code),
+    Con(Code),
+}
 
 /// The station of the setup that a target names.
 pub(crate) fn station_named(setup: &Setup, target: &[u8]) -> Option<Code>
@@ -27,24 +35,19 @@ pub(crate) fn con_named(setup: &Setup, target: &[u8]) -> Option<Code>
     Some(code)
 }
 
-/// The lists of the constituency that a station is in.
-pub(crate) fn lists_of_station(setup: &Setup, code: Code) -> &[ListEntry]
-    ensures lists { result.now ≡ lists_of_station setup.now code }
-    ensures few { length result.now ≤ 60 }
+/// The lists of the constituency that a command is on, or that its station is in.
+pub(crate) fn lists_of(setup: &Setup, subject: Subject) -> &[ListEntry]
+    ensures lists { result.now ≡ lists_of setup.now subject }
+    ensures few { length result.now ≤ most_lists }
 {
-    match setup.station(code) {
-        Some((con, _)) => &con.lists,
-        None => &[],
-    }
-}
-
-/// The lists of a constituency.
-pub(crate) fn lists_of_con(setup: &Setup, code: Code) -> &[ListEntry]
-    ensures lists { result.now ≡ lists_of_con setup.now code }
-    ensures few { length result.now ≤ 60 }
-{
-    match setup.con(code) {
-        Some(con) => &con.lists,
-        None => &[],
+    match subject {
+        Subject::Station(code) => match setup.station(code) {
+            Some((con, _)) => &con.lists,
+            None => &[],
+        },
+        Subject::Con(code) => match setup.con(code) {
+            Some(con) => &con.lists,
+            None => &[],
+        },
     }
 }

@@ -3,7 +3,7 @@
 ghost use Rattle.std.specs.Prelude.{◌≡◌, IfSome, Ok};
 ghost use Rattle.tally_asks.specs.Routes.{desk_rows, takes_get};
 ghost use Rattle.tally_answer.specs.Words.{word_text};
-ghost use Rattle.tally_desk.specs.internal.Gives.{Gives, GivesOn};
+ghost use Rattle.tally_desk.specs.internal.Gives.{GivesBy, GivesOn};
 ghost use Rattle.tally_desk.specs.Respond.{ByRoute, IsAnswer, fault_word, other_method};
 
 use crate::command::{import, order_on_con, order_on_station};
@@ -57,8 +57,7 @@ fn answer_on<K: Keeper>(
 ) -> Option<Vec<u8>>
     ensures setup { K.constituencies keeper.new ≡ K.constituencies keeper.old }
     ensures trusted { K.IsTrusted keeper.new → K.IsTrusted keeper.old }
-    ensures gives { K.IsTrusted keeper.new → GivesOn route message.now
-        (K.constituencies keeper.old) (K.content keeper.old) result (K.content keeper.new) }
+    ensures gives { GivesOn K.Keeper route message.now keeper.old result keeper.new }
 {
     match route {
         Route::Progress => show_progress(alloc, keeper),
@@ -81,9 +80,8 @@ fn answer<K: Keeper>(
     requires { router.now ≡ desk_rows }
     ensures setup { K.constituencies keeper.new ≡ K.constituencies keeper.old }
     ensures trusted { K.IsTrusted keeper.new → K.IsTrusted keeper.old }
-    ensures gives { K.IsTrusted keeper.new
-        → Gives (IsAnswer (K.constituencies keeper.old) (K.content keeper.old) (Ok message.now))
-        (K.content keeper.old) result (K.content keeper.new) }
+    ensures gives { GivesBy K.Keeper (λ setup state. IsAnswer setup state (Ok message.now))
+        keeper.old result keeper.new }
 {
     let Some(route) = route_of(router, &message.target) else {
         return say(alloc, Word::NoRoute);
@@ -94,8 +92,8 @@ fn answer<K: Keeper>(
     answer_on(alloc, keeper, route, message)
 }
 
-/// Answers a message or a fault of one. There is no answer to a failed read, and none where there
-/// was no memory for one: then nothing was accepted.
+/// Answers a message or a fault of one. `None` where the fault is a failed read, or where there is
+/// no memory for an answer: nothing was accepted then.
 pub(crate) fn respond<K: Keeper>(
     alloc: Global,
     router: &Router<Route>,
@@ -105,9 +103,8 @@ pub(crate) fn respond<K: Keeper>(
     requires { router.now ≡ desk_rows }
     ensures setup { K.constituencies keeper.new ≡ K.constituencies keeper.old }
     ensures trusted { K.IsTrusted keeper.new → K.IsTrusted keeper.old }
-    ensures gives { K.IsTrusted keeper.new
-        → Gives (IsAnswer (K.constituencies keeper.old) (K.content keeper.old) message.now)
-        (K.content keeper.old) result (K.content keeper.new) }
+    ensures gives { GivesBy K.Keeper (λ setup state. IsAnswer setup state message.now)
+        keeper.old result keeper.new }
 {
     match message {
         Ok(message) => answer(alloc, router, keeper, message),

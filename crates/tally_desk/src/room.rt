@@ -1,6 +1,7 @@
 //! Room for answers.
 
 ghost use Rattle.std.specs.Prelude.{◌≡◌, ◌≤◌, [], Err, IfSome, length, vec_capacity};
+ghost use Rattle.tally_frac.specs.Limits.{most_lists};
 ghost use Rattle.tally_answer.specs.Answer.{answer_text};
 ghost use Rattle.tally_answer.specs.Import.{import_text};
 ghost use Rattle.tally_answer.specs.Outcome.{outcome_text};
@@ -38,7 +39,7 @@ impl Room {
 
     /// The answer to a command on a constituency with these lists, or on a station of one.
     pub(crate) fn outcome(self, lists: &[ListEntry], outcome: &Result<Reply, Refusal>) -> Vec<u8>
-        requires { length lists.now ≤ 60 }
+        requires { length lists.now ≤ most_lists }
         ensures { result.items ≡ outcome_text lists.now outcome.now }
     {
         let Room { mut out, mut body } = self;

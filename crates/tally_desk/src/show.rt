@@ -13,7 +13,7 @@ ghost use Rattle.tally_answer.specs.declared.status.BodyType.TheVariants as body
 ghost use Rattle.tally_report.specs.ProgressText.{progress_text};
 ghost use Rattle.tally_report.specs.Reports.{IsEnoughFor};
 ghost use Rattle.tally_asks.specs.declared.routes.Route.TheVariants as route;
-ghost use Rattle.tally_desk.specs.internal.Gives.{Gives, GivesOn};
+ghost use Rattle.tally_desk.specs.internal.Gives.{GivesBy, GivesOn};
 ghost use Rattle.tally_desk.specs.Requests.{ShowsProgress};
 
 use crate::named::{con_named, station_named};
@@ -90,9 +90,7 @@ fn report_shown(
 pub(crate) fn show_progress<K: Keeper>(alloc: Global, keeper: &mut K) -> Option<Vec<u8>>
     ensures setup { K.constituencies keeper.new ≡ K.constituencies keeper.old }
     ensures trusted { K.IsTrusted keeper.new → K.IsTrusted keeper.old }
-    ensures gives { K.IsTrusted keeper.new
-        → Gives (ShowsProgress (K.constituencies keeper.old) (K.content keeper.old))
-        (K.content keeper.old) result (K.content keeper.new) }
+    ensures gives { GivesBy K.Keeper ShowsProgress keeper.old result keeper.new }
 {
     let room = Room::reserve(alloc)?;
     match progress_of(keeper) {
@@ -109,8 +107,7 @@ pub(crate) fn show_return<K: Keeper>(
 ) -> Option<Vec<u8>>
     ensures setup { K.constituencies keeper.new ≡ K.constituencies keeper.old }
     ensures trusted { K.IsTrusted keeper.new → K.IsTrusted keeper.old }
-    ensures gives { K.IsTrusted keeper.new → GivesOn route.Return message.now
-        (K.constituencies keeper.old) (K.content keeper.old) result (K.content keeper.new) }
+    ensures gives { GivesOn K.Keeper route.Return message.now keeper.old result keeper.new }
 {
     let room = Room::reserve(alloc)?;
     let Some(station) = station_named(keeper.setup(), &message.target) else {
@@ -130,8 +127,7 @@ pub(crate) fn show_con<K: Keeper>(
 ) -> Option<Vec<u8>>
     ensures setup { K.constituencies keeper.new ≡ K.constituencies keeper.old }
     ensures trusted { K.IsTrusted keeper.new → K.IsTrusted keeper.old }
-    ensures gives { K.IsTrusted keeper.new → GivesOn route.Con message.now
-        (K.constituencies keeper.old) (K.content keeper.old) result (K.content keeper.new) }
+    ensures gives { GivesOn K.Keeper route.Con message.now keeper.old result keeper.new }
 {
     let room = Room::reserve(alloc)?;
     let Some(code) = con_named(keeper.setup(), &message.target) else {
@@ -152,8 +148,7 @@ pub(crate) fn show_report<K: Keeper>(
 ) -> Option<Vec<u8>>
     ensures setup { K.constituencies keeper.new ≡ K.constituencies keeper.old }
     ensures trusted { K.IsTrusted keeper.new → K.IsTrusted keeper.old }
-    ensures gives { K.IsTrusted keeper.new → GivesOn (route.Report which) message.now
-        (K.constituencies keeper.old) (K.content keeper.old) result (K.content keeper.new) }
+    ensures gives { GivesOn K.Keeper (route.Report which) message.now keeper.old result keeper.new }
 {
     let room = Room::reserve(alloc)?;
     let Some(code) = con_named(keeper.setup(), &message.target) else {

@@ -7,7 +7,8 @@ ghost use Rattle.tally_returns.specs.View.{FitsView};
 ghost use Rattle.tally_returns.specs.declared.ask.Ask.TheVariants.{ShowCon, ShowProgress, ShowReturn};
 ghost use Rattle.tally_rules.specs.Constituency as value;
 ghost use Rattle.tally_rules.specs.Setup.{constituency_with};
-ghost use Rattle.tally_desk.specs.internal.Gives.{as_con, as_progress, as_return};
+ghost use Rattle.tally_desk.specs.Shown.{as_con, as_progress};
+ghost use Rattle.tally_desk.specs.internal.Gives.{as_return};
 
 use tally_keeper::{Ask, ConView, Keeper, ProgressRow, Refusal, Reply, Return};
 use tally_machine::laws::a_constituency_has_a_view;

@@ -69,9 +69,9 @@ none_left p (x ∷ xs) = go (p x) refl (none_left p xs)
 
 -- ---- one item of a key among the others
 
--- what a statement that sets an item does, whatever number it had
-abbrev Sets : KeyedTable → List ℕ → ℕ → ℕ → State → State → Type 0
-Sets t key item n mid new = (before : ℕ) (more : List Row) → filter (is_item key item) more ≡ [] → IsPermutation (item_cells key item before ∷ more) (rows_in t mid) → HasRows t (item_cells key item n ∷ more) mid new
+-- what a statement that sets an item does, where it had this number
+abbrev SetsFrom : KeyedTable → List ℕ → ℕ → ℕ → ℕ → State → State → Type 0
+SetsFrom t key item before n mid new = (more : List Row) → filter (is_item key item) more ≡ [] → IsPermutation (item_cells key item before ∷ more) (rows_in t mid) → HasRows t (item_cells key item n ∷ more) mid new
 
 module _ (t : KeyedTable) (key : List ℕ) (front back : List (ℕ × ℕ)) (item : ℕ) (rest : List Row) where
   abbrev pub more : List Row
@@ -109,7 +109,7 @@ items_at blank spoiled xs n ys =
     ∙ ap (λ l. (0, blank) ∷ l) (append_assoc (numbers_with_places 1 xs) ((length xs + 1, n) ∷ numbers_with_places (length xs + 2) ys) ((spoiled_item, spoiled) ∷ []))
 
 vote_at : (t : KeyedTable) (key : List ℕ) (c : VoteCounts) (xs : List ℕ) (o n : ℕ) (ys : List ℕ) (rest : List Row) (old mid new : State) → length xs + 1 ≤ 60 → filter (has_key key) rest ≡ []
-    → HasItems t key (record c { votes = xs ++ o ∷ ys }) rest old mid → Sets t key (length xs + 1) n mid new → HasItems t key (record c { votes = xs ++ n ∷ ys }) rest old new
+    → HasItems t key (record c { votes = xs ++ o ∷ ys }) rest old mid → SetsFrom t key (length xs + 1) o n mid new → HasItems t key (record c { votes = xs ++ n ∷ ys }) rest old new
 vote_at t key c xs o n ys rest old mid new few none was sets =
     let item : ℕ = length xs + 1 in
     let front : List (ℕ × ℕ) = (0, c.blank) ∷ numbers_with_places 1 xs in
@@ -119,13 +119,13 @@ vote_at t key c xs o n ys rest old mid new few none was sets =
     all-append (IsApart item) (numbers_with_places (length xs + 2) ys) ((spoiled_item, c.spoiled) ∷ []) (all_weaker _ (IsApart item) (higher item) (numbers_with_places (length xs + 2) ys) (above item (length xs + 2) ys (omega arith))) (higher item (spoiled_item, c.spoiled) (omega (arith, few)), tt) in
     let held : IsPermutation (map (item_row key) (front ++ (item, o) ∷ back) ++ rest) (rows_in t mid) = subst (λ l. IsPermutation (map (item_row key) l ++ rest) (rows_in t mid)) (items_at c.blank c.spoiled xs o ys) was.rows in
     subst (λ l. HasRows t (map (item_row key) l ++ rest) old new) (sym (items_at c.blank c.spoiled xs n ys))
-    (back_again t key front back item rest n _ old mid new was (sets o (more t key front back item rest) (lacks t key front back item rest low high none) (at_first t key front back item rest o mid held)))
+    (back_again t key front back item rest n _ old mid new was (sets (more t key front back item rest) (lacks t key front back item rest low high none) (at_first t key front back item rest o mid held)))
 
 pub votes_none : (t : KeyedTable) (key : List ℕ) (c : VoteCounts) (votes : List ℕ) (rest : List Row) (old : State) → IsInside old → IsPermutation (map (item_row key) (items_of c) ++ rest) (rows_in t old) → HasItems t key (record c { votes = take 0 votes ++ drop 0 c.votes }) rest old old
 votes_none t key c votes rest old inside held = record { inside = inside; rows = held; others = λ u apart. refl; setup = refl }
 
 pub votes_more : (t : KeyedTable) (key : List ℕ) (c : VoteCounts) (votes : List ℕ) (i item n d : ℕ) (rest : List Row) (old mid new : State) → i < length votes → length votes ≤ 60 → length c.votes ≡ length votes → item ≡ i + 1 → n ≡ get_or votes i d → filter (has_key key) rest ≡ []
-    → HasItems t key (record c { votes = take i votes ++ drop i c.votes }) rest old mid → Sets t key item n mid new → HasItems t key (record c { votes = take (i + 1) votes ++ drop (i + 1) c.votes }) rest old new
+    → HasItems t key (record c { votes = take i votes ++ drop i c.votes }) rest old mid → SetsFrom t key item (get_or c.votes i 0) n mid new → HasItems t key (record c { votes = take (i + 1) votes ++ drop (i + 1) c.votes }) rest old new
 votes_more t key c votes i item n d rest old mid new low few same place is none was sets =
     let xs = take i votes in
     let ys = drop (i + 1) c.votes in
@@ -135,7 +135,7 @@ votes_more t key c votes i item n d rest old mid new low few same place is none 
     let before : take i votes ++ drop i c.votes ≡ xs ++ o ∷ ys = ap (λ l. take i votes ++ l) (drop_more c.votes i 0 (omega (arith, low, same))) in
     let after : take (i + 1) votes ++ drop (i + 1) c.votes ≡ xs ++ n ∷ ys = ap (λ l. l ++ ys) (take_more votes i d low ∙ ap (λ x. take i votes ++ x ∷ []) (sym is)) ∙ append_assoc (take i votes) (n ∷ []) ys in
     subst (λ l. HasItems t key (record c { votes = l }) rest old new) (sym after)
-    (vote_at t key c xs o n ys rest old mid new (omega (arith, long, low, few)) none (subst (λ l. HasItems t key (record c { votes = l }) rest old mid) before was) (subst (λ m. Sets t key m n mid new) (sym here) sets))
+    (vote_at t key c xs o n ys rest old mid new (omega (arith, long, low, few)) none (subst (λ l. HasItems t key (record c { votes = l }) rest old mid) before was) (subst (λ m. SetsFrom t key m o n mid new) (sym here) sets))
 
 pub votes_all : (t : KeyedTable) (key : List ℕ) (c : VoteCounts) (votes : List ℕ) (i : ℕ) (rest : List Row) (old new : State) → length votes ≤ i → length c.votes ≡ length votes → HasItems t key (record c { votes = take i votes ++ drop i c.votes }) rest old new
     → HasItems t key (record c { votes = votes }) rest old new
@@ -144,22 +144,22 @@ votes_all t key c votes i rest old new all same has =
 
 -- ---- the blank and the spoiled votes
 
-pub blank_set : (t : KeyedTable) (key : List ℕ) (c : VoteCounts) (n : ℕ) (rest : List Row) (old new : State) → IsInside old → filter (has_key key) rest ≡ [] → IsPermutation (map (item_row key) (items_of c) ++ rest) (rows_in t old) → Sets t key 0 n old new
+pub blank_set : (t : KeyedTable) (key : List ℕ) (c : VoteCounts) (n : ℕ) (rest : List Row) (old new : State) → IsInside old → filter (has_key key) rest ≡ [] → IsPermutation (map (item_row key) (items_of c) ++ rest) (rows_in t old) → SetsFrom t key 0 c.blank n old new
     → HasItems t key (record c { blank = n }) rest old new
 blank_set t key c n rest old new inside none held sets =
     let back : List (ℕ × ℕ) = numbers_with_places 1 c.votes ++ (spoiled_item, c.spoiled) ∷ [] in
     let high : AllByRecursion (IsApart 0) back = all-append (IsApart 0) (numbers_with_places 1 c.votes) ((spoiled_item, c.spoiled) ∷ []) (all_weaker _ (IsApart 0) (higher 0) (numbers_with_places 1 c.votes) (above 0 1 c.votes (omega arith))) (higher 0 (spoiled_item, c.spoiled) (omega arith), tt) in
     back_again t key [] back 0 rest n (rows_in t old) old old new (record { inside = inside; rows = IsPermutation-refl _; others = λ u apart. refl; setup = refl })
-    (sets c.blank (more t key [] back 0 rest) (lacks t key [] back 0 rest tt high none) (at_first t key [] back 0 rest c.blank old held))
+    (sets (more t key [] back 0 rest) (lacks t key [] back 0 rest tt high none) (at_first t key [] back 0 rest c.blank old held))
 
-pub spoiled_set : (t : KeyedTable) (key : List ℕ) (c : VoteCounts) (n : ℕ) (rest : List Row) (old mid new : State) → length c.votes ≤ 60 → filter (has_key key) rest ≡ [] → HasItems t key c rest old mid → Sets t key spoiled_item n mid new → HasItems t key (record c { spoiled = n }) rest old new
+pub spoiled_set : (t : KeyedTable) (key : List ℕ) (c : VoteCounts) (n : ℕ) (rest : List Row) (old mid new : State) → length c.votes ≤ 60 → filter (has_key key) rest ≡ [] → HasItems t key c rest old mid → SetsFrom t key spoiled_item c.spoiled n mid new → HasItems t key (record c { spoiled = n }) rest old new
 spoiled_set t key c n rest old mid new few none was sets =
     let front : List (ℕ × ℕ) = (0, c.blank) ∷ numbers_with_places 1 c.votes in
     let low : AllByRecursion (IsApart spoiled_item) front = (lower spoiled_item (0, c.blank) (omega arith), all_weaker _ (IsApart spoiled_item) (lower spoiled_item) (numbers_with_places 1 c.votes) (below spoiled_item 1 c.votes (omega (arith, few)))) in
-    back_again t key front [] spoiled_item rest n _ old mid new was (sets c.spoiled (more t key front [] spoiled_item rest) (lacks t key front [] spoiled_item rest low tt none) (at_first t key front [] spoiled_item rest c.spoiled mid was.rows))
+    back_again t key front [] spoiled_item rest n _ old mid new was (sets (more t key front [] spoiled_item rest) (lacks t key front [] spoiled_item rest low tt none) (at_first t key front [] spoiled_item rest c.spoiled mid was.rows))
 
 pub spoiled_after : (t : KeyedTable) (key : List ℕ) (c : VoteCounts) (n : ℕ) (rest : List Row) (old mid new : State) (r : Result Unit Error) → length c.votes ≤ 60 → filter (has_key key) rest ≡ [] → HasItems t key c rest old mid
-    → ((before : ℕ) (more : List Row) → filter (is_item key spoiled_item) more ≡ [] → IsPermutation (item_cells key spoiled_item before ∷ more) (rows_in t mid) → OnOk r (HasRows t (item_cells key spoiled_item n ∷ more) mid new))
+    → ((more : List Row) → filter (is_item key spoiled_item) more ≡ [] → IsPermutation (item_cells key spoiled_item c.spoiled ∷ more) (rows_in t mid) → OnOk r (HasRows t (item_cells key spoiled_item n ∷ more) mid new))
     → OnOk r (HasItems t key (record c { spoiled = n }) rest old new)
 spoiled_after t key c n rest old mid new (Ok done) few none was sets = spoiled_set t key c n rest old mid new few none was sets
 spoiled_after t key c n rest old mid new (Err e) few none was sets = tt

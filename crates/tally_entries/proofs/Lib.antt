@@ -6,5 +6,6 @@ pub mod LotLemmas
 pub mod ConLemmas
 pub mod OrderLemmas
 pub mod ViewLemmas
+pub mod StageLemmas
 pub mod StatusLemmas
 pub mod WholeViewLemmas

@@ -26,7 +26,8 @@ use Rattle.tally_tables.specs.Cells.{return_rows, status_number}
 use Rattle.tally_tables.specs.Reading.{status_of}
 use Rattle.tally_tables.specs.declared.views.Statuses.{Statuses}
 use Rattle.tally_entries.specs.Constituencies.{FindsProgressRow, IsKnown}
-use Rattle.tally_entries.specs.internal.Found.{AreWithin, FindsKnown, FindsStage, FindsStatus, FindsStatuses, row_with, status_in, with_station}
+use Rattle.tally_entries.specs.internal.Found.{AreWithin, FindsKnown, FindsStatus, FindsStatuses, IsStageAmong, row_with, status_in, with_station}
+use Rattle.tally_entries.proofs.StageLemmas.{stage-among}
 use Rattle.tally_entries.specs.Statuses.{statuses_in}
 use Rattle.tally_entries.proofs.ReturnLemmas.{heads_keyed}
 use Rattle.tally_entries.proofs.ViewLemmas.{found_none, found_rows}
@@ -128,15 +129,15 @@ known_before con known old mid found same finds setup returns held rows = finds 
 
 -- ---- how far a constituency has come
 
-pub finds_row : (con : Constituency) (code : List ℕ) (known : Option Statuses) (s : State) (stage : ℕ × Bool) (statuses : Statuses) (row : ProgressRow) → code ≡ con.code → FindsStage con.code s stage → FindsKnown con known s statuses
-    → row ≡ row_with code stage statuses → FindsProgressRow con known s row
-finds_row con code known s stage statuses row own staged counted is setup of there held returns cons = go (get of.cons con.code) refl there
+pub finds_row : (con : Constituency) (code : List ℕ) (known : Option Statuses) (rows : List Row) (s : State) (stage : ℕ × Bool) (statuses : Statuses) (row : ProgressRow) → code ≡ con.code → IsStageAmong con.code rows stage → FindsKnown con known s statuses
+    → row ≡ row_with code stage statuses → FindsProgressRow con known rows s row
+finds_row con code known rows s stage statuses row own among counted is setup of there held all returns cons = go (get of.cons con.code) refl there
   where
     go : (o : Option ConState) → get of.cons con.code ≡ o → is_some o ≡ true → row ≡ progress_row of con
     go None at some = absurd (true≢false (sym some))
     go (Some c) at some =
         let stands : con_state of con.code ≡ c = ap (λ o. unwrap_or o opening_con) at in
-        let here = staged of.cons c at cons in
+        let here = stage-among con.code s rows stage all among of.cons c at cons in
         let numbers : statuses ≡ statuses_in of.returns con.stations = counted setup of.returns held returns in
         is ∙ (λ i. record {
           con = own i;

@@ -24,7 +24,7 @@ use Rattle.tally_tables.proofs.EntryLemmas.{AreRead, counts_again}
 use Rattle.tally_tables.proofs.ItemLemmas.{IsRead, map_some}
 use Rattle.tally_entries.specs.Constituencies.{FindsCertified, FindsSums}
 use Rattle.tally_entries.specs.Entries.{stored_in}
-use Rattle.tally_entries.specs.internal.Found.{FindsStage, certified_in, stage_in}
+use Rattle.tally_entries.specs.internal.Found.{certified_in}
 use Rattle.tally_entries.proofs.OrderLemmas.{totals_in_order}
 use Rattle.tally_entries.proofs.ReturnLemmas.{items_keyed}
 
@@ -73,23 +73,6 @@ certified_is con s rows found looked read cons standing is held = certified_one 
 pub finds_certified : (con : List ℕ) (s : State) (rows : List Row) (result : Result Bool Error) → IsFound Cons con s rows → IfOk result (λ found. certified_in con rows ≡ Some found) → IfOk result (FindsCertified con s)
 finds_certified con s rows (Err e) looked read = tt
 finds_certified con s rows (Ok found) looked read = certified_is con s rows found looked read
-
--- ---- its edition
-
-stage_one : (con : List ℕ) (c : ConState) (rows : List Row) (found : ℕ × Bool) → rows ≡ con_rows (con, c) → stage_in con rows ≡ Some found → (found.0 ≡ c.edition) × (found.1 ≡ c.certified)
-stage_one con c [] found is read = absurd (let e = is in cc)
-stage_one con c (row ∷ []) found is read =
-    let standing = map_some (λ (s : ℕ × Bool × List ℕ). (s.0, s.1)) (standing_of con row) found read in
-    let own = con_row_is con c standing.0 row is standing.1 in
-    (ap (λ (f : ℕ × Bool). f.0) (sym standing.2) ∙ own.0, ap (λ (f : ℕ × Bool). f.1) (sym standing.2) ∙ own.1)
-stage_one con c (row ∷ other ∷ rows) found is read = absurd (let e = is in cc)
-
-stage_is : (con : List ℕ) (s : State) (rows : List Row) (found : ℕ × Bool) → IsFound Cons con s rows → stage_in con rows ≡ Some found → FindsStage con s found
-stage_is con s rows found looked read cons standing is held = stage_one con standing rows found (found_rows Cons con_rows cons_keyed cons con s rows standing is held (record { whole = (refl, tt); rising = (tt, tt) }) looked) read
-
-pub finds_stage : (con : List ℕ) (s : State) (rows : List Row) (result : Result (ℕ × Bool) Error) → IsFound Cons con s rows → IfOk result (λ found. stage_in con rows ≡ Some found) → IfOk result (FindsStage con s)
-finds_stage con s rows (Err e) looked read = tt
-finds_stage con s rows (Ok found) looked read = stage_is con s rows found looked read
 
 -- ---- its sums
 

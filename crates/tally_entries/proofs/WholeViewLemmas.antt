@@ -1,5 +1,5 @@
 -- The view of a constituency is what its rows read as.
-use Rattle.std.proofs.Common.{◌≡◌, ◌<◌, ◌≤◌, ◌+◌, ◌^◌, ℕ, true, true≢false, List, [], ◌∷◌, ◌++◌, map, length, Option, None, Some, Ok, Err, Result, IfOk, refl, sym, ap, ap₂, subst, ◌∙◌, arith}
+use Rattle.std.proofs.Common.{◌≡◌, ◌<◌, ◌≤◌, ◌+◌, ◌^◌, ℕ, Bool, true, false, true≢false, List, [], ◌∷◌, ◌++◌, map, length, Option, None, Some, Ok, Err, Result, IfOk, refl, sym, ap, ap₂, subst, ◌∙◌, arith}
 use Rattle.std.specs.Prelude.{All, sum, is_some, slice_index, unwrap_or}
 use Rattle.std.specs.FinMap.{entries, entries_sorted, get}
 use Rattle.std.specs.List.{AllByRecursion, flat_map}
@@ -27,6 +27,7 @@ use Rattle.tally_returns.specs.Return.{Returns}
 use Rattle.tally_returns.specs.State.{State, ConState, con_state, opening_con}
 use Rattle.tally_returns.specs.View.{View, view_of, view_with, gone_candidate, gone_candidates, past_record, past_records, votes_at, votes_of_lists, closed_counts, blank_of, spoiled_of}
 use Rattle.tally_statements.specs.declared.table.KeyedTable.TheVariants.{Cons, Lots, Seats, Gone, Totals, Past}
+use Rattle.tally_statements.specs.Office.{IsFound}
 use Rattle.tally_tables.specs.Cells.{con_rows, gone_row, gone_rows, items_of, lot_rows, numbers_with_places, past_rows, record_rows, seat_rows, total_rows, totals_of}
 use Rattle.tally_tables.specs.Reading.{all_gone_of, numbers_from, past_of, standing_of, sums_of}
 use Rattle.tally_tables.specs.TablesOfState.{AreTables}
@@ -34,8 +35,8 @@ use Rattle.tally_tables.specs.Views.{Tables, statuses_of, view_in}
 use Rattle.tally_tables.specs.declared.views.Statuses.{Statuses}
 use Rattle.tally_tables.proofs.ConLemmas.{IsReadablePast, all_gone_are, all_gone_rows, all_past_again, all_past_rows, standing_row, sums_of_view}
 use Rattle.tally_tables.proofs.ItemLemmas.{IsRead, and_then_some, items_are, map_some, number_is, number_reads, number_rows}
-use Rattle.tally_entries.specs.Constituencies.{FindsView}
-use Rattle.tally_entries.specs.internal.Found.{AreFound, FindsKnown, Rows, view_of_rows}
+use Rattle.tally_entries.specs.Constituencies.{FindsView, IsViewWith, with_past_of}
+use Rattle.tally_entries.specs.internal.Found.{AreFound, FindsKnown, IsFoundIf, Rows, view_of_rows}
 use Rattle.tally_entries.specs.Statuses.{statuses_in}
 use Rattle.tally_entries.proofs.OrderLemmas.{gone_in_order, gone_keyed, lots_items, numbers_in_order, past_in_order, past_keyed, seats_items, sorted_rise, totals_in_order}
 use Rattle.tally_entries.proofs.ReturnLemmas.{items_keyed}
@@ -130,16 +131,14 @@ one_row : (con : Constituency) (statuses : Statuses) (rows : Rows) (v : View) (r
 one_row con statuses rows v row is read = subst (λ l. view_of_rows con statuses (record { cons = l; tables = rows.tables }) ≡ Some v) is read
 
 module _ (setup : List Constituency) (con : Constituency) (s : Seen) (text : List ℕ) (of : State) (limits : IsConstituency con) (known : constituency_with con.code setup ≡ Some con) (lawful : IsLawfulState setup of) (tables : AreTables setup text of s.now.trees) where
-  view_is : (c : ConState) (statuses : Statuses) (rows : Rows) (v : View) → get of.cons con.code ≡ Some c → AreFound con.code s rows → statuses ≡ statuses_in of.returns con.stations → ReadsAs con statuses (row_of con.code c) rows.tables v
-      → v ≡ view_with con c of.returns (tables.given con.code)
-  view_is c statuses found_here v there found counted read =
+  view_but_past : (c : ConState) (with_past : Bool) (statuses : Statuses) (rows : Rows) (v : View) → get of.cons con.code ≡ Some c → AreFound with_past con.code s rows → statuses ≡ statuses_in of.returns con.stations → ReadsAs con statuses (row_of con.code c) rows.tables v
+      → record v { past = past_records c.past } ≡ view_with con c of.returns (tables.given con.code)
+  view_but_past c with_past statuses found_here v there found counted read =
       let rows = found_here.tables in
       let key = con.code in
       let stands : con_state of key ≡ c = ap (λ o. unwrap_or o opening_con) there in
       let own : IsLawfulIn con of = lawful.cons key con known in
       let under : All IsUnderPlaces (entries c.gone) = subst (λ (x : ConState). All IsUnderPlaces (entries x.gone)) stands own.gone in
-      let last : c.edition ≤ 9999 = subst (λ (x : ConState). x.edition ≤ 9999) stands own.seen.last in
-      let old_past : All (IsLawfulPast con c.edition) (map past_record (entries c.past)) = subst (λ (x : ConState). All (IsLawfulPast con x.edition) (past_records x.past)) stands own.seen.past in
       let head = con_row_is key c (v.edition, v.certified, v.note) (row_of key c) refl read.standing in
       let lot : v.lot ≡ c.lot = one_numbers key rows.lots v.lot c.lot (found_rows Lots lot_rows (λ e. items_keyed e.0 (numbers_with_places 1 e.1.lot)) of.cons key s rows.lots c there tables.lots (numbers_in_order Lots lots_items key c.lot) found.lots) read.lots in
       let seats : v.seats ≡ tables.given key =
@@ -147,9 +146,6 @@ module _ (setup : List Constituency) (con : Constituency) (s : Seen) (text : Lis
       let gone : v.gone ≡ gone_candidates c.gone =
       one_gone key rows.gone v.gone (entries c.gone)
       (found_rows Gone gone_rows (λ e. gone_keyed e.0 (entries e.1.gone)) of.cons key s rows.gone c there tables.gone (gone_in_order key (entries c.gone) (sorted_rise text_cmp (entries c.gone) (entries_sorted c.gone)) (recursion_from_All IsUnderPlaces (entries c.gone) under)) found.gone) read.gone in
-      let past : v.past ≡ past_records c.past =
-      one_past con c.edition rows.past v.past (entries c.past) limits last old_past
-      (found_rows Past past_rows (λ e. past_keyed e.0 (entries e.1.past)) of.cons key s rows.past c there tables.past (past_in_order key (entries c.past) (sorted_rise nat_cmp (entries c.past) (entries_sorted c.past))) found.past) read.past in
       let known_sums : totals_of setup of.returns key ≡ sums_with con of.returns = totals_are setup con of.returns known in
       let few : length (totals_of setup of.returns key).votes ≤ 60 = subst (λ (x : VoteCounts). length x.votes ≤ 60) (sym known_sums) (few_votes con of.returns limits) in
       let sums : sums_of_view v ≡ sums_with con of.returns =
@@ -172,24 +168,54 @@ module _ (setup : List Constituency) (con : Constituency) (s : Seen) (text : Lis
         spoiled = (sums i).spoiled;
         seats = seats i;
         gone = gone i;
-        past = past i;
+        past = past_records c.past;
       }
+
+  past_is : (c : ConState) (statuses : Statuses) (rows : Rows) (v : View) → get of.cons con.code ≡ Some c → IsFound Past con.code s rows.tables.past → ReadsAs con statuses (row_of con.code c) rows.tables v → v.past ≡ past_records c.past
+  past_is c statuses found_here v there found read =
+      let rows = found_here.tables in
+      let key = con.code in
+      let stands : con_state of key ≡ c = ap (λ o. unwrap_or o opening_con) there in
+      let own : IsLawfulIn con of = lawful.cons key con known in
+      let last : c.edition ≤ 9999 = subst (λ (x : ConState). x.edition ≤ 9999) stands own.seen.last in
+      let old_past : All (IsLawfulPast con c.edition) (map past_record (entries c.past)) = subst (λ (x : ConState). All (IsLawfulPast con x.edition) (past_records x.past)) stands own.seen.past in
+      one_past con c.edition rows.past v.past (entries c.past) limits last old_past
+      (found_rows Past past_rows (λ e. past_keyed e.0 (entries e.1.past)) of.cons key s rows.past c there tables.past (past_in_order key (entries c.past) (sorted_rise nat_cmp (entries c.past) (entries_sorted c.past))) found) read.past
+
+  none_is : (c : ConState) (statuses : Statuses) (rows : Rows) (v : View) → rows.tables.past ≡ [] → ReadsAs con statuses (row_of con.code c) rows.tables v → v.past ≡ []
+  none_is c statuses rows v none read =
+      let both : Some [] ≡ Some v.past = sym (ap (past_of con.code (length con.lists)) none) ∙ read.past in (let e = both in cc)
+
+  -- with the certificates on record, or without them
+  view_with_past : (c : ConState) (with_past : Bool) (statuses : Statuses) (rows : Rows) (v : View) → get of.cons con.code ≡ Some c → AreFound with_past con.code s rows → statuses ≡ statuses_in of.returns con.stations → ReadsAs con statuses (row_of con.code c) rows.tables v
+      → IsViewWith with_past con of v
+  view_with_past c with_past statuses rows v there found counted read =
+      let stands : con_state of con.code ≡ c = ap (λ o. unwrap_or o opening_con) there in
+      let given = tables.given con.code in
+      let but : record v { past = past_records c.past } ≡ view_of con of given = view_but_past c with_past statuses rows v there found counted read ∙ ap (λ x. view_with con x of.returns given) (sym stands) in
+      go with_past (subst (λ (x : ConState). record v { past = past_records x.past } ≡ view_of con of given) (sym stands) but) found.past
+    where
+      go : (b : Bool) → with_past_of con of v ≡ view_of con of (tables.given con.code) → IsFoundIf b Past con.code s rows.tables.past → IsViewWith b con of v
+      go true but past =
+          let stands : con_state of con.code ≡ c = ap (λ o. unwrap_or o opening_con) there in
+          let own : v.past ≡ past_records (con_state of con.code).past = past_is c statuses rows v there past read ∙ ap (λ (x : ConState). past_records x.past) (sym stands) in
+          let same : v ≡ view_of con of (tables.given con.code) = ap (λ (p : List PastSeats). record v { past = p }) own ∙ but in
+          subst (IsView con of) (sym same) (refl, tables.allotted con.code con known)
+      go false but past = (none_is c statuses rows v past read, subst (IsView con of) (sym but) (refl, tables.allotted con.code con known))
 
   held : (o : Option ConState) → get of.cons con.code ≡ o → is_some o ≡ true → (c : ConState) × (get of.cons con.code ≡ Some c)
   held None at some = absurd (true≢false (sym some))
   held (Some c) at some = (c, at)
 
-  is_view : (statuses : Statuses) (rows : Rows) (v : View) → AreFound con.code s rows → statuses ≡ statuses_in of.returns con.stations → view_of_rows con statuses rows ≡ Some v → IsView con of v
-  is_view statuses rows v found counted read =
+  is_view : (with_past : Bool) (statuses : Statuses) (rows : Rows) (v : View) → AreFound with_past con.code s rows → statuses ≡ statuses_in of.returns con.stations → view_of_rows con statuses rows ≡ Some v → IsViewWith with_past con of v
+  is_view with_past statuses rows v found counted read =
       let there = held (get of.cons con.code) refl (lawful.known con.code ∙ ap is_some known) in
-      let stands : con_state of con.code ≡ there.0 = ap (λ o. unwrap_or o opening_con) there.1 in
       let is : rows.cons ≡ con_rows (con.code, there.0) = found_rows Cons con_rows cons_keyed of.cons con.code s rows.cons there.0 there.1 tables.cons (record { whole = (refl, tt); rising = (tt, tt) }) found.cons in
       let parts = reads_as con statuses (row_of con.code there.0) rows.tables v (one_row con statuses rows v (row_of con.code there.0) is read) in
-      let same : v ≡ view_of con of (tables.given con.code) = view_is there.0 statuses rows v there.1 found counted parts ∙ ap (λ c. view_with con c of.returns (tables.given con.code)) (sym stands) in
-      subst (IsView con of) (sym same) (refl, tables.allotted con.code con known)
+      view_with_past there.0 with_past statuses rows v there.1 found counted parts
 
-pub finds_view : (setup : List Constituency) (con : Constituency) (known : Option Statuses) (s : Seen) (statuses : Statuses) (rows : Rows) (result : Result View Error) → IsConstituency con → AreFound con.code s rows
-    → FindsKnown con known s statuses → IfOk result (λ view. view_of_rows con statuses rows ≡ Some view) → IfOk result (FindsView setup con known s)
-finds_view setup con known s statuses rows (Err e) limits found counted read = tt
-finds_view setup con known s statuses rows (Ok v) limits found counted read = λ text of there lawful true_is tables.
-    is_view setup con s text of limits there lawful tables statuses rows v found (counted setup of.returns true_is tables.returns) read
+pub finds_view : (setup : List Constituency) (con : Constituency) (known : Option Statuses) (with_past : Bool) (s : Seen) (statuses : Statuses) (rows : Rows) (result : Result View Error) → IsConstituency con → AreFound with_past con.code s rows
+    → FindsKnown con known s statuses → IfOk result (λ view. view_of_rows con statuses rows ≡ Some view) → IfOk result (FindsView setup con known with_past s)
+finds_view setup con known with_past s statuses rows (Err e) limits found counted read = tt
+finds_view setup con known with_past s statuses rows (Ok v) limits found counted read = λ text of there lawful true_is tables.
+    is_view setup con s text of limits there lawful tables with_past statuses rows v found (counted setup of.returns true_is tables.returns) read

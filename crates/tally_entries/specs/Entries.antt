@@ -8,6 +8,7 @@ use Rattle.sqlite.specs.declared.transaction.Transaction.{Transaction}
 use Rattle.sqlite.specs.Held.{state}
 use Rattle.sqlite.specs.State.{State as Seen, HasCleanDisk}
 use Rattle.tally_rows.specs.Rows.{AreRowsOf, has_key, others}
+use Rattle.tally_frac.specs.Limits.{most_lists}
 use Rattle.tally_rules.specs.Constituency.{Constituency}
 use Rattle.tally_returns.specs.Counts.{VoteCounts}
 use Rattle.tally_returns.specs.Return.{StationReturn, Returns}
@@ -113,7 +114,7 @@ SetsCounts = SetsItems Counts
 -- What is found at a station is its return, where that is lawful there and for at most 60 lists.
 abbrev pub FindsReturn : List Constituency → List ℕ → Seen → Option StationReturn → Type 0
 FindsReturn setup station s found =
-    (returns : Returns) → AreReturnsIn setup returns s → IfSome (get returns station) (λ standing. IsLawfulAt setup station standing × (length standing.counts.votes ≤ 60)) → found ≡ get returns station
+    (returns : Returns) → AreReturnsIn setup returns s → IfSome (get returns station) (λ standing. IsLawfulAt setup station standing × (length standing.counts.votes ≤ most_lists)) → found ≡ get returns station
 
 -- ---- lots and seats
 

@@ -1,32 +1,32 @@
 //! What a constituency has in the tables `lots` and `seats`.
 
-ghost use Rattle.std.specs.Prelude.{◌≤◌, length};
-ghost use Rattle.sqlite.specs.Held.{state};
+ghost use Rattle.std.specs.Prelude.{◌≡◌, ◌≤◌, length};
+ghost use Rattle.tally_frac.specs.Limits.{most_lists};
 ghost use Rattle.tally_statements.specs.Office.{Inserts, SetsItem};
 ghost use Rattle.tally_statements.specs.declared.table.KeyedTable.TheVariants.{Cons, Lots, Seats, Totals};
 ghost use Rattle.tally_statements.specs.declared.table.KeyedTable.TheVariants as table;
 ghost use Rattle.tally_tables.specs.Cells.{con_rows, gone_rows, lot_rows, past_rows, record_rows};
 ghost use Rattle.tally_entries.specs.Constituencies.{Changes, ChangesSums, HasGone, HasLot, HasRecord, IsAt, Writes, WritesSeats, candidate_row};
-ghost use Rattle.tally_entries.specs.Entries.{AddsRows, PutsNumbers, SetsItems, SetsNumbers};
-ghost use Rattle.tally_statements.specs.Inside.{Stays};
+ghost use Rattle.tally_entries.specs.Entries.{AddsRows, PutsNumbers};
+ghost use Rattle.tally_entries.specs.internal.Sums.{MovesItem, MovesItems, MovesNumbers};
+ghost use Rattle.tally_statements.specs.Inside.{Acts, Stays};
 
-use crate::items::{ItemTable, SPOILED_ITEM, insert_numbers};
+use crate::items::{ItemTable, insert_numbers};
 use sqlite::{Alter, Error, ErrorCode, Transaction};
-use tally_returns::{Gone, Past};
+use tally_returns::{Counts, Gone, Past};
 use tally_statements::{
     delete_lot, delete_seats, insert_gone, insert_past, update_con, update_total,
 };
-use tally_tables::Sums;
+use tally_tables::{SPOILED_ITEM, Sums};
 
 /// Writes the lot of a constituency in place of what it had: the places of the lists, in the order
 /// of the lot. An empty lot leaves no rows.
 pub fn put_lot<S: Alter>(tx: &mut Transaction<'_, S>, con: &str, lot: &[u32]) -> Result<(), Error>
-    requires few { length lot.now ≤ 60 }
+    requires few { length lot.now ≤ most_lists }
     ensures stays { Stays S.Store tx.old tx.new }
-    ensures put { PutsNumbers Lots con.now lot.now
-        (state S.Store tx.old.conn.now) (state S.Store tx.new.conn.now) result }
-    ensures lots { Writes Lots lot_rows con.now (HasLot lot.now)
-        (state S.Store tx.old.conn.now) (state S.Store tx.new.conn.now) result }
+    ensures put { Acts S.Store (PutsNumbers Lots con.now lot.now) tx.old tx.new result }
+    ensures lots { Acts S.Store (Writes Lots lot_rows con.now (HasLot lot.now))
+        tx.old tx.new result }
 {
     delete_lot(tx, con)?;
     insert_numbers(tx, ItemTable::Lots, con, lot)
@@ -39,12 +39,10 @@ pub fn put_seats<S: Alter>(
     con: &str,
     seats: &[u32],
 ) -> Result<(), Error>
-    requires few { length seats.now ≤ 60 }
+    requires few { length seats.now ≤ most_lists }
     ensures stays { Stays S.Store tx.old tx.new }
-    ensures put { PutsNumbers Seats con.now seats.now
-        (state S.Store tx.old.conn.now) (state S.Store tx.new.conn.now) result }
-    ensures seats { WritesSeats con.now seats.now
-        (state S.Store tx.old.conn.now) (state S.Store tx.new.conn.now) result }
+    ensures put { Acts S.Store (PutsNumbers Seats con.now seats.now) tx.old tx.new result }
+    ensures seats { Acts S.Store (WritesSeats con.now seats.now) tx.old tx.new result }
 {
     delete_seats(tx, con)?;
     insert_numbers(tx, ItemTable::Seats, con, seats)
@@ -60,8 +58,8 @@ pub fn put_con<S: Alter>(
     note: &str,
 ) -> Result<(), Error>
     ensures stays { Stays S.Store tx.old tx.new }
-    ensures written { Changes Cons con_rows con.now (IsAt edition certified note.now)
-        (state S.Store tx.old.conn.now) (state S.Store tx.new.conn.now) result }
+    ensures written { Acts S.Store (Changes Cons con_rows con.now (IsAt edition certified note.now))
+        tx.old tx.new result }
 {
     update_con(tx, con, edition, certified, note)
 }
@@ -73,8 +71,8 @@ fn insert_candidate<S: Alter>(
     gone: &Gone,
 ) -> Result<(), Error>
     ensures stays { Stays S.Store tx.old tx.new }
-    ensures inserted { Inserts table.Gone (candidate_row con.now gone.now)
-        (state S.Store tx.old.conn.now) (state S.Store tx.new.conn.now) result }
+    ensures inserted { Acts S.Store (Inserts table.Gone (candidate_row con.now gone.now))
+        tx.old tx.new result }
 {
     insert_gone(tx, con, gone.list, gone.place, gone.note.as_str())
 }
@@ -82,8 +80,8 @@ fn insert_candidate<S: Alter>(
 /// Adds a candidate of a constituency who is gone.
 pub fn put_gone<S: Alter>(tx: &mut Transaction<'_, S>, con: &str, gone: &Gone) -> Result<(), Error>
     ensures stays { Stays S.Store tx.old tx.new }
-    ensures written { Writes table.Gone gone_rows con.now (HasGone gone.now)
-        (state S.Store tx.old.conn.now) (state S.Store tx.new.conn.now) result }
+    ensures written { Acts S.Store (Writes table.Gone gone_rows con.now (HasGone gone.now))
+        tx.old tx.new result }
 {
     insert_candidate(tx, con, gone)
 }
@@ -95,10 +93,10 @@ fn insert_record<S: Alter>(
     edition: u32,
     seats: &[u32],
 ) -> Result<(), Error>
-    requires few { length seats.now ≤ 60 }
+    requires few { length seats.now ≤ most_lists }
     ensures stays { Stays S.Store tx.old tx.new }
-    ensures added { AddsRows table.Past (record_rows con.now (edition, seats.now))
-        (state S.Store tx.old.conn.now) (state S.Store tx.new.conn.now) result }
+    ensures added { Acts S.Store (AddsRows table.Past (record_rows con.now (edition, seats.now)))
+        tx.old tx.new result }
 {
     let mut list = 1u32;
     for n in seats {
@@ -115,10 +113,10 @@ pub fn put_record<S: Alter>(
     con: &str,
     past: &Past,
 ) -> Result<(), Error>
-    requires few { length past.now.seats ≤ 60 }
+    requires few { length past.now.seats ≤ most_lists }
     ensures stays { Stays S.Store tx.old tx.new }
-    ensures written { Writes table.Past past_rows con.now (HasRecord past.now)
-        (state S.Store tx.old.conn.now) (state S.Store tx.new.conn.now) result }
+    ensures written { Acts S.Store (Writes table.Past past_rows con.now (HasRecord past.now))
+        tx.old tx.new result }
 {
     insert_record(tx, con, past.edition, past.seats.as_slice())
 }
@@ -131,8 +129,7 @@ fn update_sum<S: Alter>(
     n: u64,
 ) -> Result<(), Error>
     ensures stays { Stays S.Store tx.old tx.new }
-    ensures updated { SetsItem Totals con.now item n
-        (state S.Store tx.old.conn.now) (state S.Store tx.new.conn.now) result }
+    ensures updated { Acts S.Store (SetsItem Totals con.now item n) tx.old tx.new result }
 {
     let Ok(n) = i64::try_from(n) else {
         return Err(Error::SqliteFailure(ErrorCode::TooBig));
@@ -140,43 +137,74 @@ fn update_sum<S: Alter>(
     update_total(tx, con, item, n)
 }
 
-/// Sets the sums of the lists of a constituency, one by one.
-fn update_list_sums<S: Alter>(
+/// Sets the sum of an item that is moved by a number. One that is moved by 0 is as it was, and is
+/// not written.
+fn move_sum<S: Alter>(
     tx: &mut Transaction<'_, S>,
     con: &str,
+    item: u32,
+    by: u32,
+    n: u64,
+) -> Result<(), Error>
+    ensures stays { Stays S.Store tx.old tx.new }
+    ensures moved { Acts S.Store (MovesItem Totals con.now item by n) tx.old tx.new result }
+{
+    if by == 0 {
+        return Ok(());
+    }
+    update_sum(tx, con, item, n)
+}
+
+/// Sets the sums of the lists of a constituency that are moved by these numbers, one by one.
+fn move_list_sums<S: Alter>(
+    tx: &mut Transaction<'_, S>,
+    con: &str,
+    by: &[u32],
     votes: &[u64],
 ) -> Result<(), Error>
-    requires few { length votes.now ≤ 60 }
+    requires few { length votes.now ≤ most_lists }
+    requires lists { length by.now ≡ length votes.now }
     ensures stays { Stays S.Store tx.old tx.new }
-    ensures set { SetsNumbers Totals con.now votes.now
-        (state S.Store tx.old.conn.now) (state S.Store tx.new.conn.now) result }
+    ensures moved { Acts S.Store (MovesNumbers Totals con.now by.now votes.now)
+        tx.old tx.new result }
 {
     let mut item = 1u32;
-    for n in votes {
-        update_sum(tx, con, item, *n)?;
+    for place in 0..votes.len() {
+        move_sum(tx, con, item, by[place], votes[place])?;
         item += 1;
     }
     Ok(())
 }
 
-/// Sets the sums of a constituency, number by number.
-fn update_sums<S: Alter>(tx: &mut Transaction<'_, S>, con: &str, sums: &Sums) -> Result<(), Error>
-    requires few { length sums.now.votes ≤ 60 }
+/// Sets the sums of a constituency that are moved by these counts, number by number.
+fn move_sums<S: Alter>(
+    tx: &mut Transaction<'_, S>,
+    con: &str,
+    by: &Counts,
+    sums: &Sums,
+) -> Result<(), Error>
+    requires few { length sums.now.votes ≤ most_lists }
+    requires lists { length by.now.votes ≡ length sums.now.votes }
     ensures stays { Stays S.Store tx.old tx.new }
-    ensures set { SetsItems Totals con.now sums.now
-        (state S.Store tx.old.conn.now) (state S.Store tx.new.conn.now) result }
+    ensures moved { Acts S.Store (MovesItems Totals con.now by.now sums.now) tx.old tx.new result }
 {
-    update_sum(tx, con, 0, sums.blank)?;
-    update_list_sums(tx, con, sums.votes.as_slice())?;
-    update_sum(tx, con, SPOILED_ITEM, sums.spoiled)
+    move_sum(tx, con, 0, by.blank, sums.blank)?;
+    move_list_sums(tx, con, by.votes.as_slice(), sums.votes.as_slice())?;
+    move_sum(tx, con, SPOILED_ITEM, by.spoiled, sums.spoiled)
 }
 
-/// Writes the sums of a constituency in place of sums for as many lists.
-pub fn put_sums<S: Alter>(tx: &mut Transaction<'_, S>, con: &str, sums: &Sums) -> Result<(), Error>
-    requires few { length sums.now.votes ≤ 60 }
+/// Writes the sums of a constituency in place of sums from which they differ by these counts. What
+/// a count of 0 does not move is not written.
+pub fn put_sums<S: Alter>(
+    tx: &mut Transaction<'_, S>,
+    con: &str,
+    by: &Counts,
+    sums: &Sums,
+) -> Result<(), Error>
+    requires few { length sums.now.votes ≤ most_lists }
+    requires lists { length by.now.votes ≡ length sums.now.votes }
     ensures stays { Stays S.Store tx.old tx.new }
-    ensures written { ChangesSums con.now sums.now
-        (state S.Store tx.old.conn.now) (state S.Store tx.new.conn.now) result }
+    ensures written { Acts S.Store (ChangesSums con.now by.now sums.now) tx.old tx.new result }
 {
-    update_sums(tx, con, sums)
+    move_sums(tx, con, by, sums)
 }

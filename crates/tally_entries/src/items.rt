@@ -1,19 +1,17 @@
 //! Rows of a key, an item and a number, in the tables that have them.
 
 ghost use Rattle.std.specs.Prelude.{◌≤◌, map, length};
-ghost use Rattle.sqlite.specs.Held.{state};
+ghost use Rattle.tally_frac.specs.Limits.{most_lists};
 ghost use Rattle.tally_statements.specs.Office.{Inserts, item_cells};
 ghost use Rattle.tally_tables.specs.Cells.{item_row, items_of, numbers_with_places};
 ghost use Rattle.tally_entries.specs.Entries.{AddsRows, SetsCounts, SetsVotes, keyed_table};
-ghost use Rattle.tally_statements.specs.Inside.{Stays};
+ghost use Rattle.tally_statements.specs.Inside.{Acts, Stays};
 ghost use Rattle.tally_statements.specs.declared.table.KeyedTable.TheVariants.{Counts};
 
 use sqlite::{Alter, Error, Transaction};
 use tally_returns::Counts as VoteCounts;
 use tally_statements::{insert_count, insert_lot, insert_seats, update_count};
-
-/// The item of the spoiled votes.
-pub(crate) const SPOILED_ITEM: u32 = 61;
+use tally_tables::SPOILED_ITEM;
 
 /// The tables whose rows are a key, an item and a number of 32 bits.
 #[derive(Clone, Copy)]
@@ -32,8 +30,8 @@ fn insert_item<S: Alter>(
     n: u32,
 ) -> Result<(), Error>
     ensures stays { Stays S.Store tx.old tx.new }
-    ensures inserted { Inserts (keyed_table table) (item_cells key.now item n)
-        (state S.Store tx.old.conn.now) (state S.Store tx.new.conn.now) result }
+    ensures inserted { Acts S.Store (Inserts (keyed_table table) (item_cells key.now item n))
+        tx.old tx.new result }
 {
     match table {
         ItemTable::Counts => insert_count(tx, key, item, n),
@@ -49,11 +47,10 @@ pub(crate) fn insert_numbers<S: Alter>(
     key: &str,
     numbers: &[u32],
 ) -> Result<(), Error>
-    requires few { length numbers.now ≤ 60 }
+    requires few { length numbers.now ≤ most_lists }
     ensures stays { Stays S.Store tx.old tx.new }
-    ensures added { AddsRows (keyed_table table)
-        (map (item_row key.now) (numbers_with_places 1 numbers.now))
-        (state S.Store tx.old.conn.now) (state S.Store tx.new.conn.now) result }
+    ensures added { Acts S.Store (AddsRows (keyed_table table)
+        (map (item_row key.now) (numbers_with_places 1 numbers.now))) tx.old tx.new result }
 {
     let mut item = 1u32;
     for n in numbers {
@@ -69,10 +66,10 @@ pub(crate) fn insert_counts<S: Alter>(
     station: &str,
     counts: &VoteCounts,
 ) -> Result<(), Error>
-    requires few { length counts.now.votes ≤ 60 }
+    requires few { length counts.now.votes ≤ most_lists }
     ensures stays { Stays S.Store tx.old tx.new }
-    ensures added { AddsRows Counts (map (item_row station.now) (items_of counts.now))
-        (state S.Store tx.old.conn.now) (state S.Store tx.new.conn.now) result }
+    ensures added { Acts S.Store
+        (AddsRows Counts (map (item_row station.now) (items_of counts.now))) tx.old tx.new result }
 {
     insert_item(tx, ItemTable::Counts, station, 0, counts.blank)?;
     insert_numbers(tx, ItemTable::Counts, station, counts.votes.as_slice())?;
@@ -85,10 +82,9 @@ fn update_votes<S: Alter>(
     station: &str,
     votes: &[u32],
 ) -> Result<(), Error>
-    requires few { length votes.now ≤ 60 }
+    requires few { length votes.now ≤ most_lists }
     ensures stays { Stays S.Store tx.old tx.new }
-    ensures set { SetsVotes station.now votes.now
-        (state S.Store tx.old.conn.now) (state S.Store tx.new.conn.now) result }
+    ensures set { Acts S.Store (SetsVotes station.now votes.now) tx.old tx.new result }
 {
     let mut item = 1u32;
     for n in votes {
@@ -104,10 +100,9 @@ pub(crate) fn update_counts<S: Alter>(
     station: &str,
     counts: &VoteCounts,
 ) -> Result<(), Error>
-    requires few { length counts.now.votes ≤ 60 }
+    requires few { length counts.now.votes ≤ most_lists }
     ensures stays { Stays S.Store tx.old tx.new }
-    ensures set { SetsCounts station.now counts.now
-        (state S.Store tx.old.conn.now) (state S.Store tx.new.conn.now) result }
+    ensures set { Acts S.Store (SetsCounts station.now counts.now) tx.old tx.new result }
 {
     update_count(tx, station, 0, counts.blank)?;
     update_votes(tx, station, counts.votes.as_slice())?;

@@ -11,4 +11,4 @@ mod views;
 pub use constituencies::{put_con, put_gone, put_lot, put_record, put_seats, put_sums};
 pub use find::find_return;
 pub use returns::{add_return, change_return, correct_return};
-pub use views::{find_certified, find_progress_row, find_sums, find_view};
+pub use views::{find_certified, find_progress_row, find_sums, find_view, rows_of_cons};

@@ -1,12 +1,12 @@
 //! The return of a station in the tables `returns` and `counts`.
 
 ghost use Rattle.std.specs.Prelude.{◌≤◌, length};
-ghost use Rattle.sqlite.specs.Held.{state};
+ghost use Rattle.tally_frac.specs.Limits.{most_lists};
 ghost use Rattle.tally_statements.specs.Office.{Inserts};
 ghost use Rattle.tally_statements.specs.declared.table.KeyedTable.TheVariants.{Returns};
 ghost use Rattle.tally_tables.specs.Cells.{return_row};
 ghost use Rattle.tally_entries.specs.Entries.{AddsReturn, ChangesReturn, CorrectsReturn, ReplacesHead};
-ghost use Rattle.tally_statements.specs.Inside.{Stays};
+ghost use Rattle.tally_statements.specs.Inside.{Acts, Stays};
 
 use crate::items::{insert_counts, update_counts};
 use sqlite::{Alter, Error, Transaction};
@@ -22,8 +22,8 @@ fn insert_head<S: Alter>(
     standing: &Return,
 ) -> Result<(), Error>
     ensures stays { Stays S.Store tx.old tx.new }
-    ensures inserted { Inserts Returns (return_row con.now (station.now, standing.now))
-        (state S.Store tx.old.conn.now) (state S.Store tx.new.conn.now) result }
+    ensures inserted { Acts S.Store
+        (Inserts Returns (return_row con.now (station.now, standing.now))) tx.old tx.new result }
 {
     insert_return(
         tx,
@@ -44,10 +44,10 @@ pub fn add_return<S: Alter>(
     station: &str,
     standing: &Return,
 ) -> Result<(), Error>
-    requires few { length standing.now.counts.votes ≤ 60 }
+    requires few { length standing.now.counts.votes ≤ most_lists }
     ensures stays { Stays S.Store tx.old tx.new }
-    ensures added { AddsReturn con.now station.now standing.now
-        (state S.Store tx.old.conn.now) (state S.Store tx.new.conn.now) result }
+    ensures added { Acts S.Store (AddsReturn con.now station.now standing.now)
+        tx.old tx.new result }
 {
     insert_head(tx, con, station, standing)?;
     insert_counts(tx, station, &standing.counts)
@@ -60,8 +60,7 @@ fn update_head<S: Alter>(
     standing: &Return,
 ) -> Result<(), Error>
     ensures stays { Stays S.Store tx.old tx.new }
-    ensures updated { ReplacesHead station.now standing.now
-        (state S.Store tx.old.conn.now) (state S.Store tx.new.conn.now) result }
+    ensures updated { Acts S.Store (ReplacesHead station.now standing.now) tx.old tx.new result }
 {
     update_return(
         tx,
@@ -80,8 +79,7 @@ pub fn change_return<S: Alter>(
     standing: &Return,
 ) -> Result<(), Error>
     ensures stays { Stays S.Store tx.old tx.new }
-    ensures changed { ChangesReturn station.now standing.now
-        (state S.Store tx.old.conn.now) (state S.Store tx.new.conn.now) result }
+    ensures changed { Acts S.Store (ChangesReturn station.now standing.now) tx.old tx.new result }
 {
     update_head(tx, station, standing)
 }
@@ -93,10 +91,10 @@ pub fn correct_return<S: Alter>(
     station: &str,
     standing: &Return,
 ) -> Result<(), Error>
-    requires few { length standing.now.counts.votes ≤ 60 }
+    requires few { length standing.now.counts.votes ≤ most_lists }
     ensures stays { Stays S.Store tx.old tx.new }
-    ensures corrected { CorrectsReturn station.now standing.now
-        (state S.Store tx.old.conn.now) (state S.Store tx.new.conn.now) result }
+    ensures corrected { Acts S.Store (CorrectsReturn station.now standing.now)
+        tx.old tx.new result }
 {
     update_head(tx, station, standing)?;
     update_counts(tx, station, &standing.counts)

@@ -6,18 +6,18 @@ ghost use Rattle.tally_returns.specs.View.{FitsView};
 ghost use Rattle.tally_rows.specs.Cells.{number_of};
 ghost use Rattle.tally_statements.specs.Office.{IsFound};
 ghost use Rattle.tally_tables.specs.Reading.{status_of, sums_of};
-ghost use Rattle.tally_entries.specs.Constituencies.{FindsCertified, FindsProgressRow, FindsSums, FindsView};
+ghost use Rattle.tally_entries.specs.Constituencies.{AreCons, FindsCertified, FindsProgressRow, FindsSums, FindsView};
 ghost use Rattle.tally_entries.specs.Entries.{Finds, FindsFrom};
-ghost use Rattle.tally_entries.specs.internal.Found.{AreFound, AreWithin, ChangesNothing, FindsKnown, FindsStage, FindsStatus, FindsStatuses, certified_in, row_with, stage_in, status_in, view_of_rows, with_station};
+ghost use Rattle.tally_entries.specs.internal.Found.{AreFound, AreWithin, ChangesNothing, FindsKnown, FindsStatus, FindsStatuses, IsStageAmong, certified_in, row_with, status_in, view_of_rows, with_station};
 ghost use Rattle.tally_statements.specs.Inside.{IsOpenInside, OnlyReads, StaysFrom};
 
 use sqlite::{Alter, Error, ErrorCode, Row, Transaction};
 use std::alloc::Global;
 use std::marker::Model;
 use tally_returns::{ConView, ProgressRow, Status};
-use tally_rows::number_at;
+use tally_rows::{number_at, text_at};
 use tally_rules::{Code, Constituency, Setup, Station};
-use tally_statements::{KeyedTable, rows_of_key};
+use tally_statements::{KeyedTable, all_rows, rows_of_key};
 use tally_tables::{ConTables, Statuses, Sums, standing_in, status_of, sums_in, view_in};
 
 /// Whether the constituency that has this row is certified. Other rows are an error.
@@ -110,13 +110,30 @@ impl Model for ConRows {
     } };
 }
 
-/// The rows of a constituency.
-fn rows_of_con<S: Alter>(tx: &mut Transaction<'_, S>, con: &str) -> Result<ConRows, Error>
+/// The rows of a constituency, with those of its certificates on record or without them.
+fn rows_of_con<S: Alter>(
+    alloc: Global,
+    tx: &mut Transaction<'_, S>,
+    con: &str,
+    with_past: bool,
+) -> Result<ConRows, Error>
     ensures reads { OnlyReads S.Store tx.old tx.new result }
-    ensures found { Finds S.Store (AreFound con.now) tx.old tx.new result }
+    ensures found { Finds S.Store (AreFound with_past con.now) tx.old tx.new result }
 {
     let (cons, lots) = rows_of_two(tx, KeyedTable::Cons, KeyedTable::Lots, con)?;
     let (seats, gone) = rows_of_two(tx, KeyedTable::Seats, KeyedTable::Gone, con)?;
+    if !with_past {
+        let totals = rows_of_key(tx, KeyedTable::Totals, con)?;
+        let past = Vec::new(alloc);
+        return Ok(ConRows {
+            cons,
+            lots,
+            seats,
+            gone,
+            totals,
+            past,
+        });
+    }
     let (totals, past) = rows_of_two(tx, KeyedTable::Totals, KeyedTable::Past, con)?;
     Ok(ConRows {
         cons,
@@ -267,45 +284,55 @@ fn fitting_view(
 }
 
 /// What is seen of a constituency: its rows, its sums, and how many returns are in each status.
-/// Where these numbers are not known, each return is looked up by its station. Rows that do not
-/// have the shape of such a view are an error.
+/// Where these numbers are not known, each return is looked up by its station. Certificates on
+/// record are many; where they are not asked for they are not read, and the view has none. Rows
+/// that do not have the shape of such a view are an error.
 pub fn find_view<S: Alter>(
     alloc: Global,
     tx: &mut Transaction<'_, S>,
     setup: &Setup,
     con: &Constituency,
     known: Option<Statuses>,
+    with_past: bool,
 ) -> Result<ConView, Error>
     ensures reads { OnlyReads S.Store tx.old tx.new result }
     ensures fits { IfOk result (λ view. FitsView con.now view) }
-    ensures found { Finds S.Store (FindsView setup.now con.now known) tx.old tx.new result }
+    ensures found { Finds S.Store (FindsView setup.now con.now known with_past)
+        tx.old tx.new result }
 {
-    let rows = rows_of_con(tx, con.code.as_str())?;
+    let rows = rows_of_con(alloc, tx, con.code.as_str(), with_past)?;
     let statuses = find_known(tx, con, known)?;
     fitting_view(alloc, con, statuses, &rows)
 }
 
-/// The edition of the constituency that has this row, and whether it is certified. Other rows are
-/// an error.
-fn stage_in(rows: &[Row], con: &str) -> Result<(u32, bool), Error>
-    ensures { IfOk result (λ found. stage_in con.now rows.now ≡ Some found) }
+/// The rows of all constituencies in `cons`.
+pub fn rows_of_cons<S: Alter>(tx: &mut Transaction<'_, S>) -> Result<Vec<Row>, Error>
+    ensures reads { OnlyReads S.Store tx.old tx.new result }
+    ensures found { Finds S.Store (λ seen rows. AreCons rows.items seen) tx.old tx.new result }
 {
-    if rows.len() != 1 {
-        return Err(Error::SqliteFailure(ErrorCode::DatabaseCorrupt));
-    }
-    match standing_in(&rows[0], con.as_bytes()) {
-        Some(standing) => Ok((standing.edition, standing.certified)),
-        None => Err(Error::SqliteFailure(ErrorCode::DatabaseCorrupt)),
+    all_rows(tx, KeyedTable::Cons)
+}
+
+/// Whether a row is that of a code before this one.
+fn is_before(row: &Row, con: &[u8]) -> bool {
+    match text_at(row, 0) {
+        Some(code) => code < con,
+        None => false,
     }
 }
 
-/// The edition of a constituency, and whether it is certified.
-fn find_stage<S: Alter>(tx: &mut Transaction<'_, S>, con: &str) -> Result<(u32, bool), Error>
-    ensures reads { OnlyReads S.Store tx.old tx.new result }
-    ensures found { Finds S.Store (FindsStage con.now) tx.old tx.new result }
+/// The edition of a constituency, and whether it is certified, by its row among these, which are in
+/// the order of their codes. Where none of them is its row, that is an error.
+fn stage_among(rows: &[Row], con: &str) -> Result<(u32, bool), Error>
+    ensures { IfOk result (IsStageAmong con.now rows.now) }
 {
-    let rows = rows_of_key(tx, KeyedTable::Cons, con)?;
-    stage_in(&rows, con)
+    let place = rows.partition_point(|row| is_before(row, con.as_bytes()));
+    if place < rows.len() {
+        if let Some(standing) = standing_in(&rows[place], con.as_bytes()) {
+            return Ok((standing.edition, standing.certified));
+        }
+    }
+    Err(Error::SqliteFailure(ErrorCode::DatabaseCorrupt))
 }
 
 fn row_with(con: Code, stage: (u32, bool), statuses: Statuses) -> ProgressRow
@@ -323,17 +350,20 @@ fn row_with(con: Code, stage: (u32, bool), statuses: Statuses) -> ProgressRow
     }
 }
 
-/// How far a constituency has come: its row of `cons`, and how many returns are in each status.
-/// Where these numbers are not known, each return is looked up by its station.
+/// How far a constituency has come: its row among those of `cons`, and how many returns are in each
+/// status. Where these numbers are not known, each return is looked up by its station.
 pub fn find_progress_row<S: Alter>(
     tx: &mut Transaction<'_, S>,
+    cons: &[Row],
     con: &Constituency,
     known: Option<Statuses>,
 ) -> Result<ProgressRow, Error>
-    ensures reads { OnlyReads S.Store tx.old tx.new result }
-    ensures found { Finds S.Store (FindsProgressRow con.now known) tx.old tx.new result }
+    ensures stays { StaysFrom IsOpenInside S.Store tx.old tx.new }
+    ensures found { FindsFrom IsOpenInside S.Store (FindsProgressRow con.now known cons.now)
+        tx.old tx.new result }
+    ensures same { ChangesNothing S.Store tx.old tx.new result }
 {
-    let stage = find_stage(tx, con.code.as_str())?;
+    let stage = stage_among(cons, con.code.as_str())?;
     let statuses = find_known(tx, con, known)?;
     Ok(row_with(con.code, stage, statuses))
 }

@@ -46,6 +46,7 @@ fn bytes_read<D: Door>(alloc: Global, door: &mut D, most: usize) -> Result<Strin
 // Whether the current connection takes a text whole.
 fn is_taken<D: Door>(door: &mut D) -> bool
     requires { D.connected door.old ≡ true }
+    ensures { D.connected door.new ≡ true }
 {
     write_all(door, b"hello").is_ok()
 }
@@ -155,6 +156,35 @@ fn writes_have_a_time_of_their_own(rt: HostRuntime) -> Result<(), Fail> {
         seconds: Cell::new(0),
     };
     answer(TcpDoor::timed(listener, clock))?;
+    Ok(())
+}
+
+// What two reads of the next connection give, and whether it takes a text twice.
+fn two_of_each<D: Door>(alloc: Global, door: &mut D) -> Result<String, Fail> {
+    if door.next().is_err() {
+        return Ok(String::from_str(alloc, "none is to come")?);
+    }
+    let first = bytes_read(alloc, door, 2)?;
+    let second = bytes_read(alloc, door, 2)?;
+    let taken = is_taken(door);
+    let again = is_taken(door);
+    Ok(format!(in alloc; "[{first}] [{second}] {taken} {again}")?)
+}
+
+// The connection is taken at 0 seconds: a read at 20 is in time, one at 40 is not. What is written
+// begins at 60: a write at 80 is in time, one at 100 is not.
+#[test]
+fn reads_and_writes_fail_after_thirty_seconds(rt: HostRuntime) -> Result<(), Fail> {
+    let listener = TcpListener::bind(&rt, "127.0.0.1:0")?;
+    let mut client = TcpStream::connect(&rt, listener.local_addr()?)?;
+    client.write_all(b"abc")?;
+    client.shutdown(Shutdown::Write)?;
+    let clock = Leaping {
+        seconds: Cell::new(0),
+    };
+    let mut door = TcpDoor::timed(listener, clock);
+    let said = two_of_each(rt.alloc(), &mut door)?;
+    assert!(rt; said.as_str() == "[ab] [failed] true false", "{said}");
     Ok(())
 }
 

@@ -1,5 +1,5 @@
 -- What comes of a text, by the records that were given of it.
-use Rattle.std.proofs.Common.{◌≡◌, ◌<◌, ◌≤◌, ◌+◌, ◌++◌, ◌∷◌, ◌∙◌, ℕ, zero, suc, List, [], true, false, Option, Some, None, length, take, drop, map, refl, sym, ap, subst, arith, add-one, length-append, append_assoc, inl, inr}
+use Rattle.std.proofs.Common.{◌≡◌, ◌<◌, ◌≤◌, ◌+◌, ◌++◌, ◌∷◌, ◌∙◌, ℕ, Bool, zero, suc, List, [], true, false, Option, Some, None, length, take, drop, map, refl, sym, ap, subst, arith, add-one, length-append, append_assoc, inl, inr}
 use Rattle.std.specs.Prelude.{◌≢◌, if◌then◌else◌, nat_lt, option_map, is_some, IfSome, Result, Ok, Err}
 use Rattle.std.proofs.lemmas.Bool.{lt-ltb, le-ltb}
 use Rattle.std.specs.BTreeSet.{contains}
@@ -15,7 +15,7 @@ use Rattle.tally_keeper.specs.declared.source.ImportFault.{ImportFault}
 use Rattle.tally_keeper.specs.declared.source.ImportFault.TheVariants as cause
 use Rattle.tally_records.specs.Input.{AreAll, complete_records, text_records, text_stop}
 use Rattle.tally_records.specs.Given.{HasGiven, IsReadingOn, sep_of}
-use Rattle.tally_import.specs.ReturnRows.{Advances, AllRowsCame, GivesRow, IsAt, IsNext, IsReadingRows, coming_after, bytes_coming, coming_of, import_fault, is_header, no_header, came_by, ending, fault_alone, rows_coming, station_limits_in, still_coming, text_coming}
+use Rattle.tally_import.specs.ReturnRows.{Advances, AllRowsCame, GivesRow, IsAt, IsNext, IsReadingRows, IsTrueAt, coming_after, bytes_coming, coming_of, import_fault, is_header, no_header, came_by, ending, fault_alone, rows_coming, station_limits_in, still_coming, text_coming}
 use Rattle.tally_import.specs.ReturnRowsValue.{coming_at, own_fault}
 use Rattle.tally_import.specs.Rows.{row_of}
 use Rattle.tally_records.specs.declared.end.Stop.{Stop}
@@ -372,3 +372,23 @@ pub advanced-shown : (text old_left left : Option (List ℕ)) (con : Constituenc
 advanced-shown text old_left left con sep old new result at given =
     subst (λ k. GivesNext k result (option_map (coming_at con sep (came_by new) (ending new)) text)) (sym (still-shown text old_left con sep old at))
     (subst (λ k. GivesNext (option_map (still_coming con sep old) text) result k) (sym (still-shown text left con sep new given.0)) given.1)
+
+-- ---- how rows ended, and what was noted of their reader
+
+-- rows that ended with a failed read had one
+pub failed-noted : (stage : Stage) (failed : Bool) → IsTrueAt stage failed → ending stage ≡ Some (Some cause.Read) → failed ≡ true
+failed-noted Unread failed noted is = cc
+failed-noted (Reading rows) failed noted is = cc
+failed-noted (Ended None) failed noted is = cc
+failed-noted (Ended (Some cause.BadHeader)) failed noted is = cc
+failed-noted (Ended (Some cause.TooLong)) failed noted is = cc
+failed-noted (Ended (Some cause.Read)) failed noted is = noted
+failed-noted (Ended (Some cause.Memory)) failed noted is = cc
+failed-noted (Ended (Some cause.Store)) failed noted is = cc
+
+-- rows that came to their end had none
+pub none-noted : (stage : Stage) (failed : Bool) → IsTrueAt stage failed → ending stage ≡ Some None → failed ≡ false
+none-noted Unread failed noted is = cc
+none-noted (Reading rows) failed noted is = cc
+none-noted (Ended None) failed noted is = noted
+none-noted (Ended (Some fault)) failed noted is = cc

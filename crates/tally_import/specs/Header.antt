@@ -3,6 +3,7 @@
 use Rattle.std.specs.Prelude.{◌&&◌, not, if◌then◌else◌, ℕ, Bool, true, List, [], ◌∷◌, length, nat_eq, nat_le, Option, Some, None, codes}
 use Rattle.std.specs.List.{list_all, list_any}
 use Rattle.std.specs.Cmp.Lexicographic.{pointwise}
+use Rattle.tally_frac.specs.Limits.{most_lists}
 use Rattle.tally_rules.specs.Code.{is_code}
 
 abbrev pub same_text : List ℕ → List ℕ → Bool
@@ -15,7 +16,7 @@ are_distinct (text ∷ texts) = not (list_any (same_text text) texts) && are_dis
 
 -- 1 to 60 lists, each named by a code of its own
 abbrev pub are_lists : List (List ℕ) → Bool
-are_lists lists = nat_le 1 (length lists) && nat_le (length lists) 60 && list_all is_code lists && are_distinct lists
+are_lists lists = nat_le 1 (length lists) && nat_le (length lists) most_lists && list_all is_code lists && are_distinct lists
 
 -- the lists that a record names, where it is a header
 abbrev pub header_lists : List (List ℕ) → Option (List (List ℕ))

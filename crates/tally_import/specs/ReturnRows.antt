@@ -2,6 +2,7 @@
 use Rattle.std.specs.Prelude.{◌≡◌, ◌≢◌, ◌≤◌, ◌⊎◌, if◌then◌else◌, nat_lt, ℕ, Bool, true, false, List, [], ◌∷◌, map, length, take, drop, Option, Some, None, option_map, is_some, IfSome, Result, Ok, Err, codes, ⊤}
 use Rattle.std.specs.BTreeSet.{BTreeSet, contains}
 use Rattle.std.specs.Cmp.Lexicographic.{pointwise}
+use Rattle.tally_frac.specs.Limits.{most_lists}
 use Rattle.tally_rules.specs.Code.{code_cmp}
 use Rattle.tally_rules.specs.Constituency.{Constituency, list_codes}
 use Rattle.tally_returns.specs.Lodge.{Stations}
@@ -101,7 +102,7 @@ pub record IsReadingRows (text left : Option (List ℕ)) (con : Constituency) (s
   pub reading : IsReadingOn rows.records
   pub separator : sep_of rows.records ≡ sep
   pub lists : rows.lists ≡ length con.lists
-  pub few : length con.lists ≤ 60
+  pub few : length con.lists ≤ most_lists
   pub stations : HasStations con rows.stations
   pub within : rows.came ≤ row_limit
   pub come : (header : List (List ℕ)) × (given : List (List (List ℕ))) × HasCome text left rows (list_codes con.lists) header given
@@ -138,7 +139,7 @@ pub record IsBegun (text left : Option (List ℕ)) (con : Constituency) (sep : S
 -- something can be given at this stage: the header was read
 abbrev pub IsStarted : Stage → Type 0
 IsStarted Unread = ⊥
-IsStarted (Reading rows) = IsReadingOn rows.records × (rows.lists ≤ 60) × (rows.came ≤ row_limit)
+IsStarted (Reading rows) = IsReadingOn rows.records × (rows.lists ≤ most_lists) × (rows.came ≤ row_limit)
 IsStarted (Ended fault) = ⊤
 
 -- ---- the end

@@ -4,3 +4,5 @@ pub mod Progress
 pub mod Rounds
 pub mod Notes
 pub mod ReturnRowsWithin
+pub mod FixedNames
+pub mod NextRow

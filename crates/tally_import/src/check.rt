@@ -1,12 +1,14 @@
 //! The check of a text of returns.
 
-ghost use Rattle.std.specs.Prelude.{◌≡◌, ◌≤◌, Bool, List, ℕ, None, true, Ok, Err, IfErr, IfSome, OnOk};
+ghost use Rattle.std.specs.Prelude.{◌≡◌, ◌≤◌, Bool, List, [], ◌∷◌, length, ℕ, Some, None, true, Ok, Err, IfErr, IfSome, OnOk};
 ghost use Rattle.std.specs.Io.KnownBytes.{Appends};
+ghost use Rattle.tally_frac.specs.Limits.{most_lists};
 ghost use Rattle.tally_import.specs.Check.{Checks, IsSilent, check_result, no_header};
+ghost use Rattle.tally_import.specs.Header.{header_lists};
 ghost use Rattle.tally_records.specs.Given.{IsReadingOn, TellsTrue};
 ghost use Rattle.tally_records.specs.Watch.{flag_after_stop, has_failed};
 ghost use Rattle.tally_import.specs.declared.check.CheckFault.TheVariants as cause;
-ghost use Rattle.tally_import.specs.internal.Rounds.{AreBehind, Finds, Imports, IsOfReading, ended_import};
+ghost use Rattle.tally_import.specs.internal.Rounds.{AreBehind, Finds, FindsAfter, Imports, IsOfReading, ended_import};
 
 use crate::header::lists_of;
 use crate::import::Import;
@@ -18,6 +20,7 @@ use std::alloc::{AllocError, Global};
 use std::io::{Read, Write};
 use tally_keeper::ROW_LIMIT;
 use tally_records::{End, Records, Sep, Stop, Watch};
+use tally_rules::Code;
 
 /// Why a text could not be checked.
 #[derive(Clone, Copy, Debug, PartialEq, Eq)]
@@ -142,6 +145,24 @@ fn checked_text<R: Read>(
     ensures all_read { OnOk result (has_failed watch.new ≡ has_failed watch.old) }
 {
     let mut records = Records::new(alloc, reader, watch, sep)?;
+    text_of_records(alloc, reader, watch, &mut records)
+}
+
+/// The check text of records, of which none was given.
+fn text_of_records<R: Read>(
+    alloc: Global,
+    reader: &mut R,
+    watch: &mut Watch<R>,
+    records: &mut Records,
+) -> Result<String, CheckFault>
+    requires { IsReadingOn records.old }
+    ensures finds { FindsAfter []
+        records.old (R.remaining reader.old) (R.remaining reader.new) result }
+    ensures read { (before : Bool) → TellsTrue before records.old (has_failed watch.old)
+        → IfErr result (λ fault. IsOfReading fault (has_failed watch.new)) }
+    ensures all_read { (before : Bool) → TellsTrue before records.old (has_failed watch.old)
+        → OnOk result (has_failed watch.new ≡ before) }
+{
     let mut header = ByteRecord::new(alloc);
     if let Some(end) = records.next(alloc, reader, watch, &mut header)? {
         return Err(no_header(end));
@@ -149,8 +170,29 @@ fn checked_text<R: Read>(
     let Some(lists) = lists_of(alloc, &header)? else {
         return Err(CheckFault::BadHeader);
     };
-    match check_rows(alloc, reader, watch, &mut records, lists.len()) {
-        Ok(import) => import_text(alloc, lists.as_slice(), &import),
+    text_under_header(alloc, reader, watch, records, lists.as_slice())
+}
+
+/// The check text of the records after a header of these lists.
+fn text_under_header<R: Read>(
+    alloc: Global,
+    reader: &mut R,
+    watch: &mut Watch<R>,
+    records: &mut Records,
+    lists: &[Code],
+) -> Result<String, CheckFault>
+    requires reading { IsReadingOn records.old }
+    requires few { length lists.now ≤ most_lists }
+    ensures finds { (header : List (List ℕ)) → Some lists.now ≡ header_lists header
+        → FindsAfter (header ∷ [])
+        records.old (R.remaining reader.old) (R.remaining reader.new) result }
+    ensures read { (before : Bool) → TellsTrue before records.old (has_failed watch.old)
+        → IfErr result (λ fault. IsOfReading fault (has_failed watch.new)) }
+    ensures all_read { (before : Bool) → TellsTrue before records.old (has_failed watch.old)
+        → OnOk result (has_failed watch.new ≡ before) }
+{
+    match check_rows(alloc, reader, watch, records, lists.len()) {
+        Ok(import) => import_text(alloc, lists, &import),
         Err(fault) => Err(fault),
     }
 }
@@ -176,7 +218,7 @@ fn check_rows<R: Read>(
     lists: usize,
 ) -> Result<Import, CheckFault>
     requires reading { IsReadingOn records.old }
-    requires lists { lists ≤ 60 }
+    requires lists { lists ≤ most_lists }
     ensures imports { Imports lists
         (AreBehind (R.remaining reader.old) (R.remaining reader.new) records.old) result }
     ensures read { (before : Bool) → TellsTrue before records.old (has_failed watch.old)

@@ -1,19 +1,18 @@
 //! The header of a text of returns.
 
-ghost use Rattle.std.specs.Prelude.{◌≡◌, ◌≤◌, ◌&&◌, [], length, slice_index_or, codes, IfOk, option_map};
+ghost use Rattle.std.specs.Prelude.{◌≡◌, ◌≤◌, length, IfOk, option_map};
 ghost use Rattle.csv.specs.Records.{fields_of};
-ghost use Rattle.tally_import.specs.Header.{header_lists, same_text};
+ghost use Rattle.tally_import.specs.Header.{header_lists};
+ghost use Rattle.tally_import.specs.internal.FixedNames.{has_fixed_names};
 
 use csv::ByteRecord;
 use std::alloc::{AllocError, Global};
+use tally_frac::MOST_LISTS;
 use tally_records::field;
 use tally_rules::Code;
 
 /// How many names come before those of the lists.
 pub(crate) const FIXED_NAMES: usize = 4;
-
-/// The most lists that a constituency has.
-const MOST_LISTS: usize = 60;
 
 /// The lists that a record names, if it is a header.
 pub(crate) fn lists_of(alloc: Global, fields: &ByteRecord) -> Result<Option<Vec<Code>>, AllocError>
@@ -42,10 +41,7 @@ pub(crate) fn lists_of(alloc: Global, fields: &ByteRecord) -> Result<Option<Vec<
 /// Whether a record begins with the names that every header begins with.
 pub(crate) fn has_fixed_names(fields: &ByteRecord) -> bool
     requires { 4 ≤ length (fields_of fields.now) }
-    ensures { result ≡ (same_text (slice_index_or (fields_of fields.now) 0 []) (codes "station")
-        && same_text (slice_index_or (fields_of fields.now) 1 []) (codes "slip")
-        && same_text (slice_index_or (fields_of fields.now) 2 []) (codes "blank")
-        && same_text (slice_index_or (fields_of fields.now) 3 []) (codes "spoiled")) }
+    ensures { result ≡ has_fixed_names (fields_of fields.now) }
 {
     field(fields, 0) == b"station".as_slice()
         && field(fields, 1) == b"slip".as_slice()

@@ -1,8 +1,8 @@
 //! An import into the empty map, in which every code is a station.
 
 ghost use Rattle.std.specs.Prelude.{◌≡◌, ◌+◌, ◌≤◌, ◌++◌, List, [], ◌∷◌, length, Some, IfOk, OnOk};
+ghost use Rattle.tally_frac.specs.Limits.{most_lists};
 ghost use Rattle.tally_keeper.specs.Import.{row_answer, after_row, lodged_counts};
-ghost use Rattle.tally_returns.specs.Counts.{VoteCounts};
 ghost use Rattle.tally_keeper.specs.Import.{RowAnswer, count_of, or_else};
 ghost use Rattle.tally_keeper.specs.Source.{row_limit};
 ghost use Rattle.tally_returns.specs.Lodge.{lodge, lodge_answer};
@@ -36,12 +36,12 @@ pub(crate) struct Import {
 }
 
 impl Import {
-    ghost use Rattle.tally_import.specs.internal.Progress.{HasTaken, Holds, Taken, lodged_of};
-    ghost use Rattle.tally_import.specs.internal.Totals.{AreTotals, AreTotalsOfFew};
+    ghost use Rattle.tally_import.specs.internal.Progress.{HasTaken, Holds, TableMoves, Taken, lodged_of};
+    ghost use Rattle.tally_import.specs.internal.Totals.{AreTotalsOfFew, TotalsRise};
 
     /// An import that has taken no row, of so many lists.
     pub(crate) fn new(alloc: Global, lists: usize) -> Result<Import, AllocError>
-        requires { lists ≤ 60 }
+        requires { lists ≤ most_lists }
         ensures { IfOk result (HasTaken (record { lists = lists; rows = [] })) }
     {
         Ok(Import {
@@ -76,17 +76,14 @@ impl Import {
         alloc: Global,
         ask: Ask,
     ) -> Result<Option<Result<LodgeReply, Refusal>>, AllocError>
-        requires lists { self.old.lists ≤ 60 }
+        requires lists { self.old.lists ≤ most_lists }
         requires totals { AreTotalsOfFew self.old.lists self.old.totals }
         ensures answer { IfOk result (λ answer. (returns : Returns) → Holds self.old.returns returns
             → row_answer (every_code self.old.lists) returns (Row.Lodge ask) ≡ answer) }
-        ensures table { OnOk result ((returns : Returns) → Holds self.old.returns returns
-            → Holds self.new.returns
-            (after_row (every_code self.old.lists) returns (Row.Lodge ask))) }
-        ensures totals { IfOk result (λ answer. (lodged : List VoteCounts)
-            → AreTotals self.old.lists lodged self.old.totals
-            → AreTotals self.old.lists
-            (lodged ++ lodged_counts (Row.Lodge ask ∷ []) (answer ∷ [])) self.new.totals) }
+        ensures table { OnOk result (TableMoves self.old.returns self.new.returns
+            (λ returns. after_row (every_code self.old.lists) returns (Row.Lodge ask))) }
+        ensures totals { IfOk result (λ answer. TotalsRise self.old.lists self.old.totals
+            (lodged_counts (Row.Lodge ask ∷ []) (answer ∷ [])) self.new.totals) }
         ensures lists { self.new.lists ≡ self.old.lists }
         ensures count { self.new.count ≡ self.old.count }
     {
@@ -110,16 +107,14 @@ impl Import {
         slip: Code,
         counts: Counts,
     ) -> Result<Result<LodgeReply, Refusal>, AllocError>
-        requires lists { self.old.lists ≤ 60 }
+        requires lists { self.old.lists ≤ most_lists }
         requires totals { AreTotalsOfFew self.old.lists self.old.totals }
         ensures answer { IfOk result (λ answer. (returns : Returns) → Holds self.old.returns returns
             → answer ≡ lodge_answer (every_code self.old.lists) returns station slip counts) }
-        ensures table { OnOk result ((returns : Returns) → Holds self.old.returns returns
-            → Holds self.new.returns
-            (lodge (every_code self.old.lists) returns station slip counts)) }
-        ensures totals { IfOk result (λ answer. (lodged : List VoteCounts)
-            → AreTotals self.old.lists lodged self.old.totals
-            → AreTotals self.old.lists (lodged ++ lodged_of counts answer) self.new.totals) }
+        ensures table { OnOk result (TableMoves self.old.returns self.new.returns
+            (λ returns. lodge (every_code self.old.lists) returns station slip counts)) }
+        ensures totals { IfOk result (λ answer. TotalsRise self.old.lists self.old.totals
+            (lodged_of counts answer) self.new.totals) }
         ensures lists { self.new.lists ≡ self.old.lists }
         ensures count { self.new.count ≡ self.old.count }
     {

@@ -7,6 +7,7 @@ mod import;
 pub mod laws;
 mod output;
 mod return_rows;
+pub mod room;
 mod row;
 mod summary;
 mod totals;

@@ -5,6 +5,7 @@ ghost use Rattle.std.specs.BTreeSet.{contains};
 ghost use Rattle.std.specs.List.{list_any};
 ghost use Rattle.std.specs.Str.{bytes_eq};
 ghost use Rattle.csv.specs.Records.{fields_of};
+ghost use Rattle.tally_frac.specs.Limits.{most_lists};
 ghost use Rattle.tally_rules.specs.Code.{code_cmp};
 ghost use Rattle.tally_rules.specs.Constituency.{Constituency, list_codes, station_codes};
 ghost use Rattle.tally_returns.specs.Lodge.{Stations};
@@ -18,8 +19,9 @@ ghost use Rattle.tally_import.specs.Rows.{row_of};
 ghost use Rattle.tally_import.specs.declared.return_rows.Stage.TheVariants.{Ended};
 ghost use Rattle.tally_records.specs.declared.separator.Sep.{Sep};
 ghost use Rattle.tally_import.specs.ReturnRowsValue.{HasGivenAll, coming, unread_rows};
+ghost use Rattle.tally_import.specs.internal.NextRow.{AdvancesAny, EndsAgain, FailsLast};
 ghost use Rattle.tally_import.specs.internal.ReturnRowsWithin.{coming-within};
-ghost use Rattle.tally_import.specs.ReturnRows.{Advances, AllRowsCame, GivesRow, IsAt, IsBegun, IsNext, IsReadingRows, IsStarted, IsTrueAt, IsTrueFault, IsTrueResult, came_by, ending, import_fault, is_header, no_header, still_coming, text_coming};
+ghost use Rattle.tally_import.specs.ReturnRows.{Advances, GivesRow, IsAt, IsBegun, IsNext, IsReadingRows, IsStarted, IsTrueAt, IsTrueFault, IsTrueResult, came_by, ending, import_fault, is_header, no_header, still_coming, text_coming};
 
 use crate::header::{FIXED_NAMES, has_fixed_names};
 use crate::row::row_of;
@@ -117,6 +119,19 @@ impl<R: Read> ReturnRows<R> {
     }
 }
 
+impl<R: Read + Drop> ReturnRows<R> {
+    /// The watch on the reader. A read failed where the rows ended with one, and none where they came
+    /// to their end.
+    pub fn into_watch(self) -> Watch<R>
+        ensures failed { has_failed result ≡ self.failed }
+        ensures read { self.ended ≡ Some (Some cause.Read) → has_failed result ≡ true }
+        ensures all_read { self.ended ≡ Some None → has_failed result ≡ false }
+    {
+        let ReturnRows { watch, .. } = self;
+        watch
+    }
+}
+
 impl<R: Read> RowSource for ReturnRows<R> {
     ghost coming = { coming };
 
@@ -172,16 +187,14 @@ fn next_row<R: Read>(
         (R.remaining reader.old) stage.old result (R.remaining reader.new) stage.new }
     ensures row { IfOk result (λ row. IfSome row IsLodgeOrBad) }
     ensures ends { ending stage.new ≡ ends_by result }
-    ensures again { (fault : Option ImportFault) → ending stage.old ≡ Some fault
-        → (result ≡ at_end fault)
-        × (reader.new ≡ reader.old) × (stage.new ≡ stage.old) × (watch.new ≡ watch.old) }
+    ensures again { EndsAgain (ending stage.old) result
+        ((reader.new ≡ reader.old) × (stage.new ≡ stage.old) × (watch.new ≡ watch.old)) }
     ensures true_at { IsTrueAt stage.old (has_failed watch.old)
         → IsTrueAt stage.new (has_failed watch.new) }
     ensures read { IsTrueAt stage.old (has_failed watch.old)
         → IsTrueResult result (has_failed watch.new) }
-    ensures before { ending stage.old ≡ None → result ≡ Err cause.Read
-        → IfSome (R.remaining unread.now.value)
-        (λ text. AllRowsCame con.now sep (came_by stage.old) text (R.remaining reader.new)) }
+    ensures before { ending stage.old ≡ None → FailsLast (R.remaining unread.now.value)
+        con.now sep (came_by stage.old) result (R.remaining reader.new) }
 {
     let Stage::Unread = stage else {
         return next_started(alloc, reader, watch, stage);
@@ -211,8 +224,8 @@ fn start<R: Read>(
     ensures true_at { has_failed watch.old ≡ false
         → OnOk result (IsTrueAt stage.new (has_failed watch.new)) }
     ensures read { IfErr result (λ fault. IsTrueFault fault (has_failed watch.new)) }
-    ensures before { result ≡ Err cause.Read → IfSome (R.remaining reader.old)
-        (λ text. AllRowsCame con.now sep 0 text (R.remaining reader.new)) }
+    ensures before { FailsLast
+        (R.remaining reader.old) con.now sep 0 result (R.remaining reader.new) }
 {
     *stage = Stage::Reading(Rows::new(alloc, reader, watch, sep, con)?);
     Ok(())
@@ -233,23 +246,19 @@ fn next_started<R: Read>(
     stage: &mut Stage,
 ) -> Result<Option<Row>, ImportFault>
     requires { IsStarted stage.old }
-    ensures advances { (text : Option (List ℕ)) (con : Constituency) (sep : Sep)
-        → IsAt text (R.remaining reader.old) con sep stage.old
-        → Advances text con sep (R.remaining reader.old) stage.old result
-        (R.remaining reader.new) stage.new }
+    ensures advances { AdvancesAny
+        (R.remaining reader.old) stage.old result (R.remaining reader.new) stage.new }
     ensures row { IfOk result (λ row. IfSome row IsLodgeOrBad) }
     ensures ends { ending stage.new ≡ ends_by result }
-    ensures again { (fault : Option ImportFault) → ending stage.old ≡ Some fault
-        → (result ≡ at_end fault)
-        × (reader.new ≡ reader.old) × (stage.new ≡ stage.old) × (watch.new ≡ watch.old) }
+    ensures again { EndsAgain (ending stage.old) result
+        ((reader.new ≡ reader.old) × (stage.new ≡ stage.old) × (watch.new ≡ watch.old)) }
     ensures true_at { IsTrueAt stage.old (has_failed watch.old)
         → IsTrueAt stage.new (has_failed watch.new) }
     ensures read { IsTrueAt stage.old (has_failed watch.old)
         → IsTrueResult result (has_failed watch.new) }
     ensures before { (text : Option (List ℕ)) (con : Constituency) (sep : Sep)
-        → IsAt text (R.remaining reader.old) con sep stage.old
-        → ending stage.old ≡ None → result ≡ Err cause.Read
-        → IfSome text (λ t. AllRowsCame con sep (came_by stage.old) t (R.remaining reader.new)) }
+        → IsAt text (R.remaining reader.old) con sep stage.old → ending stage.old ≡ None
+        → FailsLast text con sep (came_by stage.old) result (R.remaining reader.new) }
 {
     let rows = match stage {
         Stage::Unread => unreachable!(),
@@ -286,8 +295,8 @@ impl Rows {
         ensures true_at { IfOk result (λ rows.
             TellsTrue (has_failed watch.old) rows.records (has_failed watch.new)) }
         ensures read { IfErr result (λ fault. IsTrueFault fault (has_failed watch.new)) }
-        ensures before { result ≡ Err cause.Read → IfSome (R.remaining reader.old)
-            (λ text. AllRowsCame con.now sep 0 text (R.remaining reader.new)) }
+        ensures before { FailsLast
+            (R.remaining reader.old) con.now sep 0 result (R.remaining reader.new) }
     {
         let mut records = Records::new(alloc, reader, watch, sep)?;
         let mut header = ByteRecord::new(alloc);
@@ -315,7 +324,7 @@ impl Rows {
         watch: &mut Watch<R>,
     ) -> Result<Option<Row>, ImportFault>
         requires reading { IsReadingOn self.old.records }
-        requires few { self.old.lists ≤ 60 }
+        requires few { self.old.lists ≤ most_lists }
         requires within { self.old.came ≤ row_limit }
         ensures gives { (text : Option (List ℕ)) (con : Constituency) (sep : Sep)
             → IsReadingRows text (R.remaining reader.old) con sep self.old
@@ -326,8 +335,8 @@ impl Rows {
         ensures read { TellsTrue false self.old.records (has_failed watch.old)
             → IsTrueResult result (has_failed watch.new) }
         ensures before { (text : Option (List ℕ)) (con : Constituency) (sep : Sep)
-            → IsReadingRows text (R.remaining reader.old) con sep self.old → result ≡ Err cause.Read
-            → IfSome text (λ t. AllRowsCame con sep self.old.came t (R.remaining reader.new)) }
+            → IsReadingRows text (R.remaining reader.old) con sep self.old
+            → FailsLast text con sep self.old.came result (R.remaining reader.new) }
     {
         if let Some(end) = self.records.next(alloc, reader, watch, &mut self.fields)? {
             return rows_end(end);
@@ -413,7 +422,7 @@ fn station_row(
     stations: &BTreeSet<Code>,
     fields: &ByteRecord,
 ) -> Result<Row, AllocError>
-    requires { lists ≤ 60 }
+    requires { lists ≤ most_lists }
     ensures is { IfOk result (λ row. (limits : Stations)
         → ((code : List ℕ) → contains code_cmp stations.now code ≡ is_some (limits code))
         → row ≡ row_of limits lists (fields_of fields.now)) }

@@ -1,7 +1,8 @@
 //! Rows of returns.
 
-ghost use Rattle.std.specs.Prelude.{◌≡◌, ◌≤◌, drop, option_map, Some, None, IfOk, if◌then◌else◌};
+ghost use Rattle.std.specs.Prelude.{◌≡◌, ◌≤◌, [], drop, option_map, Some, None, IfOk, if◌then◌else◌};
 ghost use Rattle.csv.specs.Records.{fields_of};
+ghost use Rattle.tally_frac.specs.Limits.{most_lists};
 ghost use Rattle.tally_import.specs.Check.{every_code};
 ghost use Rattle.tally_import.specs.Rows.{is_number_text, number_of, row_of, numbers_of};
 
@@ -17,7 +18,7 @@ const DIGITS: usize = 9;
 
 /// The row that a record is, under a header of so many lists, where every code is a station.
 pub(crate) fn row_of(alloc: Global, lists: usize, fields: &ByteRecord) -> Result<Row, AllocError>
-    requires { lists ≤ 60 }
+    requires { lists ≤ most_lists }
     ensures { IfOk result (λ row. row ≡ row_of (every_code lists) lists (fields_of fields.now)) }
 {
     if fields.len() != lists + FIXED_NAMES {
@@ -50,9 +51,7 @@ pub(crate) fn row_of(alloc: Global, lists: usize, fields: &ByteRecord) -> Result
 }
 
 /// The numbers of a record's fields after the fixed ones, one for each of so many lists, if they
-/// are all numbers. A call of its own leaves the registers to its loops, where most of a check's
-/// own time goes.
-#[inline(never)]
+/// are all numbers.
 fn votes_of(
     alloc: Global,
     lists: usize,
@@ -62,13 +61,28 @@ fn votes_of(
         option_map (λ v. v.items) votes ≡ numbers_of (drop 4 (fields_of fields.now))) }
 {
     let mut votes = Vec::with_capacity(alloc, lists)?;
-    for place in FIXED_NAMES..fields.len() {
-        match number(field(fields, place)) {
-            Some(n) => votes.push(n)?,
-            None => return Ok(None),
-        }
+    if !push_numbers(&mut votes, fields)? {
+        return Ok(None);
     }
     Ok(Some(votes))
+}
+
+/// Puts the numbers of a record's fields after the fixed ones into an empty list, and answers
+/// whether they are all numbers. A call of its own leaves the registers to its loops, where most of
+/// a check's own time goes.
+#[inline(never)]
+fn push_numbers(votes: &mut Vec<u32>, fields: &ByteRecord) -> Result<bool, AllocError>
+    requires { votes.old.items ≡ [] }
+    ensures { IfOk result (λ all. (if all then Some votes.new.items else None)
+        ≡ numbers_of (drop 4 (fields_of fields.now))) }
+{
+    for place in FIXED_NAMES..fields.len() {
+        let Some(n) = number(field(fields, place)) else {
+            return Ok(false);
+        };
+        votes.push(n)?;
+    }
+    Ok(true)
 }
 
 /// The number that a text of 1 to 9 digits writes.

@@ -2,15 +2,15 @@
 
 ghost use Rattle.std.specs.Prelude.{◌≡◌, ◌++◌, List, length, string_bytes, IfOk, IfErr, OnOk};
 ghost use Rattle.tally_returns.specs.Counts.{VoteCounts};
-ghost use Rattle.tally_import.specs.Check.{check_text, count_text, named_number, totals_text};
+ghost use Rattle.tally_import.specs.Check.{check_text, named_number, totals_text};
 ghost use Rattle.tally_import.specs.internal.Progress.{HasTaken, Taken};
 ghost use Rattle.tally_import.specs.internal.Totals.{AreTotals};
 
 use crate::check::CheckFault;
 use crate::import::Import;
+use crate::room::{COUNT_ROOM, push_count};
 use crate::totals::Totals;
 use std::alloc::{AllocError, Global};
-use tally_keeper::ImportCount;
 use tally_rules::Code;
 
 /// The check text of an import under a header of these lists, or the fault Memory.
@@ -37,8 +37,8 @@ fn check_text(alloc: Global, lists: &[Code], import: &Import) -> Result<String, 
     ensures { IfOk result (λ text. (taken : Taken) → HasTaken taken import.now
         → string_bytes text ≡ check_text lists.now taken.rows) }
 {
-    let mut text = String::new(alloc);
-    push_count(&mut text, &import.count)?;
+    let mut text = String::with_capacity(alloc, COUNT_ROOM)?;
+    push_count(&mut text, &import.count);
     push_totals(&mut text, lists, &import.totals)?;
     Ok(text)
 }
@@ -49,30 +49,16 @@ fn push_totals(text: &mut String, lists: &[Code], totals: &Totals) -> Result<(),
         → AreTotals (length lists.now) returns totals.now
         → string_bytes text.new ≡ string_bytes text.old ++ totals_text lists.now returns) }
 {
-    push_number(text, "blank", totals.blank)?;
-    push_number(text, "spoiled", totals.spoiled)?;
+    push_total(text, "blank", totals.blank)?;
+    push_total(text, "spoiled", totals.spoiled)?;
     for place in 0..lists.len() {
-        push_number(text, lists[place].as_str(), totals.votes[place])?;
+        push_total(text, lists[place].as_str(), totals.votes[place])?;
     }
     Ok(())
 }
 
-fn push_count(text: &mut String, count: &ImportCount) -> Result<(), AllocError>
-    ensures { OnOk result (string_bytes text.new ≡ string_bytes text.old ++ count_text count.now) }
-{
-    push_number(text, "lodged", u64::from(count.lodged))?;
-    push_number(text, "same", u64::from(count.same))?;
-    push_number(text, "differs", u64::from(count.differs))?;
-    push_number(text, "refused", u64::from(count.refused))?;
-    push_number(text, "bad", u64::from(count.bad))?;
-    match count.first {
-        Some(first) => writeln!(text, "first {} {}", first.row, first.number),
-        None => writeln!(text, "first -"),
-    }
-}
-
-/// A line of a name and a number.
-fn push_number(text: &mut String, name: &str, n: u64) -> Result<(), AllocError>
+/// A line of a name and a total.
+fn push_total(text: &mut String, name: &str, n: u64) -> Result<(), AllocError>
     ensures { OnOk result
         (string_bytes text.new ≡ string_bytes text.old ++ named_number name.now n) }
 {

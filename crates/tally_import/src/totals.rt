@@ -1,8 +1,8 @@
 //! The totals of returns.
 
-ghost use Rattle.std.specs.Prelude.{◌≡◌, ◌+◌, ◌<◌, ◌≤◌, ◌^◌, ◌++◌, ℕ, true, List, [], ◌∷◌, length, slice_index, IfOk};
-ghost use Rattle.tally_returns.specs.Counts.{VoteCounts, are_counts};
-ghost use Rattle.tally_import.specs.internal.Totals.{AreTotals, AreTotalsOfFew};
+ghost use Rattle.std.specs.Prelude.{◌≡◌, ◌+◌, ◌<◌, ◌^◌, ℕ, true, [], ◌∷◌, length, slice_index, IfOk};
+ghost use Rattle.tally_returns.specs.Counts.{are_counts};
+ghost use Rattle.tally_import.specs.internal.Totals.{AreTotals, AreTotalsOfFew, TotalsRise};
 
 use std::alloc::{AllocError, Global};
 use tally_keeper::Counts;
@@ -30,8 +30,7 @@ pub(crate) fn no_totals(alloc: Global, lists: usize) -> Result<Totals, AllocErro
 pub(crate) fn add_return(totals: &mut Totals, counts: &Counts)
     requires totals { AreTotalsOfFew (length counts.now.votes) totals.old }
     requires counts { are_counts (length counts.now.votes) counts.now ≡ true }
-    ensures { (returns : List VoteCounts) → AreTotals (length counts.now.votes) returns totals.old
-        → AreTotals (length counts.now.votes) (returns ++ counts.now ∷ []) totals.new }
+    ensures { TotalsRise (length counts.now.votes) totals.old (counts.now ∷ []) totals.new }
 {
     add_votes(totals.votes.as_mut_slice(), counts.votes.as_slice());
     totals.blank += u64::from(counts.blank);

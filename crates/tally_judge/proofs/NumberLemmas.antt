@@ -1,30 +1,28 @@
 -- The numbers of constituencies, put into a tree one by one.
 use Rattle.std.proofs.Common.{◌≡◌, ◌∙◌, inl, inr, ℕ, Bool, true, false, cond, List, [], ◌∷◌, length, Option, None, Some, refl, sym, ap, subst}
 use Rattle.std.specs.Prelude.{All, option_map}
-use Rattle.std.specs.BTreeMap.{BTreeMap}
 use Rattle.std.specs.Cmp.Lexicographic.{nat_list_cmp_total}
-use Rattle.std.specs.FinMap.{from_entries, get, get-insert, insert}
+use Rattle.std.specs.FinMap.{get, get-insert}
 use Rattle.std.specs.List.{AllByRecursion}
 use Rattle.std.specs.Ordering.{eq_by_cmp}
 use Rattle.std.proofs.lemmas.List.Elements.{recursion_from_All, All-from_recursion}
 use Rattle.sqlite_keyed.proofs.ListLemmas.{all_weaker}
 use Rattle.tally_rules.specs.Code.{code_cmp}
 use Rattle.tally_rules.specs.Constituency.{Constituency}
+use Rattle.tally_rules.specs.Limits.{IsSetup}
 use Rattle.tally_rules.specs.Setup.{constituency_with}
 use Rattle.tally_ledger.proofs.SetupLemmas.{Has, con-found}
-use Rattle.tally_ledger.specs.Kept.{Kept, opening_kept, seats_in, state_in, view_in}
+use Rattle.tally_ledger.specs.Kept.{Kept, seats_in, state_in, view_in}
 use Rattle.tally_returns.proofs.ClosedLemmas.{same-tied, tied-same}
 use Rattle.tally_returns.specs.Progress.{is_received, is_queried, is_corrected, is_closed, count_with_status}
-use Rattle.tally_returns.specs.Return.{Returns, StationReturn}
+use Rattle.tally_returns.specs.Return.{Returns}
 use Rattle.tally_returns.specs.State.{State}
 use Rattle.tally_returns.specs.View.{View, view_of}
-use Rattle.tally_steps.specs.LawfulState.{IsLawfulState}
-use Rattle.tally_tables.specs.Reading.{entries_in}
 use Rattle.tally_tables.specs.Views.{statuses_of}
 use Rattle.tally_tables.specs.declared.views.Statuses.{Statuses}
-use Rattle.tally_judge.specs.Numbers.{HasNumbers, HasNumbersOfRows, Numbers}
-use Rattle.tally_judge.specs.OfficeRows.{AreOfficeRows, Rows}
-use Rattle.tally_judge.specs.internal.Found.{HasCodes}
+use Rattle.tally_judge.specs.Numbers.{HasNumbersOfRows, Numbers}
+use Rattle.tally_judge.specs.OfficeRows.{Rows}
+use Rattle.tally_judge.specs.internal.Entries.{IsLedgerOf}
 use Rattle.tally_judge.specs.internal.Tree.{AreNumbered, IsNumbered, numbers_at, with_numbers}
 use Rattle.tally_judge.proofs.VerdictLemmas.{returns_back}
 
@@ -87,9 +85,8 @@ numbers_with con returns = record {
 same_numbers : (con : Constituency) (s t : State) (seats others : List ℕ) → s.returns ≡ t.returns → statuses_of (view_of con s seats) ≡ statuses_of (view_of con t others)
 same_numbers con s t seats others same = ap (numbers_with con) same
 
-pub numbers_stated : (setup : List Constituency) (rows : Rows) (es : List (List ℕ × StationReturn)) (kept : Kept) (numbers : Numbers) → All HasCodes setup → kept ≡ record (opening_kept setup) { returns = from_entries es }
-    → Some es ≡ entries_in setup rows.returns rows.counts → AreNumbered kept numbers → HasNumbersOfRows setup rows numbers
-numbers_stated setup rows es kept numbers codes is read numbered s lawful of_rows con there =
-    let own : kept.setup ≡ setup = ap (λ (k : Kept). k.setup) is in
-    let same : kept.returns ≡ s.returns = returns_back setup rows es kept s codes is read lawful of_rows in
+pub numbers_stated : (setup : List Constituency) (rows : Rows) (kept : Kept) (numbers : Numbers) → IsSetup setup → IsLedgerOf setup rows.returns rows.counts kept → AreNumbered kept numbers → HasNumbersOfRows setup rows numbers
+numbers_stated setup rows kept numbers limits ledger numbered s lawful of_rows con there =
+    let own : kept.setup ≡ setup = ap (λ (k : Kept). k.setup) ledger.kept_is in
+    let same : kept.returns ≡ s.returns = returns_back setup rows ledger.es kept s limits ledger.kept_is ledger.entries.read lawful of_rows in
     numbered con (ap (constituency_with con.code) own ∙ there) ∙ ap Some (same_numbers con (state_in kept) s (seats_in kept con.code) [] same)

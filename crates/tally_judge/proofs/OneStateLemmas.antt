@@ -15,7 +15,6 @@ use Rattle.tally_steps.specs.LawfulState.{IsUnderPlaces, IsLawfulState}
 use Rattle.tally_steps.specs.LawStatements.{ViewsAreLawful}
 use Rattle.tally_rows.specs.Rows.{text_cmp}
 use Rattle.tally_tables.proofs.ConLemmas.{gone_entry, past_entry}
-use Rattle.tally_judge.specs.internal.Found.{HasCodes}
 use Rattle.tally_judge.specs.OfficeRows.{Rows, AreOfficeRows, AreLawfulRows, AreRowsOfOneState}
 use Rattle.tally_judge.proofs.LedgerLemmas.{kept_of}
 use Rattle.tally_judge.proofs.OfficeLemmas.{con_of, state_entry}
@@ -66,25 +65,25 @@ entries_back setup s given lawful (e ∷ es) h = ap₂ (λ x l. x ∷ l) (entry_
 
 -- ---- two states with the same rows
 
-pub one_state : (setup : List Constituency) (rows : Rows) (s t : State) → IsSetup setup → All HasCodes setup → ViewsAreLawful → IsLawfulState setup s → AreOfficeRows setup s rows → IsLawfulState setup t → AreOfficeRows setup t rows → t ≡ s
-one_state setup rows s t limits codes views lawful_s of_s lawful_t of_t =
-    let read_s = must_read setup rows s codes lawful_s of_s in
-    let read_t = must_read setup rows t codes lawful_t of_t in
+pub one_state : (setup : List Constituency) (rows : Rows) (s t : State) → IsSetup setup → ViewsAreLawful → IsLawfulState setup s → AreOfficeRows setup s rows → IsLawfulState setup t → AreOfficeRows setup t rows → t ≡ s
+one_state setup rows s t limits views lawful_s of_s lawful_t of_t =
+    let read_s = must_read setup rows s limits lawful_s of_s in
+    let read_t = must_read setup rows t limits lawful_t of_t in
     let same : entries t.returns ≡ entries s.returns = some_same (entries t.returns) (entries s.returns) (sym read_t.0 ∙ read_s.0) in
     let returns : t.returns ≡ s.returns = same_entries_map t.returns s.returns same in
     let kept = kept_of setup (entries s.returns) in
-    let seen_s = must_view setup rows s kept of_s (known_state setup rows s kept refl limits codes views lawful_s of_s) in
-    let seen_t = must_view setup rows t kept of_t (known_state setup rows t kept (ap (kept_of setup) (sym same)) limits codes views lawful_t of_t) in
+    let seen_s = must_view setup rows s kept of_s (known_state setup rows s kept refl limits views lawful_s of_s) in
+    let seen_t = must_view setup rows t kept of_t (known_state setup rows t kept (ap (kept_of setup) (sym same)) limits views lawful_t of_t) in
     let shown : views_of setup t of_t.given ≡ views_of setup s of_s.given = some_same (views_of setup t of_t.given) (views_of setup s of_s.given) (sym seen_t.0 ∙ seen_s.0) in
     let back_s = entries_back setup s of_s.given lawful_s (entries s.cons) (all_held setup s lawful_s.known) in
     let back_t = entries_back setup t of_t.given lawful_t (entries t.cons) (all_held setup t lawful_t.known) in
     let cons : t.cons ≡ s.cons = same_entries_map t.cons s.cons (sym back_t ∙ ap (map state_entry) shown ∙ back_s) in
     λ i. record { returns = returns i; cons = cons i }
 
-pub rows_of_one : (setup : List Constituency) (rows : Rows) → IsSetup setup → All HasCodes setup → ViewsAreLawful → AreLawfulRows setup rows → AreRowsOfOneState setup rows
-rows_of_one setup rows limits codes views h = record {
+pub rows_of_one : (setup : List Constituency) (rows : Rows) → IsSetup setup → ViewsAreLawful → AreLawfulRows setup rows → AreRowsOfOneState setup rows
+rows_of_one setup rows limits views h = record {
   state = h.0;
   lawful = h.1;
   rows_are = h.2;
-  alone = λ other lawful of_other. one_state setup rows h.0 other limits codes views h.1 h.2 lawful of_other;
+  alone = λ other lawful of_other. one_state setup rows h.0 other limits views h.1 h.2 lawful of_other;
 }

@@ -22,11 +22,11 @@ use Rattle.tally_ledger.specs.Kept.{Kept, view_in}
 use Rattle.tally_steps.specs.LawfulState.{IsUnderPlaces, IsLawfulState}
 use Rattle.tally_steps.specs.LawStatements.{ViewsAreLawful}
 use Rattle.tally_steps.specs.Outcome.{IsLawfulView}
-use Rattle.tally_steps.proofs.ViewLemmas.{constituency-code, constituency-limits, found-has}
+use Rattle.tally_steps.proofs.ViewLemmas.{constituency-code, constituency-limits}
 use Rattle.tally_rows.specs.Rows.{text_cmp}
 use Rattle.tally_rows.proofs.RowsLemmas.{keys_rise}
 use Rattle.tally_tables.specs.Cells.{item_row, items_of, con_rows, lot_rows, seat_rows, gone_row, gone_rows, record_rows, total_rows, past_rows}
-use Rattle.tally_judge.specs.internal.Found.{IsLawfulFound, HasCodes, gone_places, past_edition, same_numbers}
+use Rattle.tally_judge.specs.internal.Found.{IsLawfulFound, gone_places, past_edition, same_numbers}
 use Rattle.tally_judge.specs.internal.Entries.{rises_on}
 use Rattle.tally_judge.specs.OfficeRows.{Rows, AreOfficeRows}
 use Rattle.tally_tables.specs.TablesOfState.{AreSeats}
@@ -163,7 +163,6 @@ pub record IsKnown (setup : List Constituency) (s : State) (kept : Kept) (given 
   pub setup_is : kept.setup ≡ setup
   pub returns_are : kept.returns ≡ s.returns
   pub limits : IsSetup setup
-  pub codes : All HasCodes setup
   pub lawful : IsLawfulState setup s
   pub views : ViewsAreLawful
   pub allotted : AreSeats setup s given
@@ -193,12 +192,11 @@ pub readable_found : (setup : List Constituency) (s : State) (kept : Kept) (give
 readable_found setup s kept given k e h =
     let v = seen_of s given h.con in
     let limits = constituency-limits setup e.0 h.con k.limits h.known in
-    let codes = found-has HasCodes _ setup h.con k.codes h.known in
     subst (λ (x : View). IsReadableFound kept.setup (view_in kept) (e.0, x)) (sym (seen_is setup s given e h)) (record {
       con = h.con;
       found = ap (constituency_with e.0) k.setup_is ∙ h.known;
       same = h.own;
-      code = subst (λ c. is_code c ≡ true) h.own codes.own;
+      code = subst (λ c. is_code c ≡ true) h.own limits.code;
       some_list = limits.some_list;
       fine = lawful_readable h.con v limits (lawful_seen setup s kept given k e h);
       statuses = ap (λ r. statuses_of (view_with h.con (con_state s h.con.code) r [])) k.returns_are;

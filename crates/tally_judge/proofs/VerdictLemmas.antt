@@ -16,7 +16,7 @@ use Rattle.sqlite_keyed.proofs.ListLemmas.{all_weaker, all-append}
 use Rattle.tally_rules.specs.Code.{is_code}
 use Rattle.tally_rules.specs.Codes.{is_among}
 use Rattle.tally_rules.specs.Constituency.{Constituency}
-use Rattle.tally_rules.specs.Limits.{IsConstituency, IsSetup}
+use Rattle.tally_rules.specs.Limits.{IsConstituency, IsSetup, IsStation}
 use Rattle.tally_rules.specs.Setup.{all_stations, constituency_with, constituency_codes, station_with}
 use Rattle.tally_rules.specs.declared.constituency.Station.{Station}
 use Rattle.tally_ledger.specs.Kept.{Kept, opening_kept, view_in}
@@ -29,8 +29,8 @@ use Rattle.tally_returns.specs.State.{State, ConState}
 use Rattle.tally_returns.specs.View.{View}
 use Rattle.tally_rows.specs.Rows.{text_cmp}
 use Rattle.tally_rows.proofs.RowsLemmas.{text_total, text_exact, keys_rise}
-use Rattle.tally_judge.specs.internal.Found.{AreAllLawful, AreLawfulCons, IsLawfulFound, HasCodes}
-use Rattle.tally_judge.specs.internal.Entries.{IsLawfulEntry, AreReturnsOf, rises, key_of}
+use Rattle.tally_judge.specs.internal.Found.{AreAllLawful, AreLawfulCons, IsLawfulFound}
+use Rattle.tally_judge.specs.internal.Entries.{AreReturnsOf, IsLawfulEntry, IsLedgerOf, key_of, rises}
 use Rattle.tally_judge.specs.OfficeRows.{Rows, AreOfficeRows, AreLawfulRows}
 use Rattle.tally_tables.specs.Reading.{entries_in}
 use Rattle.tally_tables.specs.Views.{Tables, views_from}
@@ -45,27 +45,21 @@ use Rattle.tally_judge.proofs.StateLemmas.{IsHeld, IsKnown, all_held, views_of, 
 
 -- ---- codes
 
-has_codes : (con : Constituency) → IsConstituency con → HasCodes con
-has_codes con limits = record { own = limits.code; stations = λ k d lt. (limits.each_station k d lt).code }
-
--- that codes are codes is one of the limits of a setup
-pub setup_has_codes : (setup : List Constituency) → IsSetup setup → All HasCodes setup
-setup_has_codes setup limits k d lt = has_codes _ (limits.each_constituency k d lt)
-
-con_stations : (con : Constituency) (stations : List Station) → AllByRecursion (λ (s : Station). is_code s.code ≡ true) stations → AllByRecursion (λ (p : Constituency × Station). is_code p.1.code ≡ true) (map (λ (s : Station). (con, s)) stations)
+con_stations : (con : Constituency) (stations : List Station) → AllByRecursion IsStation stations → AllByRecursion (λ (p : Constituency × Station). is_code p.1.code ≡ true) (map (λ (s : Station). (con, s)) stations)
 con_stations con [] h = tt
-con_stations con (s ∷ stations) h = (h.0, con_stations con stations h.1)
+con_stations con (s ∷ stations) h = (h.0.code, con_stations con stations h.1)
 
-station_codes : (setup : List Constituency) → AllByRecursion HasCodes setup → AllByRecursion (λ (p : Constituency × Station). is_code p.1.code ≡ true) (all_stations setup)
+station_codes : (setup : List Constituency) → AllByRecursion IsConstituency setup → AllByRecursion (λ (p : Constituency × Station). is_code p.1.code ≡ true) (all_stations setup)
 station_codes [] h = tt
 station_codes (con ∷ setup) h =
     all-append (λ (p : Constituency × Station). is_code p.1.code ≡ true) (map (λ (s : Station). (con, s)) con.stations) (all_stations setup)
-    (con_stations con con.stations (recursion_from_All (λ (s : Station). is_code s.code ≡ true) con.stations h.0.stations)) (station_codes setup h.1)
+    (con_stations con con.stations (recursion_from_All IsStation con.stations h.0.each_station)) (station_codes setup h.1)
 
-pub stations_have_codes : (setup : List Constituency) → All HasCodes setup → StationsHaveCodes setup
-stations_have_codes setup codes station limits is =
+-- that the codes of stations are codes is one of the limits of a setup
+pub stations_have_codes : (setup : List Constituency) → IsSetup setup → StationsHaveCodes setup
+stations_have_codes setup setup_limits station limits is =
     let place = map_some (λ (p : Constituency × Station). limits_of p.0 p.1) (station_with station setup) limits is in
-    let all = All-from_recursion (λ (p : Constituency × Station). is_code p.1.code ≡ true) (all_stations setup) (station_codes setup (recursion_from_All HasCodes setup codes)) in
+    let all = All-from_recursion (λ (p : Constituency × Station). is_code p.1.code ≡ true) (all_stations setup) (station_codes setup (recursion_from_All IsConstituency setup setup_limits.each_constituency)) in
     let one = found-has (λ (p : Constituency × Station). is_code p.1.code ≡ true) _ (all_stations setup) place.0 all place.1 in
     let same = (bytes_eq-Decides station place.0.1.code).0 (found-passes (λ (p : Constituency × Station). bytes_eq station p.1.code) (all_stations setup) place.0 place.1) in
     subst (λ c. is_code c ≡ true) (sym same) one
@@ -111,21 +105,23 @@ verdict_passed setup rows es kept vs is read up lawful views all_lawful =
 
 -- ---- rows that must pass
 
-pub must_read : (setup : List Constituency) (rows : Rows) (s : State) → All HasCodes setup → IsLawfulState setup s → AreOfficeRows setup s rows
+-- the returns of a lawful state with these rows
+pub returns_of_state : (setup : List Constituency) (rows : Rows) (s : State) → IsLawfulState setup s → AreOfficeRows setup s rows → AreReturnsOf setup rows.returns rows.counts s.returns
+returns_of_state setup rows s lawful h = record { lawful = lawful.stations; rows_are = h.returns; counts_are = h.counts }
+
+pub must_read : (setup : List Constituency) (rows : Rows) (s : State) → IsSetup setup → IsLawfulState setup s → AreOfficeRows setup s rows
     → (entries_in setup rows.returns rows.counts ≡ Some (entries s.returns)) × (rises (entries s.returns) ≡ true) × All (IsLawfulEntry setup) (entries s.returns)
-must_read setup rows s codes lawful h =
-    returns_must_pass setup rows.returns rows.counts s.returns (stations_have_codes setup codes) (record { lawful = lawful.stations; rows_are = h.returns; counts_are = h.counts })
+must_read setup rows s limits lawful h = returns_must_pass setup rows.returns rows.counts s.returns (stations_have_codes setup limits) (returns_of_state setup rows s lawful h)
 
 entries_back : (m : Returns) → from_entries {R = text_cmp} (entries m) ≡ m
 entries_back m = same_map text_total text_exact _ _ (λ q. get-from_entries text_total (entries m) q ∙ sym (get-entries m q))
 
-pub known_state : (setup : List Constituency) (rows : Rows) (s : State) (kept : Kept) → kept ≡ record (opening_kept setup) { returns = from_entries (entries s.returns) } → IsSetup setup → All HasCodes setup → ViewsAreLawful → IsLawfulState setup s
+pub known_state : (setup : List Constituency) (rows : Rows) (s : State) (kept : Kept) → kept ≡ record (opening_kept setup) { returns = from_entries (entries s.returns) } → IsSetup setup → ViewsAreLawful → IsLawfulState setup s
     → (h : AreOfficeRows setup s rows) → IsKnown setup s kept h.given
-known_state setup rows s kept is limits codes views lawful h = record {
+known_state setup rows s kept is limits views lawful h = record {
   setup_is = ap (λ (k : Kept). k.setup) is;
   returns_are = ap (λ (k : Kept). k.returns) is ∙ entries_back s.returns;
   limits = limits;
-  codes = codes;
   lawful = lawful;
   views = views;
   allotted = h.allotted;
@@ -201,36 +197,32 @@ must_view setup rows s kept h k =
 
 -- ---- by what the functions answered
 
-pub must_read_some : (setup : List Constituency) (rows : Rows) → All HasCodes setup → None ≡ entries_in setup rows.returns rows.counts → AreLawfulRows setup rows → ⊥
-must_read_some setup rows codes is h = let read = must_read setup rows h.0 codes h.1 h.2 in let k = is ∙ read.0 in cc
+pub must_read_some : (setup : List Constituency) (rows counts : List Row) (returns : Returns) → IsSetup setup → None ≡ entries_in setup rows counts → AreReturnsOf setup rows counts returns → ⊥
+must_read_some setup rows counts returns limits is h =
+    let read = returns_must_pass setup rows counts returns (stations_have_codes setup limits) h in
+    let k = is ∙ read.0 in cc
 
-same_read : (setup : List Constituency) (rows : Rows) (es : List (List ℕ × StationReturn)) → All HasCodes setup → Some es ≡ entries_in setup rows.returns rows.counts → (h : AreLawfulRows setup rows) → entries h.0.returns ≡ es
-same_read setup rows es codes is h = let read = must_read setup rows h.0 codes h.1 h.2 in let k = sym read.0 ∙ sym is in cc
+same_read : (setup : List Constituency) (rows counts : List Row) (returns : Returns) (es : List (List ℕ × StationReturn)) → IsSetup setup → Some es ≡ entries_in setup rows counts → AreReturnsOf setup rows counts returns → entries returns ≡ es
+same_read setup rows counts returns es limits is h =
+    let read = returns_must_pass setup rows counts returns (stations_have_codes setup limits) h in
+    let k = sym read.0 ∙ sym is in cc
+
+pub must_rise : (setup : List Constituency) (rows counts : List Row) (returns : Returns) (es : List (List ℕ × StationReturn)) → IsSetup setup → Some es ≡ entries_in setup rows counts → AreReturnsOf setup rows counts returns
+    → (rises es ≡ true) × All (IsLawfulEntry setup) es
+must_rise setup rows counts returns es limits is h =
+    let read = returns_must_pass setup rows counts returns (stations_have_codes setup limits) h in
+    subst (λ (x : List (List ℕ × StationReturn)). (rises x ≡ true) × All (IsLawfulEntry setup) x) (same_read setup rows counts returns es limits is h) (read.1, read.2)
 
 -- the returns that are kept are those of each lawful state with these rows
-pub returns_back : (setup : List Constituency) (rows : Rows) (es : List (List ℕ × StationReturn)) (kept : Kept) (s : State) → All HasCodes setup → kept ≡ record (opening_kept setup) { returns = from_entries es }
+pub returns_back : (setup : List Constituency) (rows : Rows) (es : List (List ℕ × StationReturn)) (kept : Kept) (s : State) → IsSetup setup → kept ≡ record (opening_kept setup) { returns = from_entries es }
     → Some es ≡ entries_in setup rows.returns rows.counts → IsLawfulState setup s → AreOfficeRows setup s rows → kept.returns ≡ s.returns
-returns_back setup rows es kept s codes is read lawful of_rows =
-    ap (λ (k : Kept). k.returns) is ∙ ap (from_entries {R = text_cmp}) (sym (same_read setup rows es codes read (s, lawful, of_rows))) ∙ entries_back s.returns
+returns_back setup rows es kept s limits is read lawful of_rows =
+    ap (λ (k : Kept). k.returns) is ∙ ap (from_entries {R = text_cmp}) (sym (same_read setup rows.returns rows.counts s.returns es limits read (returns_of_state setup rows s lawful of_rows))) ∙ entries_back s.returns
 
-pub must_rise : (setup : List Constituency) (rows : Rows) (es : List (List ℕ × StationReturn)) → All HasCodes setup → Some es ≡ entries_in setup rows.returns rows.counts → AreLawfulRows setup rows
-    → (rises es ≡ true) × All (IsLawfulEntry setup) es
-must_rise setup rows es codes is h =
-    let read = must_read setup rows h.0 codes h.1 h.2 in
-    subst (λ (x : List (List ℕ × StationReturn)). (rises x ≡ true) × All (IsLawfulEntry setup) x) (same_read setup rows es codes is h) (read.1, read.2)
-
--- the ledger that stands between, and the laws that are known
-pub record IsBetween (setup : List Constituency) (rows : Rows) (es : List (List ℕ × StationReturn)) (kept : Kept) : Type 0 where
-  pub kept_is : kept ≡ record (opening_kept setup) { returns = from_entries es }
-  pub limits : IsSetup setup
-  pub codes : All HasCodes setup
-  pub views : ViewsAreLawful
-  pub read : Some es ≡ entries_in setup rows.returns rows.counts
-
-pub must_be_lawful : (setup : List Constituency) (rows : Rows) (es : List (List ℕ × StationReturn)) (kept : Kept) → IsBetween setup rows es kept → AreLawfulRows setup rows → AreLawfulCons kept rows.cons rows.tables
-must_be_lawful setup rows es kept b h =
-    let same = same_read setup rows es b.codes b.read h in
-    let known = known_state setup rows h.0 kept (b.kept_is ∙ ap (kept_of setup) (sym same)) b.limits b.codes b.views h.1 h.2 in
+pub must_be_lawful : (setup : List Constituency) (rows : Rows) (kept : Kept) → IsSetup setup → ViewsAreLawful → IsLedgerOf setup rows.returns rows.counts kept → AreLawfulRows setup rows → AreLawfulCons kept rows.cons rows.tables
+must_be_lawful setup rows kept limits views ledger h =
+    let same = same_read setup rows.returns rows.counts h.0.returns ledger.es limits ledger.entries.read (returns_of_state setup rows h.0 h.1 h.2) in
+    let known = known_state setup rows h.0 kept (ledger.kept_is ∙ ap (kept_of setup) (sym same)) limits views h.1 h.2 in
     let found = must_view setup rows h.0 kept h.2 known in
     (views_of setup h.0 h.2.given, found.0, found.1)
 
@@ -243,6 +235,5 @@ found_lawful kept cons tables vs is h =
 pub not_found_lawful : (kept : Kept) (cons : List Row) (tables : Tables) → None ≡ views_from kept.setup (view_in kept) cons tables → AreLawfulCons kept cons tables → ⊥
 not_found_lawful kept cons tables is h = let k = is ∙ h.1 in cc
 
-pub rows_passed : (setup : List Constituency) (rows : Rows) (es : List (List ℕ × StationReturn)) (kept : Kept) → kept ≡ record (opening_kept setup) { returns = from_entries es } → Some es ≡ entries_in setup rows.returns rows.counts
-    → rises es ≡ true → All (IsLawfulEntry setup) es → AreLawfulCons kept rows.cons rows.tables → AreLawfulRows setup rows
-rows_passed setup rows es kept is read up lawful h = verdict_passed setup rows es kept h.0 is (sym read) up lawful h.1 h.2
+pub rows_passed : (setup : List Constituency) (rows : Rows) (kept : Kept) → IsLedgerOf setup rows.returns rows.counts kept → AreLawfulCons kept rows.cons rows.tables → AreLawfulRows setup rows
+rows_passed setup rows kept ledger h = verdict_passed setup rows ledger.es kept h.0 ledger.kept_is (sym ledger.entries.read) ledger.entries.rise ledger.entries.lawful h.1 h.2

@@ -1,11 +1,17 @@
 //! Whether the rows of whole tables are those of a lawful state.
 
-ghost use Rattle.std.specs.Prelude.{◌≡◌, All, IfOk, IfSome, IsSome, OnOk, OnSome, true};
+ghost use Rattle.std.specs.Prelude.{◌≡◌, All, IfOk, IfSome, IsSome, IsTrue, OnOk, OnSome, true};
 ghost use Rattle.std.specs.FinMap.{from_entries, insert};
-ghost use Rattle.tally_judge.specs.internal.Entries.{IsLawfulEntry, rises};
+ghost use Rattle.tally_judge.specs.internal.Entries.{AreLawfulEntries, AreReturnsOf, IsLawfulEntry};
+ghost use Rattle.tally_judge.specs.internal.Entries.{IsLedgerOf, rises};
+ghost use Rattle.tally_judge.specs.internal.Found.{AreLawfulCons};
+ghost use Rattle.tally_judge.specs.internal.Tree.{AreNumbered};
 ghost use Rattle.tally_judge.specs.Numbers.{HasNumbersOfRows, numbers_of};
 ghost use Rattle.tally_judge.specs.OfficeRows.{AreLawfulRows, AreRowsOfOneState, rows_in};
 ghost use Rattle.tally_ledger.specs.Kept.{opening_kept};
+ghost use Rattle.tally_returns.specs.Return.{Returns};
+ghost use Rattle.tally_rules.specs.Limits.{IsSetup};
+ghost use Rattle.tally_tables.specs.Views.{tables_in};
 
 use crate::cons::are_lawful_cons;
 use crate::numbers::put_all;
@@ -49,21 +55,82 @@ pub fn accept_rows(
     let _cons = setup.cons();
     // Called for what its contract says: a constituency has a view in each lawful state.
     laws::a_constituency_has_a_view();
-    let Some(entries) = entries_in(alloc, &setup, rows.returns, rows.counts)? else {
+    let Some(ledger) = ledger_of_rows(alloc, setup, rows.returns, rows.counts)? else {
+        return Ok(None);
+    };
+    if !accept_cons(alloc, &ledger, rows.cons, rows.tables, known)? {
+        return Ok(None);
+    }
+    Ok(Some(ledger.into_setup()))
+}
+
+/// A ledger with the returns whose rows these are, where they are in the order of their stations
+/// and each is lawful there.
+fn ledger_of_rows(
+    alloc: Global,
+    setup: Setup,
+    returns: &[Row],
+    counts: &[Row],
+) -> Result<Option<Ledger>, AllocError>
+    requires { IsSetup setup }
+    ensures read { IfOk result (λ found. IfSome found (λ ledger.
+        IsLedgerOf setup returns.now counts.now ledger)) }
+    ensures must_read { IfOk result (λ found. (standing : Returns) →
+        AreReturnsOf setup returns.now counts.now standing → IsSome found) }
+{
+    let Some(entries) = lawful_entries(alloc, &setup, returns, counts)? else {
+        return Ok(None);
+    };
+    Ok(Some(ledger_of(alloc, setup, entries)?))
+}
+
+/// The returns whose rows these are, where they are in the order of their stations and each is
+/// lawful there.
+fn lawful_entries(
+    alloc: Global,
+    setup: &Setup,
+    returns: &[Row],
+    counts: &[Row],
+) -> Result<Option<Vec<Entry>>, AllocError>
+    requires { IsSetup setup.now }
+    ensures read { IfOk result (λ found. IfSome found (λ entries.
+        AreLawfulEntries setup.now returns.now counts.now entries.items)) }
+    ensures must_read { IfOk result (λ found. (standing : Returns) →
+        AreReturnsOf setup.now returns.now counts.now standing → IsSome found) }
+{
+    let Some(entries) = entries_in(alloc, setup, returns, counts)? else {
         return Ok(None);
     };
     if !stations_rise(&entries) {
         return Ok(None);
     }
-    if !are_lawful(&setup, &entries) {
+    if !are_lawful(setup, &entries) {
         return Ok(None);
     }
-    let ledger = ledger_of(alloc, setup, entries)?;
-    if !are_lawful_cons(alloc, &ledger, rows.cons, rows.tables)? {
-        return Ok(None);
+    Ok(Some(entries))
+}
+
+/// Whether these are the rows of lawful constituencies with the returns of the ledger. Where they
+/// are, the numbers of each constituency are put into a tree.
+fn accept_cons(
+    alloc: Global,
+    ledger: &Ledger,
+    cons: &[Row],
+    tables: ConTables<'_>,
+    known: &mut BTreeMap<Code, Statuses>,
+) -> Result<bool, AllocError>
+    ensures lawful { IfOk result (λ yes.
+        IsTrue yes → AreLawfulCons ledger.now cons.now (tables_in tables.entry)) }
+    ensures otherwise { IfOk result (λ yes.
+        AreLawfulCons ledger.now cons.now (tables_in tables.entry) → IsTrue yes) }
+    ensures numbers { IfOk result (λ yes.
+        IsTrue yes → AreNumbered ledger.now (numbers_of known.new)) }
+{
+    if !are_lawful_cons(alloc, ledger, cons, tables)? {
+        return Ok(false);
     }
-    put_all(&ledger, known)?;
-    Ok(Some(ledger.into_setup()))
+    put_all(ledger, known)?;
+    Ok(true)
 }
 
 /// A ledger with these returns.

@@ -1,6 +1,7 @@
 //! Whether what is seen of a constituency is what a lawful state shows of it.
 
 ghost use Rattle.std.specs.Prelude.{◌≡◌, ◌≢◌, ◌≤◌, All, IfOk, IsTrue, [], length, sum};
+ghost use Rattle.tally_frac.specs.Limits.{most_lists};
 ghost use Rattle.tally_steps.specs.Outcome.{IsLawfulGone, IsLawfulPast, IsLawfulView, is_candidate};
 ghost use Rattle.tally_returns.specs.Lawful.{is_kept_note, may_stand};
 ghost use Rattle.tally_returns.specs.View.{FitsView, HasEachList};
@@ -183,7 +184,7 @@ fn is_lawful_past(con: &Constituency, edition: u32, past: &Past) -> bool
 }
 
 fn all_seats(seats: &[u32]) -> u64
-    requires { length seats.now ≤ 60 }
+    requires { length seats.now ≤ most_lists }
     ensures { result ≡ sum seats.now }
 {
     seats.iter().map(|n| u64::from(*n)).sum()

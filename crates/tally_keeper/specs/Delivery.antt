@@ -2,10 +2,10 @@
 use Rattle.tally_keeper.specs.Source.{Delivery, SourceAt}
 use Rattle.tally_keeper.specs.declared.source.RowSource.{Ghosts}
 
--- how it stands
+-- how far it is
 abbrev pub source_at : {R : Type 0} (g : Ghosts R) → R → SourceAt
 source_at g source = record { coming = g.coming source; given = g.given source; ended = g.ended source }
 
--- how it stood before a call, and how it stands after it
+-- how far it was before a call, and how far it is after it
 abbrev pub delivery : {R : Type 0} (g : Ghosts R) → R → R → Delivery
 delivery g old new = record { start = source_at g old; finish = source_at g new }

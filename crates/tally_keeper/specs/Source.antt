@@ -59,14 +59,14 @@ at_end (Some fault) = Err fault
 
 -- ---- what it gives within a call
 
--- How a source stands: what is known of what it still gives, the rows that it gave so far, and how
+-- How far a source is: what is known of what it still gives, the rows that it gave so far, and how
 -- it ended, once it did.
 pub record SourceAt : Type 0 where
   pub coming : Option Coming
   pub given : List Row
   pub ended : Ending
 
--- how a source stood at the start of a call, and how it stands at its end
+-- how far a source was at the start of a call, and how far it is at its end
 pub record Delivery : Type 0 where
   pub start : SourceAt
   pub finish : SourceAt

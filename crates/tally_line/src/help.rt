@@ -161,7 +161,7 @@ Exit status:
      to bottom:
        not_toml           the setup is not TOML, or not UTF-8
        missing KEY        a key is not there, or its array is empty
-       bad_value KEY      a value is of another kind, or outside its limits
+       bad_value KEY      a value has the wrong type, or is out of range
        over_limit KEY     an array has too many entries; of 'text', the setup
                           is too long
        duplicate CODE     a code occurs twice
@@ -268,9 +268,9 @@ What goes in:
               quota      the quotas and remainders of each list
               holders    who holds the seats
               past       the certificates that were reopened
-              short      the least number of votes more with which each list
-                         is sure of one seat more, if the others stay as they
-                         are, and whatever lot is drawn
+              short      the fewest extra votes that would guarantee each list
+                         another seat, whatever lot is drawn, if the other
+                         votes stayed the same
               progress   how far every constituency is
   --con     the code of a constituency; one that begins with a dash is written
             --con=-x. Every report but progress needs it; progress ignores it
@@ -386,8 +386,8 @@ Exit status:
        store              the database cannot be opened (there is no such
                           folder, or another program has it open), or a read,
                           a write or its closing failed
-       port               the port cannot be had: another program has it, or it
-                          needs more rights
+       port               the port is not available: another program has it, or
+                          it needs more rights
        write              standard output takes no more";
 
 pub const PORT: &str = "The port to listen at, 1 to 65535";

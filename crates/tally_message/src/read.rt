@@ -26,17 +26,12 @@ pub fn read_message<D: Door>(alloc: Global, door: &mut D) -> Result<Message, Mes
     let mut count = 0;
     let mut headers = [EMPTY_HEADER_SPAN; FIELD_LIMIT];
     let head = read_head(door, &mut room, &mut count, &mut headers)?;
-    let mut start = match start_in(alloc, &room[..count], &headers, head) {
-        Ok(start) => start,
-        Err(fault) => return Err(fault),
-    };
+    let mut start = start_in(alloc, &room[..count], &headers, head)?;
     // The head is taken apart by now, so what is still to come of the body goes by way of its room.
-    match read_body(door, &mut room, &mut start.body, start.length) {
-        Ok(()) => Ok(Message {
-            method: start.method,
-            target: start.target,
-            body: start.body,
-        }),
-        Err(fault) => Err(fault),
-    }
+    read_body(door, &mut room, &mut start.body, start.length)?;
+    Ok(Message {
+        method: start.method,
+        target: start.target,
+        body: start.body,
+    })
 }

@@ -72,10 +72,7 @@ pub(crate) fn start_in(
     ensures ok { IfOk result (IsStart bytes.now) }
     ensures err { IfErr result (IsFaultyStart bytes.now) }
 {
-    let length = match length_in(bytes, headers, head) {
-        Ok(length) => length,
-        Err(fault) => return Err(fault),
-    };
+    let length = length_in(bytes, headers, head)?;
     let method = method_of(alloc, head.method.of(bytes))?;
     let target = Vec::from_slice(alloc, head.path.of(bytes))?;
     let body = body_in(alloc, &bytes[head.len..], length)?;

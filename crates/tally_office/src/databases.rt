@@ -1,4 +1,5 @@
-//! Offices in databases, each of them a file.
+//! Offices in databases, each of them a file. Errors are matched and returned, and not passed on by
+//! `?`, since the `?` of an enum that holds a text (`Trouble`) has no proof yet.
 
 ghost use Rattle.std.specs.Prelude.{◌≡◌, false, IfErr, IfOk};
 ghost use Rattle.tally_commands.specs.Trouble.{IsTroubleOfDatabase, IsTroubleOfMaking, IsTroubleOfOpening};

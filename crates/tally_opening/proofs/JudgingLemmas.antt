@@ -1,5 +1,5 @@
 -- From what queries answered of the tables to the judgement of them.
-use Rattle.std.proofs.Common.{◌≡◌, ◌∙◌, List, ℕ, map, [], ◌∷◌, Option, None, Some, Result, Ok, Err, OnOk, IsTrue, inl, inr, refl, sym, ap, subst, arith}
+use Rattle.std.proofs.Common.{◌≡◌, ◌∙◌, List, ℕ, map, [], ◌∷◌, Option, None, Some, Result, Ok, Err, OnOk, inl, inr, refl, sym, ap, subst, arith}
 use Rattle.std.specs.Prelude.{◌==◌, if◌then◌else◌, OnSome}
 use Rattle.std.specs.List.Sorted.{IsPermutation}
 use Rattle.std.proofs.lemmas.List.Sorted.{IsPermutation-sym}

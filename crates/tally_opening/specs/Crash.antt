@@ -1,5 +1,5 @@
 -- What a crash may leave of an office that is made or opened, and when nothing was written.
-use Rattle.std.specs.Prelude.{◌≡◌, List, ℕ, Ok, IsTrue, codes}
+use Rattle.std.specs.Prelude.{◌≡◌, false, List, ℕ, Result, Ok, OnErr, IsTrue, codes}
 use Rattle.sqlite.specs.Effect.{Database}
 use Rattle.sqlite.specs.State.{State as Seen, HasCleanDisk, Survives}
 use Rattle.sqlite_trees.specs.Tree.{Trees}
@@ -30,6 +30,14 @@ pub record LeavesTakenOver (found : Database) (db : Trees) : Type 0 where
   pub lawful : IsLawfulState setup state
   pub tables : AreFound setup text state found
   pub whole : IsWholeOffice setup text state db
+
+-- A call was carried out in a transaction of its own, whole or not at all: no transaction is open
+-- after it; with an error the tables are as they were, while the connection is open; and a crash
+-- leaves what it could leave before, or such a database.
+pub record IsWholeOrNothing (Leaves : Trees → Type 0) {X E : Type 0} (result : Result X E) (old new : Seen) : Type 0 where
+  pub ended : new.in_transaction ≡ false
+  pub same : HasCleanDisk new → IsTrue new.is_open → OnErr result (IsAsBefore old new)
+  pub crash : Survives old new Leaves
 
 -- there is a table `past`, so there is nothing to take over
 abbrev pub HasPast : Database → Type 0

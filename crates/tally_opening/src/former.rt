@@ -1,15 +1,14 @@
 //! Opening a database of version 1: its tables are taken over.
 
-ghost use Rattle.std.specs.Prelude.{◌≡◌, false, IfErr, IfOk, IsTrue, OnErr};
-ghost use Rattle.sqlite.specs.State.{HasCleanDisk, Survives};
+ghost use Rattle.std.specs.Prelude.{◌≡◌, false, IfErr, IfOk};
+ghost use Rattle.sqlite.specs.State.{HasCleanDisk};
 ghost use Rattle.sqlite.specs.Held.{state};
 ghost use Rattle.tally_judge.specs.Numbers.{numbers_of};
 ghost use Rattle.tally_schema.specs.Made.{HasFirstTables};
 ghost use Rattle.tally_schema.specs.Tables.{former_schema};
 ghost use Rattle.tally_statements.specs.Inside.{OnlyReadsFrom, StaysFrom};
 ghost use Rattle.tally_statements.specs.Office.{HasTables};
-ghost use Rattle.tally_opening.specs.Crash.{LeavesTakenOver};
-ghost use Rattle.tally_opening.specs.Create.{IsAsBefore};
+ghost use Rattle.tally_opening.specs.Crash.{IsWholeOrNothing, LeavesTakenOver};
 ghost use Rattle.tally_opening.specs.Office.{IsSettled};
 ghost use Rattle.tally_opening.specs.Open.{IsOpened, former_version};
 ghost use Rattle.tally_opening.specs.internal.Opening.{Does, HasNumbersOfFormer, HasNumbersOfTables, HasSetupRow, IsFormerFault, IsFormerJudgedFault, IsFormerSetupFault, IsJudged, IsReady, IsShownFault, IsShownSetup, IsTaken, Sees};
@@ -142,15 +141,12 @@ pub(crate) fn open_former<S: Alter>(
     requires autocommit { conn.old.in_transaction ≡ false }
     requires schema { (state S.Store conn.old).now.schema ≡ former_schema }
     requires settled { IsSettled (state S.Store conn.old) }
-    ensures ended { conn.new.in_transaction ≡ false }
+    ensures ends { IsWholeOrNothing (LeavesTakenOver (state S.Store conn.old).now) result
+        (state S.Store conn.old) (state S.Store conn.new) }
     ensures opened { HasCleanDisk (state S.Store conn.new) →
         IfOk result (λ setup. IsOpened setup (state S.Store conn.old) (state S.Store conn.new)) }
     ensures fault { HasCleanDisk (state S.Store conn.new) →
         IfErr result (IsFormerFault (state S.Store conn.old).now.trees) }
-    ensures same { HasCleanDisk (state S.Store conn.new) → IsTrue (state S.Store conn.new).is_open →
-        OnErr result (IsAsBefore (state S.Store conn.old) (state S.Store conn.new)) }
-    ensures crash { Survives (state S.Store conn.old) (state S.Store conn.new)
-        (LeavesTakenOver (state S.Store conn.old).now) }
     ensures numbers { HasCleanDisk (state S.Store conn.new) →
         IfOk result (λ setup.
         HasNumbersOfFormer setup (state S.Store conn.old).now.trees (numbers_of known.new)) }

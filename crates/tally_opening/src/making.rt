@@ -1,13 +1,13 @@
 //! Making the tables of an office that opens.
 
-ghost use Rattle.std.specs.Prelude.{◌≡◌, ◌∷◌, [], false, IsTrue, OnOk, OnErr};
-ghost use Rattle.sqlite.specs.State.{HasCleanDisk, Survives};
+ghost use Rattle.std.specs.Prelude.{◌≡◌, ◌∷◌, [], false, IsTrue, OnOk};
+ghost use Rattle.sqlite.specs.State.{HasCleanDisk};
 ghost use Rattle.sqlite.specs.Held.{state};
 ghost use Rattle.tally_rules.specs.Limits.{IsSetup};
 ghost use Rattle.tally_returns.specs.State.{opening};
 ghost use Rattle.tally_schema.specs.Tables.{schema_with};
 ghost use Rattle.tally_statements.specs.Inside.{Stays};
-ghost use Rattle.tally_opening.specs.Create.{IsAsBefore};
+ghost use Rattle.tally_opening.specs.Crash.{IsWholeOrNothing};
 ghost use Rattle.tally_opening.specs.internal.Making.{no_list_rows, no_vote_rows, Totalled, Opened, Made};
 ghost use Rattle.tally_opening.specs.Office.{HasState, IsSettled, IsWholeOffice};
 
@@ -15,12 +15,10 @@ use sqlite::{Alter, Connection, Error, Transaction};
 use tally_rules::{Constituency, Setup};
 use tally_schema::create_tables;
 use tally_statements::{insert_con, insert_setup, insert_total};
+use tally_tables::SPOILED_ITEM;
 
 /// The version of the tables.
 pub(crate) const VERSION: u32 = 2;
-
-/// The item of the spoiled votes, after those of 60 lists.
-const SPOILED: u32 = 61;
 
 /// Adds a sum of 0 for each list.
 fn insert_list_totals<S: Alter>(
@@ -46,7 +44,7 @@ fn insert_totals<S: Alter>(tx: &mut Transaction<'_, S>, con: &str, lists: u32) -
 {
     insert_total(tx, con, 0, 0)?;
     insert_list_totals(tx, con, lists)?;
-    insert_total(tx, con, SPOILED, 0)
+    insert_total(tx, con, SPOILED_ITEM, 0)
 }
 
 /// Adds the rows of a constituency that opens.
@@ -100,16 +98,13 @@ pub(crate) fn make_in<S: Alter>(
     requires autocommit { conn.old.in_transaction ≡ false }
     requires unset { (state S.Store conn.old).now.schema ≡ schema_with 0 }
     requires settled { IsSettled (state S.Store conn.old) }
-    ensures ended { conn.new.in_transaction ≡ false }
+    ensures ends { IsWholeOrNothing (IsWholeOffice setup.now text.now (opening setup.now)) result
+        (state S.Store conn.old) (state S.Store conn.new) }
     ensures made { HasCleanDisk (state S.Store conn.new) →
         OnOk result (HasState setup.now text.now (opening setup.now) (state S.Store conn.new)) }
     ensures limits { OnOk result (IsSetup setup.now) }
     ensures open { HasCleanDisk (state S.Store conn.new) →
         OnOk result (IsTrue (state S.Store conn.new).is_open) }
-    ensures same { HasCleanDisk (state S.Store conn.new) → IsTrue (state S.Store conn.new).is_open →
-        OnErr result (IsAsBefore (state S.Store conn.old) (state S.Store conn.new)) }
-    ensures crash { Survives (state S.Store conn.old) (state S.Store conn.new)
-        (IsWholeOffice setup.now text.now (opening setup.now)) }
 {
     let mut tx = conn.transaction();
     match make_office(&mut tx, setup, text) {

@@ -1,10 +1,9 @@
 //! Opening a database, of today's version or of version 1.
 
-ghost use Rattle.std.specs.Prelude.{◌≡◌, false, IfErr, IfOk, IsTrue, OnErr, OnOk};
-ghost use Rattle.sqlite.specs.State.{HasCleanDisk, KeepsCounts, Survives};
+ghost use Rattle.std.specs.Prelude.{◌≡◌, false, IfErr, IfOk, IsTrue, OnOk};
+ghost use Rattle.sqlite.specs.State.{HasCleanDisk, KeepsCounts};
 ghost use Rattle.sqlite.specs.Held.{state};
-ghost use Rattle.tally_opening.specs.Crash.{HasPast, IsUnwritten, LeavesTakenOver};
-ghost use Rattle.tally_opening.specs.Create.{IsAsBefore};
+ghost use Rattle.tally_opening.specs.Crash.{HasPast, IsUnwritten, IsWholeOrNothing, LeavesTakenOver};
 ghost use Rattle.tally_judge.specs.Numbers.{numbers_of};
 ghost use Rattle.tally_opening.specs.Open.{HasNumbersOfFound, IsOpenFault, IsOpened};
 ghost use Rattle.tally_opening.specs.internal.Opening.{IsFormerSchema, IsSchemaFault, IsTodaySchema};
@@ -51,15 +50,12 @@ pub fn open_in<S: Alter>(
     known: &mut BTreeMap<Code, Statuses>,
 ) -> Result<Setup, OpenFault>
     requires autocommit { conn.old.in_transaction ≡ false }
-    ensures ended { conn.new.in_transaction ≡ false }
+    ensures ends { IsWholeOrNothing (LeavesTakenOver (state S.Store conn.old).now) result
+        (state S.Store conn.old) (state S.Store conn.new) }
     ensures opened { HasCleanDisk (state S.Store conn.new) →
         IfOk result (λ setup. IsOpened setup (state S.Store conn.old) (state S.Store conn.new)) }
     ensures fault { HasCleanDisk (state S.Store conn.new) →
         IfErr result (IsOpenFault (state S.Store conn.old).now) }
-    ensures same { HasCleanDisk (state S.Store conn.new) → IsTrue (state S.Store conn.new).is_open →
-        OnErr result (IsAsBefore (state S.Store conn.old) (state S.Store conn.new)) }
-    ensures crash { Survives (state S.Store conn.old) (state S.Store conn.new)
-        (LeavesTakenOver (state S.Store conn.old).now) }
     ensures unwritten { HasPast (state S.Store conn.old).now →
         IsUnwritten (state S.Store conn.old) (state S.Store conn.new) }
     ensures counts { HasPast (state S.Store conn.old).now → HasCleanDisk (state S.Store conn.new) →

@@ -16,13 +16,13 @@ ghost use Rattle.tally_opening.specs.internal.Opening.{HasNumbersOfTables, IsJud
 
 use crate::judging::judge_office;
 use crate::making::VERSION;
-use sqlite::{Alter, Connection, Error, ErrorCode, Row, Transaction};
+use sqlite::{Alter, Connection, Error, Row, Transaction};
 use std::alloc::Global;
 use std::collections::BTreeMap;
 use tally_faults::OpenFault;
 use tally_rows::{number_at, text_at};
 use tally_rules::{Code, Setup, SetupFault, read_setup};
-use tally_statements::all_setup;
+use tally_statements::{all_setup, is_memory};
 use tally_tables::Statuses;
 
 fn shown_of_row(row: &Row) -> Option<(u32, &[u8])>
@@ -112,9 +112,10 @@ pub(crate) fn judge_stored<S: Alter>(
 pub(crate) fn open_fault_of(error: &Error) -> OpenFault
     ensures { (result ≡ OpenFault.Memory) ⊎ (result ≡ OpenFault.Store) }
 {
-    match error {
-        Error::SqliteFailure(ErrorCode::OutOfMemory) => OpenFault::Memory,
-        _ => OpenFault::Store,
+    if is_memory(error) {
+        OpenFault::Memory
+    } else {
+        OpenFault::Store
     }
 }
 

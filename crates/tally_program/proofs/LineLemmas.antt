@@ -1,16 +1,18 @@
 -- A command line that is not carried out.
-use Rattle.std.proofs.Common.{◌≡◌, ℕ, List, Option, Some, None, Err, refl, sym, subst, inl, inr, codes}
+use Rattle.std.proofs.Common.{◌≡◌, ℕ, List, Option, Some, None, Result, Err, IfErr, refl, sym, subst, inl, inr, codes}
 use Rattle.tally_commands.specs.Told.{Told}
 use Rattle.tally_commands.specs.Imported.{IsCountText}
 use Rattle.tally_commands.specs.Made.{IsMadeText}
 use Rattle.tally_commands.specs.Served.{IsServedText}
+use Rattle.tally_commands.specs.declared.trouble.Trouble.{Trouble}
 use Rattle.tally_commands.specs.declared.trouble.Trouble.TheVariants as trouble
 use Rattle.tally_line.specs.Line.{CheckSeen, ImportSeen, IsRefusal, LineSeen, NewSeen, ServeSeen, ShowSeen, line_of}
 use Rattle.tally_line.specs.declared.line.LineFault.{LineFault}
 use Rattle.tally_line.specs.declared.line.LineFault.TheVariants.{Usage, NoCon, Memory}
 use Rattle.tally_line.proofs.CommandLemmas.{lacks_con_alone}
-use Rattle.tally_program.specs.Commands.{Bytes, IsAnyText}
+use Rattle.tally_program.specs.Commands.{Bytes, IsAnyText, IsCommandTold, IsWritten, SaysWhere, command_status}
 use Rattle.tally_program.specs.Perform.{Performs, PerformsLine, fault_status}
+use Rattle.tally_program.specs.Troubles.{IsTroubleOfServe}
 use Rattle.tally_program.proofs.WrittenLemmas.{any, counted, made, served, unwritten}
 
 -- out of memory, whatever the words ask for
@@ -47,6 +49,9 @@ without-memory left held told words (Some (ServeSeen db port count)) i o before 
   outcome = Err trouble.Memory;
   named = inr (inl (inl refl));
   written = unwritten held (IsServedText count) (served count) o trouble.Memory;
+  said = before;
+  says = inr (inr (inl refl), refl);
+  errors = so;
   gives = refl;
   unread = refl;
 }
@@ -82,3 +87,13 @@ refused left held told words (Usage e) i o before after status is gives memory c
         | inr other ↦ cc
       ];
     })
+
+-- words that ask for a server, and what it said, wrote and reported
+pub serves : {R W E : Type 0} (left : Bytes R) (held : Bytes W) (told : Bytes E) (words : List (List ℕ)) (db : List ℕ) (port count : ℕ)
+    (i : R) (o written : W) (before said after : E) (outcome : Result (Unit {0}) Trouble) (status : ℕ) → line_of words ≡ Some (ServeSeen db port count)
+    → IfErr outcome IsTroubleOfServe → IsWritten held (IsServedText count) o written outcome → SaysWhere told port count before said outcome
+    → IsCommandTold told said after outcome → status ≡ command_status outcome
+    → Performs left held told words (record { input = i; output = o; errors = before }) (record { input = i; output = written; errors = after }) status
+serves left held told words db port count i o written before said after outcome status is named writes says reports gives =
+    subst (λ (l : Option LineSeen). PerformsLine left held told words l (record { input = i; output = o; errors = before }) (record { input = i; output = written; errors = after }) status)
+    (sym is) (record { outcome = outcome; named = named; written = writes; said = said; says = says; errors = reports; gives = gives; unread = refl })

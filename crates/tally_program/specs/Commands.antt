@@ -1,13 +1,13 @@
 -- What a command over an office leaves on the three streams of the program, and its exit status. No
 -- contract says what is in its files.
-use Rattle.std.specs.Prelude.{◌≡◌, ℕ, List, Option, Some, None, Result, Ok, Err, IfErr, take}
+use Rattle.std.specs.Prelude.{◌≡◌, ◌⊎◌, ℕ, List, Option, Some, None, Result, Ok, Err, IfErr, take}
 use Rattle.std.specs.Io.KnownBytes.{Appends}
-use Rattle.tally_commands.specs.Served.{IsServedText}
+use Rattle.tally_commands.specs.Served.{IsServedText, listening_line}
 use Rattle.tally_commands.specs.Told.{Told}
 use Rattle.tally_commands.specs.Trouble.{trouble_line, trouble_status}
 use Rattle.tally_commands.specs.declared.trouble.Trouble.{Trouble}
 use Rattle.tally_commands.specs.declared.trouble.Trouble.TheVariants.{Write}
-use Rattle.tally_program.specs.Troubles.{IsTroubleOfServe}
+use Rattle.tally_program.specs.Troubles.{IsTroubleOfEnding, IsTroubleOfListening, IsTroubleOfServe}
 
 -- any text, where it takes the office to say more
 abbrev pub IsAnyText : List ℕ → Type 0
@@ -45,6 +45,15 @@ abbrev pub IsCommandTold : {E : Type 0} → Bytes E → E → E → Result (Unit
 IsCommandTold told old new (Ok done) = new ≡ old
 IsCommandTold told old new (Err trouble) = Told (told old) (told new) (trouble_line trouble)
 
+-- What a server says before it reports how it ended: where it listens, once it does. So one that is
+-- done has said it, or a prefix of it where a write failed; and one with a trouble has said it, if
+-- the trouble is of its ending, or it said nothing, if it did not listen yet.
+abbrev pub SaysWhere : {E : Type 0} → Bytes E → ℕ → ℕ → E → E → Result (Unit {0}) Trouble → Type 0
+SaysWhere told port count old new (Ok done) = Told (told old) (told new) (listening_line port count)
+SaysWhere told port count old new (Err t) =
+    (IsTroubleOfEnding t × Told (told old) (told new) (listening_line port count))
+    ⊎ (IsTroubleOfListening t × (new ≡ old))
+
 abbrev pub command_status : Result (Unit {0}) Trouble → ℕ
 command_status (Ok done) = 0
 command_status (Err trouble) = trouble_status trouble
@@ -61,12 +70,15 @@ pub record EndsCommand {R W E : Type 0} (held : Bytes W) (told : Bytes E)
   pub gives : status ≡ command_status outcome
   pub unread : new.input ≡ old.input
 
--- The same of a server of so many connections, which reports more on standard error than how it
--- ended.
-pub record EndsServer {R W E : Type 0} (held : Bytes W) (count : ℕ)
+-- The same of a server of so many connections at a port, which says where it listens before it
+-- reports how it ended.
+pub record EndsServer {R W E : Type 0} (held : Bytes W) (told : Bytes E) (port count : ℕ)
     (old new : Streams R W E) (status : ℕ) : Type 0 where
   pub outcome : Result (Unit {0}) Trouble
   pub named : IfErr outcome IsTroubleOfServe
   pub written : IsWritten held (IsServedText count) old.output new.output outcome
+  pub said : E
+  pub says : SaysWhere told port count old.errors said outcome
+  pub errors : IsCommandTold told said new.errors outcome
   pub gives : status ≡ command_status outcome
   pub unread : new.input ≡ old.input

@@ -88,7 +88,7 @@ PerformsLine left held told words (Some (ImportSeen db con csv sep)) old new sta
 PerformsLine left held told words (Some (ShowSeen db name con)) old new status =
     EndsCommand held told IsAnyText IsTroubleOfShow old new status
 PerformsLine left held told words (Some (ServeSeen db port count)) old new status =
-    EndsServer held count old new status
+    EndsServer held told port count old new status
 PerformsLine left held told words None old new status = RefusesLine told words old new status
 
 -- What the program does for these words, its name first.

@@ -1,13 +1,14 @@
 //! What each command over an office does. Errors are matched and returned, and not passed on by
 //! `?`, since the `?` of an enum that holds a text (`Trouble`) has no proof yet.
 
-ghost use Rattle.std.specs.Prelude.{◌≡◌, ◌≤◌, [], IfErr, IfOk, OnOk, Err, false, true, is_some, option_map};
+ghost use Rattle.std.specs.Prelude.{◌≡◌, ◌≤◌, [], IfErr, IfOk, OnErr, OnOk, Err, false, true, is_some, option_map};
 ghost use Rattle.std.specs.Prelude.{string_bytes, string_capacity, string_len};
 ghost use Rattle.tally_desk.specs.Respond.{office};
 ghost use Rattle.tally_commands.specs.Imported.{IsCountText};
 ghost use Rattle.tally_commands.specs.Made.{IsMadeText, constituencies_text};
-ghost use Rattle.tally_commands.specs.Served.{IsServedText};
-ghost use Rattle.tally_program.specs.Commands.{IsAnyText, IsWritten};
+ghost use Rattle.tally_commands.specs.Served.{IsServedText, listening_line};
+ghost use Rattle.tally_commands.specs.Told.{Told};
+ghost use Rattle.tally_program.specs.Commands.{IsAnyText, IsWritten, SaysWhere};
 ghost use Rattle.tally_program.specs.internal.Served.{IsToldOfServing};
 ghost use Rattle.tally_program.specs.Troubles.{IsTroubleOfEnding, IsTroubleOfImport, IsTroubleOfImporting, IsTroubleOfNew};
 ghost use Rattle.tally_program.specs.Troubles.{IsTroubleOfServe, IsTroubleOfServing, IsTroubleOfShow};
@@ -20,8 +21,9 @@ use std::alloc::Global;
 use std::io::Write;
 use std::net::{Ipv4Addr, TcpListener};
 use tally_commands::{
-    CONSTITUENCIES_ROOM, Report, SERVED_ROOM, Sep, Trouble, constituencies_text, has_con,
-    import_text, served_text, show_progress, show_report,
+    CONSTITUENCIES_ROOM, LISTENING_ROOM, Report, SERVED_ROOM, Sep, Trouble, Watch,
+    constituencies_text, has_con, import_text, listening_text, served_text, show_progress,
+    show_report, tell,
 };
 use tally_desk::{Door, TcpDoor, serve};
 use tally_import::write_text;
@@ -162,7 +164,7 @@ fn import_file<K: Keeper>(
         return Err(Trouble::NoConstituency);
     }
     match open_file(rt, csv) {
-        Ok(file) => import_text(rt.alloc(), keeper, con, sep, file),
+        Ok(file) => import_text(rt.alloc(), keeper, con, sep, file, &mut Watch::new()),
         Err(trouble) => Err(trouble),
     }
 }
@@ -227,6 +229,7 @@ pub fn serve_office<O: Offices, W: Write, E: Write>(
 ) -> Result<(), Trouble>
     ensures written { IsWritten W.contents (IsServedText count) output.old output.new result }
     ensures named { IfErr result IsTroubleOfServe }
+    ensures says { SaysWhere E.contents port count errors.old errors.new result }
 {
     let mut office = match offices.open_office(rt, db) {
         Ok(office) => office,
@@ -237,8 +240,7 @@ pub fn serve_office<O: Offices, W: Write, E: Write>(
 }
 
 /// Listens, says so, serves, and answers how many connections were answered and how many failed.
-/// The room of that line is reserved before: nothing takes memory for it once connections were
-/// served.
+/// The room of these lines is reserved before: nothing takes memory for them once it listens.
 fn serve_on<K: Keeper, E: Write>(
     rt: &HostRuntime,
     keeper: &mut K,
@@ -250,20 +252,38 @@ fn serve_on<K: Keeper, E: Write>(
     ensures text { IfOk result (λ text. IsServedText count (string_bytes text)) }
     ensures named { IfErr result IsTroubleOfServing }
     ensures unserved { IfErr result (λ trouble. keeper.new ≡ keeper.old) }
+    ensures said { OnOk result (Told (E.contents errors.old) (E.contents errors.new)
+        (listening_line port count)) }
+    ensures silent { OnErr result (errors.new ≡ errors.old) }
 {
     let line = match line_room(rt, SERVED_ROOM) {
         Ok(line) => line,
         Err(trouble) => return Err(trouble),
     };
+    let listening = match where_listening(rt, port, count) {
+        Ok(listening) => listening,
+        Err(trouble) => return Err(trouble),
+    };
     let Ok(listener) = TcpListener::bind(rt, (Ipv4Addr::LOCALHOST, port)) else {
         return Err(Trouble::Port);
     };
-    let _ = writeln!(
-        errors,
-        "listening on 127.0.0.1:{port} for {count} connections"
-    );
+    tell(listening.as_str(), errors);
     let mut door = TcpDoor::timed(listener, rt);
     Ok(serve_through(rt.alloc(), keeper, &mut door, count, line))
+}
+
+/// The line that says where a server listens.
+fn where_listening(rt: &HostRuntime, port: u16, count: u32) -> Result<String, Trouble>
+    ensures line { IfOk result (λ line. string_bytes line ≡ listening_line port count) }
+    ensures trouble { IfErr result (λ trouble. trouble ≡ Trouble.Memory) }
+{
+    match line_room(rt, LISTENING_ROOM) {
+        Ok(mut line) => {
+            listening_text(&mut line, port, count);
+            Ok(line)
+        }
+        Err(trouble) => Err(trouble),
+    }
 }
 
 /// Serves so many connections of a door. How many were answered and how many failed is written into

@@ -1,4 +1,5 @@
-//! The files that a command reads: a setup, and returns.
+//! The files that a command reads: a setup, and returns. Errors are matched and returned, and not
+//! passed on by `?`, since the `?` of an enum that holds a text (`Trouble`) has no proof yet.
 
 ghost use Rattle.std.specs.Prelude.{◌≡◌, ◌↔◌, IfErr, IsTrue};
 ghost use Rattle.std.specs.IoError.{error_kind};

@@ -9,7 +9,7 @@ use std::fs;
 use std::test::Fail;
 use tally_core::Book;
 use tally_program::{DONE, FAILED, Offices, REFUSED, Trouble, USAGE};
-use tally_rules::read_setup;
+use tally_rules::{SetupFault, read_setup};
 use tally_scripts::TWIN_TOWN;
 
 /// Offices in memory, each of which opens as it was made. The path says what goes wrong.
@@ -46,6 +46,7 @@ fn office_of(rt: &HostRuntime, text: &[u8]) -> Result<Book, Trouble>
 {
     let setup = match read_setup(rt.alloc(), text) {
         Ok(setup) => setup,
+        Err(SetupFault::Memory) => return Err(Trouble::Memory),
         Err(fault) => return Err(Trouble::Setup(fault)),
     };
     match Book::new(rt.alloc(), setup) {

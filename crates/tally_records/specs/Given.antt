@@ -1,5 +1,5 @@
 -- Which records of an input were given, and what is left of it.
-use Rattle.std.specs.Prelude.{◌≡◌, ◌≤◌, ◌++◌, ◌∷◌, ℕ, Bool, true, List, [], drop, length, Option, Some, None, IfSome, ⊤}
+use Rattle.std.specs.Prelude.{◌≡◌, ◌≤◌, ◌++◌, ◌∷◌, ℕ, Bool, true, List, [], drop, length, Option, Some, None, IfSome, Result, IfOk, ⊤}
 use Rattle.std.specs.Io.KnownBytes.{Consumes}
 use Rattle.tally_records.specs.Input.{AreAll, Gave, complete_records, size_limit}
 use Rattle.tally_records.specs.RecordsValue.{Records}
@@ -38,6 +38,14 @@ GivesRecord old_left left fields old new = (text : Option (List ℕ)) (given : L
 abbrev pub GaveAll : Option (List ℕ) → Option (List ℕ) → Records → Option Stop → Type 0
 GaveAll old_left left old stop = (text : Option (List ℕ)) (given : List (List (List ℕ)))
     → HasGiven text old_left given old → AreAll old.sep text left given stop
+
+-- What holds where a call did not come to the end of an input.
+abbrev pub IfNotEnded : {E : Type 0} → Result (Option End) E → Type 0 → Type 0
+IfNotEnded result Holds = IfOk result (λ end. end ≡ None → Holds)
+
+-- What holds where it came to this end.
+abbrev pub IfEnded : {E : Type 0} → Result (Option End) E → (End → Type 0) → Type 0
+IfEnded result Holds = IfOk result (λ end. (e : End) → end ≡ Some e → Holds e)
 
 -- the separator of two fields
 abbrev pub sep_of : Records → Sep

@@ -34,6 +34,7 @@ pub(crate) struct Held {
 impl Held {
     ghost use Rattle.tally_records.specs.internal.Pieces.{Ends, Fills, FillsHeld, HoldsAllThatCame, HoldsMore, HoldsNoMore};
     ghost use Rattle.tally_records.specs.internal.Text.{bytes_of_parts};
+    ghost use Rattle.tally_records.specs.Given.{IfEnded, IfNotEnded};
     ghost use Rattle.tally_records.specs.Watch.{NotesEnd};
 
     /// No byte.
@@ -59,9 +60,9 @@ impl Held {
         requires { self.old.taken ≤ 16777216 }
         ensures fills { IfOk result (FillsHeld
             (R.remaining input.old) (R.remaining input.new) self.old self.new) }
-        ensures size { IfOk result (λ end. end ≡ None → size ≤ length self.new.bytes.items) }
-        ensures count { IfOk result (λ end. end ≡ None → HoldsAllThatCame self.old self.new) }
-        ensures limit { IfOk result (λ end. end ≡ None → self.new.taken ≤ 16777216) }
+        ensures size { IfNotEnded result (size ≤ length self.new.bytes.items) }
+        ensures count { IfNotEnded result (HoldsAllThatCame self.old self.new) }
+        ensures limit { IfNotEnded result (self.new.taken ≤ 16777216) }
         ensures few { OnOk result (HoldsNoMore self.old self.new) }
         ensures failed { IfOk result (NotesEnd watch.old watch.new) }
     {
@@ -95,12 +96,12 @@ impl Held {
     ) -> Result<Option<End>, AllocError>
         requires some { 0 < length room.old }
         requires limit { self.old.taken + length room.old ≤ 16777217 }
-        ensures came { IfOk result (λ end. end ≡ None
-            → HoldsMore (R.remaining input.old) (R.remaining input.new) self.old self.new) }
-        ensures some { IfOk result (λ end. end ≡ None → self.old.taken < self.new.taken) }
+        ensures came { IfNotEnded result
+            (HoldsMore (R.remaining input.old) (R.remaining input.new) self.old self.new) }
+        ensures some { IfNotEnded result (self.old.taken < self.new.taken) }
         ensures limit { OnOk result (self.new.taken ≤ 16777217) }
-        ensures ended { IfOk result (λ end. (e : End) → end ≡ Some e
-            → (self.new ≡ self.old) × Ends (R.remaining input.old) (R.remaining input.new) e.stop) }
+        ensures ended { IfEnded result (λ end. (self.new ≡ self.old)
+            × Ends (R.remaining input.old) (R.remaining input.new) end.stop) }
         ensures failed { IfOk result (NotesEnd watch.old watch.new) }
     {
         let Ok(came) = watch.read(input, room) else {

@@ -1,6 +1,6 @@
 //! The records of an input, one after the other.
 
-ghost use Rattle.std.specs.Prelude.{◌≡◌, [], Some, None, Bool, IfOk, OnOk};
+ghost use Rattle.std.specs.Prelude.{◌≡◌, [], Bool, IfOk, OnOk};
 ghost use Rattle.csv.specs.Records.{fields_of};
 
 use crate::end::End;
@@ -34,7 +34,7 @@ impl Model for Records {
 }
 
 impl Records {
-    ghost use Rattle.tally_records.specs.Given.{GaveAll, GivesRecord, HasGiven, IsReadingOn, TellsTrue, sep_of};
+    ghost use Rattle.tally_records.specs.Given.{GaveAll, GivesRecord, HasGiven, IfEnded, IfNotEnded, IsReadingOn, TellsTrue, sep_of};
     ghost use Rattle.tally_records.specs.Watch.{TellsEnd, has_failed};
 
     /// The records of an input, whose first piece is read.
@@ -68,12 +68,11 @@ impl Records {
     ) -> Result<Option<End>, AllocError>
         requires { IsReadingOn self.old }
         ensures sep { sep_of self.new ≡ sep_of self.old }
-        ensures reading { IfOk result (λ end. end ≡ None → IsReadingOn self.new) }
-        ensures record { IfOk result (λ end. end ≡ None
-            → GivesRecord (R.remaining input.old) (R.remaining input.new)
-            (fields_of into.new) self.old self.new) }
-        ensures all { IfOk result (λ end. (e : End) → end ≡ Some e
-            → GaveAll (R.remaining input.old) (R.remaining input.new) self.old e.stop) }
+        ensures reading { IfNotEnded result (IsReadingOn self.new) }
+        ensures record { IfNotEnded result (GivesRecord (R.remaining input.old)
+            (R.remaining input.new) (fields_of into.new) self.old self.new) }
+        ensures all { IfEnded result (λ end. GaveAll
+            (R.remaining input.old) (R.remaining input.new) self.old end.stop) }
         ensures failed { (before : Bool) → TellsTrue before self.old (has_failed watch.old)
             → IfOk result (λ end. TellsEnd before end (has_failed watch.new)) }
         ensures tells { (before : Bool) → TellsTrue before self.old (has_failed watch.old)

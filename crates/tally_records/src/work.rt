@@ -44,6 +44,7 @@ pub(crate) struct Work {
 impl Work {
     ghost use Rattle.tally_records.specs.internal.Pieces.{Begun, GaveAllAt, GivesOfPiece, GivesRecordAt, HasGivenAt, HoldsAllThatCame, IsBegunIn, IsWorking, IsSpent, KeepsGiven, TakesUp, bytes_of, left_size};
     ghost use Rattle.tally_records.specs.internal.Text.{bytes_of_parts};
+    ghost use Rattle.tally_records.specs.Given.{IfEnded, IfNotEnded};
     ghost use Rattle.tally_records.specs.Watch.{NotesEnd, TellsEnd, flag_after_end, has_failed};
 
     /// The records of an input, whose first piece is read.
@@ -169,12 +170,11 @@ impl Work {
     ) -> Result<Option<End>, AllocError>
         requires { IsWorking self.old }
         ensures sep { self.new.sep ≡ self.old.sep }
-        ensures reading { IfOk result (λ end. end ≡ None → IsWorking self.new) }
-        ensures record { IfOk result (λ end. end ≡ None
-            → GivesRecordAt (R.remaining input.old) (R.remaining input.new)
-            (fields_of into.new) self.old self.new) }
-        ensures all { IfOk result (λ end. (e : End) → end ≡ Some e
-            → GaveAllAt (R.remaining input.old) (R.remaining input.new) self.old e.stop) }
+        ensures reading { IfNotEnded result (IsWorking self.new) }
+        ensures record { IfNotEnded result (GivesRecordAt (R.remaining input.old)
+            (R.remaining input.new) (fields_of into.new) self.old self.new) }
+        ensures all { IfEnded result (λ end. GaveAllAt
+            (R.remaining input.old) (R.remaining input.new) self.old end.stop) }
         ensures failed { (before : Bool) → has_failed watch.old ≡ flag_after_end self.old.end before
             → IfOk result (λ end. TellsEnd before end (has_failed watch.new)) }
         ensures tells { (before : Bool) → has_failed watch.old ≡ flag_after_end self.old.end before

@@ -2,6 +2,7 @@
 
 ghost use Rattle.std.specs.Prelude.{max, ◌≡◌, ◌≤◌, ◌++◌, IfOk, IfErr, OnOk, length, string_bytes};
 ghost use Rattle.std.specs.List.{flat_map, range_with_len};
+ghost use Rattle.tally_frac.specs.Limits.{last_divisor, most_seats, most_votes};
 ghost use Rattle.tally_steps.specs.Outcome.{IsLawfulView};
 ghost use Rattle.tally_returns.specs.View.{FitsView};
 ghost use Rattle.tally_report.specs.Fault.{IsRefused, divisors_fault};
@@ -13,12 +14,9 @@ ghost use Rattle.tally_rules.specs.Threshold.{eligible_lists};
 use crate::column::{push_heading, push_left, push_number};
 use crate::fault::ReportFault;
 use std::alloc::{AllocError, Global};
-use tally_frac::{DHondt, Divisors, ModifiedSainteLague, SainteLague};
+use tally_frac::{DHondt, Divisors, MOST_SEATS, ModifiedSainteLague, SainteLague};
 use tally_returns::ConView;
 use tally_rules::{Constituency, ListEntry, Method, eligible};
-
-/// The most seats of a constituency.
-const MOST_SEATS: u32 = 500;
 
 /// The quotients of the eligible lists of a certified constituency under a divisor rule, rounded
 /// down, up to one more than the most seats that a list has. A star is put before each that won a
@@ -53,7 +51,7 @@ fn text_by<D: Divisors>(
 ) -> Result<String, ReportFault>
     requires view { FitsView con.now view.now }
     requires seats { length view.now.seats ≡ length con.now.lists }
-    ensures text { IfOk result (λ text. most view.now.seats ≤ 500 → string_bytes text
+    ensures text { IfOk result (λ text. most view.now.seats ≤ most_seats → string_bytes text
         ≡ quotients_by (D.divisor divisors.now) (D.unit_of divisors.now) con.now view.now) }
     ensures fault { IfErr result (λ fault. fault ≡ Memory) }
 {
@@ -93,7 +91,7 @@ fn push_lists<D: Divisors>(
     requires view { FitsView con.now view.now }
     requires seats { length view.now.seats ≡ length con.now.lists }
     requires marks { marks.now ≡ eligible_lists con.now.profile view.now.votes view.now.blank }
-    requires last { last ≤ 501 }
+    requires last { last ≤ last_divisor }
     ensures { OnOk result (string_bytes text.new
         ≡ string_bytes text.old
         ++ list_lines (quotients_line (D.divisor divisors.now) (D.unit_of divisors.now) last
@@ -117,8 +115,8 @@ fn push_quotients<D: Divisors>(
     seats: u32,
     last: u32,
 ) -> Result<(), AllocError>
-    requires votes { votes ≤ 5000000000 }
-    requires last { last ≤ 501 }
+    requires votes { votes ≤ most_votes }
+    requires last { last ≤ last_divisor }
     ensures { OnOk result (string_bytes text.new
         ≡ string_bytes text.old
         ++ flat_map (quotient_column (D.divisor divisors.now) (D.unit_of divisors.now) votes seats)
@@ -137,9 +135,9 @@ fn push_quotient<D: Divisors>(
     seats: u32,
     k: u32,
 ) -> Result<(), AllocError>
-    requires votes { votes ≤ 5000000000 }
+    requires votes { votes ≤ most_votes }
     requires first { 1 ≤ k }
-    requires last { k ≤ 501 }
+    requires last { k ≤ last_divisor }
     ensures { OnOk result (string_bytes text.new
         ≡ string_bytes text.old
         ++ quotient_column (D.divisor divisors.now) (D.unit_of divisors.now) votes seats k) }

@@ -1,6 +1,7 @@
 //! The votes of a constituency.
 
 ghost use Rattle.std.specs.Prelude.{◌≡◌, ◌≤◌, ◌<◌, ◌*◌, ◌++◌, IfOk, IfErr, OnOk, length, slice_index, sum, string_bytes};
+ghost use Rattle.tally_frac.specs.Limits.{most_votes};
 ghost use Rattle.tally_rules.specs.Threshold.{IsWithinVotes, base_of, eligible_lists};
 ghost use Rattle.tally_returns.specs.View.{FitsView};
 ghost use Rattle.tally_report.specs.Columns.{list_lines, right_cell};
@@ -65,7 +66,7 @@ fn push_list(
     base: u64,
     eligible: bool,
 ) -> Result<(), AllocError>
-    requires { votes ≤ 5000000000 }
+    requires { votes ≤ most_votes }
     ensures { OnOk result (string_bytes text.new
         ≡ string_bytes text.old ++ tally_columns list.now votes base eligible) }
 {
@@ -80,7 +81,7 @@ fn push_list(
 
 /// The share of votes in a base, in hundredths of a per cent, rounded down.
 fn share(base: u64, votes: u64) -> u64
-    requires { votes ≤ 5000000000 }
+    requires { votes ≤ most_votes }
     ensures { result ≡ share base votes }
 {
     if base == 0 { 0 } else { votes * 10_000 / base }

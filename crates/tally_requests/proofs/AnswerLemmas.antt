@@ -1,11 +1,20 @@
 -- What is answered to a request on a constituency, and to the one that shows how far constituencies have come, in a transaction.
-use Rattle.std.proofs.Common.{◌≡◌, ◌≢◌, ◌∙◌, ◌⊎◌, ◌+◌, ◌++◌, ◌∷◌, ◌<◌, ℕ, List, [], Option, Some, None, Result, Ok, Err, IfOk, inl, inr, length, refl, sym, ap, subst, map, take}
+use Rattle.std.proofs.Common.{◌≡◌, ◌≢◌, ◌∙◌, ◌⊎◌, ◌+◌, ◌++◌, ◌∷◌, ◌<◌, ℕ, List, [], Bool, Option, Some, None, Result, Ok, Err, IfOk, inl, inr, length, refl, sym, ap, subst, map, take}
 use Rattle.std.specs.Prelude.{is_some, slice_index_or}
 use Rattle.std.specs.FinMap.{get, insert}
+use Rattle.std.specs.List.Sorted.{IsPermutation}
+use Rattle.sqlite_value.specs.Order.{Row}
 use Rattle.sqlite.specs.declared.error.Error.{Error}
+use Rattle.sqlite.specs.declared.transaction.Transaction.{Transaction}
+use Rattle.sqlite.specs.Held.{state}
+use Rattle.sqlite_trees.specs.declared.store.Store.{Ghosts}
 use Rattle.sqlite.specs.State.{State as Seen, HasCleanDisk, IsUnchanged}
 use Rattle.std.proofs.lemmas.List.{map-append, take_more}
-use Rattle.tally_statements.specs.Office.{IsInside}
+use Rattle.tally_statements.specs.Inside.{IsOpenInside, StaysFrom, StaysInside}
+use Rattle.tally_statements.specs.Office.{IsInside, tree_of}
+use Rattle.tally_statements.proofs.StaysLemmas.{stays-then}
+use Rattle.tally_statements.specs.declared.table.KeyedTable.TheVariants.{Cons}
+use Rattle.tally_rows.specs.Rows.{cells}
 use Rattle.tally_entries.proofs.FindLemmas.{inside_still}
 use Rattle.tally_rules.specs.Constituency.{Constituency}
 use Rattle.tally_rules.specs.Limits.{IsSetup}
@@ -33,10 +42,11 @@ use Rattle.tally_tables.specs.TablesOfState.{AreTables}
 use Rattle.tally_requests.specs.Requests.{CarriesOut, CarriesOutKnown, IsCarriedOut, IsChangeCarriedOut, IsInState, KeepsKnown}
 use Rattle.tally_tables.specs.Views.{statuses_of}
 use Rattle.tally_tables.specs.declared.views.Statuses.{Statuses}
-use Rattle.tally_entries.specs.Constituencies.{FindsProgressRow, FindsView, IsKnown}
+use Rattle.tally_entries.specs.Constituencies.{AreCons, FindsProgressRow, FindsView, IsKnown, IsViewWith, with_past_of}
 use Rattle.tally_requests.specs.Known.{AreKnown, Known}
 use Rattle.tally_requests.proofs.KnownLemmas.{con-returns, known-remembered, seen-statuses, shown-returns}
-use Rattle.tally_requests.specs.internal.Seen.{CarriesOutSeen, IsStill}
+use Rattle.tally_requests.specs.internal.Seen.{CarriesOutSeen, IsStill, shows_con}
+use Rattle.tally_requests.proofs.RecordLemmas.{decides-whole, refusal-whole, shown-only, whole-view}
 
 -- ---- requests on a constituency
 
@@ -51,61 +61,73 @@ unknown-carried setup text s code ask now named none here = record {
 
 -- what is refused changes nothing
 pub refused-carried : (setup : List Constituency) (text : List ℕ) (s : State) (con : Constituency) (view : View) (ask : Ask) (e : Refusal) (now : Seen) → IsSetup setup → IsLawfulState setup s
-    → constituency_with con.code setup ≡ Some con → con_named ask ≡ Some con.code → IsView con s view → IsConRefusal con view ask e
+    → constituency_with con.code setup ≡ Some con → con_named ask ≡ Some con.code → IsViewWith (shows_con ask) con s view → IsConRefusal con view ask e
     → IsInState setup text s now → IsCarriedOut setup text s ask (Err e) now
 refused-carried setup text s con view ask e now limits lawful found named seen refused here = go (memory-or e)
   where
     go : (e ≡ Memory) ⊎ (e ≢ Memory) → IsCarriedOut setup text s ask (Err e) now
     go (inl memory) = record { state = s; answered = inr (inl (ap Err memory), refl); in_state = here }
     go (inr other) =
-        let decides = refused-lawful con view ask e (view-lawful setup s con.code con view limits lawful found seen) refused other in
-        record { state = s; answered = inl (decisions-steps setup s con con.code view ask (Err e) (named, found) seen decides); in_state = here }
+        let whole = with_past_of con s view in
+        let all = whole-view (shows_con ask) con s view seen in
+        let decides = refused-lawful con whole ask e (view-lawful setup s con.code con whole limits lawful found all) (refusal-whole con view whole.past ask e refused) other in
+        record { state = s; answered = inl (decisions-steps setup s con con.code whole ask (Err e) (named, found) all decides); in_state = here }
 
 -- where nothing changes, what is seen is shown
 pub shown-carried : (setup : List Constituency) (text : List ℕ) (s : State) (con : Constituency) (view : View) (ask : Ask) (now : Seen)
-    → constituency_with con.code setup ≡ Some con → con_named ask ≡ Some con.code → IsView con s view → IsConDecision con view ask Same
+    → constituency_with con.code setup ≡ Some con → con_named ask ≡ Some con.code → IsViewWith (shows_con ask) con s view → IsConDecision con view ask Same
     → IsInState setup text s now → IsCarriedOut setup text s ask (Ok (Con view)) now
 shown-carried setup text s con view ask now found named seen by here =
     let none : by.0 ≡ no_change = let e : Some no_change ≡ Some by.0 = by.1 in cc in
     let decides = subst (λ d. Decides con view ask (Ok d)) none by.2 in
-    record { state = s; answered = inl (decisions-steps setup s con con.code view ask (Ok no_change) (named, found) seen decides); in_state = here }
+    record { state = s; answered = inl (decisions-steps setup s con con.code view ask (Ok no_change) (named, found) (subst (λ b. IsViewWith b con s view) (shown-only con view ask decides) seen) decides); in_state = here }
 
 -- a change that was carried out is the step
 pub changed-carried : (setup : List Constituency) (text : List ℕ) (s : State) (con : Constituency) (view : View) (ask : Ask) (decided : ConChange) (reply : Reply) (now : Seen)
-    → constituency_with con.code setup ≡ Some con → con_named ask ≡ Some con.code → IsView con s view → Decides con view ask (Ok decided)
-    → IsChangeCarriedOut setup text s con view decided reply now → IsCarriedOut setup text s ask (Ok reply) now
+    → constituency_with con.code setup ≡ Some con → con_named ask ≡ Some con.code → IsView con s (with_past_of con s view) → Decides con view ask (Ok decided)
+    → IsChangeCarriedOut setup text s con (with_past_of con s view) decided reply now → IsCarriedOut setup text s ask (Ok reply) now
 changed-carried setup text s con view ask decided reply now found named seen decides done = record {
   state = after_change s con.code (Ok decided);
   answered = inl (subst (λ a. IsStepSeen setup s ask a (after_change s con.code (Ok decided))) (sym done.answered)
-      (decisions-steps setup s con con.code view ask (Ok decided) (named, found) seen decides));
+      (decisions-steps setup s con con.code (with_past_of con s view) ask (Ok decided) (named, found) seen (decides-whole con view (with_past_of con s view).past ask (Ok decided) decides)));
   in_state = done.in_state;
 }
 
 -- what is answered by what was seen is answered by the tables
-pub seen-carries : (setup : List Constituency) (con : Constituency) (known : Known) (here : Option Statuses) (view : View) (ask : Ask) (old mid new : Seen) (r : Result (Result Reply Refusal) Error) → HasCleanDisk new → IsStill old mid
-    → constituency_with con.code setup ≡ Some con → here ≡ get known con.code → FindsView setup con here old view → CarriesOutSeen setup con view ask mid new r
+pub seen-carries : (setup : List Constituency) (con : Constituency) (known : Known) (here : Option Statuses) (with_past : Bool) (view : View) (ask : Ask) (old mid new : Seen) (r : Result (Result Reply Refusal) Error) → with_past ≡ shows_con ask → HasCleanDisk new → IsStill old mid
+    → constituency_with con.code setup ≡ Some con → here ≡ get known con.code → FindsView setup con here with_past old view → CarriesOutSeen setup con view ask mid new r
     → IfOk r (λ a. (text : List ℕ) (s : State) → IsLawfulState setup s → AreKnown setup s.returns known → AreTables setup text s old.now.trees → IsCarriedOut setup text s ask a new)
-seen-carries setup con known here view ask old mid new (Ok a) clean still found is finds carries = λ text s lawful held tables.
-    carries clean still.inside text s lawful (finds text s found lawful (subst (IsKnown con s.returns) (sym is) (held con found)) tables) (subst (λ d. AreTables setup text s d.trees) (sym still.same) tables)
-seen-carries setup con known here view ask old mid new (Err e) clean still found is finds carries = tt
+seen-carries setup con known here with_past view ask old mid new (Ok a) asked clean still found is finds carries = λ text s lawful held tables.
+    carries clean still.inside text s lawful (subst (λ b. IsViewWith b con s view) asked (finds text s found lawful (subst (IsKnown con s.returns) (sym is) (held con found)) tables)) (subst (λ d. AreTables setup text s d.trees) (sym still.same) tables)
+seen-carries setup con known here with_past view ask old mid new (Err e) asked clean still found is finds carries = tt
 
 -- and what was seen is known
-pub seen-known : (setup : List Constituency) (con : Constituency) (known after : Known) (here : Option Statuses) (code : List ℕ) (statuses : Statuses) (view : View) (ask : Ask) (old : Seen) (r : Result (Result Reply Refusal) Error)
-    → constituency_with con.code setup ≡ Some con → con_named ask ≡ Some con.code → here ≡ get known con.code → FindsView setup con here old view → code ≡ con.code → statuses ≡ statuses_of view → after ≡ insert known code statuses
+pub seen-known : (setup : List Constituency) (con : Constituency) (known after : Known) (here : Option Statuses) (code : List ℕ) (statuses : Statuses) (with_past : Bool) (view : View) (ask : Ask) (old : Seen) (r : Result (Result Reply Refusal) Error)
+    → constituency_with con.code setup ≡ Some con → con_named ask ≡ Some con.code → here ≡ get known con.code → FindsView setup con here with_past old view → code ≡ con.code → statuses ≡ statuses_of view → after ≡ insert known code statuses
     → IfOk r (λ a. (text : List ℕ) (s t : State) → IsLawfulState setup s → AreKnown setup s.returns known → AreTables setup text s old.now.trees → IsAnswered setup s ask a t → AreKnown setup t.returns after)
-seen-known setup con known after here code statuses view ask old (Ok a) found named is finds own statuses_are put = λ text s t lawful held tables answered.
+seen-known setup con known after here code statuses with_past view ask old (Ok a) found named is finds own statuses_are put = λ text s t lawful held tables answered.
     let seen = finds text s found lawful (subst (IsKnown con s.returns) (sym is) (held con found)) tables in
     subst (λ (m : Returns). AreKnown setup m after) (sym (con-returns setup s t ask con.code a named answered))
-    (known-remembered setup s.returns known after con code statuses found own (seen-statuses con s statuses view statuses_are seen.0) held put)
-seen-known setup con known after here code statuses view ask old (Err e) found named is finds own statuses_are put = tt
+    (known-remembered setup s.returns known after con code statuses found own (seen-statuses con s statuses (with_past_of con s view) statuses_are (whole-view with_past con s view seen).0) held put)
+seen-known setup con known after here code statuses with_past view ask old (Err e) found named is finds own statuses_are put = tt
 
 -- ---- how far constituencies have come
 
 -- how far one has come is found by what is known of it
-pub row-found : (setup : List Constituency) (text : List ℕ) (s : State) (con : Constituency) (known : Known) (here : Option Statuses) (code : List ℕ) (seen : Seen) (row : ProgressRow) → constituency_with con.code setup ≡ Some con
-    → IsLawfulState setup s → AreKnown setup s.returns known → here ≡ get known code → code ≡ con.code → FindsProgressRow con here seen row → AreTables setup text s seen.now.trees → row ≡ progress_row s con
-row-found setup text s con known here code seen row found lawful held is own finds tables =
-    finds setup s (lawful.known con.code ∙ ap is_some found) (subst (IsKnown con s.returns) (sym (is ∙ ap (get known) own)) (held con found)) tables.returns tables.cons
+pub row-found : (setup : List Constituency) (text : List ℕ) (s : State) (con : Constituency) (known : Known) (here : Option Statuses) (code : List ℕ) (seen : Seen) (rows : List Row) (row : ProgressRow) → constituency_with con.code setup ≡ Some con
+    → IsLawfulState setup s → AreKnown setup s.returns known → here ≡ get known code → code ≡ con.code → AreCons rows seen → FindsProgressRow con here rows seen row → AreTables setup text s seen.now.trees → row ≡ progress_row s con
+row-found setup text s con known here code seen rows row found lawful held is own all finds tables =
+    finds setup s (lawful.known con.code ∙ ap is_some found) (subst (IsKnown con s.returns) (sym (is ∙ ap (get known) own)) (held con found)) all tables.returns tables.cons
+
+-- a call stays inside after those that changed nothing on a connection that is open
+pub stays-on : {S : Type 0} (g : Ghosts S) (a b d : Transaction S) → (HasCleanDisk (state g b.conn.now) → IsInside (state g a.conn.now) → IsUnchanged (state g a.conn.now) (state g b.conn.now))
+    → StaysInside g a b → StaysFrom IsOpenInside g b d → StaysInside g a d
+stays-on g a b d still one two =
+    stays-then IsInside IsOpenInside g a b d (λ early inside. let same = still early inside in (inside_still (state g a.conn.now) (state g b.conn.now) same inside, same.0.is_open)) one two
+
+-- the rows of `cons` are what they were
+pub cons-still : (old new : Seen) (rows : List Row) → IsUnchanged old new → AreCons rows old → AreCons rows new
+cons-still old new rows same all = subst (λ d. IsPermutation (cells (d.trees (tree_of Cons))) rows) (sym same.0.now_is) all
 
 -- the rows of one constituency more
 pub rows-more : (f : Constituency → ProgressRow) (cons : List Constituency) (i : ℕ) (con : Constituency) (rows more : List ProgressRow) (row : ProgressRow) → i < length cons → con ≡ slice_index_or cons i con

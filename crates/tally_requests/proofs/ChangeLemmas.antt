@@ -39,7 +39,7 @@ use Rattle.tally_steps.proofs.PastLemmas.{past-lawful}
 use Rattle.tally_statements.specs.declared.table.KeyedTable.TheVariants.{Returns, Counts, Cons, Lots, Seats, Gone, Totals, Past}
 use Rattle.tally_tables.specs.Cells.{con_rows, gone_row, gone_rows, items_of, lot_rows, numbers_with_places, past_row, past_rows, record_rows, seat_rows, total_rows, totals_of}
 use Rattle.tally_tables.specs.TablesOfState.{AreSeats, AreTables}
-use Rattle.tally_entries.specs.Constituencies.{ChangesOnly, HasGone, MovesRows, MovesSeats}
+use Rattle.tally_entries.specs.Constituencies.{ChangesOnly, HasGone, MovesRows, MovesSeats, with_past_of}
 use Rattle.tally_entries.specs.Entries.{stored_in}
 use Rattle.tally_entries.proofs.ReturnLemmas.{items_keyed}
 use Rattle.tally_requests.specs.internal.Changes.{CarriesDecided, HasWrittenLot, HasWrittenRecord, HasWrittenSeats, HoldsCon}
@@ -346,4 +346,4 @@ change_carried setup con view change decided old new r is carries clean inside =
     IfOk-weaker r _ _ (λ reply done text s other told lawful seen was.
     let both : Some decided ≡ Some other = sym is ∙ told in
     let same : decided ≡ other = cc in
-    subst (λ (d : ConChange). IsChangeCarriedOut setup text s con view d reply new) same (done text s lawful seen was)) (carries clean inside)
+    subst (λ (d : ConChange). IsChangeCarriedOut setup text s con (with_past_of con s view) d reply new) same (done text s lawful seen was)) (carries clean inside)

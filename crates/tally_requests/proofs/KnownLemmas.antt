@@ -1,6 +1,6 @@
 -- What is known of constituencies is true after a request.
 use Rattle.std.proofs.Common.{◌≡◌, ◌≢◌, ◌≤◌, ◌+◌, ◌∙◌, inl, inr, ℕ, Bool, true, false, cond, List, length, Option, None, Some, IsSome, Result, Ok, Err, refl, sym, ap, subst, arith}
-use Rattle.std.specs.Prelude.{is_ok, option_map}
+use Rattle.std.specs.Prelude.{is_ok, option_map, OnOk}
 use Rattle.std.specs.Option.{option_map_or}
 use Rattle.std.specs.BTreeMap as tree
 use Rattle.std.specs.BTreeMap.{BTreeMap, WritesThrough}
@@ -48,7 +48,7 @@ use Rattle.tally_tables.specs.declared.views.Statuses.{Statuses}
 use Rattle.tally_entries.specs.Constituencies.{IsKnown}
 use Rattle.tally_entries.specs.Statuses.{statuses_in}
 use Rattle.tally_requests.specs.internal.Found.{MovesTo}
-use Rattle.tally_requests.specs.Known.{AreKnown, Known, after_command, after_lodge, after_lodge_in, after_move, after_row, after_status, has_status, known_of, one_less_if, one_more_if, status_after, with_changed, with_known, with_move}
+use Rattle.tally_requests.specs.Known.{AreKnown, ForgetsNone, Known, after_command, after_lodge, after_lodge_in, after_move, after_row, after_status, has_status, known_of, one_less_if, one_more_if, status_after, with_changed, with_known, with_move}
 use Rattle.tally_requests.proofs.FoundLemmas.{IsFound, IsPut, found-decided, put-decided}
 use Rattle.tally_requests.proofs.LodgedLemmas.{shown-stays}
 use Rattle.tally_requests.proofs.TotalLemmas.{total-replaced}
@@ -77,6 +77,61 @@ get-with_known known k f q = by_found (get known k) refl
     by_found : (found : Option Statuses) → get known k ≡ found → get (with_changed known k f found) q ≡ cond (eq_by_cmp code_cmp q k) (option_map f (get known q)) (get known q)
     by_found None there = none (eq_by_cmp code_cmp q k) refl there
     by_found (Some v) there = get-insert nat_list_cmp_total known k (f v) q ∙ some v (eq_by_cmp code_cmp q k) refl there
+
+-- ---- what was known of is known of still
+
+forgets-put : (known : Known) (k : List ℕ) (v : Statuses) → ForgetsNone known (insert known k v)
+forgets-put known k v q had = subst IsSome (sym (get-insert nat_list_cmp_total known k v q)) (go (eq_by_cmp code_cmp q k))
+  where
+    go : (b : Bool) → IsSome (cond b (Some v) (get known q))
+    go true = refl
+    go false = had
+
+pub forgets-remembered : (known after : Known) (k : List ℕ) (v : Statuses) → after ≡ insert known k v → ForgetsNone known after
+forgets-remembered known after k v put = subst (ForgetsNone known) (sym put) (forgets-put known k v)
+
+forgets-moved : (known : Known) (k : List ℕ) (f : Statuses → Statuses) → ForgetsNone known (with_known known k f)
+forgets-moved known k f q had = subst IsSome (sym (get-with_known known k f q)) (go (eq_by_cmp code_cmp q k) (get known q) had)
+  where
+    go : (b : Bool) (o : Option Statuses) → IsSome o → IsSome (cond b (option_map f o) o)
+    go true None had = had
+    go true (Some v) had = refl
+    go false o had = had
+
+pub forgets-then : (a b c : Known) → ForgetsNone a b → ForgetsNone b c → ForgetsNone a c
+forgets-then a b c one two code had = two code (one code had)
+
+forgets-after_lodge : (setup : List Constituency) (station : List ℕ) (r : Result LodgeReply Refusal) (known : Known) → ForgetsNone known (after_lodge setup station r known)
+forgets-after_lodge setup station (Ok (lodge.Lodged rev)) known = go (con_of_station setup station)
+  where
+    go : (con : Option (List ℕ)) → ForgetsNone known (after_lodge_in con known)
+    go None = λ code had. had
+    go (Some con) = forgets-moved known con (with_move None Received)
+forgets-after_lodge setup station (Ok (lodge.Same rev)) known = λ code had. had
+forgets-after_lodge setup station (Err e) known = λ code had. had
+
+pub forgets-lodged : (setup : List Constituency) (station : List ℕ) (r : Result LodgeReply Refusal) (known after : Known) → after ≡ after_lodge setup station r known → ForgetsNone known after
+forgets-lodged setup station r known after is = subst (ForgetsNone known) (sym is) (forgets-after_lodge setup station r known)
+
+forgets-after_row : (setup : List Constituency) (r : Row) (answer : RowAnswer) (known : Known) → ForgetsNone known (after_row setup r answer known)
+forgets-after_row setup r None known = λ code had. had
+forgets-after_row setup (row.Lodge (Lodge station slip counts)) (Some answer) known = forgets-after_lodge setup station answer known
+forgets-after_row setup other (Some answer) known = λ code had. had
+
+pub forgets-row : (setup : List Constituency) (r : Row) (answer : RowAnswer) (known after : Known) → after ≡ after_row setup r answer known → ForgetsNone known after
+forgets-row setup r answer known after is = subst (ForgetsNone known) (sym is) (forgets-after_row setup r answer known)
+
+pub forgets-commanded : (con : List ℕ) (command : Ask) (before : Option Status) (accepted : Bool) (known after : Known) → after ≡ after_command con command before accepted known → ForgetsNone known after
+forgets-commanded con command before accepted known after is = subst (ForgetsNone known) (sym is) (go accepted (status_after command))
+  where
+    go : (b : Bool) (standing : Option Status) → ForgetsNone known (cond b (after_status con before standing known) known)
+    go true None = λ code had. had
+    go true (Some standing) = forgets-moved known con (with_move before standing)
+    go false standing = λ code had. had
+
+pub forgets-answered : {X E : Type 0} (r : Result X E) (known after : Known) → ForgetsNone known after → OnOk r (ForgetsNone known after)
+forgets-answered (Ok x) known after h = h
+forgets-answered (Err e) known after h = tt
 
 same_con : (setup : List Constituency) (one other : Constituency) → constituency_with one.code setup ≡ Some one → constituency_with other.code setup ≡ Some other → other.code ≡ one.code → other ≡ one
 same_con setup one other there here same =

@@ -6,6 +6,8 @@ pub mod KnownLemmas
 pub mod LodgeLemmas
 pub mod LodgedLemmas
 pub mod MovedLemmas
+pub mod RecordLemmas
 pub mod RowLemmas
 pub mod TotalLemmas
+pub mod UnwrittenLemmas
 pub mod WriteLemmas

@@ -1,5 +1,5 @@
 -- An import in a transaction, so far.
-use Rattle.std.proofs.Common.{◌≡◌, ◌≤◌, ◌<◌, ◌+◌, ◌∙◌, ℕ, List, [], ◌++◌, ◌∷◌, None, Some, Ok, Err, length, refl, sym, ap, subst, arith, length-append}
+use Rattle.std.proofs.Common.{◌≡◌, ◌≤◌, ◌+◌, ◌∙◌, ℕ, List, [], ◌++◌, ◌∷◌, None, Some, Ok, Err, length, refl, sym, ap, subst, arith, length-append}
 use Rattle.std.specs.FinMap.{empty}
 use Rattle.std.specs.Prelude.{IfSome}
 use Rattle.sqlite.specs.State.{State as Seen}

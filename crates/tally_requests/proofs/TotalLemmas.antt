@@ -1,5 +1,5 @@
 -- The sums of closed votes where a return is put in place of one whose counts are closed too, or no longer.
-use Rattle.std.proofs.Common.{◌≡◌, ◌≢◌, ◌≤◌, ◌+◌, ◌-◌, ◌∷◌, ◌∙◌, ℕ, List, [], Bool, true, false, length, map, Option, Some, None, Result, inl, inr, refl, sym, ap, subst, arith}
+use Rattle.std.proofs.Common.{◌≡◌, ◌≢◌, ◌≤◌, ◌<◌, ◌⊎◌, ◌+◌, ◌-◌, ◌∷◌, ◌∙◌, ℕ, zero, suc, List, [], Bool, true, false, length, map, Option, Some, None, Result, inl, inr, refl, sym, ap, subst, arith}
 use Rattle.std.specs.Prelude.{OnOk, is_some, slice_index, sum_by}
 use Rattle.std.specs.FinMap.{get, insert}
 use Rattle.std.specs.List.{range_with_len}
@@ -7,6 +7,7 @@ use Rattle.std.specs.Option.{option_map_or}
 use Rattle.std.specs.Str.{bytes_eq}
 use Rattle.std.proofs.lemmas.List.FromFn.{get_or-map-range_with_len, length-map-range_with_len}
 use Rattle.std.proofs.lemmas.List.Sums.{sum_by-cons}
+use Rattle.std.proofs.lemmas.List.{get_or_past}
 use Rattle.std.proofs.lemmas.Result.{IfOk-weaker}
 use Rattle.sqlite.specs.declared.error.Error.{Error}
 use Rattle.sqlite.specs.State.{State as Seen, HasCleanDisk, IsUnchanged}
@@ -29,7 +30,7 @@ use Rattle.tally_schema.specs.Tables.{setup_tree}
 use Rattle.tally_statements.specs.Office.{IsInside, tree_of}
 use Rattle.tally_statements.specs.declared.table.KeyedTable.TheVariants.{Totals}
 use Rattle.tally_tables.specs.Cells.{total_rows, totals_of}
-use Rattle.tally_entries.specs.Constituencies.{ChangesOnly, ChangesSums, FindsSums}
+use Rattle.tally_entries.specs.Constituencies.{ChangesOnly, ChangesSums, DifferBy, FindsSums}
 use Rattle.tally_entries.specs.Entries.{stored_in}
 use Rattle.tally_entries.proofs.FindLemmas.{inside_still}
 use Rattle.tally_requests.specs.internal.Moves.{CountsSo}
@@ -176,15 +177,48 @@ pub moved-long : (found counts now : VoteCounts) (add : Bool) → now ≡ with_c
 moved-long found counts now add is =
     ap (λ (sums : VoteCounts). length sums.votes) is ∙ length-map-range_with_len (λ place. moved_sum (slice_index found.votes place) (slice_index counts.votes place) add) 0 (length found.votes)
 
+-- a number that is moved by 0 is what it was
+unmoved : (n by : ℕ) (add : Bool) → by ≡ 0 → n ≡ moved_sum n by add
+unmoved n by true none = omega (arith, none)
+unmoved n by false none = omega (arith, none)
+
+past-or-within : (n place : ℕ) → (n ≤ place) ⊎ (place < n)
+past-or-within zero place = inl (omega arith)
+past-or-within (suc n) zero = inr (omega arith)
+past-or-within (suc n) (suc place) = go (past-or-within n place)
+  where
+    go : (n ≤ place) ⊎ (place < n) → (suc n ≤ suc place) ⊎ (suc place < suc n)
+    go (inl past) = inl (omega (arith, past))
+    go (inr within) = inr (omega (arith, within))
+
+-- so sums differ from those that are moved at most by the counts
+moved-differ : (before counts now : VoteCounts) (add : Bool) → now ≡ with_counts_moved before counts add → DifferBy counts before now
+moved-differ before counts now add is = record {
+  lists = sym (moved-long before counts now add is);
+  votes = λ place none. votes place none (past-or-within (length before.votes) place);
+  blank = λ none. unmoved before.blank counts.blank add none ∙ sym (ap (λ (v : VoteCounts). v.blank) is);
+  spoiled = λ none. unmoved before.spoiled counts.spoiled add none ∙ sym (ap (λ (v : VoteCounts). v.spoiled) is);
+}
+  where
+    at : ℕ → ℕ
+    at place = moved_sum (slice_index before.votes place) (slice_index counts.votes place) add
+
+    votes : (place : ℕ) → slice_index counts.votes place ≡ 0 → (length before.votes ≤ place) ⊎ (place < length before.votes) → slice_index before.votes place ≡ slice_index now.votes place
+    votes place none (inl past) = get_or_past before.votes place 0 past ∙ sym (get_or_past now.votes place 0 (omega (arith, past, moved-long before counts now add is)))
+    votes place none (inr within) =
+        unmoved (slice_index before.votes place) (slice_index counts.votes place) add none
+        ∙ sym (ap (λ (v : VoteCounts). slice_index v.votes place) is ∙ get_or-map-range_with_len at 0 (length before.votes) place place 0 within (omega arith))
+
 pub sums-written : (con : Constituency) (counts found now : VoteCounts) (add : Bool) (old mid new : Seen) (result : Result Unit Error) → length con.lists ≤ 60 → HasCleanDisk new → IsInside old → IsUnchanged old mid
-    → FindsSums con.code old found → length found.votes ≡ length con.lists → now ≡ with_counts_moved found counts add → ChangesSums con.code now mid new result
+    → FindsSums con.code old found → length found.votes ≡ length con.lists → now ≡ with_counts_moved found counts add → ChangesSums con.code counts now mid new result
     → (setup : List Constituency) (s : State) (station : List ℕ) (place : Station) (before standing : StationReturn)
     → IsSetup setup → station_with station setup ≡ Some (con, place) → IsLawfulState setup s → get s.returns station ≡ Some before → CountsSo add counts before standing
     → AreRowsOf (total_rows setup s.returns) s.cons (stored_in Totals old)
     → OnOk result (ChangesOnly Totals old new × AreRowsOf (total_rows setup (insert s.returns station standing)) s.cons (stored_in Totals new))
 sums-written con counts found now add old mid new result few clean inside same finds lists is writes setup s station place before standing limits at lawful was so held =
     IfOk-weaker result _ _ (λ _ done. (only-since old mid new same done.0, done.1))
-    (writes clean (inside_still old mid same inside) s.cons (totals_of setup s.returns) (totals_of setup (insert s.returns station standing)) known many
+    (writes clean (inside_still old mid same inside) s.cons (totals_of setup s.returns) (totals_of setup (insert s.returns station standing)) known
+    (moved-differ (totals_of setup s.returns con.code) counts now add (is ∙ ap (λ sums. with_counts_moved sums counts add) found_is))
     (totals-moved setup s.returns station con place before standing counts add limits at was so ∙ ap (λ sums. with_counts_moved sums counts add) (sym found_is) ∙ sym is)
     (λ other apart. totals-apart setup s.returns station con place standing other limits at apart)
     (subst (λ d. AreRowsOf (total_rows setup s.returns) s.cons (d.trees (tree_of Totals))) (sym same.0.now_is) held))
@@ -201,6 +235,3 @@ sums-written con counts found now add old mid new result few clean inside same f
 
     found_is : found ≡ totals_of setup s.returns con.code
     found_is = finds setup s.returns s.cons known (omega (arith, long, few)) held
-
-    many : length (totals_of setup s.returns con.code).votes ≡ length now.votes
-    many = long ∙ sym lists ∙ sym (moved-long found counts now add is)

@@ -1,5 +1,5 @@
 -- What is known of constituencies: how many of their returns are in each status.
-use Rattle.std.specs.Prelude.{◌≡◌, ◌+◌, ◌-◌, ◌^◌, if◌then◌else◌, ℕ, Bool, false, List, min, Option, None, Some, Result, Ok, IfOk}
+use Rattle.std.specs.Prelude.{◌≡◌, ◌+◌, ◌-◌, ◌^◌, if◌then◌else◌, ℕ, Bool, false, List, min, Option, None, Some, IsSome, Result, Ok, IfOk}
 use Rattle.std.specs.BTreeMap.{BTreeMap}
 use Rattle.std.specs.FinMap.{FinMap, from_entries, get, insert}
 use Rattle.std.specs.Option.{option_map_or}
@@ -34,6 +34,10 @@ known_of tree = from_entries tree.entries
 -- All that is known is true of these returns.
 abbrev pub AreKnown : List Constituency → Returns → Known → Type 0
 AreKnown setup returns known = (con : Constituency) → constituency_with con.code setup ≡ Some con → IsKnown con returns (get known con.code)
+
+-- Of whichever constituency something was known, something is known still.
+abbrev pub ForgetsNone : Known → Known → Type 0
+ForgetsNone before after = (code : List ℕ) → IsSome (get before code) → IsSome (get after code)
 
 -- the numbers in the row that shows how far a constituency has come
 abbrev pub statuses_of_row : ProgressRow → Statuses

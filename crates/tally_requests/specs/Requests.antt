@@ -1,7 +1,7 @@
 -- What a request or an import does to the tables of an office, in a transaction.
-use Rattle.std.specs.Prelude.{◌≡◌, ℕ, List, Option, Some, Result, Ok, IfOk}
+use Rattle.std.specs.Prelude.{◌≡◌, false, ℕ, List, Some, Result, Ok, IfOk}
 use Rattle.sqlite.specs.declared.error.Error.{Error}
-use Rattle.sqlite.specs.State.{State as Seen, HasCleanDisk}
+use Rattle.sqlite.specs.State.{State as Seen, HasCleanDisk, IsUnchanged}
 use Rattle.tally_rules.specs.Constituency.{Constituency}
 use Rattle.tally_returns.specs.Counts.{VoteCounts}
 use Rattle.tally_returns.specs.Lodge.{lodge, lodge_answer}
@@ -13,6 +13,7 @@ use Rattle.tally_returns.specs.declared.refusal.Refusal.{Refusal}
 use Rattle.tally_returns.specs.declared.reply.LodgeReply.{LodgeReply}
 use Rattle.tally_returns.specs.declared.reply.Reply.{Reply}
 use Rattle.tally_steps.specs.LawfulState.{IsLawfulState}
+use Rattle.tally_steps.specs.Runs.{is_act}
 use Rattle.tally_steps.specs.Step.{ConChange, IsAnswered, IsView, after_change, answer_seen, con_answer, con_change}
 use Rattle.tally_keeper.specs.Import.{RowAnswer, after_row, row_answer}
 use Rattle.tally_keeper.specs.Keeper.{IsImportOf}
@@ -20,8 +21,10 @@ use Rattle.tally_keeper.specs.Source.{Delivery}
 use Rattle.tally_keeper.specs.declared.import.ImportCount.{ImportCount}
 use Rattle.tally_keeper.specs.declared.import.Row.{Row}
 use Rattle.tally_keeper.specs.declared.source.ImportFault.{ImportFault}
+use Rattle.tally_statements.specs.Inside.{IsOpenInside}
 use Rattle.tally_statements.specs.Office.{IsInside}
 use Rattle.tally_tables.specs.TablesOfState.{AreTables}
+use Rattle.tally_entries.specs.Constituencies.{with_past_of}
 use Rattle.tally_requests.specs.Known.{AreKnown, Known}
 
 -- In a transaction: the tables are those of this state.
@@ -52,6 +55,13 @@ abbrev pub KeepsKnown : List Constituency → Known → Known → Ask → Seen �
 KeepsKnown setup before after ask old new result =
     HasCleanDisk new → IsInside old → IfOk result (λ r. (text : List ℕ) (s t : State) → IsLawfulState setup s → AreKnown setup s.returns before
     → AreTables setup text s old.now.trees → IsAnswered setup s ask r t → AreKnown setup t.returns after)
+
+-- A request that is refused, that repeats what is recorded or that shows something writes nothing
+-- on a connection that is open: no row is written again as it was, since that would be counted as a
+-- change.
+abbrev pub WritesOnlyActs : Seen → Seen → Result (Result Reply Refusal) Error → Type 0
+WritesOnlyActs old new result =
+    HasCleanDisk new → IsOpenInside old → IfOk result (λ r. is_act r ≡ false → IsUnchanged old new)
 
 -- A return was lodged as in this state, or the Lodge was refused. The tables are those of the state
 -- after it.
@@ -104,8 +114,9 @@ pub record IsChangeCarriedOut (setup : List Constituency) (text : List ℕ) (s :
   pub answered : Ok (answer_seen reply) ≡ con_answer view (Ok decided)
   pub in_state : IsInState setup text (after_change s con.code (Ok decided)) new
 
--- and so for every lawful state whose tables were there and of which this was seen
+-- and so for every lawful state whose tables were there and of which this was seen, whatever was
+-- seen of the certificates on record
 abbrev pub CarriesChange : List Constituency → Constituency → View → Change → Seen → Seen → Result Reply Error → Type 0
 CarriesChange setup con view change old new result =
-    HasCleanDisk new → IsInside old → IfOk result (λ reply. (text : List ℕ) (s : State) (decided : ConChange) → con_change change ≡ Some decided → IsLawfulState setup s → IsView con s view → AreTables setup text s old.now.trees
-    → IsChangeCarriedOut setup text s con view decided reply new)
+    HasCleanDisk new → IsInside old → IfOk result (λ reply. (text : List ℕ) (s : State) (decided : ConChange) → con_change change ≡ Some decided → IsLawfulState setup s → IsView con s (with_past_of con s view) → AreTables setup text s old.now.trees
+    → IsChangeCarriedOut setup text s con (with_past_of con s view) decided reply new)

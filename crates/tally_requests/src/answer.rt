@@ -1,12 +1,11 @@
 //! A request, answered and carried out.
 
-ghost use Rattle.std.specs.Prelude.{IfOk};
-ghost use Rattle.sqlite.specs.Held.{state};
+ghost use Rattle.std.specs.Prelude.{IfOk, OnOk};
 ghost use Rattle.tally_steps.specs.Kinds.{IsReplyTo};
 ghost use Rattle.tally_returns.specs.declared.ask.Ask.TheVariants.{Lodge};
-ghost use Rattle.tally_statements.specs.Inside.{StaysInside};
-ghost use Rattle.tally_requests.specs.Known.{known_of};
-ghost use Rattle.tally_requests.specs.Requests.{CarriesOutKnown, KeepsKnown};
+ghost use Rattle.tally_statements.specs.Inside.{Acts, StaysInside};
+ghost use Rattle.tally_requests.specs.Known.{ForgetsNone, known_of};
+ghost use Rattle.tally_requests.specs.Requests.{CarriesOutKnown, KeepsKnown, WritesOnlyActs};
 
 use crate::constituencies::{answer_on, show_progress};
 use crate::returns::{lodge, move_on, show_return};
@@ -28,10 +27,12 @@ pub fn answer_in<S: Alter>(
 ) -> Result<Result<Reply, Refusal>, Error>
     ensures stays { StaysInside S.Store tx.old tx.new }
     ensures kind { IfOk result (λ r. IfOk r (IsReplyTo setup.now ask.now)) }
-    ensures step { CarriesOutKnown setup.now (known_of known.old) ask.now
-        (state S.Store tx.old.conn.now) (state S.Store tx.new.conn.now) result }
-    ensures known { KeepsKnown setup.now (known_of known.old) (known_of known.new) ask.now
-        (state S.Store tx.old.conn.now) (state S.Store tx.new.conn.now) result }
+    ensures step { Acts S.Store (CarriesOutKnown setup.now (known_of known.old) ask.now)
+        tx.old tx.new result }
+    ensures known { Acts S.Store (KeepsKnown setup.now (known_of known.old) (known_of known.new)
+        ask.now) tx.old tx.new result }
+    ensures forgets { OnOk result (ForgetsNone (known_of known.old) (known_of known.new)) }
+    ensures unwritten { Acts S.Store WritesOnlyActs tx.old tx.new result }
 {
     if let Some(con) = ask.con() {
         return answer_on(alloc, tx, setup, known, con, ask);
@@ -63,11 +64,12 @@ fn lodge_at<S: Alter>(
 ) -> Result<Result<Reply, Refusal>, Error>
     ensures stays { StaysInside S.Store tx.old tx.new }
     ensures kind { IfOk result (λ r. IfOk r (IsReplyTo setup.now (Lodge station slip counts.now))) }
-    ensures step { CarriesOutKnown setup.now (known_of known.old) (Lodge station slip counts.now)
-        (state S.Store tx.old.conn.now) (state S.Store tx.new.conn.now) result }
-    ensures known { KeepsKnown setup.now (known_of known.old) (known_of known.new)
-        (Lodge station slip counts.now)
-        (state S.Store tx.old.conn.now) (state S.Store tx.new.conn.now) result }
+    ensures step { Acts S.Store (CarriesOutKnown setup.now (known_of known.old)
+        (Lodge station slip counts.now)) tx.old tx.new result }
+    ensures known { Acts S.Store (KeepsKnown setup.now (known_of known.old) (known_of known.new)
+        (Lodge station slip counts.now)) tx.old tx.new result }
+    ensures forgets { OnOk result (ForgetsNone (known_of known.old) (known_of known.new)) }
+    ensures unwritten { Acts S.Store WritesOnlyActs tx.old tx.new result }
 {
     match lodge(alloc, tx, setup, known, station, slip, counts)? {
         Ok(reply) => Ok(Ok(Reply::from(reply))),

@@ -1,15 +1,16 @@
 //! Changes of a constituency, carried out on its tables.
 
-ghost use Rattle.std.specs.Prelude.{◌≡◌, ◌≢◌, ◌≤◌, Ok, Some, IfOk, length};
-ghost use Rattle.sqlite.specs.Held.{state};
+ghost use Rattle.std.specs.Prelude.{◌≡◌, ◌≢◌, ◌≤◌, Ok, Some, IfOk, length, true};
+ghost use Rattle.tally_frac.specs.Limits.{most_lists};
 ghost use Rattle.tally_steps.specs.Kinds.{IsReplyTo};
+ghost use Rattle.tally_steps.specs.Runs.{is_act};
 ghost use Rattle.tally_steps.specs.Step.{Decides, IsConDecision, certified_with, gone_for_good, lot_set, open_again};
 ghost use Rattle.tally_returns.specs.Named.{con_named};
 ghost use Rattle.tally_returns.specs.View.{FitsView};
 ghost use Rattle.tally_returns.specs.declared.change.Change.TheVariants.{Same};
 ghost use Rattle.tally_rules.specs.Setup.{constituency_with};
 ghost use Rattle.tally_requests.specs.internal.Changes.{CarriesDecided, HasWrittenLot, HasWrittenRecord, HasWrittenSeats, WritesSo};
-ghost use Rattle.tally_statements.specs.Inside.{Stays, StaysInside};
+ghost use Rattle.tally_statements.specs.Inside.{Acts, Stays, StaysInside};
 ghost use Rattle.tally_requests.specs.Requests.{CarriesChange};
 
 use sqlite::{Alter, Error, Transaction};
@@ -33,8 +34,9 @@ pub(crate) fn carry_out<S: Alter>(
     requires changes { change ≢ Same }
     ensures stays { StaysInside S.Store tx.old tx.new }
     ensures kind { IfOk result (IsReplyTo setup.now ask.now) }
-    ensures carried_out { CarriesChange setup.now con.now view.now change
-        (state S.Store tx.old.conn.now) (state S.Store tx.new.conn.now) result }
+    ensures carried_out { Acts S.Store (CarriesChange setup.now con.now view.now change)
+        tx.old tx.new result }
+    ensures acts { IfOk result (λ reply. is_act (Ok reply) ≡ true) }
 {
     match change {
         Change::SetLot(lot) => set_lot(tx, setup, con, view, ask, &lot),
@@ -61,8 +63,9 @@ fn set_lot<S: Alter>(
     requires decided { Decides con.now view.now ask.now (Ok (lot_set lot.now)) }
     ensures stays { Stays S.Store tx.old tx.new }
     ensures kind { IfOk result (IsReplyTo setup.now ask.now) }
-    ensures carried_out { CarriesDecided setup.now con.now view.now (lot_set lot.now)
-        (state S.Store tx.old.conn.now) (state S.Store tx.new.conn.now) result }
+    ensures carried_out { Acts S.Store (CarriesDecided setup.now con.now view.now (lot_set lot.now))
+        tx.old tx.new result }
+    ensures acts { IfOk result (λ reply. is_act (Ok reply) ≡ true) }
 {
     let edition = view.edition + 1;
     let certified = view.certified;
@@ -80,10 +83,10 @@ fn write_lot<S: Alter>(
     note: &str,
     lot: &[u32],
 ) -> Result<(), Error>
-    requires few { length lot.now ≤ 60 }
+    requires few { length lot.now ≤ most_lists }
     ensures stays { Stays S.Store tx.old tx.new }
-    ensures written { WritesSo con.now (HasWrittenLot con.now edition certified note.now lot.now)
-        (state S.Store tx.old.conn.now) (state S.Store tx.new.conn.now) result }
+    ensures written { Acts S.Store (WritesSo con.now
+        (HasWrittenLot con.now edition certified note.now lot.now)) tx.old tx.new result }
 {
     put_con(tx, con, edition, certified, note)?;
     put_lot(tx, con, lot)
@@ -103,8 +106,9 @@ fn set_certified<S: Alter>(
     requires decided { Decides con.now view.now ask.now (Ok (certified_with seats.now)) }
     ensures stays { Stays S.Store tx.old tx.new }
     ensures kind { IfOk result (IsReplyTo setup.now ask.now) }
-    ensures carried_out { CarriesDecided setup.now con.now view.now (certified_with seats.now)
-        (state S.Store tx.old.conn.now) (state S.Store tx.new.conn.now) result }
+    ensures carried_out { Acts S.Store (CarriesDecided setup.now con.now view.now
+        (certified_with seats.now)) tx.old tx.new result }
+    ensures acts { IfOk result (λ reply. is_act (Ok reply) ≡ true) }
 {
     let edition = view.edition + 1;
     let note = view.note.as_str();
@@ -127,8 +131,9 @@ fn set_reopened<S: Alter>(
     requires decided { Decides con.now view.now ask.now (Ok (open_again note.now past.now)) }
     ensures stays { Stays S.Store tx.old tx.new }
     ensures kind { IfOk result (IsReplyTo setup.now ask.now) }
-    ensures carried_out { CarriesDecided setup.now con.now view.now (open_again note.now past.now)
-        (state S.Store tx.old.conn.now) (state S.Store tx.new.conn.now) result }
+    ensures carried_out { Acts S.Store (CarriesDecided setup.now con.now view.now
+        (open_again note.now past.now)) tx.old tx.new result }
+    ensures acts { IfOk result (λ reply. is_act (Ok reply) ≡ true) }
 {
     let edition = view.edition + 1;
     write_record(tx, con.code.as_str(), edition, note, past)?;
@@ -144,11 +149,10 @@ fn write_seats<S: Alter>(
     note: &str,
     seats: &[u32],
 ) -> Result<(), Error>
-    requires few { length seats.now ≤ 60 }
+    requires few { length seats.now ≤ most_lists }
     ensures stays { Stays S.Store tx.old tx.new }
-    ensures written { WritesSo con.now
-        (HasWrittenSeats con.now edition certified note.now seats.now)
-        (state S.Store tx.old.conn.now) (state S.Store tx.new.conn.now) result }
+    ensures written { Acts S.Store (WritesSo con.now
+        (HasWrittenSeats con.now edition certified note.now seats.now)) tx.old tx.new result }
 {
     put_con(tx, con, edition, certified, note)?;
     put_seats(tx, con, seats)
@@ -162,10 +166,10 @@ fn write_record<S: Alter>(
     note: &str,
     past: &Past,
 ) -> Result<(), Error>
-    requires few { length past.now.seats ≤ 60 }
+    requires few { length past.now.seats ≤ most_lists }
     ensures stays { Stays S.Store tx.old tx.new }
-    ensures written { WritesSo con.now (HasWrittenRecord con.now edition note.now past.now)
-        (state S.Store tx.old.conn.now) (state S.Store tx.new.conn.now) result }
+    ensures written { Acts S.Store (WritesSo con.now
+        (HasWrittenRecord con.now edition note.now past.now)) tx.old tx.new result }
 {
     write_seats(tx, con, edition, false, note, &[])?;
     put_record(tx, con, past)
@@ -186,8 +190,9 @@ fn set_gone<S: Alter>(
     requires decided { Decides con.now view.now ask.now (Ok (gone_for_good gone.now next)) }
     ensures stays { Stays S.Store tx.old tx.new }
     ensures kind { IfOk result (IsReplyTo setup.now ask.now) }
-    ensures carried_out { CarriesDecided setup.now con.now view.now (gone_for_good gone.now next)
-        (state S.Store tx.old.conn.now) (state S.Store tx.new.conn.now) result }
+    ensures carried_out { Acts S.Store (CarriesDecided setup.now con.now view.now
+        (gone_for_good gone.now next)) tx.old tx.new result }
+    ensures acts { IfOk result (λ reply. is_act (Ok reply) ≡ true) }
 {
     put_gone(tx, con.code.as_str(), gone)?;
     Ok(Reply::Vacated { next })

@@ -1,6 +1,6 @@
 //! Requests on a constituency, and the one that shows how far constituencies have come.
 
-ghost use Rattle.std.specs.Prelude.{◌≡◌, Some, IfOk};
+ghost use Rattle.std.specs.Prelude.{◌≡◌, Some, IfOk, OnOk};
 ghost use Rattle.sqlite.specs.Held.{state};
 ghost use Rattle.tally_steps.specs.Kinds.{IsReplyTo};
 ghost use Rattle.tally_steps.specs.Step.{IsConDecision};
@@ -10,17 +10,18 @@ ghost use Rattle.tally_returns.specs.declared.ask.Ask.TheVariants.{ShowProgress}
 ghost use Rattle.tally_rules.specs.Limits.{IsSetup};
 ghost use Rattle.tally_rules.specs.Setup.{constituency_with};
 ghost use Rattle.tally_entries.specs.Entries.{Finds};
-ghost use Rattle.tally_statements.specs.Inside.{StaysInside};
-ghost use Rattle.tally_requests.specs.Known.{known_of};
-ghost use Rattle.tally_requests.specs.Requests.{CarriesOutKnown, KeepsKnown};
-ghost use Rattle.tally_requests.specs.internal.Seen.{CarriesOutSeen, FindsKnown, FindsProgress, LooksUp};
+ghost use Rattle.tally_entries.specs.internal.Found.{ChangesNothing};
+ghost use Rattle.tally_statements.specs.Inside.{Acts, StaysInside};
+ghost use Rattle.tally_requests.specs.Known.{ForgetsNone, known_of};
+ghost use Rattle.tally_requests.specs.Requests.{CarriesOutKnown, KeepsKnown, WritesOnlyActs};
+ghost use Rattle.tally_requests.specs.internal.Seen.{CarriesOutSeen, FindsKnown, FindsProgress, LooksUp, shows_con};
 
 use crate::changes::carry_out;
 use crate::known::{known_at, remember, statuses_of, statuses_of_row};
 use sqlite::{Alter, Error, Transaction};
 use std::alloc::Global;
 use std::collections::BTreeMap;
-use tally_entries::{find_progress_row, find_view};
+use tally_entries::{find_progress_row, find_view, rows_of_cons};
 use tally_machine::{Ask, Change, ConView, ProgressRow, Refusal, Reply, decide_con};
 use tally_rules::{Code, Constituency, Setup};
 use tally_tables::Statuses;
@@ -37,17 +38,37 @@ pub(crate) fn answer_on<S: Alter>(
     requires named { con_named ask.now ≡ Some code }
     ensures stays { StaysInside S.Store tx.old tx.new }
     ensures kind { IfOk result (λ r. IfOk r (IsReplyTo setup.now ask.now)) }
-    ensures step { CarriesOutKnown setup.now (known_of known.old) ask.now
-        (state S.Store tx.old.conn.now) (state S.Store tx.new.conn.now) result }
-    ensures known { KeepsKnown setup.now (known_of known.old) (known_of known.new) ask.now
-        (state S.Store tx.old.conn.now) (state S.Store tx.new.conn.now) result }
+    ensures step { Acts S.Store (CarriesOutKnown setup.now (known_of known.old) ask.now)
+        tx.old tx.new result }
+    ensures known { Acts S.Store (KeepsKnown setup.now (known_of known.old) (known_of known.new)
+        ask.now) tx.old tx.new result }
+    ensures forgets { OnOk result (ForgetsNone (known_of known.old) (known_of known.new)) }
+    ensures unwritten { Acts S.Store WritesOnlyActs tx.old tx.new result }
 {
     let Some(con) = setup.con(code) else {
         return Ok(Err(Refusal::NoConstituency));
     };
-    let view = find_view(alloc, tx, setup, con, known_at(known, con.code))?;
+    let view = find_view(
+        alloc,
+        tx,
+        setup,
+        con,
+        known_at(known, con.code),
+        shows_con(ask),
+    )?;
     remember(known, con.code, statuses_of(&view))?;
     answer_seen(alloc, tx, setup, con, view, ask)
+}
+
+/// Whether a request shows a constituency, with its certificates on record. A command needs none of
+/// them.
+fn shows_con(ask: &Ask) -> bool
+    ensures { result ≡ shows_con ask.now }
+{
+    match ask {
+        Ask::ShowCon { .. } => true,
+        _ => false,
+    }
 }
 
 /// Answers a request on a constituency of which this was seen, and carries it out.
@@ -65,8 +86,9 @@ fn answer_seen<S: Alter>(
     requires fits { FitsView con.now view }
     ensures stays { StaysInside S.Store tx.old tx.new }
     ensures kind { IfOk result (λ r. IfOk r (IsReplyTo setup.now ask.now)) }
-    ensures step { CarriesOutSeen setup.now con.now view ask.now
-        (state S.Store tx.old.conn.now) (state S.Store tx.new.conn.now) result }
+    ensures step { Acts S.Store (CarriesOutSeen setup.now con.now view ask.now)
+        tx.old tx.new result }
+    ensures unwritten { Acts S.Store WritesOnlyActs tx.old tx.new result }
 {
     match decide_con(alloc, con, &view, ask) {
         Ok(change) => carry_out_or_show(tx, setup, con, view, ask, change),
@@ -90,8 +112,9 @@ fn carry_out_or_show<S: Alter>(
     requires decided { IsConDecision con.now view ask.now change }
     ensures stays { StaysInside S.Store tx.old tx.new }
     ensures kind { IfOk result (λ r. IfOk r (IsReplyTo setup.now ask.now)) }
-    ensures step { CarriesOutSeen setup.now con.now view ask.now
-        (state S.Store tx.old.conn.now) (state S.Store tx.new.conn.now) result }
+    ensures step { Acts S.Store (CarriesOutSeen setup.now con.now view ask.now)
+        tx.old tx.new result }
+    ensures unwritten { Acts S.Store WritesOnlyActs tx.old tx.new result }
 {
     match change {
         Change::Same => Ok(Ok(Reply::Con(view))),
@@ -108,16 +131,19 @@ pub(crate) fn show_progress<S: Alter>(
 ) -> Result<Result<Reply, Refusal>, Error>
     ensures stays { StaysInside S.Store tx.old tx.new }
     ensures kind { IfOk result (λ r. IfOk r (IsReplyTo setup.now ShowProgress)) }
-    ensures step { CarriesOutKnown setup.now (known_of known.old) ShowProgress
-        (state S.Store tx.old.conn.now) (state S.Store tx.new.conn.now) result }
-    ensures known { KeepsKnown setup.now (known_of known.old) (known_of known.new) ShowProgress
-        (state S.Store tx.old.conn.now) (state S.Store tx.new.conn.now) result }
+    ensures step { Acts S.Store (CarriesOutKnown setup.now (known_of known.old) ShowProgress)
+        tx.old tx.new result }
+    ensures known { Acts S.Store (KeepsKnown setup.now (known_of known.old) (known_of known.new)
+        ShowProgress) tx.old tx.new result }
+    ensures forgets { OnOk result (ForgetsNone (known_of known.old) (known_of known.new)) }
+    ensures unwritten { Acts S.Store WritesOnlyActs tx.old tx.new result }
 {
     let rows = find_progress(alloc, tx, setup, known)?;
     Ok(Ok(Reply::Progress(rows)))
 }
 
-/// How far each constituency has come, in the setup's order.
+/// How far each constituency has come, in the setup's order. The rows of `cons` are read at once,
+/// and no station of a constituency of which it is known how many returns are in each status.
 fn find_progress<S: Alter>(
     alloc: Global,
     tx: &mut Transaction<'_, S>,
@@ -132,11 +158,14 @@ fn find_progress<S: Alter>(
         (λ seen _. FindsKnown setup.now (known_of known.old) (known_of known.new) seen)
         tx.old tx.new result }
     ensures still { LooksUp (state S.Store tx.old.conn.now) (state S.Store tx.new.conn.now) result }
+    ensures forgets { OnOk result (ForgetsNone (known_of known.old) (known_of known.new)) }
+    ensures unchanged { ChangesNothing S.Store tx.old tx.new result }
 {
     let cons = setup.cons();
+    let standing = rows_of_cons(tx)?;
     let mut rows = Vec::with_capacity(alloc, cons.len())?;
     for con in cons {
-        let row = find_progress_row(tx, con, known_at(known, con.code))?;
+        let row = find_progress_row(tx, &standing, con, known_at(known, con.code))?;
         remember(known, con.code, statuses_of_row(&row))?;
         rows.push(row)?;
     }

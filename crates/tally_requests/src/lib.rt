@@ -12,4 +12,4 @@ mod rows;
 mod sums;
 
 pub use answer::answer_in;
-pub use rows::take_rows;
+pub use rows::{import_fault_of, take_rows};

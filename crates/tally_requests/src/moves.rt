@@ -1,9 +1,9 @@
 //! A return that has moved, written in the tables.
 
 ghost use Rattle.std.specs.Prelude.{◌≡◌, ◌≢◌, ◌≤◌, length};
-ghost use Rattle.sqlite.specs.Held.{state};
+ghost use Rattle.tally_frac.specs.Limits.{most_lists};
 ghost use Rattle.tally_returns.specs.declared.returns.Status.TheVariants.{Closed, Corrected, Queried};
-ghost use Rattle.tally_statements.specs.Inside.{StaysInside};
+ghost use Rattle.tally_statements.specs.Inside.{Acts, StaysInside};
 ghost use Rattle.tally_requests.specs.internal.Moves.{PutsMoved, Uncounts, with_queried, with_standing};
 
 use crate::sums::move_sums;
@@ -23,12 +23,12 @@ pub(crate) fn put_queried<S: Alter>(
     before: &Return,
     standing: &Return,
 ) -> Result<(), Error>
-    requires few { length con.now.lists ≤ 60 }
+    requires few { length con.now.lists ≤ most_lists }
     requires queried { standing.now.status ≡ Queried }
     requires same_counts { before.now.counts ≡ standing.now.counts }
     ensures stays { StaysInside S.Store tx.old tx.new }
-    ensures put { PutsMoved (with_queried con.now station standing.now) con.now station before.now
-        (state S.Store tx.old.conn.now) (state S.Store tx.new.conn.now) result }
+    ensures put { Acts S.Store (PutsMoved (with_queried con.now station standing.now) con.now
+        station before.now) tx.old tx.new result }
 {
     uncount(alloc, tx, con, before)?;
     put_lot(tx, con.code.as_str(), &[])?;
@@ -42,10 +42,9 @@ fn uncount<S: Alter>(
     con: &Constituency,
     before: &Return,
 ) -> Result<(), Error>
-    requires few { length con.now.lists ≤ 60 }
+    requires few { length con.now.lists ≤ most_lists }
     ensures stays { StaysInside S.Store tx.old tx.new }
-    ensures uncounted { Uncounts con.now before.now
-        (state S.Store tx.old.conn.now) (state S.Store tx.new.conn.now) result }
+    ensures uncounted { Acts S.Store (Uncounts con.now before.now) tx.old tx.new result }
 {
     match before.status {
         Status::Closed => move_sums(alloc, tx, con, &before.counts, false),
@@ -61,13 +60,13 @@ pub(crate) fn put_corrected<S: Alter>(
     before: &Return,
     standing: &Return,
 ) -> Result<(), Error>
-    requires few { length con.now.lists ≤ 60 }
+    requires few { length con.now.lists ≤ most_lists }
     requires queried { before.now.status ≡ Queried }
     requires corrected { standing.now.status ≡ Corrected }
     requires lists { length standing.now.counts.votes ≡ length con.now.lists }
     ensures stays { StaysInside S.Store tx.old tx.new }
-    ensures put { PutsMoved (with_standing station standing.now) con.now station before.now
-        (state S.Store tx.old.conn.now) (state S.Store tx.new.conn.now) result }
+    ensures put { Acts S.Store (PutsMoved (with_standing station standing.now) con.now station
+        before.now) tx.old tx.new result }
 {
     correct_return(tx, station.as_str(), standing)
 }
@@ -81,13 +80,13 @@ pub(crate) fn put_closed<S: Alter>(
     before: &Return,
     standing: &Return,
 ) -> Result<(), Error>
-    requires few { length con.now.lists ≤ 60 }
+    requires few { length con.now.lists ≤ most_lists }
     requires open { before.now.status ≢ Closed }
     requires closed { standing.now.status ≡ Closed }
     requires same_counts { before.now.counts ≡ standing.now.counts }
     ensures stays { StaysInside S.Store tx.old tx.new }
-    ensures put { PutsMoved (with_standing station standing.now) con.now station before.now
-        (state S.Store tx.old.conn.now) (state S.Store tx.new.conn.now) result }
+    ensures put { Acts S.Store (PutsMoved (with_standing station standing.now) con.now station
+        before.now) tx.old tx.new result }
 {
     move_sums(alloc, tx, con, &standing.counts, true)?;
     change_return(tx, station.as_str(), standing)

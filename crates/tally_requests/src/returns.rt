@@ -1,7 +1,7 @@
 //! Requests on the return of a station.
 
 ghost use Rattle.std.specs.Prelude.{◌≡◌, ◌≤◌, length, Some, Ok, IfOk, OnOk, true};
-ghost use Rattle.sqlite.specs.Held.{state};
+ghost use Rattle.tally_frac.specs.Limits.{most_lists};
 ghost use Rattle.tally_keeper.specs.internal.Held.{moves_return};
 ghost use Rattle.tally_steps.specs.Kinds.{IsReplyTo};
 ghost use Rattle.tally_returns.specs.Decide.{return_change_at};
@@ -12,11 +12,11 @@ ghost use Rattle.tally_rules.specs.Limits.{IsSetup};
 ghost use Rattle.tally_rules.specs.Setup.{station_with};
 ghost use Rattle.tally_entries.specs.Entries.{AddsReturn, Finds, FindsReturn};
 ghost use Rattle.tally_requests.specs.internal.Found.{CarriesOutFound, IsLawfulIfFound, MovesTo, after_move};
-ghost use Rattle.tally_statements.specs.Inside.{OnlyReads, Stays, StaysInside};
-ghost use Rattle.tally_requests.specs.internal.Lodging.{DecidesLodge, IsFewIfLodged};
+ghost use Rattle.tally_statements.specs.Inside.{Acts, OnlyReads, Stays, StaysInside};
+ghost use Rattle.tally_requests.specs.internal.Lodging.{DecidesLodge, IsFewIfLodged, WritesOnlyLodged};
 ghost use Rattle.tally_requests.specs.internal.Moves.{PutsMoved};
-ghost use Rattle.tally_requests.specs.Known.{CountsLodge, known_of};
-ghost use Rattle.tally_requests.specs.Requests.{CarriesOut, CarriesOutKnown, KeepsKnown, Lodges};
+ghost use Rattle.tally_requests.specs.Known.{CountsLodge, ForgetsNone, known_of};
+ghost use Rattle.tally_requests.specs.Requests.{CarriesOut, CarriesOutKnown, KeepsKnown, Lodges, WritesOnlyActs};
 
 use crate::known::{count_command, count_move, status_found};
 use crate::moves::{put_closed, put_corrected, put_queried};
@@ -42,10 +42,10 @@ pub(crate) fn lodge<S: Alter>(
     counts: &Counts,
 ) -> Result<Result<LodgeReply, Refusal>, Error>
     ensures stays { StaysInside S.Store tx.old tx.new }
-    ensures lodged { Lodges setup.now station slip counts.now
-        (state S.Store tx.old.conn.now) (state S.Store tx.new.conn.now) result }
+    ensures lodged { Acts S.Store (Lodges setup.now station slip counts.now) tx.old tx.new result }
     ensures limits { OnOk result (IsSetup setup.now) }
     ensures known { CountsLodge setup.now station known.old known.new result }
+    ensures unwritten { Acts S.Store WritesOnlyLodged tx.old tx.new result }
 {
     let Some((con, place)) = setup.station(station) else {
         return Ok(Err(Refusal::NoStation));
@@ -76,8 +76,8 @@ fn decide_first<S: Alter>(
     requires known { station_with station setup.now ≡ Some (con.now, place.now) }
     requires limits { IsSetup setup.now }
     ensures reads { OnlyReads S.Store tx.old tx.new result }
-    ensures decided { DecidesLodge setup.now station slip counts.now
-        (state S.Store tx.old.conn.now) (state S.Store tx.new.conn.now) result }
+    ensures decided { Acts S.Store (DecidesLodge setup.now station slip counts.now)
+        tx.old tx.new result }
     ensures few { IfOk result (IsFewIfLodged counts.now) }
 {
     let found = find_return(alloc, tx, setup, station)?;
@@ -94,10 +94,10 @@ fn put_first<S: Alter>(
     slip: Code,
     counts: &Counts,
 ) -> Result<(), Error>
-    requires few { length counts.now.votes ≤ 60 }
+    requires few { length counts.now.votes ≤ most_lists }
     ensures stays { Stays S.Store tx.old tx.new }
-    ensures added { AddsReturn con.now.code station (first_return slip counts.now)
-        (state S.Store tx.old.conn.now) (state S.Store tx.new.conn.now) result }
+    ensures added { Acts S.Store (AddsReturn con.now.code station (first_return slip counts.now))
+        tx.old tx.new result }
 {
     let first = Return::lodged(alloc, slip, counts.try_copy(alloc)?);
     add_return(tx, con.code.as_str(), station.as_str(), &first)
@@ -116,10 +116,12 @@ pub(crate) fn move_on<S: Alter>(
     requires moves { moves_return ask.now ≡ true }
     ensures stays { StaysInside S.Store tx.old tx.new }
     ensures kind { IfOk result (λ r. IfOk r (IsReplyTo setup.now ask.now)) }
-    ensures step { CarriesOutKnown setup.now (known_of known.old) ask.now
-        (state S.Store tx.old.conn.now) (state S.Store tx.new.conn.now) result }
-    ensures known { KeepsKnown setup.now (known_of known.old) (known_of known.new) ask.now
-        (state S.Store tx.old.conn.now) (state S.Store tx.new.conn.now) result }
+    ensures step { Acts S.Store (CarriesOutKnown setup.now (known_of known.old) ask.now)
+        tx.old tx.new result }
+    ensures known { Acts S.Store (KeepsKnown setup.now (known_of known.old) (known_of known.new)
+        ask.now) tx.old tx.new result }
+    ensures forgets { OnOk result (ForgetsNone (known_of known.old) (known_of known.new)) }
+    ensures unwritten { Acts S.Store WritesOnlyActs tx.old tx.new result }
 {
     let Some((con, place)) = setup.station(station) else {
         return Ok(Err(Refusal::NoStation));
@@ -142,7 +144,7 @@ fn find_lawful<S: Alter>(
     place: &Station,
     station: Code,
 ) -> Result<Option<Return>, Error>
-    requires few { length con.now.lists ≤ 60 }
+    requires few { length con.now.lists ≤ most_lists }
     ensures reads { OnlyReads S.Store tx.old tx.new result }
     ensures found { Finds S.Store (FindsReturn setup.now station) tx.old tx.new result }
     ensures lawful { IfOk result (IsLawfulIfFound con.now place.now) }
@@ -157,7 +159,7 @@ fn check_lawful(
     place: &Station,
     found: Option<Return>,
 ) -> Result<Option<Return>, Error>
-    requires few { length con.now.lists ≤ 60 }
+    requires few { length con.now.lists ≤ most_lists }
     ensures same { IfOk result (λ checked. checked ≡ found) }
     ensures lawful { IfOk result (IsLawfulIfFound con.now place.now) }
 {
@@ -189,8 +191,9 @@ fn move_found<S: Alter>(
     requires lawful { IsLawfulIfFound con.now place.now found }
     ensures stays { StaysInside S.Store tx.old tx.new }
     ensures kind { IfOk result (λ r. IfOk r (IsReplyTo setup.now ask.now)) }
-    ensures step { CarriesOutFound setup.now con.now station certified found ask.now
-        (state S.Store tx.old.conn.now) (state S.Store tx.new.conn.now) result }
+    ensures step { Acts S.Store (CarriesOutFound setup.now con.now station certified found ask.now)
+        tx.old tx.new result }
+    ensures unwritten { Acts S.Store WritesOnlyActs tx.old tx.new result }
 {
     match decide_at(alloc, con, place, certified, found.as_ref(), ask) {
         Ok(change) => put_next(
@@ -220,8 +223,9 @@ fn put_next<S: Alter>(
     requires decided { return_change_at con.now place.now certified found ask.now ≡ Ok change }
     ensures stays { StaysInside S.Store tx.old tx.new }
     ensures kind { IfOk result (λ r. IfOk r (IsReplyTo setup.now ask.now)) }
-    ensures step { CarriesOutFound setup.now con.now station certified found ask.now
-        (state S.Store tx.old.conn.now) (state S.Store tx.new.conn.now) result }
+    ensures step { Acts S.Store (CarriesOutFound setup.now con.now station certified found ask.now)
+        tx.old tx.new result }
+    ensures unwritten { Acts S.Store WritesOnlyActs tx.old tx.new result }
 {
     let Change::PutReturn(standing) = change else {
         unreachable!()
@@ -241,12 +245,11 @@ fn put_moved<S: Alter>(
     before: &Return,
     standing: &Return,
 ) -> Result<(), Error>
-    requires few { length con.now.lists ≤ 60 }
+    requires few { length con.now.lists ≤ most_lists }
     requires moves { MovesTo con.now ask.now before.now standing.now }
     ensures stays { StaysInside S.Store tx.old tx.new }
-    ensures put { PutsMoved (after_move con.now station ask.now standing.now)
-        con.now station before.now
-        (state S.Store tx.old.conn.now) (state S.Store tx.new.conn.now) result }
+    ensures put { Acts S.Store (PutsMoved (after_move con.now station ask.now standing.now)
+        con.now station before.now) tx.old tx.new result }
 {
     match ask {
         Ask::Query { .. } => put_queried(alloc, tx, con, station, before, standing),
@@ -265,8 +268,8 @@ pub(crate) fn show_return<S: Alter>(
 ) -> Result<Result<Reply, Refusal>, Error>
     ensures stays { StaysInside S.Store tx.old tx.new }
     ensures kind { IfOk result (λ r. IfOk r (IsReplyTo setup.now (ShowReturn station))) }
-    ensures step { CarriesOut setup.now (ShowReturn station)
-        (state S.Store tx.old.conn.now) (state S.Store tx.new.conn.now) result }
+    ensures step { Acts S.Store (CarriesOut setup.now (ShowReturn station)) tx.old tx.new result }
+    ensures unwritten { Acts S.Store WritesOnlyActs tx.old tx.new result }
 {
     if setup.station(station).is_none() {
         return Ok(Err(Refusal::NoStation));

@@ -1,6 +1,6 @@
 //! The rows of a source, lodged.
 
-ghost use Rattle.std.specs.Prelude.{◌≡◌, Some, IfErr, OnOk, true};
+ghost use Rattle.std.specs.Prelude.{◌≡◌, ◌↔◌, Some, IfErr, OnOk, true};
 ghost use Rattle.sqlite.specs.Held.{state};
 ghost use Rattle.tally_keeper.specs.Delivery.{delivery};
 ghost use Rattle.tally_keeper.specs.Import.{IsCodedRow};
@@ -10,7 +10,7 @@ ghost use Rattle.tally_keeper.specs.declared.import.Row.{Row};
 ghost use Rattle.tally_rules.specs.Code.{is_code};
 ghost use Rattle.tally_statements.specs.Inside.{StaysInside};
 ghost use Rattle.tally_requests.specs.Inside.{StaysInState};
-ghost use Rattle.tally_requests.specs.Known.{CountsLodge, CountsRow, known_of};
+ghost use Rattle.tally_requests.specs.Known.{CountsLodge, CountsRow, ForgetsNone, known_of};
 ghost use Rattle.tally_requests.specs.Requests.{ImportsRows, Lodges, TakesRow};
 
 use crate::returns::lodge;
@@ -21,6 +21,7 @@ use tally_keeper::{
     Ask, Counts, ImportCount, ImportFault, LodgeReply, ROW_LIMIT, Refusal, Row, RowSource,
 };
 use tally_rules::{Code, Setup};
+use tally_statements::is_memory;
 use tally_tables::Statuses;
 
 /// Lodges the rows of a source one by one. Refused and bad rows are passed over. With a fault the
@@ -38,6 +39,7 @@ pub fn take_rows<S: Alter, R: RowSource>(
         (state S.Store tx.old.conn.now) (state S.Store tx.new.conn.now) result }
     ensures gave { OnOk result (GaveAll (delivery R.RowSource source.old source.new)) }
     ensures fault { IfErr result (IsFault (delivery R.RowSource source.old source.new)) }
+    ensures forgets { OnOk result (ForgetsNone (known_of known.old) (known_of known.new)) }
 {
     // Called for what its contract says: the setup is within its limits.
     let _cons = setup.cons();
@@ -128,11 +130,15 @@ fn take_return<S: Alter>(
     }
 }
 
-fn import_fault_of(error: &Error) -> ImportFault
-    ensures { IsOwnFault result }
+/// The fault with which an import ends where a call on the database failed.
+pub fn import_fault_of(error: &Error) -> ImportFault
+    ensures own { IsOwnFault result }
+    ensures memory { result ≡ ImportFault.Memory ↔
+        error.now ≡ Error.SqliteFailure ErrorCode.OutOfMemory }
 {
-    match error {
-        Error::SqliteFailure(ErrorCode::OutOfMemory) => ImportFault::Memory,
-        _ => ImportFault::Store,
+    if is_memory(error) {
+        ImportFault::Memory
+    } else {
+        ImportFault::Store
     }
 }

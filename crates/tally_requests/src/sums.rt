@@ -1,8 +1,8 @@
 //! The sums of closed votes of a constituency, moved by a return.
 
 ghost use Rattle.std.specs.Prelude.{◌≡◌, ◌≤◌, OnSome, SomeIff, length, true, false};
-ghost use Rattle.sqlite.specs.Held.{state};
-ghost use Rattle.tally_statements.specs.Inside.{StaysInside};
+ghost use Rattle.tally_frac.specs.Limits.{most_lists};
+ghost use Rattle.tally_statements.specs.Inside.{Acts, StaysInside};
 ghost use Rattle.tally_requests.specs.internal.Moves.{MovesSums};
 ghost use Rattle.tally_ledger.specs.Sums.{CanMove, moved_sum};
 ghost use Rattle.tally_ledger.specs.internal.Sums.{moved_sums};
@@ -18,8 +18,8 @@ use tally_rules::Constituency;
 use tally_tables::Sums;
 
 /// Adds the counts of a return that is closed now to the sums of its constituency, or takes out
-/// those of one that is no longer closed. Sums that are not those of its lists, or from which they
-/// cannot be taken out, are an error.
+/// those of one that is no longer closed. A sum that is not moved is not written. Sums that are not
+/// those of its lists, or from which they cannot be taken out, are an error.
 pub(crate) fn move_sums<S: Alter>(
     alloc: Global,
     tx: &mut Transaction<'_, S>,
@@ -27,10 +27,9 @@ pub(crate) fn move_sums<S: Alter>(
     counts: &Counts,
     add: bool,
 ) -> Result<(), Error>
-    requires few { length con.now.lists ≤ 60 }
+    requires few { length con.now.lists ≤ most_lists }
     ensures stays { StaysInside S.Store tx.old tx.new }
-    ensures moved { MovesSums con.now counts.now add
-        (state S.Store tx.old.conn.now) (state S.Store tx.new.conn.now) result }
+    ensures moved { Acts S.Store (MovesSums con.now counts.now add) tx.old tx.new result }
 {
     let sums = find_sums(alloc, tx, con.code.as_str())?;
     if sums.votes.len() != con.lists.len() {
@@ -39,7 +38,7 @@ pub(crate) fn move_sums<S: Alter>(
     let Some(sums) = moved_sums(sums, counts, add) else {
         return Err(Error::SqliteFailure(ErrorCode::DatabaseCorrupt));
     };
-    put_sums(tx, con.code.as_str(), &sums)
+    put_sums(tx, con.code.as_str(), counts, &sums)
 }
 
 /// The sums with these counts added or taken out, if they are of the same lists and the results are

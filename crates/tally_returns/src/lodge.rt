@@ -2,6 +2,7 @@
 
 ghost use Rattle.std.specs.Prelude.{◌≡◌, ◌≤◌, IfErr, OnOk, None, Some};
 ghost use Rattle.std.specs.Option.{option_copied};
+ghost use Rattle.tally_frac.specs.Limits.{most_lists};
 ghost use Rattle.tally_returns.specs.Checks.{first_refusal};
 ghost use Rattle.tally_returns.specs.Lodge.{reply_where_recorded, counts_checks, reply_at_station, limits_for};
 
@@ -21,7 +22,7 @@ pub fn decide_lodge(
     slip: Code,
     counts: &Counts,
 ) -> Result<LodgeReply, Refusal>
-    requires { lists ≤ 60 }
+    requires { lists ≤ most_lists }
     ensures { result
         ≡ reply_at_station (limits_for lists electors) (option_copied found.entry) slip counts.now }
 {
@@ -34,7 +35,7 @@ pub fn decide_lodge(
 
 /// The checks on the counts that come to a station of so many lists (at most 60) and electors.
 pub(crate) fn check_counts(lists: usize, electors: u32, counts: &Counts) -> Result<(), Refusal>
-    requires { lists ≤ 60 }
+    requires { lists ≤ most_lists }
     ensures passed { OnOk result
         (first_refusal (counts_checks (limits_for lists electors) counts.now) ≡ None) }
     ensures refused { IfErr result (λ refusal.

@@ -1,6 +1,7 @@
 //! Returns of polling stations.
 
 ghost use Rattle.std.specs.Prelude.{◌≡◌, ◌≤◌, IfOk, IsTrue};
+ghost use Rattle.tally_frac.specs.Limits.{most_lists};
 ghost use Rattle.tally_returns.specs.Lawful.{IsLawful, may_stand};
 ghost use Rattle.tally_returns.specs.Lodge.{limits_for};
 ghost use Rattle.tally_returns.specs.Return.{first_return};
@@ -82,7 +83,7 @@ impl Return {
     /// Whether the return may be recorded at a station of so many lists (at most 60) and electors:
     /// by its revision, note and counts.
     pub fn is_lawful(&self, lists: usize, electors: u32) -> bool
-        requires { lists ≤ 60 }
+        requires { lists ≤ most_lists }
         ensures lawful { IsTrue result → IsLawful (limits_for lists electors) self.now }
         ensures otherwise { IsLawful (limits_for lists electors) self.now → IsTrue result }
     {

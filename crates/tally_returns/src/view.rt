@@ -6,13 +6,11 @@ ghost use Rattle.tally_rules.specs.Threshold.{IsWithinVotes};
 
 use std::alloc::{AllocError, Global};
 use std::marker::Model;
+use tally_frac::MOST_VOTES;
 use tally_rules::Constituency;
 
 /// The last edition that a constituency can have.
 pub const LAST_EDITION: u32 = 9_999;
-
-/// The most votes that a constituency has, those of its lists and the blank ones together.
-const MOST_VOTES: u64 = 5_000_000_000;
 
 /// A candidate who is gone for good: the place of the list in the constituency and the candidate's
 /// own place in the list, both from 1, and a note of 1 to 200 bytes that says why.

@@ -107,8 +107,8 @@ abbrev pub Replaces : KeyedTable → List ℕ → Row → Row → Seen → Seen 
 Replaces t key before row old new result =
     HasCleanDisk new → IsInside old → filter (has_key key) (rows_in t old) ≡ before ∷ [] → OnOk result (HasRows t (row ∷ others key (rows_in t old)) old new)
 
--- The row of a return has this revision, slip, status and note, whatever it had. Its constituency is
--- as it was.
+-- The row of a return has this revision, slip, status and note, whatever it had. Its constituency
+-- is as it was.
 abbrev pub UpdatesReturn : List ℕ → ℕ → List ℕ → ℕ → List ℕ
     → Seen → Seen → Result Unit Error → Type 0
 UpdatesReturn station rev slip status note old new result =

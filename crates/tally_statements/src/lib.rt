@@ -3,6 +3,7 @@
 #![tactic(auto)]
 
 mod delete;
+mod faults;
 mod insert;
 mod running;
 mod select;
@@ -11,6 +12,7 @@ mod table;
 mod update;
 
 pub use delete::{delete_lot, delete_seats};
+pub use faults::is_memory;
 pub use insert::{
     insert_con, insert_count, insert_gone, insert_lot, insert_past, insert_return, insert_seats,
     insert_total,

@@ -23,7 +23,6 @@ use Rattle.tally_judge.proofs.VerdictLemmas.{known_state, must_read, must_view}
 use Rattle.tally_store.specs.Content.{con_entry, con_seen, cons_read, content_of, gone_entry, office_rows, past_entry, state_read, state_with, with_returns}
 use Rattle.tally_opening.specs.internal.Opening.{ShowsOffice}
 use Rattle.tally_opening.specs.Office.{IsOffice}
-use Rattle.tally_store.proofs.CodeLemmas.{setup_codes}
 use Rattle.tally_store.proofs.SortedLemmas.{sorted_shows}
 use Rattle.tally_opening.proofs.TableLemmas.{rows_of_tables}
 
@@ -89,11 +88,10 @@ pub state_is : (setup : List Constituency) (s : State) (seen : Seen) → ViewsAr
 unfolding state_read
 state_is setup s seen views limits lawful office =
     let rows = office_rows seen in
-    let codes = setup_codes office.text setup office.reads in
     let are : AreOfficeRows setup s rows = rows_of_tables setup s limits lawful office.text seen rows (shows_office seen) office.has.tables in
-    let read = must_read setup rows s codes lawful are in
+    let read = must_read setup rows s limits lawful are in
     let kept = with_returns setup (entries s.returns) in
-    let shown = must_view setup rows s kept are (known_state setup rows s kept refl limits codes views lawful are) in
+    let shown = must_view setup rows s kept are (known_state setup rows s kept refl limits views lawful are) in
     ap (λ o. option_and_then (λ returns. option_map (state_with returns) (cons_read setup rows returns)) o) read.0
     ∙ ap (option_map (state_with (entries s.returns))) shown.0
     ∙ ap Some (state_again setup s are.given lawful)

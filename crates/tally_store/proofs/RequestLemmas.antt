@@ -6,7 +6,7 @@ use Rattle.std.proofs.lemmas.List.Elements.{All-from_recursion}
 use Rattle.sqlite.proofs.StateLemmas.{survives_then}
 use Rattle.sqlite.specs.Effect.{Database, IsDatabase}
 use Rattle.sqlite.specs.declared.transaction.Transaction.{Transaction}
-use Rattle.sqlite.specs.State.{State as Seen, HasCleanDisk, IsUnchanged, Shows, Survives}
+use Rattle.sqlite.specs.State.{State as Seen, HasCleanDisk, IsUnchanged, KeepsCounts, Shows, Survives}
 use Rattle.sqlite_trees.specs.declared.store.Store.{Ghosts}
 use Rattle.sqlite_trees.specs.Tree.{Trees}
 use Rattle.tally_rows.specs.Rows.{HaveDistinctRowids}
@@ -44,10 +44,11 @@ use Rattle.tally_tables.specs.TablesOfState.{AreTables}
 use Rattle.tally_tables.specs.Views.{statuses_of}
 use Rattle.tally_tables.specs.declared.views.Statuses.{Statuses}
 use Rattle.tally_store.specs.Content.{content_of}
-use Rattle.tally_store.specs.Crash.{AreTablesAfter, AreTablesImported}
+use Rattle.tally_store.specs.Crash.{AreTablesAfter, AreTablesImported, WritesNothing}
 use Rattle.tally_opening.specs.Create.{IsAsBefore}
 use Rattle.tally_store.specs.internal.Requests.{Does, DoesImport, IsDone, IsAllDone, IsAllKnown, IsImportDone, IsNothing, KnowsAfter, KnowsImported}
 use Rattle.tally_opening.specs.Office.{HasState, IsOffice}
+use Rattle.tally_opening.proofs.UnwrittenLemmas.{LeavesCommit}
 use Rattle.tally_store.specs.Store.{IsServed, IsStored, KeepsText}
 use Rattle.tally_opening.proofs.WholeLemmas.{whole_inside}
 use Rattle.tally_store.proofs.ContentLemmas.{content_is, content_shut}
@@ -105,13 +106,38 @@ pub survives_commit : (old last new : Seen) (P : Trees → Type 0) → Survives 
 survives_commit old last new P inside commit made =
     survives_then old last new _ _ P (λ _ db none. absurd none) (λ clean db is. subst P (sym is) (made (omega (arith, clean, commit.clean)))) inside commit
 
+-- a call that left what it found, and its commit
+pub unwritten_commit : (old last new : Seen) → LeavesCommit old → Survives old last (λ _. ⊥) → Survives last new (λ db. db ≡ last.now.trees)
+    → (HasCleanDisk last → old.committed ≡ old.now) → (HasCleanDisk last → last.now ≡ old.now) → (HasCleanDisk last → last.changes ≡ old.changes) → (HasCleanDisk last → last.last_rowid ≡ old.last_rowid)
+    → (HasCleanDisk new → Shows last new last.now last.now false) → (HasCleanDisk new → KeepsCounts last new) → WritesNothing old new
+unwritten_commit old last new law inside commit settled same changes last_rowid shown counts = record {
+  crash = λ clean now db may. elim (both.crash clean db may) [
+    | inl before ↦ law db now before ∙ ap (λ (d : Database). d.trees) (settled (early clean))
+    | inr is ↦ is
+  ];
+  same = λ clean now. record {
+    now = (shown clean).now_is ∙ same (early clean);
+    committed = (shown clean).committed_is ∙ same (early clean) ∙ sym (settled (early clean));
+  };
+  counts = λ clean now. record {
+    changes = (counts clean).changes ∙ changes (early clean);
+    last_rowid = (counts clean).last_rowid ∙ last_rowid (early clean);
+  };
+}
+  where
+    early : HasCleanDisk new → HasCleanDisk last
+    early clean = omega (arith, clean, commit.clean)
+
+    both : Survives old new (λ db. db ≡ old.now.trees)
+    both = survives_commit old last new (λ db. db ≡ old.now.trees) inside commit (λ clean. ap (λ (d : Database). d.trees) (same clean))
+
 -- ---- a request
 
 pub done_committed : (setup : List Constituency) (text : List ℕ) (s : State) (ask : Ask) (r : Result Reply Refusal) (last new : Seen) → IsCarriedOut setup text s ask r last → Shows last new last.now last.now false
     → IsDone setup text s ask r new
 done_committed setup text s ask r last new h shown = record { state = h.state; answered = h.answered; has = state_committed setup text h.state last new h.in_state shown }
 
-not_accepted : (e : Refusal) → (e ≡ refusal.Memory) ⊎ (e ≡ refusal.Store) → IsNotAccepted (Err e)
+pub not_accepted : (e : Refusal) → (e ≡ refusal.Memory) ⊎ (e ≡ refusal.Store) → IsNotAccepted (Err e)
 not_accepted e (inl is) = inl (ap Err is)
 not_accepted e (inr is) = inr (ap Err is)
 

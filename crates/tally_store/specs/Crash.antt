@@ -1,10 +1,10 @@
 -- What a crash may leave of a store.
-use Rattle.std.specs.Prelude.{◌≡◌, List, ℕ, IsTrue, Some, Result}
-use Rattle.sqlite.specs.State.{State as Seen}
+use Rattle.std.specs.Prelude.{◌≡◌, ◌⊎◌, List, ℕ, IsTrue, Some, Result}
+use Rattle.sqlite.specs.State.{State as Seen, HasCleanDisk, KeepsCounts}
 use Rattle.sqlite_trees.specs.Tree.{Trees}
 use Rattle.tally_rules.specs.Constituency.{Constituency}
 use Rattle.tally_steps.specs.LawfulState.{IsLawfulState}
-use Rattle.tally_steps.specs.Step.{IsAnswered}
+use Rattle.tally_steps.specs.Step.{IsAnswered, IsNotAccepted}
 use Rattle.tally_returns.specs.State.{State}
 use Rattle.tally_returns.specs.declared.ask.Ask.{Ask}
 use Rattle.tally_returns.specs.declared.refusal.Refusal.{Refusal}
@@ -12,6 +12,7 @@ use Rattle.tally_returns.specs.declared.reply.Reply.{Reply}
 use Rattle.tally_keeper.specs.Keeper.{IsImportOf}
 use Rattle.tally_keeper.specs.Source.{Delivery}
 use Rattle.tally_keeper.specs.declared.import.ImportCount.{ImportCount}
+use Rattle.tally_opening.specs.Create.{IsAsBefore}
 use Rattle.tally_opening.specs.Office.{HasState, IsOffice, IsWholeOffice}
 
 -- The tables of the state after a request, and no others.
@@ -48,6 +49,22 @@ pub record LeavesImported (setup : List Constituency) (d : Delivery) (old : Seen
   pub lawful : IsLawfulState setup state
   pub has : HasState setup text state old
   pub after : AreTablesImported setup text state d db
+
+-- Nothing was written. Where the store was open, a crash leaves what was there and nothing else.
+-- While it is open, what is there and what was committed are what they were, row by row. No row was
+-- written again as it was either: the connection counts no change.
+pub record WritesNothing (old new : Seen) : Type 0 where
+  pub crash : HasCleanDisk new → IsTrue old.is_open → (db : Trees) → new.may_leave db
+      → db ≡ old.now.trees
+  pub same : HasCleanDisk new → IsTrue new.is_open → IsAsBefore old new
+  pub counts : HasCleanDisk new → IsTrue new.is_open → KeepsCounts old new
+
+-- After a request that did not act: nothing was written, or it was not accepted, and while the
+-- store is open what is there is what it was.
+abbrev pub LeavesAsBefore : Seen → Seen → Result Reply Refusal → Type 0
+LeavesAsBefore old new r =
+    WritesNothing old new
+    ⊎ (IsNotAccepted r × (HasCleanDisk new → IsTrue new.is_open → IsAsBefore old new))
 
 -- Between calls: the database is that of a lawful state, and a crash leaves its tables and nothing
 -- else.

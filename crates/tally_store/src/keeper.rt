@@ -1,15 +1,15 @@
 //! The store as a keeper of the office's state.
 
-ghost use Rattle.std.specs.Prelude.{◌≡◌, IfOk, IfSome, IsTrue};
-ghost use Rattle.sqlite.specs.State.{HasCleanDisk, Survives};
+ghost use Rattle.std.specs.Prelude.{◌≡◌, false, IfOk};
+ghost use Rattle.sqlite.specs.State.{HasCleanDisk};
 ghost use Rattle.sqlite.specs.Held.{state};
 ghost use Rattle.tally_keeper.specs.Delivery.{delivery};
-ghost use Rattle.tally_keeper.specs.Keeper.{Happens, Imports, request};
+ghost use Rattle.tally_keeper.specs.Keeper.{request};
 ghost use Rattle.tally_steps.specs.Kinds.{IsReplyTo};
+ghost use Rattle.tally_steps.specs.Runs.{is_act};
 ghost use Rattle.tally_store.specs.Content.{content_of};
-ghost use Rattle.tally_store.specs.Crash.{LeavesAfter, LeavesImported};
-ghost use Rattle.tally_opening.specs.Office.{IsOffice};
-ghost use Rattle.tally_store.specs.Store.{KeepsText};
+ghost use Rattle.tally_store.specs.Crash.{LeavesAsBefore};
+ghost use Rattle.tally_store.specs.Keeping.{HappensIn, ImportsIn, KeepsTextIn, ShowsContent, SurvivesImport, SurvivesRequest};
 
 use crate::requests::{answer_request, import_rows};
 use crate::store::Store;
@@ -38,23 +38,19 @@ impl<S: Alter> Keeper for Store<S> {
     /// Answers a request in a transaction of its own. The database is then that of the store's
     /// state, with the same text of the setup, or a failed disk has shut the store. A crash at the
     /// end of the call, and so a disk that stops anywhere within it, leaves what it could leave
-    /// before, or the tables after this request.
+    /// before, or the tables after this request. A request that is refused, that repeats what is
+    /// recorded or that shows something writes nothing.
     fn answer(&mut self, ask: &Ask) -> Result<Reply, Refusal>
         ensures setup { self.new.setup ≡ self.old.setup }
         ensures trusted { HasCleanDisk (state S.Store self.new.conn) →
             HasCleanDisk (state S.Store self.old.conn) }
         ensures kind { IfOk result (IsReplyTo self.old.setup ask.now) }
-        ensures step { HasCleanDisk (state S.Store self.new.conn) →
-            Happens self.old.setup (content_of self.old.setup (state S.Store self.old.conn))
-            (request ask.now result) (content_of self.new.setup (state S.Store self.new.conn)) }
-        ensures tables { HasCleanDisk (state S.Store self.new.conn) →
-            IfSome (content_of self.new.setup (state S.Store self.new.conn))
-            (λ s. IsOffice self.new.setup s (state S.Store self.new.conn)) }
-        ensures text { HasCleanDisk (state S.Store self.new.conn) →
-            IsTrue (state S.Store self.new.conn).is_open →
-            KeepsText self.old.setup (state S.Store self.old.conn) (state S.Store self.new.conn) }
-        ensures crash { Survives (state S.Store self.old.conn) (state S.Store self.new.conn)
-            (LeavesAfter self.old.setup ask.now (state S.Store self.old.conn)) }
+        ensures step { HappensIn S.Store (request ask.now result) self.old self.new }
+        ensures tables { ShowsContent S.Store self.new }
+        ensures text { KeepsTextIn S.Store self.old self.new }
+        ensures crash { SurvivesRequest S.Store ask.now self.old self.new }
+        ensures unwritten { is_act result ≡ false →
+            LeavesAsBefore (state S.Store self.old.conn) (state S.Store self.new.conn) result }
     {
         // Called for what its contract says: a constituency has a view in each lawful state.
         laws::a_constituency_has_a_view();
@@ -75,19 +71,12 @@ impl<S: Alter> Keeper for Store<S> {
         ensures setup { self.new.setup ≡ self.old.setup }
         ensures trusted { HasCleanDisk (state S.Store self.new.conn) →
             HasCleanDisk (state S.Store self.old.conn) }
-        ensures imported { HasCleanDisk (state S.Store self.new.conn) →
-            Imports self.old.setup (content_of self.old.setup (state S.Store self.old.conn))
-            (delivery R.RowSource rows.old rows.new) result
-            (content_of self.new.setup (state S.Store self.new.conn)) }
-        ensures tables { HasCleanDisk (state S.Store self.new.conn) →
-            IfSome (content_of self.new.setup (state S.Store self.new.conn))
-            (λ s. IsOffice self.new.setup s (state S.Store self.new.conn)) }
-        ensures text { HasCleanDisk (state S.Store self.new.conn) →
-            IsTrue (state S.Store self.new.conn).is_open →
-            KeepsText self.old.setup (state S.Store self.old.conn) (state S.Store self.new.conn) }
-        ensures crash { Survives (state S.Store self.old.conn) (state S.Store self.new.conn)
-            (LeavesImported self.old.setup (delivery R.RowSource rows.old rows.new)
-            (state S.Store self.old.conn)) }
+        ensures imported { ImportsIn S.Store
+            (delivery R.RowSource rows.old rows.new) result self.old self.new }
+        ensures tables { ShowsContent S.Store self.new }
+        ensures text { KeepsTextIn S.Store self.old self.new }
+        ensures crash { SurvivesImport S.Store
+            (delivery R.RowSource rows.old rows.new) self.old self.new }
     {
         // Called for what its contract says: a constituency has a view in each lawful state.
         laws::a_constituency_has_a_view();

@@ -1,10 +1,6 @@
 //! What holds of every store.
 
-ghost use Rattle.std.specs.Prelude.{IsTrue};
-ghost use Rattle.sqlite.specs.State.{HasCleanDisk};
-ghost use Rattle.sqlite.specs.Held.{state};
-ghost use Rattle.tally_store.specs.Certified.{HasCertificates};
-ghost use Rattle.tally_store.specs.Crash.{IsKept};
+ghost use Rattle.tally_store.specs.Keeping.{HasCertificatesIn, IsKeptIn};
 
 use crate::store::Store;
 use sqlite::Alter;
@@ -13,9 +9,7 @@ use tally_machine::laws as machine;
 /// Between calls, as long as the disk has returned what was written and has not failed, a crash
 /// leaves the tables of the store's state, and so all that was acknowledged.
 pub fn a_crash_between_calls_leaves_the_last_commit<S: Alter>(store: &Store<S>)
-    ensures { HasCleanDisk (state S.Store store.now.conn) →
-        IsTrue (state S.Store store.now.conn).is_open →
-        IsKept store.now.setup (state S.Store store.now.conn) }
+    ensures { IsKeptIn S.Store store.now }
 {
     // Called for what its contract says: what a store keeps true of its database.
     store.stored_setup();
@@ -25,9 +19,7 @@ pub fn a_crash_between_calls_leaves_the_last_commit<S: Alter>(store: &Store<S>)
 /// each constituency that is certified are those of the one allotment of its closed votes, which
 /// gives exactly its seats.
 pub fn certified_seats_are_the_allotment<S: Alter>(store: &Store<S>)
-    ensures { HasCleanDisk (state S.Store store.now.conn) →
-        IsTrue (state S.Store store.now.conn).is_open →
-        HasCertificates store.now.setup (state S.Store store.now.conn) }
+    ensures { HasCertificatesIn S.Store store.now }
 {
     // Called for what its contract says: in a lawful state a certified constituency has the one
     // allotment of its closed votes.

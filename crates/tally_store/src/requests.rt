@@ -1,34 +1,36 @@
 //! Requests and imports over a connection, each in a transaction of its own.
 
 ghost use Rattle.std.specs.Prelude.{◌≡◌, ◌⊎◌, false, IfErr, IfOk, IsErr, IsTrue, OnOk};
-ghost use Rattle.sqlite.specs.State.{HasCleanDisk, Survives};
+ghost use Rattle.sqlite.specs.State.{HasCleanDisk};
 ghost use Rattle.sqlite.specs.Held.{state};
 ghost use Rattle.tally_keeper.specs.Delivery.{delivery};
-ghost use Rattle.tally_keeper.specs.Keeper.{IsFault, IsOwnFault};
+ghost use Rattle.tally_keeper.specs.Keeper.{IsFault};
 ghost use Rattle.tally_keeper.specs.Source.{GaveAll};
 ghost use Rattle.tally_steps.specs.Kinds.{IsReplyTo};
+ghost use Rattle.tally_steps.specs.Runs.{is_act};
 ghost use Rattle.tally_steps.specs.Step.{IsNotAccepted};
 ghost use Rattle.tally_returns.specs.Named.{BringsCode};
-ghost use Rattle.tally_store.specs.Crash.{LeavesAfter, LeavesImported};
-ghost use Rattle.tally_statements.specs.Inside.{OnlyReads, StaysInside};
+ghost use Rattle.tally_store.specs.Crash.{LeavesAsBefore};
+ghost use Rattle.tally_statements.specs.Inside.{Acts, OnlyReads, StaysInside};
 ghost use Rattle.tally_requests.specs.Inside.{StaysInState};
-ghost use Rattle.tally_requests.specs.Known.{known_of};
-ghost use Rattle.tally_requests.specs.Requests.{CarriesOutKnown, ImportsRows, KeepsKnown};
-ghost use Rattle.tally_store.specs.internal.Requests.{Does, DoesImport, IsNothing, KnowsAfter, KnowsImported};
+ghost use Rattle.tally_requests.specs.Known.{ForgetsNone, known_of};
+ghost use Rattle.tally_requests.specs.Requests.{CarriesOutKnown, ImportsRows, KeepsKnown, WritesOnlyActs};
+ghost use Rattle.tally_store.specs.internal.Requests.{Does, DoesImport, EndsImport, EndsRequest, IsNothing, KnowsAfter, KnowsImported};
 ghost use Rattle.tally_store.specs.Store.{IsKnownOf, IsOfLawfulState};
 
-use sqlite::{Alter, Connection, Error, ErrorCode, Transaction};
+use sqlite::{Alter, Connection, Error, Transaction};
 use std::alloc::Global;
 use std::collections::BTreeMap;
 use tally_keeper::{Ask, ImportCount, ImportFault, Refusal, Reply, RowSource};
-use tally_requests::{answer_in, take_rows};
+use tally_requests::{answer_in, import_fault_of, take_rows};
 use tally_rules::{Code, Setup};
-use tally_statements::{KeyedTable, rows_of_key};
+use tally_statements::{KeyedTable, is_memory, rows_of_key};
 use tally_tables::Statuses;
 
 /// Answers a request by the database and carries it out there. Where the request is not accepted,
 /// the database is as it was, unless a disk that failed has shut the connection. What is known then
-/// is still true of it, or nothing is known.
+/// is still true of it, or nothing is known. Nothing is forgotten where the request was accepted or
+/// refused, and nothing is written where it does not act.
 pub(crate) fn answer_request<S: Alter>(
     alloc: Global,
     conn: &mut Connection<S>,
@@ -39,7 +41,7 @@ pub(crate) fn answer_request<S: Alter>(
     requires autocommit { conn.old.in_transaction ≡ false }
     requires office { IsOfLawfulState setup.now (state S.Store conn.old) }
     requires known { IsKnownOf setup.now (state S.Store conn.old) (known_of known.old) }
-    ensures ended { conn.new.in_transaction ≡ false }
+    ensures ends { EndsRequest setup.now ask.now (state S.Store conn.old) (state S.Store conn.new) }
     ensures codes { BringsCode ask.now }
     ensures kind { IfOk result (IsReplyTo setup.now ask.now) }
     ensures done { Does setup.now ask.now (state S.Store conn.old) (state S.Store conn.new) result }
@@ -47,11 +49,10 @@ pub(crate) fn answer_request<S: Alter>(
         (state S.Store conn.old) (state S.Store conn.new) result (known_of known.new) }
     ensures shut { HasCleanDisk (state S.Store conn.new) →
         (state S.Store conn.new).is_open ≡ false → IsNotAccepted result }
-    ensures was_open { HasCleanDisk (state S.Store conn.new) →
-        IsTrue (state S.Store conn.new).is_open →
-        IsTrue (state S.Store conn.old).is_open }
-    ensures crash { Survives (state S.Store conn.old) (state S.Store conn.new)
-        (LeavesAfter setup.now ask.now (state S.Store conn.old)) }
+    ensures forgets { IsNotAccepted result ⊎
+        ForgetsNone (known_of known.old) (known_of known.new) }
+    ensures unwritten { is_act result ≡ false →
+        LeavesAsBefore (state S.Store conn.old) (state S.Store conn.new) result }
 {
     // Called for what its contract says: a slip that a request brings is a code.
     let _slip = ask.slip();
@@ -80,7 +81,8 @@ pub(crate) fn import_rows<S: Alter, R: RowSource>(
     requires autocommit { conn.old.in_transaction ≡ false }
     requires office { IsOfLawfulState setup.now (state S.Store conn.old) }
     requires known { IsKnownOf setup.now (state S.Store conn.old) (known_of known.old) }
-    ensures ended { conn.new.in_transaction ≡ false }
+    ensures ends { EndsImport setup.now (delivery R.RowSource source.old source.new)
+        (state S.Store conn.old) (state S.Store conn.new) }
     ensures done { DoesImport setup.now (delivery R.RowSource source.old source.new)
         (state S.Store conn.old) (state S.Store conn.new) result }
     ensures known { KnowsImported setup.now (delivery R.RowSource source.old source.new)
@@ -88,12 +90,7 @@ pub(crate) fn import_rows<S: Alter, R: RowSource>(
     ensures fault { IfErr result (IsFault (delivery R.RowSource source.old source.new)) }
     ensures shut { HasCleanDisk (state S.Store conn.new) →
         (state S.Store conn.new).is_open ≡ false → IsErr result }
-    ensures was_open { HasCleanDisk (state S.Store conn.new) →
-        IsTrue (state S.Store conn.new).is_open →
-        IsTrue (state S.Store conn.old).is_open }
-    ensures crash { Survives (state S.Store conn.old) (state S.Store conn.new)
-        (LeavesImported setup.now (delivery R.RowSource source.old source.new)
-        (state S.Store conn.old)) }
+    ensures forgets { OnOk result (ForgetsNone (known_of known.old) (known_of known.new)) }
 {
     let mut tx = conn.transaction();
     match take_open(alloc, &mut tx, setup, known, source) {
@@ -133,10 +130,12 @@ fn answer_open<S: Alter>(
     ensures was_open { HasCleanDisk (state S.Store tx.new.conn.now) →
         OnOk result (IsTrue (state S.Store tx.old.conn.now).is_open) }
     ensures kind { IfOk result (λ r. IfOk r (IsReplyTo setup.now ask.now)) }
-    ensures step { CarriesOutKnown setup.now (known_of known.old) ask.now
-        (state S.Store tx.old.conn.now) (state S.Store tx.new.conn.now) result }
-    ensures known { KeepsKnown setup.now (known_of known.old) (known_of known.new) ask.now
-        (state S.Store tx.old.conn.now) (state S.Store tx.new.conn.now) result }
+    ensures step { Acts S.Store (CarriesOutKnown setup.now (known_of known.old) ask.now)
+        tx.old tx.new result }
+    ensures known { Acts S.Store (KeepsKnown setup.now (known_of known.old) (known_of known.new)
+        ask.now) tx.old tx.new result }
+    ensures forgets { OnOk result (ForgetsNone (known_of known.old) (known_of known.new)) }
+    ensures unwritten { Acts S.Store WritesOnlyActs tx.old tx.new result }
 {
     see_open(tx)?;
     answer_in(alloc, tx, setup, known, ask)
@@ -158,16 +157,12 @@ fn take_open<S: Alter, R: RowSource>(
         (state S.Store tx.old.conn.now) (state S.Store tx.new.conn.now) result }
     ensures gave { OnOk result (GaveAll (delivery R.RowSource source.old source.new)) }
     ensures fault { IfErr result (IsFault (delivery R.RowSource source.old source.new)) }
+    ensures forgets { OnOk result (ForgetsNone (known_of known.old) (known_of known.new)) }
 {
     match see_open(tx) {
         Ok(()) => take_rows(alloc, tx, setup, known, source),
         Err(error) => Err(import_fault_of(&error)),
     }
-}
-
-/// Whether a call failed because it was out of memory.
-fn is_memory(error: &Error) -> bool {
-    matches!(error, Error::SqliteFailure(ErrorCode::OutOfMemory))
 }
 
 /// Forgets what was known, where a call failed, and says why a request was not accepted.
@@ -187,15 +182,5 @@ fn refusal_of(error: &Error) -> Refusal
         Refusal::Memory
     } else {
         Refusal::Store
-    }
-}
-
-fn import_fault_of(error: &Error) -> ImportFault
-    ensures { IsOwnFault result }
-{
-    if is_memory(error) {
-        ImportFault::Memory
-    } else {
-        ImportFault::Store
     }
 }

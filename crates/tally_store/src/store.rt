@@ -1,7 +1,7 @@
 //! A keeper over a database.
 
-ghost use Rattle.std.specs.Prelude.{◌≡◌, false, Ok, IfOk, IfErr, IsTrue, OnOk};
-ghost use Rattle.sqlite.specs.State.{HasCleanDisk, KeepsCounts, Survives};
+ghost use Rattle.std.specs.Prelude.{◌≡◌, false, Ok, IfOk, IfErr, OnOk};
+ghost use Rattle.sqlite.specs.State.{HasCleanDisk, Survives};
 ghost use Rattle.sqlite.specs.Held.{state};
 ghost use Rattle.tally_rules.specs.Reading.{setup_of_text};
 ghost use Rattle.tally_opening.specs.Crash.{HasPast, IsUnwritten, LeavesOpening, LeavesTakenOver};
@@ -9,6 +9,7 @@ ghost use Rattle.tally_opening.specs.Create.{IsCreateFault, no_schema};
 ghost use Rattle.tally_opening.specs.Open.{IsOpenFault, IsSetupOf};
 ghost use Rattle.tally_store.specs.Create.{HasOpeningTables, IsGivenBack, ShowsFound, ShowsState};
 ghost use Rattle.tally_requests.specs.Known.{known_of};
+ghost use Rattle.tally_store.specs.Keeping.{CountsNothing, conn_left};
 ghost use Rattle.tally_store.specs.Store.{IsOfKnownState, IsStored};
 
 use sqlite::{Alter, Connection};
@@ -89,10 +90,8 @@ impl<S: Alter> Store<S> {
         ensures fault { IfErr result (λ e.
             IsCreateFault text.now (state S.Store conn).now.schema e.1) }
         ensures same { IfErr result (λ e. IsGivenBack (state S.Store conn) (state S.Store e.0)) }
-        ensures crash { IfOk result (λ store.
-            Survives (state S.Store conn) (state S.Store store.conn) (LeavesOpening text.now)) }
-        ensures crash_fault { IfErr result (λ e.
-            Survives (state S.Store conn) (state S.Store e.0) (LeavesOpening text.now)) }
+        ensures crash { Survives (state S.Store conn) (state S.Store (conn_left result))
+            (LeavesOpening text.now) }
     {
         match create_in(alloc, &mut conn, text) {
             Ok(setup) => Ok(store_over(alloc, conn, setup, BTreeMap::new(alloc))),
@@ -115,19 +114,12 @@ impl<S: Alter> Store<S> {
         ensures fault { IfErr result (λ e. HasCleanDisk (state S.Store e.0) →
             IsOpenFault (state S.Store conn).now e.1) }
         ensures same { IfErr result (λ e. IsGivenBack (state S.Store conn) (state S.Store e.0)) }
-        ensures crash { IfOk result (λ store.
-            Survives (state S.Store conn) (state S.Store store.conn)
-            (LeavesTakenOver (state S.Store conn).now)) }
-        ensures crash_fault { IfErr result (λ e.
-            Survives (state S.Store conn) (state S.Store e.0)
-            (LeavesTakenOver (state S.Store conn).now)) }
-        ensures unwritten { IfOk result (λ store. HasPast (state S.Store conn).now →
-            IsUnwritten (state S.Store conn) (state S.Store store.conn)) }
-        ensures unwritten_fault { IfErr result (λ e. HasPast (state S.Store conn).now →
-            IsUnwritten (state S.Store conn) (state S.Store e.0)) }
+        ensures crash { Survives (state S.Store conn) (state S.Store (conn_left result))
+            (LeavesTakenOver (state S.Store conn).now) }
+        ensures unwritten { HasPast (state S.Store conn).now →
+            IsUnwritten (state S.Store conn) (state S.Store (conn_left result)) }
         ensures counts { IfOk result (λ store.
-            HasPast (state S.Store conn).now → HasCleanDisk (state S.Store store.conn) →
-            KeepsCounts (state S.Store conn) (state S.Store store.conn)) }
+            CountsNothing (state S.Store conn) (state S.Store store.conn)) }
     {
         let mut known = BTreeMap::new(alloc);
         match open_in(alloc, &mut conn, &mut known) {

@@ -3,7 +3,9 @@
 //! it.
 
 use crate::deeds::Deed;
-use crate::disks::{Contents, MIXTURES, are_same, disks, have_stopped, mixed, synced, written};
+use crate::disks::{
+    Contents, MIXTURES, Stop, are_same, disks, have_stopped, mixed, stop_after, synced, written,
+};
 use crate::runs::{Done, carried_out, told};
 use std::alloc::Global;
 use std::test::Fail;
@@ -17,10 +19,15 @@ pub(crate) struct Case<'a> {
 }
 
 /// More runs than a count has.
-const MOST: u64 = 100_000;
+pub(crate) const MOST: u64 = 100_000;
 
 /// Whether files of these contents show what they may after so many acknowledged steps.
-fn check(alloc: Global, case: &Case<'_>, left: &Contents, steps: usize) -> Result<(), Fail> {
+pub(crate) fn check(
+    alloc: Global,
+    case: &Case<'_>,
+    left: &Contents,
+    steps: usize,
+) -> Result<(), Fail> {
     let shown = told(alloc, left, Deed::Look)?;
     let before = case.shows.get(steps).ok_or("no such step")?;
     let after = case.shows.get(steps.saturating_add(1)).unwrap_or(before);
@@ -49,15 +56,11 @@ fn check_left(
     Ok(())
 }
 
-/// Whether a file stops in a run where the files let these numbers of calls through.
-fn stops(alloc: Global, case: &Case<'_>, calls: (u64, u64)) -> Result<bool, Fail> {
-    let files = disks(alloc, &case.contents, calls)?;
-    let Done {
-        mut files,
-        steps,
-        ..
-    } = carried_out(alloc, files, case.deed)?;
-    let has_stopped = have_stopped(&mut files);
+/// Whether a file stops in a run where the files stop there.
+fn stops(alloc: Global, case: &Case<'_>, stop: Stop) -> Result<bool, Fail> {
+    let files = disks(alloc, &case.contents, stop)?;
+    let Done { files, steps, .. } = carried_out(alloc, files, case.deed)?;
+    let has_stopped = have_stopped(&files);
     if !has_stopped && steps.saturating_add(1) != case.shows.len() {
         return Err(Fail::from("a refusal without a stop"));
     }
@@ -72,12 +75,7 @@ fn stops(alloc: Global, case: &Case<'_>, calls: (u64, u64)) -> Result<bool, Fail
 fn counted(alloc: Global, case: &Case<'_>, of_log: bool, more: u64) -> Result<u64, Fail> {
     for run in 0..MOST {
         let calls = run.saturating_mul(more);
-        let both = if of_log {
-            (calls, u64::MAX)
-        } else {
-            (u64::MAX, calls)
-        };
-        if !stops(alloc, case, both)? {
+        if !stops(alloc, case, stop_after(calls, of_log, u64::MAX))? {
             return Ok(calls);
         }
     }

@@ -1,5 +1,6 @@
 //! What is done to a database until its store refuses, over any store.
 
+use crate::lines::{answered, push_each, shown_again};
 use crate::looks::{asks, push_looked, push_run};
 use sqlite::{Alter, Connection};
 use std::alloc::Global;
@@ -7,15 +8,15 @@ use std::io::{self, ErrorKind, Read};
 use std::test::Fail;
 use tally_core::{ImportCount, ImportFault, Keeper};
 use tally_import::{ReturnRows, Sep};
-use tally_scripts::{code, first_wrong};
+use tally_scripts::code;
 use tally_store::{CreateFault, OpenFault, Store};
 
 /// Gives its text by pieces of so many bytes, and then ends or fails.
 #[derive(Drop)]
-struct Text<'a> {
-    text: &'a [u8],
-    piece: usize,
-    fails: bool,
+pub(crate) struct Text<'a> {
+    pub(crate) text: &'a [u8],
+    pub(crate) piece: usize,
+    pub(crate) fails: bool,
 }
 
 impl Read for Text<'_> {
@@ -55,6 +56,12 @@ pub(crate) enum Deed<'a> {
     Run(&'a str),
     /// It lodges these rows.
     Import(Rows<'a>),
+    /// It answers these lines up to one that its store refuses, and shows then what it shows. What
+    /// was written is left as it is.
+    Refuse(&'a str),
+    /// It answers these lines, where one that its store refuses is given again, and shows after
+    /// each what it shows.
+    Repeat(&'a str),
     /// These statements run, and the log is not copied into the database file.
     Leave(&'a str),
     /// All that an office shows is shown.
@@ -133,23 +140,6 @@ fn create<S: Alter + Drop>(
     }
 }
 
-/// How many of the lines an office answers, up to the one that its store refuses, and whether there
-/// is such a line.
-fn answered<K: Keeper>(alloc: Global, office: &mut K, lines: &str) -> Result<(usize, bool), Fail> {
-    let mut steps = 0usize;
-    for line in lines.lines() {
-        let wrong = first_wrong(alloc, office, line)?;
-        if wrong.as_str().ends_with(", and not refused 23") {
-            return Ok((steps, false));
-        }
-        if !wrong.is_empty() {
-            return Err(Fail::from(wrong));
-        }
-        steps = steps.saturating_add(1);
-    }
-    Ok((steps, true))
-}
-
 fn answer<S: Alter + Drop>(
     alloc: Global,
     mut office: Store<S>,
@@ -162,17 +152,27 @@ fn answer<S: Alter + Drop>(
     Ok(stopped(alloc, office.close(), steps))
 }
 
-/// Whether an import of rows comes to what it should. `false` where the store refuses.
-fn imported<K: Keeper>(alloc: Global, office: &mut K, rows: Rows<'_>) -> Result<bool, Fail> {
+/// What an import of a text into the constituency comes to.
+pub(crate) fn lodged<K: Keeper>(
+    alloc: Global,
+    office: &mut K,
+    text: Text<'_>,
+    sep: Sep,
+) -> Result<Result<ImportCount, ImportFault>, Fail> {
     let found = office.setup().con(code("c1")?).ok_or("c1")?;
     let con = found.try_copy(alloc)?;
+    let mut source = ReturnRows::new(alloc, text, sep, con);
+    Ok(office.lodge_from(&mut source))
+}
+
+/// Whether an import of rows comes to what it should. `false` where the store refuses.
+fn imported<K: Keeper>(alloc: Global, office: &mut K, rows: Rows<'_>) -> Result<bool, Fail> {
     let text = Text {
         text: rows.text.as_bytes(),
         piece: rows.piece,
         fails: rows.fails,
     };
-    let mut source = ReturnRows::new(alloc, text, rows.sep, con);
-    let came = office.lodge_from(&mut source);
+    let came = lodged(alloc, office, text, rows.sep)?;
     if came == rows.want {
         return Ok(true);
     }
@@ -208,6 +208,34 @@ fn run_in<S: Alter + Drop>(
     })
 }
 
+fn refuse<S: Alter + Drop>(
+    alloc: Global,
+    mut office: Store<S>,
+    lines: &str,
+) -> Result<Work<S>, Fail> {
+    let (steps, _is_all) = answered(alloc, &mut office, lines)?;
+    let told = shown_again(alloc, &mut office)?;
+    Ok(Work {
+        left: Left::Store(office.close().into_store()),
+        steps,
+        told,
+    })
+}
+
+fn repeat<S: Alter + Drop>(
+    alloc: Global,
+    mut office: Store<S>,
+    lines: &str,
+) -> Result<Work<S>, Fail> {
+    let mut told = String::new(alloc);
+    let steps = push_each(alloc, &mut told, &mut office, lines)?;
+    Ok(Work {
+        left: Left::Conn(office.close()),
+        steps,
+        told,
+    })
+}
+
 /// Carries out what is done to an office.
 fn in_office<S: Alter + Drop>(
     alloc: Global,
@@ -218,6 +246,8 @@ fn in_office<S: Alter + Drop>(
         Deed::Answer(lines) => answer(alloc, office, lines),
         Deed::Run(lines) => run_in(alloc, office, lines),
         Deed::Import(rows) => import(alloc, office, rows),
+        Deed::Refuse(lines) => refuse(alloc, office, lines),
+        Deed::Repeat(lines) => repeat(alloc, office, lines),
         _ => Ok(ended(alloc, office.close(), 1)),
     }
 }

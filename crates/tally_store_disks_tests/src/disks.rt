@@ -1,12 +1,14 @@
-//! The two files of a database, in memory. Each lets so many calls through and then stops.
+//! The two files of a database, in memory. Each lets so many calls through and then stops, or
+//! refuses one.
 
 use crate::deeds::Left;
+use crate::faltering::Faltering;
 use sqlite::{Connection, FileStore, Files, Options};
-use sqlite_disk::{Crash, Disk, Fuse, Memory};
+use sqlite_disk::{Crash, Disk, Memory};
 use std::alloc::Global;
 use std::test::Fail;
 
-pub(crate) type Stopping = Fuse<Memory>;
+pub(crate) type Stopping = Faltering<Memory>;
 
 pub(crate) type Disks = Files<Stopping>;
 
@@ -19,6 +21,32 @@ pub(crate) type Conn = Connection<Stored>;
 pub(crate) struct Contents {
     pub(crate) log: Vec<u8>,
     pub(crate) db: Vec<u8>,
+}
+
+/// How many calls the log lets through, how many the database file, and how many each refuses after
+/// them.
+#[derive(Clone, Copy)]
+pub(crate) struct Stop {
+    pub(crate) log: u64,
+    pub(crate) db: u64,
+    pub(crate) refusals: u64,
+}
+
+/// No call is refused.
+pub(crate) const NO_STOP: Stop = Stop {
+    log: u64::MAX,
+    db: u64::MAX,
+    refusals: 0,
+};
+
+/// So many calls are refused after so many of the log, or of the database file.
+pub(crate) fn stop_after(calls: u64, of_log: bool, refusals: u64) -> Stop {
+    let (log, db) = if of_log {
+        (calls, u64::MAX)
+    } else {
+        (u64::MAX, calls)
+    };
+    Stop { log, db, refusals }
 }
 
 /// How many pages the log has before it is copied into the database file: those of some three
@@ -41,29 +69,26 @@ pub(crate) fn no_contents(alloc: Global) -> Contents {
     }
 }
 
-/// A file of these bytes, synced, that lets so many calls through.
-fn file(alloc: Global, bytes: &[u8], calls: u64) -> Result<Stopping, Fail> {
+/// A file of these bytes, synced, that lets so many calls through and refuses so many.
+fn file(alloc: Global, bytes: &[u8], calls: u64, refusals: u64) -> Result<Stopping, Fail> {
     let mut memory = Memory::new(alloc);
     memory.write_at(0, bytes)?;
     memory.sync()?;
-    Ok(Fuse::new(memory, calls))
+    Ok(Faltering::new(memory, calls, refusals))
 }
 
-/// Files of these contents, of which the log lets the first number of calls through.
-pub(crate) fn disks(alloc: Global, contents: &Contents, calls: (u64, u64)) -> Result<Disks, Fail> {
+/// Files of these contents that stop there.
+pub(crate) fn disks(alloc: Global, contents: &Contents, stop: Stop) -> Result<Disks, Fail> {
+    let Stop { log, db, refusals } = stop;
     Ok(Files {
-        log: file(alloc, contents.log.as_slice(), calls.0)?,
-        db: file(alloc, contents.db.as_slice(), calls.1)?,
+        log: file(alloc, contents.log.as_slice(), log, refusals)?,
+        db: file(alloc, contents.db.as_slice(), db, refusals)?,
     })
 }
 
-fn has_stopped(file: &mut Stopping) -> bool {
-    !file.may_be_used() || file.len().is_err()
-}
-
-/// Whether one of the files lets no further call through.
-pub(crate) fn have_stopped(files: &mut Disks) -> bool {
-    has_stopped(&mut files.log) || has_stopped(&mut files.db)
+/// Whether one of the files has refused a call.
+pub(crate) fn have_stopped(files: &Disks) -> bool {
+    files.log.has_refused() || files.db.has_refused()
 }
 
 /// A connection to files, which come back where there is none.

@@ -9,7 +9,13 @@ mod deeds;
 #[cfg(test)]
 mod disks;
 #[cfg(test)]
+mod faltering;
+#[cfg(test)]
+mod lines;
+#[cfg(test)]
 mod looks;
+#[cfg(test)]
+mod refusals;
 #[cfg(test)]
 mod runs;
 #[cfg(test)]

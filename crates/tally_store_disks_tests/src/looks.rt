@@ -1,12 +1,13 @@
 //! What a database shows.
 
 use crate::deeds::open;
+use crate::lines::wrong;
 use sqlite::{Alter, Connection};
 use sqlite_value::value::Value;
 use std::alloc::Global;
 use std::test::Fail;
 use tally_core::{Ask, Book, Keeper, Refusal, Reply, run};
-use tally_scripts::{command, first_wrong, setup, told};
+use tally_scripts::{command, setup, told};
 
 /// A station or a constituency that the setup lacks is refused.
 const SHOWN: &str = "return s1
@@ -61,7 +62,11 @@ pub(crate) fn asks(alloc: Global, lines: &str) -> Result<Vec<Ask>, Fail> {
 }
 
 /// Adds what a keeper shows: these returns, the constituencies, and the progress.
-fn push_answers<K: Keeper>(alloc: Global, text: &mut String, keeper: &mut K) -> Result<(), Fail> {
+pub(crate) fn push_answers<K: Keeper>(
+    alloc: Global,
+    text: &mut String,
+    keeper: &mut K,
+) -> Result<(), Fail> {
     let asks = asks(alloc, SHOWN)?;
     push_run(alloc, text, keeper, asks.as_slice())
 }
@@ -141,9 +146,11 @@ fn push_answered<K: Keeper>(
     keeper: &mut K,
     lines: &str,
 ) -> Result<(), Fail> {
-    let wrong = first_wrong(alloc, keeper, lines)?;
-    if !wrong.is_empty() {
-        return Err(Fail::from(wrong));
+    for line in lines.lines() {
+        let wrong = wrong(alloc, keeper, line)?;
+        if !wrong.is_empty() {
+            return Err(Fail::from(wrong));
+        }
     }
     push_answers(alloc, text, keeper)
 }

@@ -2,7 +2,7 @@
 
 use crate::deeds::{Deed, Work, carry_out};
 use crate::disks::{
-    Conn, Contents, Disks, Stored, connected, disks, files_of, no_contents, written,
+    Conn, Contents, Disks, NO_STOP, Stored, connected, disks, files_of, no_contents, written,
 };
 use std::alloc::Global;
 use std::test::Fail;
@@ -43,7 +43,7 @@ pub(crate) fn carried_out(alloc: Global, files: Disks, deed: Deed<'_>) -> Result
 
 /// Carries a deed out over files of these contents that do not stop.
 fn whole(alloc: Global, contents: &Contents, deed: Deed<'_>) -> Result<Done, Fail> {
-    let files = disks(alloc, contents, (u64::MAX, u64::MAX))?;
+    let files = disks(alloc, contents, NO_STOP)?;
     let done = carried_out(alloc, files, deed)?;
     if done.steps == 0 {
         return Err(Fail::from("a refusal without a stop"));

@@ -12,8 +12,8 @@ use tally_import::Sep;
 use tally_scripts::{RECOUNT, TWIN_TOWN};
 
 /// By how many calls each run lets more through than the one before. With 1, each call of a file is
-/// stopped at in turn: 549 stops in all, in 8 seconds as `rt test` builds them. `rt try --test` is
-/// slower by far, and 10 is enough there.
+/// stopped at in turn: some 540 stops in all, in 8 seconds as `rt test` builds them. `rt try
+/// --test` is slower by far, and 10 is enough there.
 const MORE: u64 = 1;
 
 /// How many steps of the script are taken: up to the second closing. After it come only steps of

@@ -7,8 +7,8 @@ use std::alloc::Global;
 use std::test::*;
 use tally_core::{Ask, Keeper, Refusal, Reply, run};
 use tally_scripts::{
-    ALTERNATING, HARE, LIFE, RECOUNT, RIVERS, TWIN_TOWN, VACANCIES, command, first_wrong, told,
-    twin_town, with,
+    ALTERNATING, HARE, LIFE, RECOUNT, RIVERS, TWIN_TOWN, VACANCIES, command, first_wrong,
+    first_wrong_of_run, told, twin_town, with,
 };
 use tally_store::Store;
 
@@ -67,6 +67,15 @@ fn wrong_at_once<S: Alter + Drop>(
     first_wrong(alloc, &mut office, script)
 }
 
+/// The same where all commands of the script are one run.
+fn wrong_as_one_run<S: Alter + Drop>(
+    alloc: Global,
+    mut office: Store<S>,
+    script: &str,
+) -> Result<String, Fail> {
+    first_wrong_of_run(alloc, &mut office, script)
+}
+
 /// The same of an office that is closed and opened again after each line, and then shows what it
 /// showed before.
 fn wrong_line_by_line<S: Alter + Drop>(
@@ -98,6 +107,8 @@ fn scripts_at_once_and_line_by_line(rt: HostRuntime) -> Result<(), Fail> {
         (alternating.as_str(), ALTERNATING),
     ] {
         let wrong = wrong_at_once(alloc, made(alloc, setup)?, script)?;
+        assert!(rt; wrong.is_empty(), "{wrong}");
+        let wrong = wrong_as_one_run(alloc, made(alloc, setup)?, script)?;
         assert!(rt; wrong.is_empty(), "{wrong}");
         let wrong = wrong_line_by_line(alloc, made(alloc, setup)?, script)?;
         assert!(rt; wrong.is_empty(), "{wrong}");

@@ -9,8 +9,8 @@ use std::alloc::{AllocError, Global};
 use tally_returns::Counts;
 use tally_rows::{number_at, wide_number_at};
 
-/// The item of the spoiled votes.
-pub(crate) const SPOILED_ITEM: u64 = 61;
+/// The item of the spoiled votes, after those of 60 lists.
+pub const SPOILED_ITEM: u32 = 61;
 
 /// The number that a row has for this item of a key, where it is such a row.
 fn number_for(row: &Row, key: &[u8], item: u64) -> Option<u32>
@@ -53,7 +53,7 @@ pub fn counts_in(alloc: Global, rows: &[Row], key: &[u8]) -> Result<Option<Count
     let Some(blank) = number_for(&rows[0], key, 0) else {
         return Ok(None);
     };
-    let Some(spoiled) = number_for(&rows[last], key, SPOILED_ITEM) else {
+    let Some(spoiled) = number_for(&rows[last], key, u64::from(SPOILED_ITEM)) else {
         return Ok(None);
     };
     let Some(votes) = numbers_in(alloc, &rows[1..last], key)? else {

@@ -12,7 +12,7 @@ mod sums;
 mod views;
 
 pub use constituencies::{Standing, all_gone_in, standing_in};
-pub use items::{counts_in, numbers_in};
+pub use items::{SPOILED_ITEM, counts_in, numbers_in};
 pub use parts::ConTables;
 pub use past::past_in;
 pub use returns::{Entry, entries_in};

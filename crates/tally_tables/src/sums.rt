@@ -67,7 +67,7 @@ pub fn sums_in(alloc: Global, rows: &[Row], key: &[u8]) -> Result<Option<Sums>, 
     let Some(blank) = sum_for(&rows[0], key, 0) else {
         return Ok(None);
     };
-    let Some(spoiled) = sum_for(&rows[last], key, SPOILED_ITEM) else {
+    let Some(spoiled) = sum_for(&rows[last], key, u64::from(SPOILED_ITEM)) else {
         return Ok(None);
     };
     let Some(votes) = votes_in(alloc, &rows[1..last], key)? else {

@@ -1,5 +1,5 @@
 -- What the rows of a constituency read as, where they were looked up by its code.
-use Rattle.std.specs.Prelude.{◌≡◌, ◌==◌, ◌≤◌, ◌+◌, if◌then◌else◌, ℕ, Bool, List, [], ◌∷◌, length, Option, Some, None, option_map, option_and_then, slice_index_or, Result, IfOk, OnOk}
+use Rattle.std.specs.Prelude.{◌≡◌, ◌==◌, ◌<◌, ◌≤◌, ◌+◌, if◌then◌else◌, ℕ, Bool, true, false, List, [], ◌∷◌, length, Option, Some, None, option_map, option_and_then, slice_index_or, Result, IfOk, OnOk}
 use Rattle.std.specs.FinMap.{FinMap, get}
 use Rattle.sqlite_value.specs.Order.{Row, column}
 use Rattle.sqlite_trees.specs.declared.store.Store.{Ghosts}
@@ -18,6 +18,7 @@ use Rattle.tally_returns.specs.View.{View}
 use Rattle.tally_returns.specs.declared.progress.ProgressRow.{ProgressRow}
 use Rattle.tally_returns.specs.declared.returns.Status.{Status}
 use Rattle.tally_returns.specs.declared.returns.Status.TheVariants.{Received, Queried, Corrected, Closed}
+use Rattle.tally_statements.specs.declared.table.KeyedTable.{KeyedTable}
 use Rattle.tally_statements.specs.declared.table.KeyedTable.TheVariants.{Returns, Cons, Lots, Seats, Gone, Totals, Past}
 use Rattle.tally_statements.specs.Inside.{IsOpenInside}
 use Rattle.tally_statements.specs.Office.{IsFound}
@@ -35,9 +36,12 @@ use Rattle.tally_entries.specs.Statuses.{statuses_in}
 abbrev pub certified_in : List ℕ → List Row → Option Bool
 certified_in con rows = if length rows == 1 then option_map (λ standing. standing.1) (standing_of con (slice_index_or rows 0 [])) else None
 
--- the edition of a constituency, and whether it is certified, by its one row
-abbrev pub stage_in : List ℕ → List Row → Option (ℕ × Bool)
-stage_in con rows = if length rows == 1 then option_map (λ standing. (standing.0, standing.1)) (standing_of con (slice_index_or rows 0 [])) else None
+-- One of these rows says of a constituency that it is at this edition, and whether it is certified.
+pub record IsStageAmong (con : List ℕ) (rows : List Row) (found : ℕ × Bool) : Type 0 where
+  pub place : ℕ
+  pub within : place < length rows
+  pub note : List ℕ
+  pub says : standing_of con (slice_index_or rows place []) ≡ Some (found.0, found.1, note)
 
 -- What is found of a constituency is its edition, and whether it is certified.
 abbrev pub FindsStage : List ℕ → Seen → ℕ × Bool → Type 0
@@ -88,14 +92,20 @@ FindsOne entries result = (e : List ℕ × StationReturn) → entries ≡ Some (
 abbrev pub ChangesNothing : {S X : Type 0} (g : Ghosts S) → Transaction S → Transaction S → Result X Error → Type 0
 ChangesNothing g old new result = HasCleanDisk (state g new.conn.now) → IsOpenInside (state g old.conn.now) → OnOk result (IsUnchanged (state g old.conn.now) (state g new.conn.now))
 
--- these are the rows of a constituency in each of the tables that have it for their key
-pub record AreFound (con : List ℕ) (s : Seen) (rows : Rows) : Type 0 where
+-- these are the rows of a key in a table where they are asked for, and else there are none
+abbrev pub IsFoundIf : Bool → KeyedTable → List ℕ → Seen → List Row → Type 0
+IsFoundIf true t key s rows = IsFound t key s rows
+IsFoundIf false t key s rows = rows ≡ []
+
+-- these are the rows of a constituency in each of the tables that have it for their key, in `past`
+-- where those are asked for
+pub record AreFound (with_past : Bool) (con : List ℕ) (s : Seen) (rows : Rows) : Type 0 where
   pub cons : IsFound Cons con s rows.cons
   pub lots : IsFound Lots con s rows.tables.lots
   pub seats : IsFound Seats con s rows.tables.seats
   pub gone : IsFound Gone con s rows.tables.gone
   pub totals : IsFound Totals con s rows.tables.totals
-  pub past : IsFound Past con s rows.tables.past
+  pub past : IsFoundIf with_past Past con s rows.tables.past
 
 -- What is found of a station is the status of its return.
 abbrev pub FindsStatus : List ℕ → Seen → Option Status → Type 0

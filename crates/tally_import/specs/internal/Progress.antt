@@ -5,6 +5,7 @@ use Rattle.std.specs.FinMap as map
 use Rattle.std.specs.HashMap as table
 use Rattle.std.specs.declared.hash.BuildHasherDefault.{BuildHasherDefault}
 use Rattle.std.specs.declared.hash.FoldHasher.{FoldHasher}
+use Rattle.tally_frac.specs.Limits.{most_lists}
 use Rattle.tally_returns.specs.Counts.{VoteCounts}
 use Rattle.tally_returns.specs.Return.{StationReturn, Returns}
 use Rattle.tally_returns.specs.Lodge.{Stations}
@@ -24,6 +25,11 @@ Table = table.HashMap (List ℕ) StationReturn (BuildHasherDefault FoldHasher)
 -- the table holds these returns
 abbrev pub Holds : Table → Returns → Type 0
 Holds held returns = (code : List ℕ) → table.get (pointwise nat_eq) held code ≡ map.get returns code
+
+-- a table that held some returns holds what they have become
+abbrev pub TableMoves : Table → Table → (Returns → Returns) → Type 0
+TableMoves old new become =
+    (returns : Returns) → Holds old returns → Holds new (become returns)
 
 -- the counts that an answer adds to those that were lodged
 abbrev pub lodged_of : VoteCounts → Result LodgeReply Refusal → List VoteCounts
@@ -46,7 +52,7 @@ taken_answers taken = answers (stations taken) map.empty taken.rows
 
 -- the import has taken these rows
 pub record HasTaken (taken : Taken) (import : Import) : Type 0 where
-  pub few : taken.lists ≤ 60
+  pub few : taken.lists ≤ most_lists
   pub lists : import.lists ≡ taken.lists
   pub table : Holds import.returns (returns_after_import (stations taken) map.empty taken.rows)
   pub count : import.count ≡ count_of (taken_answers taken)

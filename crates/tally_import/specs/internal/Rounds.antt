@@ -1,5 +1,5 @@
 -- What the parts of a check leave.
-use Rattle.std.specs.Prelude.{◌≡◌, ◌<◌, ◌≤◌, ◌++◌, ◌⊎◌, ⊤, ℕ, Bool, true, List, length, Option, Some, None, option_map, Result, Ok, Err, String, string_bytes}
+use Rattle.std.specs.Prelude.{◌≡◌, ◌<◌, ◌≤◌, ◌++◌, ◌⊎◌, ⊤, ℕ, Bool, true, List, length, Option, Some, None, IfSome, option_map, Result, Ok, Err, String, string_bytes}
 use Rattle.std.specs.declared.alloc.Global.{Global}
 use Rattle.tally_keeper.specs.Source.{row_limit}
 use Rattle.tally_import.specs.Check.{Found, check_fault, rows_of_records}
@@ -35,6 +35,12 @@ Imports lists AreRows (Err fault) = (fault ≡ Memory) ⊎ ((rows : List (List (
 abbrev pub Finds : Sep → List ℕ → Option (List ℕ) → Result (String Global) CheckFault → Type 0
 Finds sep text left (Ok found) = Found sep text left (λ f. f ≡ Ok (string_bytes found))
 Finds sep text left (Err fault) = (fault ≡ Memory) ⊎ Found sep text left (λ f. f ≡ Err fault)
+
+-- The same of the text of which these records were given so far.
+abbrev pub FindsAfter : List (List (List ℕ)) → Records → Option (List ℕ) → Option (List ℕ)
+    → Result (String Global) CheckFault → Type 0
+FindsAfter given r old_left left result = (text : Option (List ℕ))
+    → HasGiven text old_left given r → IfSome text (λ t. Finds (sep_of r) t left result)
 
 -- A fault that comes before anything is written: Read only where a read failed, and never Write.
 abbrev pub IsOfReading : CheckFault → Bool → Type 0

@@ -1,11 +1,12 @@
 -- Which returns that were read are those of a lawful state.
-use Rattle.std.specs.Prelude.{◌≡◌, ◌&&◌, ℕ, Bool, true, Some, List, [], ◌∷◌}
-use Rattle.std.specs.FinMap.{get, entries}
+use Rattle.std.specs.Prelude.{◌≡◌, ◌&&◌, ℕ, All, Bool, true, Some, List, [], ◌∷◌}
+use Rattle.std.specs.FinMap.{entries, from_entries, get}
 use Rattle.std.specs.List.{flat_map}
 use Rattle.std.specs.Option.{ForSome}
 use Rattle.std.specs.Ordering.{is_lt}
 use Rattle.std.specs.declared.cmp.Ordering.{Ordering}
 use Rattle.sqlite_value.specs.Order.{Row}
+use Rattle.tally_ledger.specs.Kept.{Kept, opening_kept}
 use Rattle.tally_rows.specs.Rows.{text_cmp}
 use Rattle.tally_rules.specs.Constituency.{Constituency}
 use Rattle.tally_returns.specs.Lawful.{IsLawful}
@@ -13,6 +14,7 @@ use Rattle.tally_returns.specs.Lodge.{StationLimits}
 use Rattle.tally_returns.specs.Return.{StationReturn, Returns}
 use Rattle.tally_returns.specs.State.{stations_of}
 use Rattle.tally_tables.specs.Cells.{return_rows, count_rows}
+use Rattle.tally_tables.specs.Reading.{entries_in}
 
 -- by their keys, each is below the next
 abbrev pub rises_on : {X K : Type 0} → (X → K) → (K → K → Ordering) → List X → Bool
@@ -34,6 +36,21 @@ rises = rises_on key_of text_cmp
 abbrev pub IsLawfulEntry : List Constituency → List ℕ × StationReturn → Type 0
 IsLawfulEntry setup e =
     (limits : StationLimits) × (stations_of setup e.0 ≡ Some limits) × IsLawful limits e.1
+
+-- The rows of `returns` and `counts` read as these returns, which are in the order of their stations
+-- and lawful there.
+pub record AreLawfulEntries (setup : List Constituency) (rows counts : List Row)
+    (es : List (List ℕ × StationReturn)) : Type 0 where
+  pub read : Some es ≡ entries_in setup rows counts
+  pub rise : rises es ≡ true
+  pub lawful : All (IsLawfulEntry setup) es
+
+-- A ledger has the returns that the rows of `returns` and `counts` read as, which are lawful.
+pub record IsLedgerOf (setup : List Constituency) (rows counts : List Row)
+    (kept : Kept) : Type 0 where
+  pub es : List (List ℕ × StationReturn)
+  pub entries : AreLawfulEntries setup rows counts es
+  pub kept_is : kept ≡ record (opening_kept setup) { returns = from_entries es }
 
 -- The rows of `returns` and `counts` are those of these returns, in the order of their keys, and
 -- each return is lawful at its station.

@@ -10,10 +10,8 @@ use Rattle.tally_returns.specs.GoneCandidate.{GoneCandidate}
 use Rattle.tally_returns.specs.PastSeats.{PastSeats}
 use Rattle.tally_returns.specs.View.{View}
 use Rattle.tally_rows.specs.Rows.{text_cmp}
-use Rattle.tally_rules.specs.Code.{is_code}
 use Rattle.tally_rules.specs.Constituency.{Constituency}
 use Rattle.tally_rules.specs.Setup.{constituency_with}
-use Rattle.tally_rules.specs.declared.constituency.Station.{Station}
 use Rattle.tally_judge.specs.internal.Entries.{rises, rises_on}
 use Rattle.tally_tables.specs.Views.{Tables, views_from}
 
@@ -48,11 +46,6 @@ pub record IsLawfulFound (kept : Kept) (e : List ℕ × View) : Type 0 where
   pub gone : rises_on gone_places text_cmp e.1.gone ≡ true
   pub past : rises_on past_edition nat_cmp e.1.past ≡ true
   pub lawful : IsLawfulView con e.1
-
--- The code of a constituency and those of its stations are codes.
-pub record HasCodes (con : Constituency) : Type 0 where
-  pub own : is_code con.code ≡ true
-  pub stations : All (λ (s : Station). is_code s.code ≡ true) con.stations
 
 -- What was read are the constituencies of a lawful state with these returns, in the order of their
 -- codes.

@@ -20,7 +20,7 @@ use Rattle.tally_statements.specs.Office.{IsInside, tree_of}
 use Rattle.tally_tables.specs.Cells.{con_rows, lot_rows, past_rows}
 use Rattle.tally_tables.specs.TablesOfState.{AreTables}
 use Rattle.tally_entries.specs.Entries.{stored_in}
-use Rattle.tally_entries.specs.Constituencies.{HasLot, HasRecord, IsAt, MovesRows, MovesSeats}
+use Rattle.tally_entries.specs.Constituencies.{HasLot, HasRecord, IsAt, MovesRows, MovesSeats, with_past_of}
 use Rattle.tally_requests.specs.Requests.{IsChangeCarriedOut}
 
 -- The office's tables are open in a transaction, and only these may have changed.
@@ -62,8 +62,8 @@ abbrev pub WritesSo : List ℕ → (Seen → Seen → Type 0) → Seen → Seen 
 WritesSo code Written old new result = HasCleanDisk new → IsInside old → HoldsCon code old → OnOk result (Written old new)
 
 -- What holds after a call that carries out what was decided, where the disk returned what was
--- written.
+-- written and this was seen, whatever was seen of the certificates on record.
 abbrev pub CarriesDecided : List Constituency → Constituency → View → ConChange → Seen → Seen → Result Reply Error → Type 0
 CarriesDecided setup con view decided old new result =
-    HasCleanDisk new → IsInside old → IfOk result (λ reply. (text : List ℕ) (s : State) → IsLawfulState setup s → IsView con s view → AreTables setup text s old.now.trees
-    → IsChangeCarriedOut setup text s con view decided reply new)
+    HasCleanDisk new → IsInside old → IfOk result (λ reply. (text : List ℕ) (s : State) → IsLawfulState setup s → IsView con s (with_past_of con s view) → AreTables setup text s old.now.trees
+    → IsChangeCarriedOut setup text s con (with_past_of con s view) decided reply new)

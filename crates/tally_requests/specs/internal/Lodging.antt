@@ -1,7 +1,8 @@
 -- What a Lodge is answered, by what is looked up.
-use Rattle.std.specs.Prelude.{◌≡◌, ◌≤◌, ℕ, List, length, Result, Ok, IfOk}
+use Rattle.std.specs.Prelude.{◌≡◌, ◌≤◌, false, ℕ, List, length, Result, Ok, IfOk}
 use Rattle.sqlite.specs.declared.error.Error.{Error}
-use Rattle.sqlite.specs.State.{State as Seen, HasCleanDisk}
+use Rattle.sqlite.specs.State.{State as Seen, HasCleanDisk, IsUnchanged}
+use Rattle.tally_frac.specs.Limits.{most_lists}
 use Rattle.tally_rules.specs.Constituency.{Constituency}
 use Rattle.tally_returns.specs.Counts.{VoteCounts}
 use Rattle.tally_returns.specs.Lodge.{lodge_answer}
@@ -10,6 +11,9 @@ use Rattle.tally_returns.specs.declared.refusal.Refusal.{Refusal}
 use Rattle.tally_returns.specs.declared.reply.LodgeReply.{LodgeReply}
 use Rattle.tally_returns.specs.declared.reply.LodgeReply.TheVariants.{Lodged}
 use Rattle.tally_steps.specs.LawfulState.{IsLawfulState}
+use Rattle.tally_steps.specs.Runs.{is_act}
+use Rattle.tally_keeper.specs.Events.{as_answer}
+use Rattle.tally_statements.specs.Inside.{IsOpenInside}
 use Rattle.tally_statements.specs.Office.{IsInside}
 use Rattle.tally_tables.specs.TablesOfState.{AreTables}
 
@@ -24,4 +28,9 @@ DecidesLodge setup station slip counts old new result = HasCleanDisk new → IsI
 
 -- A return that is to be lodged is for at most 60 lists.
 abbrev pub IsFewIfLodged : VoteCounts → Result LodgeReply Refusal → Type 0
-IsFewIfLodged counts r = (rev : ℕ) → r ≡ Ok (Lodged rev) → length counts.votes ≤ 60
+IsFewIfLodged counts r = (rev : ℕ) → r ≡ Ok (Lodged rev) → length counts.votes ≤ most_lists
+
+-- A Lodge that does not lodge a return writes nothing on a connection that is open.
+abbrev pub WritesOnlyLodged : Seen → Seen → Result (Result LodgeReply Refusal) Error → Type 0
+WritesOnlyLodged old new result =
+    HasCleanDisk new → IsOpenInside old → IfOk result (λ r. is_act (as_answer r) ≡ false → IsUnchanged old new)

@@ -1,7 +1,8 @@
 -- What a request or an import leaves of a connection. No public contract speaks of this.
-use Rattle.std.specs.Prelude.{◌≡◌, ◌⊎◌, List, ℕ, IsTrue, None, Some, Result, Ok, Err}
+use Rattle.std.specs.Prelude.{◌≡◌, ◌⊎◌, false, List, ℕ, IsTrue, None, Some, Result, Ok, Err}
 use Rattle.std.specs.FinMap.{get}
-use Rattle.sqlite.specs.State.{State as Seen, HasCleanDisk}
+use Rattle.sqlite.specs.State.{State as Seen, HasCleanDisk, Survives}
+use Rattle.sqlite_trees.specs.Tree.{Trees}
 use Rattle.tally_rules.specs.Constituency.{Constituency}
 use Rattle.tally_steps.specs.LawfulState.{IsLawfulState}
 use Rattle.tally_steps.specs.Step.{IsAnswered}
@@ -15,6 +16,21 @@ use Rattle.tally_keeper.specs.declared.import.ImportCount.{ImportCount}
 use Rattle.tally_keeper.specs.declared.source.ImportFault.{ImportFault}
 use Rattle.tally_requests.specs.Known.{AreKnown, Known}
 use Rattle.tally_opening.specs.Office.{HasState}
+use Rattle.tally_store.specs.Crash.{LeavesAfter, LeavesImported}
+
+-- What a call keeps that works in a transaction of its own, whatever it answers: none is open after
+-- it; the connection was open before if it is open after; a crash leaves what it could leave before,
+-- or such a database.
+pub record EndsFrom (Leaves : Trees → Type 0) (old new : Seen) : Type 0 where
+  pub ended : new.in_transaction ≡ false
+  pub was_open : HasCleanDisk new → IsTrue new.is_open → IsTrue old.is_open
+  pub crash : Survives old new Leaves
+
+abbrev pub EndsRequest : List Constituency → Ask → Seen → Seen → Type 0
+EndsRequest setup ask old new = EndsFrom (LeavesAfter setup ask old) old new
+
+abbrev pub EndsImport : List Constituency → Delivery → Seen → Seen → Type 0
+EndsImport setup d old new = EndsFrom (LeavesImported setup d old) old new
 
 -- A request was answered as in this state, and the database is that of the state after it.
 pub record IsDone (setup : List Constituency) (text : List ℕ) (s : State) (ask : Ask) (r : Result Reply Refusal) (new : Seen) : Type 0 where

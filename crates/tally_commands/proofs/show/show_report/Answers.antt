@@ -6,7 +6,7 @@ use Rattle.tally_rules.specs.Setup.{constituency_with}
 use Rattle.tally_returns.specs.declared.ask.Ask.TheVariants.{ShowCon}
 use Rattle.tally_returns.specs.declared.reply.Reply.TheVariants as reply
 use Rattle.tally_steps.specs.Outcome.{IsLawfulView}
-use Rattle.tally_desk.specs.internal.Gives.{as_con}
+use Rattle.tally_desk.specs.Shown.{as_con}
 use Rattle.tally_report.specs.Reports.{report_fault}
 use Rattle.tally_commands.specs.Show.{IsGiven, IsReportShown, IsReportTrouble, IsWithheld, Shows}
 use Rattle.tally_commands.proofs.ShowLemmas.{con-known, con-unknown, con-trouble, fault-trouble, known-found}

@@ -9,7 +9,7 @@ use Rattle.tally_rules.specs.Constituency.{Constituency}
 use Rattle.tally_rules.specs.Setup.{constituency_with}
 use Rattle.tally_returns.specs.declared.ask.Ask.TheVariants.{ShowCon}
 use Rattle.tally_returns.specs.declared.reply.Reply.TheVariants as reply
-use Rattle.tally_desk.specs.internal.Gives.{as_con}
+use Rattle.tally_desk.specs.Shown.{as_con}
 use Rattle.tally_desk.specs.Requests.{AtCon, ShowsCon}
 use Rattle.tally_desk.proofs.DeskLemmas.{gives, con-answer}
 use Rattle.tally_desk.proofs.show.show_con.Goals as goal

@@ -1,17 +1,13 @@
-use Rattle.std.proofs.Common.{◌≡◌, ℕ, List, Ok, Err, subst, sym, ap}
+use Rattle.std.proofs.Common.{◌≡◌, Ok, Err, subst}
 use Rattle.serde_json.specs.Written.{compact_text}
 use Rattle.tally_answer.specs.Answer.{answer_text}
-use Rattle.tally_answer.specs.Shown.{shown_con, shown_return}
+use Rattle.tally_answer.specs.Shown.{shown_return}
 use Rattle.tally_answer.specs.declared.status.AnswerStatus.TheVariants as status
 use Rattle.tally_answer.specs.declared.status.BodyType.TheVariants as body
 use Rattle.tally_keeper.specs.Keeper.{Happens, request}
-use Rattle.tally_steps.specs.Outcome.{IsLawfulView}
-use Rattle.tally_rules.specs.Constituency.{Constituency}
-use Rattle.tally_rules.specs.Setup.{constituency_with}
 use Rattle.tally_returns.specs.declared.ask.Ask.TheVariants.{ShowReturn}
 use Rattle.tally_returns.specs.declared.reply.Reply.TheVariants as reply
 use Rattle.tally_desk.specs.internal.Gives.{as_return}
-use Rattle.tally_desk.specs.Reports.{IsReportText}
 use Rattle.tally_desk.specs.Requests.{AtStation, ShowsReturn}
 use Rattle.tally_desk.proofs.DeskLemmas.{gives, station-answer}
 use Rattle.tally_desk.proofs.show.show_return.Goals as goal

@@ -19,8 +19,8 @@ returns-clause-set g c clean inside v rest same none held =
     let clean_a : HasCleanDisk a = omega (arith, clean_b, c.update_votes.ensures.stays.survives.clean) in
     let shown : VoteCounts = record { votes = c.counts.inside.votes.items; blank = c.counts.inside.blank; spoiled = c.counts.inside.spoiled } in
     let as_many : length v.votes ≡ length shown.votes = same ∙ ap (λ (w : VoteCounts). length w.votes) (sym c.counts.view_is) in
-    let blank : HasCounts station (record v { blank = shown.blank }) rest old a = blank_set Counts station v shown.blank rest old a inside none held (c.in_ok-update_count.ensures.updated clean_a inside) in
+    let blank : HasCounts station (record v { blank = shown.blank }) rest old a = blank_set Counts station v shown.blank rest old a inside none held (c.in_ok-update_count.ensures.updated clean_a inside v.blank) in
     let votes : HasCounts station (record { votes = shown.votes; blank = shown.blank; spoiled = v.spoiled }) rest a b =
     (rw c.as_slice.ensures.value at c.in_ok-update_votes.ensures.set) clean_b blank.inside (record v { blank = shown.blank }) rest as_many none blank.rows in
     IfOk-weaker c.update_count-2.result _ _ (λ _ done. subst (λ w. HasCounts station w rest old new) c.counts.view_is done)
-    (spoiled_after Counts station (record { votes = shown.votes; blank = shown.blank; spoiled = v.spoiled }) shown.spoiled rest old b new c.update_count-2.result (omega (arith, as_many, same, c.requires)) none (counts_then Counts station _ _ rest old a b blank votes) (c.update_count-2.ensures.updated clean votes.inside))
+    (spoiled_after Counts station (record { votes = shown.votes; blank = shown.blank; spoiled = v.spoiled }) shown.spoiled rest old b new c.update_count-2.result (omega (arith, as_many, same, c.requires)) none (counts_then Counts station _ _ rest old a b blank votes) (c.update_count-2.ensures.updated clean votes.inside v.spoiled))

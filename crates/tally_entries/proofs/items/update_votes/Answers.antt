@@ -1,4 +1,4 @@
-use Rattle.std.proofs.Common.{refl, arith}
+use Rattle.std.proofs.Common.{get_or, refl, arith}
 use Rattle.std.specs.Prelude.{⊤}
 use Rattle.sqlite.specs.Held.{state}
 use Rattle.tally_statements.specs.declared.table.KeyedTable.TheVariants.{Counts}
@@ -25,7 +25,7 @@ loop-n-preserved g c =
       stays = stays-both g.S.Store c.args.tx.now c.loop-n.tx c.update_count.new.tx was.stays told.stays;
       rows = λ clean inside v rest same none held.
           let before = was.rows (omega (arith, told.stays.survives.clean)) inside v rest same none held in
-          votes_more Counts c.args.station.now v c.args.votes.now c.loop-n.n-index c.loop-n.item _ 0 rest old mid new (omega arith) (omega (arith, c.requires)) same was.place refl none before (c.in_ok-update_count.ensures.updated clean before.inside);
+          votes_more Counts c.args.station.now v c.args.votes.now c.loop-n.n-index c.loop-n.item _ 0 rest old mid new (omega arith) (omega (arith, c.requires)) same was.place refl none before (c.in_ok-update_count.ensures.updated clean before.inside (get_or v.votes c.loop-n.n-index 0));
     }
 
 pub returns-clause-set : goal.returns-clause-set

@@ -28,8 +28,8 @@ returns-in-Ok-clause-opened g c clean =
     subst (λ (h : _). IsOpened c.in-Ok-Ok.setup old (state g.S.Store h)) ends
     (opened_former c.in-Ok-Ok.setup old last (state g.S.Store c.commit.new.self.0) c.requires.schema (taken_now c.in-Ok-Ok.setup old bare last same taken) done.1.now_is done.1.committed_is)
 
-pub returns-in-Ok-clause-crash : goal.returns-in-Ok-clause-crash
-returns-in-Ok-clause-crash g c =
+pub returns-in-Ok-clause-ends : goal.returns-in-Ok-clause-ends
+returns-in-Ok-clause-ends g c =
     let old = state g.S.Store c.args.conn.now in
     let bare = state g.S.Store c.transaction-tx.result.conn.now in
     let last = state g.S.Store c.take_over.new.tx.conn.now in
@@ -44,11 +44,15 @@ returns-in-Ok-clause-crash g c =
     leaves_taken c.in-Ok-Ok.setup old last db c.requires.schema (taken_now c.in-Ok-Ok.setup old bare last same taken) is)
     inside c.commit.ensures.survives in
     let ends : c.commit.new.self.0 ≡ c.conn-1.given.0 = search rules in
-    subst (λ (h : _). Survives old (state g.S.Store h) (LeavesTakenOver old.now)) ends whole
+    record {
+      ended = search rules;
+      same = search rules;
+      crash = subst (λ (h : _). Survives old (state g.S.Store h) (LeavesTakenOver old.now)) ends whole;
+    }
 
 -- a commit that failed may still have reached the disk
-pub returns-in-Err-commit-clause-crash : goal.returns-in-Err-commit-clause-crash
-returns-in-Err-commit-clause-crash g c =
+pub returns-in-Err-commit-clause-ends : goal.returns-in-Err-commit-clause-ends
+returns-in-Err-commit-clause-ends g c =
     let old = state g.S.Store c.args.conn.now in
     let bare = state g.S.Store c.transaction-tx.result.conn.now in
     let last = state g.S.Store c.take_over.new.tx.conn.now in
@@ -63,7 +67,11 @@ returns-in-Err-commit-clause-crash g c =
     leaves_taken c.in-Ok-Ok.setup old last db c.requires.schema (taken_now c.in-Ok-Ok.setup old bare last same taken) is)
     inside c.commit.ensures.survives in
     let ends : c.commit.new.self.0 ≡ c.conn-1.given.0 = search rules in
-    subst (λ (h : _). Survives old (state g.S.Store h) (LeavesTakenOver old.now)) ends whole
+    record {
+      ended = search rules;
+      same = search rules;
+      crash = subst (λ (h : _). Survives old (state g.S.Store h) (LeavesTakenOver old.now)) ends whole;
+    }
 
 pub returns-in-Ok-Err-clause-fault : goal.returns-in-Ok-Err-clause-fault
 returns-in-Ok-Err-clause-fault g c clean =

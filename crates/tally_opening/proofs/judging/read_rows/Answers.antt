@@ -2,8 +2,7 @@ use Rattle.std.proofs.Common.{arith, rules}
 use Rattle.sqlite.specs.State.{HasCleanDisk, IsUnchanged}
 use Rattle.sqlite.specs.Held.{state}
 use Rattle.tally_statements.specs.Office.{HasTables}
-use Rattle.tally_opening.specs.internal.Opening.{IsReadOf}
-use Rattle.tally_statements.specs.declared.table.KeyedTable.TheVariants.{Returns, Counts, Cons, Lots, Seats, Gone, Totals, Past}
+use Rattle.tally_statements.specs.declared.table.KeyedTable.TheVariants.{Cons, Lots, Seats, Gone, Totals, Past}
 use Rattle.tally_opening.proofs.JudgingLemmas.{all_read, look_as, look_then, read_before, tables_still}
 use Rattle.tally_opening.proofs.judging.read_rows.Goals as goal
 

@@ -1,7 +1,7 @@
 use Rattle.std.proofs.Common.{◌∷◌, ◌++◌, [], refl, arith, subst, OnOk}
 use Rattle.sqlite.specs.State.{HasCleanDisk}
 use Rattle.sqlite.specs.Held.{state}
-use Rattle.tally_tables.specs.Cells.{item_row}
+use Rattle.tally_tables.specs.Cells.{item_row, spoiled_item}
 use Rattle.tally_opening.specs.internal.Making.{AddsTotals, no_list_rows}
 use Rattle.tally_opening.proofs.AddLemmas.{totals_then, totals_last, no_votes_split}
 use Rattle.tally_opening.proofs.making.insert_totals.Goals as goal
@@ -20,4 +20,4 @@ returns-clause-added g c clean inside =
     let blank = c.in_ok-insert_total.ensures.inserted 0 refl clean_mid inside in
     let lists = c.in_ok-insert_list_totals.ensures.added clean_last blank.inside in
     subst (λ rows. OnOk c.insert_total-2.result (AddsTotals rows old new)) (no_votes_split code c.args.lists)
-    (totals_last (first ++ rest) (item_row code (61, 0)) old last new c.insert_total-2.result (totals_then first rest old mid last blank lists) (c.insert_total-2.ensures.inserted 0 refl clean lists.inside))
+    (totals_last (first ++ rest) (item_row code (spoiled_item, 0)) old last new c.insert_total-2.result (totals_then first rest old mid last blank lists) (c.insert_total-2.ensures.inserted 0 refl clean lists.inside))

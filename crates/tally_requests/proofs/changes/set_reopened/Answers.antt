@@ -1,8 +1,12 @@
-use Rattle.std.proofs.Common.{◌≡◌, ◌∙◌, ◌+◌, ap, subst}
+use Rattle.std.proofs.Common.{◌≡◌, ◌∙◌, ◌+◌, Ok, ap, subst}
 use Rattle.sqlite.specs.Held.{state}
 use Rattle.tally_rules.specs.Constituency.{Constituency}
 use Rattle.tally_rules.specs.Limits.{IsConstituency}
-use Rattle.tally_returns.specs.View.{View}
+use Rattle.tally_returns.specs.State.{con_state}
+use Rattle.tally_returns.specs.View.{View, past_records}
+use Rattle.tally_entries.specs.Constituencies.{with_past_of}
+use Rattle.tally_steps.specs.Step.{open_again}
+use Rattle.tally_requests.proofs.RecordLemmas.{decides-whole}
 use Rattle.tally_requests.proofs.ChangeLemmas.{holds, reopened_carried}
 use Rattle.tally_requests.proofs.DecidedLemmas.{record_few}
 use Rattle.tally_requests.proofs.changes.set_reopened.Goals as goal
@@ -12,6 +16,7 @@ write_record-requires g c = record { few = record_few c.args.con.now c.args.view
 
 pub returns-clause-carried_out : goal.returns-clause-carried_out
 returns-clause-carried_out g c clean inside text s lawful seen tables =
+    let whole_past = past_records (con_state s c.args.con.now.code).past in
     let old = state g.S.Store c.args.tx.now.conn.now in
     let new = state g.S.Store c.write_record.new.tx.conn.now in
     let edition = c.view.inside.edition + 1 in
@@ -19,5 +24,5 @@ returns-clause-carried_out g c clean inside text s lawful seen tables =
     let view = c.args.view.now in
     let key_is : key ≡ c.args.con.now.code = c.as_str.ensures.text ∙ ap (λ (x : Constituency). x.code) c.con.view_is in
     let edition_is : edition ≡ view.edition + 1 = ap (λ (v : View). v.edition + 1) c.view.view_is in
-    reopened_carried c.args.setup.now text s c.args.con.now view c.args.ask.now c.args.note.now key c.args.past.now edition old new c.requires.found c.requires.decided
+    reopened_carried c.args.setup.now text s c.args.con.now (with_past_of c.args.con.now s c.args.view.now) c.args.ask.now c.args.note.now key c.args.past.now edition old new c.requires.found (decides-whole c.args.con.now c.args.view.now whole_past c.args.ask.now (Ok (open_again c.args.note.now c.args.past.now)) c.requires.decided)
     (record { key_is = key_is; edition_is = edition_is }) lawful seen tables (c.in_ok-write_record.ensures.written clean inside (holds c.args.setup.now text s c.args.con.now key old key_is c.requires.found lawful tables))

@@ -1,6 +1,7 @@
 use Rattle.std.proofs.Common.{◌≡◌, ◌∙◌, Some, ap, arith, subst, sym}
 use Rattle.std.specs.FinMap.{get}
 use Rattle.std.specs.Option.{option_copied}
+use Rattle.sqlite.proofs.StateLemmas.{unchanged}
 use Rattle.sqlite.specs.State.{HasCleanDisk}
 use Rattle.sqlite.specs.Held.{state}
 use Rattle.tally_rules.specs.Constituency.{Constituency}
@@ -9,7 +10,8 @@ use Rattle.tally_returns.specs.Return.{Returns}
 use Rattle.tally_returns.proofs.ClosedLemmas.{constituency_with-code, constituency_with-own}
 use Rattle.tally_requests.proofs.AnswerLemmas.{seen-carries, seen-known, still-unchanged, unknown-carried}
 use Rattle.tally_requests.specs.Known.{AreKnown, known_of}
-use Rattle.tally_requests.proofs.KnownLemmas.{con-returns}
+use Rattle.tally_requests.proofs.KnownLemmas.{con-returns, forgets-answered, forgets-remembered}
+use Rattle.tally_requests.proofs.UnwrittenLemmas.{unwritten-then}
 use Rattle.tally_requests.proofs.constituencies.answer_on.Goals as goal
 
 pub returns-in_default-clause-step : goal.returns-in_default-clause-step
@@ -40,7 +42,7 @@ returns-clause-step g c clean inside =
     let new = state g.S.Store c.answer_seen.new.tx.conn.now in
     let early : HasCleanDisk mid = omega (arith, clean, c.answer_seen.ensures.stays.survives.clean) in
     let found : constituency_with c.args.code setup ≡ Some con = sym c.con.ensures.found ∙ ap option_copied c.in-Some.is in
-    seen-carries setup con known c.known_at.result c.in_ok-view.view c.args.ask.now old mid new c.answer_seen.result clean (still-unchanged old mid (c.in_ok-view.ensures.reads.same early inside) inside)
+    seen-carries setup con known c.known_at.result c.shows_con.result c.in_ok-view.view c.args.ask.now old mid new c.answer_seen.result c.shows_con.ensures clean (still-unchanged old mid (c.in_ok-view.ensures.reads.same early inside) inside)
     (constituency_with-own setup c.args.code con found) (c.known_at.ensures ∙ ap (get known) own) (c.in_ok-view.ensures.found early inside) c.answer_seen.ensures.step
 
 pub returns-clause-known : goal.returns-clause-known
@@ -54,5 +56,21 @@ returns-clause-known g c clean inside =
     let early : HasCleanDisk mid = omega (arith, clean, c.answer_seen.ensures.stays.survives.clean) in
     let found : constituency_with c.args.code setup ≡ Some con = sym c.con.ensures.found ∙ ap option_copied c.in-Some.is in
     let named = c.requires.named ∙ ap Some (sym (constituency_with-code setup c.args.code con found)) in
-    seen-known setup con known (known_of c.remember.new.known) c.known_at.result c.con-2.inside.code c.statuses_of.result c.in_ok-view.view c.args.ask.now old c.answer_seen.result
+    seen-known setup con known (known_of c.remember.new.known) c.known_at.result c.con-2.inside.code c.statuses_of.result c.shows_con.result c.in_ok-view.view c.args.ask.now old c.answer_seen.result
     (constituency_with-own setup c.args.code con found) named (c.known_at.ensures ∙ ap (get known) own) (c.in_ok-view.ensures.found early inside) own c.statuses_of.ensures c.in_ok-remember.ensures
+
+pub returns-clause-forgets : goal.returns-clause-forgets
+returns-clause-forgets g c =
+    let before = known_of c.args.known.now in
+    let after = known_of c.remember.new.known in
+    forgets-answered c.answer_seen.result before after (forgets-remembered before after c.con-2.inside.code c.statuses_of.result c.in_ok-remember.ensures)
+
+pub returns-in_default-clause-unwritten : goal.returns-in_default-clause-unwritten
+returns-in_default-clause-unwritten g c clean at acts = unchanged (state g.S.Store c.args.tx.now.conn.now) at.1
+
+pub returns-clause-unwritten : goal.returns-clause-unwritten
+returns-clause-unwritten g c =
+    let old = state g.S.Store c.args.tx.now.conn.now in
+    let mid = state g.S.Store c.find_view.new.tx.conn.now in
+    let new = state g.S.Store c.answer_seen.new.tx.conn.now in
+    unwritten-then old mid new c.answer_seen.result (λ clean. omega (arith, clean, c.answer_seen.ensures.stays.survives.clean)) (λ early inside. c.in_ok-view.ensures.reads.same early inside) c.answer_seen.ensures.unwritten

@@ -1,6 +1,9 @@
-use Rattle.std.proofs.Common.{subst}
+use Rattle.std.proofs.Common.{◌∙◌, subst, sym, true≢false}
+use Rattle.sqlite.proofs.StateLemmas.{unchanged}
 use Rattle.sqlite.specs.Held.{state}
 use Rattle.tally_steps.specs.Step.{IsConDecision}
+use Rattle.tally_requests.specs.internal.Seen.{shows_con}
+use Rattle.tally_requests.proofs.RecordLemmas.{whole-view}
 use Rattle.tally_requests.proofs.AnswerLemmas.{changed-carried, shown-carried}
 use Rattle.tally_requests.proofs.constituencies.carry_out_or_show.Goals as goal
 
@@ -19,6 +22,11 @@ returns-in_ok-carry_out-in_default g c =
       stays = told.stays;
       kind = told.kind;
       step = λ clean inside text s lawful seen tables.
-          changed-carried c.args.setup.now text s c.args.con.now c.args.view c.args.ask.now by.0 c.in_ok-carry_out-in_default.field-0 (state g.S.Store c.carry_out.new.tx.conn.now) c.requires.found c.requires.named seen by.2
-          (told.carried_out clean inside text s by.0 by.1 lawful seen tables);
+          let all = whole-view (shows_con c.args.ask.now) c.args.con.now s c.args.view seen in
+          changed-carried c.args.setup.now text s c.args.con.now c.args.view c.args.ask.now by.0 c.in_ok-carry_out-in_default.field-0 (state g.S.Store c.carry_out.new.tx.conn.now) c.requires.found c.requires.named all by.2
+          (told.carried_out clean inside text s by.0 by.1 lawful all tables);
+      unwritten = λ clean at acts. absurd (true≢false (sym told.acts ∙ acts));
     }
+
+pub returns-in-Same-clause-unwritten : goal.returns-in-Same-clause-unwritten
+returns-in-Same-clause-unwritten g c clean at acts = unchanged (state g.S.Store c.args.tx.now.conn.now) at.1

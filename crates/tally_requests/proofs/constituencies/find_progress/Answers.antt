@@ -1,17 +1,34 @@
-use Rattle.std.proofs.Common.{◌≡◌, ◌∙◌, Some, map, sym, ap, subst, arith}
+use Rattle.std.proofs.Common.{◌≡◌, ◌∙◌, ℕ, List, Some, map, rules, sym, ap, subst, arith}
+use Rattle.sqlite.proofs.Callers.{unchanged_then}
 use Rattle.sqlite.specs.State.{HasCleanDisk}
 use Rattle.sqlite.specs.Held.{state}
 use Rattle.std.proofs.lemmas.List.{take_all}
 use Rattle.tally_returns.specs.Progress.{progress_row}
+use Rattle.tally_returns.specs.State.{State}
+use Rattle.tally_steps.specs.LawfulState.{IsLawfulState}
+use Rattle.tally_tables.specs.TablesOfState.{AreTables}
 use Rattle.tally_rules.specs.Constituency.{Constituency}
 use Rattle.tally_rules.specs.Setup.{constituency_with}
+use Rattle.tally_entries.proofs.FindLemmas.{inside_still}
 use Rattle.tally_ledger.proofs.SetupLemmas.{Has, con-only, has-at}
+use Rattle.tally_statements.specs.Inside.{IsOpenInside}
 use Rattle.tally_statements.specs.Office.{IsInside}
-use Rattle.tally_requests.specs.Known.{known_of, statuses_of_row}
-use Rattle.tally_requests.proofs.AnswerLemmas.{row-found, rows-more, still-state, still-then, still-unchanged}
-use Rattle.tally_requests.proofs.KnownLemmas.{known-remembered}
-use Rattle.tally_statements.proofs.StaysLemmas.{stays-then}
+use Rattle.tally_requests.specs.Known.{AreKnown, known_of, statuses_of_row}
+use Rattle.tally_requests.proofs.AnswerLemmas.{cons-still, row-found, rows-more, stays-on, still-state, still-unchanged}
+use Rattle.tally_requests.proofs.KnownLemmas.{forgets-remembered, forgets-then, known-remembered}
 use Rattle.tally_requests.proofs.constituencies.find_progress.Goals as goal
+
+pub loop-con-init : goal.loop-con-init
+loop-con-init g c =
+    let told = c.in_ok-standing.ensures in
+    record {
+      stays = told.reads.stays;
+      found = search rules;
+      known = λ clean inside text s lawful held tables. held;
+      forgets = λ code had. had;
+      same = λ clean inside. told.reads.same clean inside;
+      all = λ clean inside. told.found clean inside;
+    }
 
 pub loop-con-preserved : goal.loop-con-preserved
 loop-con-preserved g c =
@@ -20,34 +37,62 @@ loop-con-preserved g c =
     let i = c.loop-con.con-index in
     let con = c.con-item.result in
     let row = c.in_ok-row.row in
+    let rows = c.in_ok-standing.standing.items in
     let known = known_of c.loop-con.known in
     let own : c.con.inside.code ≡ con.code = ap (λ (x : Constituency). x.code) c.con.view_is in
     let old = state g.S.Store c.args.tx.now.conn.now in
     let mid = state g.S.Store c.loop-con.tx.conn.now in
     let new = state g.S.Store c.find_progress_row.new.tx.conn.now in
     let was = c.loop-con.invariant in
-    let told = c.find_progress_row.ensures.reads in
+    let told = c.find_progress_row.ensures in
     let has : Has con setup = subst (Has con) c.cons-cons.ensures.cons (subst (λ (x : Constituency). Has x cons) (sym c.con-item.is) (has-at cons i con c.loop-con-test.true)) in
     let there : constituency_with con.code setup ≡ Some con = con-only setup con c.cons-cons.ensures.limits has in
+    let before : HasCleanDisk new → HasCleanDisk mid = λ clean. omega (arith, clean, told.stays.survives.clean) in
+    let at : HasCleanDisk mid → IsInside old → IsOpenInside mid = λ early inside. (inside_still old mid (was.same early inside) inside, (was.same early inside).0.is_open) in
+    let row_is : HasCleanDisk new → IsInside old → (text : List ℕ) (s : State) → IsLawfulState setup s → AreKnown setup s.returns (known_of c.args.known.now) → AreTables setup text s old.now.trees → row ≡ progress_row s con = λ clean inside text s lawful held tables.
+    let early = before clean in
+    let same = was.same early inside in
+    let here = still-state setup text s old mid (still-unchanged old mid same inside) tables in
+    let found = (rw c.deref.ensures.value at c.in_ok-row.ensures.found) clean (at early inside) in
+    row-found setup text s con known c.known_at.result c.con.inside.code mid rows row there lawful (was.known early inside text s lawful held tables) c.known_at.ensures own (cons-still old mid rows same (was.all early inside)) found here.tables in
     record {
-      stays = stays-then IsInside IsInside g.S.Store c.args.tx.now c.loop-con.tx c.find_progress_row.new.tx (λ early inside. (was.still early inside).inside) was.stays told.stays;
+      stays = stays-on g.S.Store c.args.tx.now c.loop-con.tx c.find_progress_row.new.tx was.same was.stays told.stays;
       found = λ clean inside text s lawful held tables.
-          let early : HasCleanDisk mid = omega (arith, clean, told.stays.survives.clean) in
-          let here = still-state setup text s old mid (was.still early inside) tables in
-          rows-more (progress_row s) cons i con c.loop-con.rows.items c.push.new.self.items row c.loop-con-test.true c.con-item.is (was.found early inside text s lawful held tables)
-          (row-found setup text s con known c.known_at.result c.con.inside.code mid row there lawful (was.known early inside text s lawful held tables) c.known_at.ensures own (c.in_ok-row.ensures.found clean here.inside) here.tables)
-          c.in_ok-push.ensures.items;
+          rows-more (progress_row s) cons i con c.loop-con.rows.items c.push.new.self.items row c.loop-con-test.true c.con-item.is (was.found (before clean) inside text s lawful held tables)
+          (row_is clean inside text s lawful held tables) c.in_ok-push.ensures.items;
       known = λ clean inside text s lawful held tables.
-          let early : HasCleanDisk mid = omega (arith, clean, told.stays.survives.clean) in
-          let here = still-state setup text s old mid (was.still early inside) tables in
-          let before = was.known early inside text s lawful held tables in
-          let is = row-found setup text s con known c.known_at.result c.con.inside.code mid row there lawful before c.known_at.ensures own (c.in_ok-row.ensures.found clean here.inside) here.tables in
-          known-remembered setup s.returns known (known_of c.remember.new.known) con c.con.inside.code c.statuses_of_row.result there own (c.statuses_of_row.ensures ∙ ap statuses_of_row is) before c.in_ok-remember.ensures;
-      still = λ clean inside.
-          let early : HasCleanDisk mid = omega (arith, clean, told.stays.survives.clean) in
-          let before = (was.still early inside).inside in
-          still-then old mid new (was.still early inside) (still-unchanged mid new (c.in_ok-row.ensures.reads.same clean before) before);
+          known-remembered setup s.returns known (known_of c.remember.new.known) con c.con.inside.code c.statuses_of_row.result there own (c.statuses_of_row.ensures ∙ ap statuses_of_row (row_is clean inside text s lawful held tables))
+          (was.known (before clean) inside text s lawful held tables) c.in_ok-remember.ensures;
+      forgets =
+          let after = known_of c.remember.new.known in
+          forgets-then (known_of c.args.known.now) known after was.forgets (forgets-remembered known after c.con.inside.code c.statuses_of_row.result c.in_ok-remember.ensures);
+      same = λ clean inside.
+          let early = before clean in
+          unchanged_then old mid new (was.same early inside) (c.in_ok-row.ensures.same clean (at early inside));
+      all = λ clean inside. was.all (before clean) inside;
     }
+
+pub returns-in_err-row-clause-stays : goal.returns-in_err-row-clause-stays
+returns-in_err-row-clause-stays g c =
+    let was = c.loop-con.invariant in
+    stays-on g.S.Store c.args.tx.now c.loop-con.tx c.find_progress_row.new.tx was.same was.stays c.find_progress_row.ensures.stays
+
+pub returns-in_err-remember-clause-stays : goal.returns-in_err-remember-clause-stays
+returns-in_err-remember-clause-stays g c =
+    let was = c.loop-con.invariant in
+    stays-on g.S.Store c.args.tx.now c.loop-con.tx c.find_progress_row.new.tx was.same was.stays c.find_progress_row.ensures.stays
+
+pub returns-in_err-push-clause-stays : goal.returns-in_err-push-clause-stays
+returns-in_err-push-clause-stays g c =
+    let was = c.loop-con.invariant in
+    stays-on g.S.Store c.args.tx.now c.loop-con.tx c.find_progress_row.new.tx was.same was.stays c.find_progress_row.ensures.stays
+
+pub returns-clause-still : goal.returns-clause-still
+returns-clause-still g c clean inside =
+    still-unchanged (state g.S.Store c.args.tx.now.conn.now) (state g.S.Store c.loop-con.tx.conn.now) (c.loop-con.invariant.same clean inside) inside
+
+pub returns-clause-unchanged : goal.returns-clause-unchanged
+returns-clause-unchanged g c clean at = c.loop-con.invariant.same clean at.0
 
 pub returns-clause-found : goal.returns-clause-found
 returns-clause-found g c clean inside text s lawful held tables =

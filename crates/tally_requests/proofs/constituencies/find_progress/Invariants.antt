@@ -1,5 +1,5 @@
 use Rattle.std.proofs.Common.{◌≡◌, ℕ, List, map, take}
-use Rattle.sqlite.specs.State.{HasCleanDisk}
+use Rattle.sqlite.specs.State.{HasCleanDisk, IsUnchanged}
 use Rattle.sqlite.specs.Held.{state}
 use Rattle.tally_returns.specs.Progress.{progress_row}
 use Rattle.tally_returns.specs.State.{State}
@@ -7,8 +7,9 @@ use Rattle.tally_steps.specs.LawfulState.{IsLawfulState}
 use Rattle.tally_statements.specs.Office.{IsInside}
 use Rattle.tally_tables.specs.TablesOfState.{AreTables}
 use Rattle.tally_statements.specs.Inside.{StaysInside}
-use Rattle.tally_requests.specs.Known.{AreKnown, known_of}
-use Rattle.tally_requests.specs.internal.Seen.{FindsKnown, IsStill}
+use Rattle.tally_entries.specs.Constituencies.{AreCons}
+use Rattle.tally_requests.specs.Known.{AreKnown, ForgetsNone, known_of}
+use Rattle.tally_requests.specs.internal.Seen.{FindsKnown}
 use Rattle.tally_requests.proofs.constituencies.find_progress.Given as goal
 
 -- the rows of the constituencies so far, of every lawful state whose tables there are
@@ -21,5 +22,7 @@ invariant-loop-con g l =
       found : HasCleanDisk now → IsInside old → (text : List ℕ) (s : State) → IsLawfulState l.setup s → AreKnown l.setup s.returns (known_of l.fn.known) → AreTables l.setup text s old.now.trees
           → l.rows.items ≡ map (progress_row s) (take l.con-index l.cons);
       known : HasCleanDisk now → IsInside old → FindsKnown l.setup (known_of l.fn.known) (known_of l.known) old;
-      still : HasCleanDisk now → IsInside old → IsStill old now;
+      forgets : ForgetsNone (known_of l.fn.known) (known_of l.known);
+      same : HasCleanDisk now → IsInside old → IsUnchanged old now;
+      all : HasCleanDisk now → IsInside old → AreCons l.standing.items old;
     }

@@ -18,3 +18,6 @@ pub returns-clause-known : goal.returns-clause-known
 returns-clause-known g c clean inside text s t lawful held tables answered =
     subst (λ (m : Returns). AreKnown c.args.setup.now m (known_of c.find_progress.new.known)) (sym (progress-returns c.args.setup.now s t _ answered))
     (c.in_ok-rows.ensures.known clean inside text s lawful held tables)
+
+pub returns-clause-unwritten : goal.returns-clause-unwritten
+returns-clause-unwritten g c clean at acts = c.in_ok-rows.ensures.unchanged clean at

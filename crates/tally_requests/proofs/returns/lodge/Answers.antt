@@ -1,6 +1,9 @@
-use Rattle.std.proofs.Common.{Ok, sym, ap, subst, arith}
+use Rattle.std.proofs.Common.{◌∙◌, Ok, sym, ap, subst, arith, true≢false}
+use Rattle.sqlite.proofs.StateLemmas.{unchanged}
 use Rattle.sqlite.specs.State.{HasCleanDisk}
 use Rattle.sqlite.specs.Held.{state}
+use Rattle.tally_keeper.specs.Events.{as_answer}
+use Rattle.tally_steps.specs.Runs.{is_act}
 use Rattle.tally_rules.specs.Constituency.{Constituency}
 use Rattle.tally_requests.specs.Known.{after_lodge, known_of}
 use Rattle.tally_requests.specs.internal.Lodging.{IsLodgeAnswer}
@@ -44,3 +47,15 @@ pub returns-clause-known : goal.returns-clause-known
 returns-clause-known g c =
     lodge-counted c.args.setup.now c.args.station c.con.inside.code c.in-Some.con.now c.in-Some.place.now c.in-Ok.reply c.in-Lodged.rev (known_of c.args.known.now) (known_of c.count_move.new.known) (sym c.in-Some.ensures.found)
     (ap (λ (x : Constituency). x.code) c.con.view_is) c.in-Lodged.is c.count_move.ensures
+
+pub returns-in_default-clause-unwritten : goal.returns-in_default-clause-unwritten
+returns-in_default-clause-unwritten g c clean at acts = unchanged (state g.S.Store c.args.tx.now.conn.now) at.1
+
+pub returns-in_default-answer-clause-unwritten : goal.returns-in_default-answer-clause-unwritten
+returns-in_default-answer-clause-unwritten g c clean at acts = c.in_ok-answer.ensures.reads.same clean at.0
+
+pub returns-in_default-reply-clause-unwritten : goal.returns-in_default-reply-clause-unwritten
+returns-in_default-reply-clause-unwritten g c clean at acts = c.in_ok-answer.ensures.reads.same clean at.0
+
+pub returns-clause-unwritten : goal.returns-clause-unwritten
+returns-clause-unwritten g c clean at acts = absurd (true≢false (sym (ap (λ r. is_act (as_answer (Ok r))) c.in-Lodged.is) ∙ acts))

@@ -1,5 +1,6 @@
 use Rattle.std.proofs.Common.{Err, sym, subst}
 use Rattle.std.specs.Option.{ForSome}
+use Rattle.sqlite.proofs.StateLemmas.{unchanged}
 use Rattle.sqlite.specs.Held.{state}
 use Rattle.tally_returns.specs.Decide.{IsUnlessMemory, return_change_at, limits_of}
 use Rattle.tally_returns.specs.Lawful.{IsLawful}
@@ -18,3 +19,6 @@ returns-in-Err-clause-step g c clean inside text s lawful flag found tables =
     (record { known = c.requires.known; certified_is = flag; found_is = found })
     (subst (λ f. IsUnlessMemory (Err c.in-Err.refusal) (return_change_at con place c.args.certified f ask)) c.as_ref.ensures.value c.in-Err.ensures.decided)
     (record { inside = inside; tables = tables })
+
+pub returns-in-Err-clause-unwritten : goal.returns-in-Err-clause-unwritten
+returns-in-Err-clause-unwritten g c clean at acts = unchanged (state g.S.Store c.args.tx.now.conn.now) at.1

@@ -1,4 +1,5 @@
 use Rattle.std.proofs.Common.{◌∙◌, Ok, arith, ap, sym}
+use Rattle.sqlite.proofs.StateLemmas.{unchanged}
 use Rattle.sqlite.specs.State.{HasCleanDisk}
 use Rattle.sqlite.specs.Held.{state}
 use Rattle.tally_rules.specs.Constituency.{Constituency}
@@ -8,8 +9,9 @@ use Rattle.tally_statements.specs.Office.{IsInside}
 use Rattle.tally_statements.proofs.StaysLemmas.{stays-then}
 use Rattle.tally_requests.proofs.AnswerLemmas.{still-unchanged}
 use Rattle.tally_requests.proofs.FoundLemmas.{few-lists, found-carries, move-nowhere}
-use Rattle.tally_requests.proofs.KnownLemmas.{command-known, nowhere-known}
+use Rattle.tally_requests.proofs.KnownLemmas.{command-known, forgets-commanded, nowhere-known}
 use Rattle.tally_requests.proofs.LodgedLemmas.{found-is}
+use Rattle.tally_requests.proofs.UnwrittenLemmas.{unwritten-then}
 use Rattle.tally_requests.proofs.returns.move_on.Goals as goal
 
 pub returns-in_default-clause-step : goal.returns-in_default-clause-step
@@ -69,3 +71,20 @@ returns-clause-known g c clean inside text s t lawful held tables answered =
     c.requires.named c.requires.moves (sym c.in-Some.ensures.found) (ap (λ (x : Constituency). x.code) c.con.view_is)
     (found-is setup text s c.args.station old found limits lawful tables (c.in_ok-found.ensures.found early inside)) c.status_found-before.ensures
     (c.count_command.ensures ∙ ap (λ b. after_command c.con.inside.code c.args.ask.now c.status_found-before.result b known) c.is_ok.ensures.value) held answered
+
+pub returns-clause-forgets : goal.returns-clause-forgets
+returns-clause-forgets g c =
+    forgets-commanded c.con.inside.code c.args.ask.now c.status_found-before.result c.is_ok.result (known_of c.args.known.now) (known_of c.count_command.new.known) c.count_command.ensures
+
+pub returns-in_default-clause-unwritten : goal.returns-in_default-clause-unwritten
+returns-in_default-clause-unwritten g c clean at acts = unchanged (state g.S.Store c.args.tx.now.conn.now) at.1
+
+pub returns-clause-unwritten : goal.returns-clause-unwritten
+returns-clause-unwritten g c =
+    let old = state g.S.Store c.args.tx.now.conn.now in
+    let mid = state g.S.Store c.find_lawful.new.tx.conn.now in
+    let last = state g.S.Store c.find_certified.new.tx.conn.now in
+    let new = state g.S.Store c.move_found.new.tx.conn.now in
+    let r = Ok c.in_ok-answer.answer in
+    unwritten-then old mid new r (λ clean. omega (arith, clean, c.move_found.ensures.stays.survives.clean, c.find_certified.ensures.reads.stays.survives.clean)) (λ early inside. c.in_ok-found.ensures.reads.same early inside)
+    (unwritten-then mid last new r (λ clean. omega (arith, clean, c.move_found.ensures.stays.survives.clean)) (λ later inside. c.in_ok-certified.ensures.reads.same later inside) c.in_ok-answer.ensures.unwritten)

@@ -1,4 +1,4 @@
-use Rattle.std.proofs.Common.{◌≡◌, ◌∙◌, Ok, Some, None, ap, sym, subst}
+use Rattle.std.proofs.Common.{◌≡◌, ◌∙◌, Ok, Some, None, ap, sym, subst, true≢false}
 use Rattle.sqlite.specs.Held.{state}
 use Rattle.tally_returns.specs.Return.{StationReturn}
 use Rattle.tally_returns.specs.declared.reply.Reply.TheVariants.{Moved}
@@ -43,3 +43,6 @@ returns-clause-step g c clean inside text s lawful flag found tables =
     (move-carried setup text s ask station con place certified c.args.found standing new c.requires.named c.requires.moves (record { known = c.requires.known; certified_is = flag; found_is = found })
     (c.requires.decided ∙ ap Ok c.in-PutReturn.is)
     (c.in_ok-put_moved.ensures.put clean inside setup place text s c.requires.limits c.requires.known lawful (sym flag ∙ put.is_open) (sym found ∙ c.in-Some.is) tables))
+
+pub returns-clause-unwritten : goal.returns-clause-unwritten
+returns-clause-unwritten g c clean at acts = absurd (true≢false acts)

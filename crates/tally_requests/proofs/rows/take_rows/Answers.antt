@@ -7,6 +7,7 @@ use Rattle.tally_keeper.specs.Delivery.{source_at}
 use Rattle.tally_statements.specs.Office.{IsInside}
 use Rattle.tally_requests.specs.Inside.{IsLawfulInside}
 use Rattle.tally_requests.specs.Known.{known_of}
+use Rattle.tally_requests.proofs.KnownLemmas.{forgets-row, forgets-then}
 use Rattle.tally_requests.proofs.RowLemmas.{came-end, came-fault, came-next, came-own, came-start, counted-next, rows-end, rows-next, rows-start}
 use Rattle.tally_statements.proofs.StaysLemmas.{stays-same, stays-then}
 use Rattle.tally_requests.proofs.rows.take_rows.Goals as goal
@@ -20,6 +21,7 @@ loop-before-init g c =
       came = came-start all;
       counted = ([], c.new-count.ensures, refl);
       taken = λ clean inside text s lawful tables. rows-start c.args.setup.now text s all c.new-count.result (known_of c.args.known.now) old c.new-count.ensures lawful (record { inside = inside; tables = tables });
+      forgets = λ code had. had;
     }
 
 pub returns-in_default-clause-imported : goal.returns-in_default-clause-imported
@@ -60,6 +62,10 @@ loop-before-preserved g c =
           let so_far = was.taken early inside text s lawful tables in
           rows-next setup text s all came comes c.loop-before.count c.add_row.new.self c.loop-before.before row c.in_ok-answer.answer (known_of c.args.known.now) (known_of c.loop-before.known) (known_of c.take_row.new.known) mid new c.cons-cons.ensures.limits so_far c.take_row.ensures.codes given
           (c.in_ok-answer.ensures.taken clean so_far.in_state.inside text (record s { returns = so_far.returns }) so_far.lawful so_far.in_state.tables) c.in_ok-answer.ensures.known c.add_row.ensures;
+      forgets =
+          let known = known_of c.loop-before.known in
+          let after = known_of c.take_row.new.known in
+          forgets-then (known_of c.args.known.now) known after was.forgets (forgets-row setup row c.in_ok-answer.answer known after c.in_ok-answer.ensures.known);
     }
 
 pub returns-in_err-row-clause-fault : goal.returns-in_err-row-clause-fault

@@ -7,7 +7,7 @@ use Rattle.tally_keeper.specs.Delivery.{source_at}
 use Rattle.tally_statements.specs.Office.{IsInside}
 use Rattle.tally_tables.specs.TablesOfState.{AreTables}
 use Rattle.tally_requests.specs.Inside.{StaysInState}
-use Rattle.tally_requests.specs.Known.{known_of}
+use Rattle.tally_requests.specs.Known.{ForgetsNone, known_of}
 use Rattle.tally_requests.proofs.RowLemmas.{Came, Counted, RowsSoFar}
 use Rattle.tally_requests.proofs.rows.take_rows.Given as goal
 
@@ -23,4 +23,5 @@ invariant-loop-before g l =
       counted : Counted l.count l.before;
       taken : HasCleanDisk now → IsInside old → (text : List ℕ) (s : State) → IsLawfulState l.setup s → AreTables l.setup text s old.now.trees
           → RowsSoFar l.setup text s (left l.fn.source) (left l.source) l.count l.before (known_of l.fn.known) (known_of l.known) now;
+      forgets : ForgetsNone (known_of l.fn.known) (known_of l.known);
     }

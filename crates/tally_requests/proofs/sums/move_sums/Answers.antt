@@ -1,4 +1,4 @@
-use Rattle.std.proofs.Common.{◌≡◌, ◌∙◌, length, ap, subst, arith}
+use Rattle.std.proofs.Common.{◌≡◌, ◌∙◌, length, ap, sym, subst, arith}
 use Rattle.sqlite.specs.State.{HasCleanDisk}
 use Rattle.sqlite.specs.Held.{state}
 use Rattle.tally_rules.specs.Constituency.{Constituency}
@@ -13,7 +13,10 @@ put_sums-requires g c =
     let votes : length c.sums.inside.votes.items ≡ length found.votes = ap (λ (v : VoteCounts). length v.votes) c.sums.view_is in
     let lists : length c.con.inside.lists.items ≡ length c.args.con.now.lists = ap (λ (k : Constituency). length k.lists) c.con.view_is in
     let long : length c.in-Some.sums.votes ≡ length found.votes = moved-long found c.args.counts.now c.in-Some.sums c.args.add c.in-Some.ensures.1 in
-    record { few = omega (arith, votes, lists, long, c.len.ensures, c.len-2.ensures, c.sums.inside.votes.ok.0, c.con.inside.lists.ok.0, c.if-len.false, c.requires.few) }
+    record {
+      few = omega (arith, votes, lists, long, c.len.ensures, c.len-2.ensures, c.sums.inside.votes.ok.0, c.con.inside.lists.ok.0, c.if-len.false, c.requires.few);
+      lists = c.in-Some.ensures.0.votes.lists ∙ sym long;
+    }
 
 pub returns-clause-moved : goal.returns-clause-moved
 returns-clause-moved g c clean inside =
@@ -31,4 +34,4 @@ returns-clause-moved g c clean inside =
     let second : c.as_str-2.result.now ≡ con.code = c.as_str-2.ensures.text ∙ ap (λ (k : Constituency). k.code) c.con.view_is in
     sums-written con c.args.counts.now found now c.args.add old mid new c.put_sums.result c.requires.few clean inside (c.in_ok-sums.ensures.reads.same early inside)
     (subst (λ key. FindsSums key old found) first (c.in_ok-sums.ensures.found early inside)) many c.in-Some.ensures.1
-    (subst (λ key. ChangesSums key now mid new c.put_sums.result) second c.put_sums.ensures.written)
+    (subst (λ key. ChangesSums key c.args.counts.now now mid new c.put_sums.result) second c.put_sums.ensures.written)

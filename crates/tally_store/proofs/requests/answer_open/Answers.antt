@@ -3,6 +3,7 @@ use Rattle.std.proofs.lemmas.Result.{IfOk-weaker}
 use Rattle.sqlite.specs.Effect.{Database}
 use Rattle.sqlite.specs.State.{HasCleanDisk, IsUnchanged}
 use Rattle.sqlite.specs.Held.{state}
+use Rattle.tally_requests.proofs.UnwrittenLemmas.{unwritten-then}
 use Rattle.tally_statements.specs.Office.{IsInside}
 use Rattle.tally_statements.proofs.StaysLemmas.{stays-then}
 use Rattle.tally_tables.specs.TablesOfState.{AreTables}
@@ -41,3 +42,10 @@ returns-clause-known g c clean inside =
     let same : IsUnchanged old mid = c.in_ok-see_open.ensures.reads.same early inside in
     IfOk-weaker c.answer_in.result _ _ (λ r keeps text s t lawful known tables. keeps text s t lawful known (subst (λ (d : Database). AreTables setup text s d.trees) (sym same.0.now_is) tables))
     (c.answer_in.ensures.known clean (inside_still old mid same inside))
+
+pub returns-clause-unwritten : goal.returns-clause-unwritten
+returns-clause-unwritten g c =
+    let old = state g.S.Store c.args.tx.now.conn.now in
+    let mid = state g.S.Store c.see_open.new.tx.conn.now in
+    let new = state g.S.Store c.answer_in.new.tx.conn.now in
+    unwritten-then old mid new c.answer_in.result (λ clean. omega (arith, clean, c.answer_in.ensures.stays.survives.clean)) (λ early inside. c.in_ok-see_open.ensures.reads.same early inside) c.answer_in.ensures.unwritten

@@ -59,8 +59,8 @@ returns-in-Err-commit-clause-known g c = empty-nothing c.clear.new.self c.clear.
 pub returns-in-Err-clause-known : goal.returns-in-Err-clause-known
 returns-in-Err-clause-known g c = empty-nothing c.clear-in-Err.new.self c.clear-in-Err.ensures.empty
 
-pub returns-in-Ok-commit-clause-crash : goal.returns-in-Ok-commit-clause-crash
-returns-in-Ok-commit-clause-crash g c =
+pub returns-in-Ok-commit-clause-ends : goal.returns-in-Ok-commit-clause-ends
+returns-in-Ok-commit-clause-ends g c =
     let setup = c.args.setup.now in
     let came = delivery g.R.RowSource c.args.source.now c.take_open.new.source in
     let old = c.args.conn.now in
@@ -71,18 +71,22 @@ returns-in-Ok-commit-clause-crash g c =
     let P = LeavesImported setup came (state g.S.Store old) in
     let inside = survives_begin g.S.Store old last _ (rw begun at c.take_open.ensures.stays.survives) in
     let same : c.commit.new.self.0 ≡ c.conn-1.given.0 = search rules in
-    subst (λ (h : _). Survives (state g.S.Store old) (state g.S.Store h) P) same
-    (survives_commit (state g.S.Store old) last new P inside c.commit.ensures.survives (λ early.
-    let clean_old : HasCleanDisk (state g.S.Store old) = omega (arith, early, inside.clean) in
-    let was_open : IsTrue (state g.S.Store old).is_open = rw begun at (c.in-Ok.ensures.was_open early) in
-    let office = c.requires.office clean_old was_open in
-    let s = office.0 in
-    let text = office.2.text in
-    let lawful = office.1 in
-    let has = office.2.has in
-    let here : IsInside bare = rw begun (record { schema = has.schema; sound = has.sound; distinct = has.distinct; inside = refl }) in
-    let held : AreTables setup text s bare.now.trees = rw begun has.tables in
-    record { was_open = was_open; text = text; state = s; lawful = lawful; has = has; after = tables_imported setup text s came c.in-Ok.count last (c.in-Ok.ensures.imported early here text s lawful held).0 }))
+    record {
+      ended = search rules;
+      was_open = search rules;
+      crash = subst (λ (h : _). Survives (state g.S.Store old) (state g.S.Store h) P) same
+          (survives_commit (state g.S.Store old) last new P inside c.commit.ensures.survives (λ early.
+          let clean_old : HasCleanDisk (state g.S.Store old) = omega (arith, early, inside.clean) in
+          let was_open : IsTrue (state g.S.Store old).is_open = rw begun at (c.in-Ok.ensures.was_open early) in
+          let office = c.requires.office clean_old was_open in
+          let s = office.0 in
+          let text = office.2.text in
+          let lawful = office.1 in
+          let has = office.2.has in
+          let here : IsInside bare = rw begun (record { schema = has.schema; sound = has.sound; distinct = has.distinct; inside = refl }) in
+          let held : AreTables setup text s bare.now.trees = rw begun has.tables in
+          record { was_open = was_open; text = text; state = s; lawful = lawful; has = has; after = tables_imported setup text s came c.in-Ok.count last (c.in-Ok.ensures.imported early here text s lawful held).0 }));
+    }
 
 pub returns-in-Err-commit-clause-done : goal.returns-in-Err-commit-clause-done
 returns-in-Err-commit-clause-done g c clean now text s lawful has =
@@ -106,8 +110,8 @@ returns-in-Err-commit-clause-done g c clean now text s lawful has =
     subst (λ (h : _). HasState setup text s (state g.S.Store h)) same
     (state_back setup text s old new has (failed old last new c.in-Err-commit.error began all.in_state.inside.inside (c.in-Err-commit.ensures.err clean_end) open_end))
 
-pub returns-in-Err-commit-clause-crash : goal.returns-in-Err-commit-clause-crash
-returns-in-Err-commit-clause-crash g c =
+pub returns-in-Err-commit-clause-ends : goal.returns-in-Err-commit-clause-ends
+returns-in-Err-commit-clause-ends g c =
     let setup = c.args.setup.now in
     let came = delivery g.R.RowSource c.args.source.now c.take_open.new.source in
     let old = c.args.conn.now in
@@ -118,18 +122,22 @@ returns-in-Err-commit-clause-crash g c =
     let P = LeavesImported setup came (state g.S.Store old) in
     let inside = survives_begin g.S.Store old last _ (rw begun at c.take_open.ensures.stays.survives) in
     let same : c.commit.new.self.0 ≡ c.conn-1.given.0 = search rules in
-    subst (λ (h : _). Survives (state g.S.Store old) (state g.S.Store h) P) same
-    (survives_commit (state g.S.Store old) last new P inside c.commit.ensures.survives (λ early.
-    let clean_old : HasCleanDisk (state g.S.Store old) = omega (arith, early, inside.clean) in
-    let was_open : IsTrue (state g.S.Store old).is_open = rw begun at (c.in-Ok.ensures.was_open early) in
-    let office = c.requires.office clean_old was_open in
-    let s = office.0 in
-    let text = office.2.text in
-    let lawful = office.1 in
-    let has = office.2.has in
-    let here : IsInside bare = rw begun (record { schema = has.schema; sound = has.sound; distinct = has.distinct; inside = refl }) in
-    let held : AreTables setup text s bare.now.trees = rw begun has.tables in
-    record { was_open = was_open; text = text; state = s; lawful = lawful; has = has; after = tables_imported setup text s came c.in-Ok.count last (c.in-Ok.ensures.imported early here text s lawful held).0 }))
+    record {
+      ended = search rules;
+      was_open = search rules;
+      crash = subst (λ (h : _). Survives (state g.S.Store old) (state g.S.Store h) P) same
+          (survives_commit (state g.S.Store old) last new P inside c.commit.ensures.survives (λ early.
+          let clean_old : HasCleanDisk (state g.S.Store old) = omega (arith, early, inside.clean) in
+          let was_open : IsTrue (state g.S.Store old).is_open = rw begun at (c.in-Ok.ensures.was_open early) in
+          let office = c.requires.office clean_old was_open in
+          let s = office.0 in
+          let text = office.2.text in
+          let lawful = office.1 in
+          let has = office.2.has in
+          let here : IsInside bare = rw begun (record { schema = has.schema; sound = has.sound; distinct = has.distinct; inside = refl }) in
+          let held : AreTables setup text s bare.now.trees = rw begun has.tables in
+          record { was_open = was_open; text = text; state = s; lawful = lawful; has = has; after = tables_imported setup text s came c.in-Ok.count last (c.in-Ok.ensures.imported early here text s lawful held).0 }));
+    }
 
 pub returns-in-Err-clause-done : goal.returns-in-Err-clause-done
 returns-in-Err-clause-done g c clean now text s lawful has =
@@ -154,4 +162,11 @@ returns-in-Err-clause-done g c clean now text s lawful has =
 
 pub returns-in-Err-commit-clause-fault : goal.returns-in-Err-commit-clause-fault
 returns-in-Err-commit-clause-fault g c =
-    own-last (delivery g.R.RowSource c.args.source.now c.take_open.new.source) c.import_fault_of.result c.in-Ok.ensures.gave c.import_fault_of.ensures
+    own-last (delivery g.R.RowSource c.args.source.now c.take_open.new.source) c.import_fault_of.result c.in-Ok.ensures.gave c.import_fault_of.ensures.own
+
+pub returns-in-Err-clause-ends : goal.returns-in-Err-clause-ends
+returns-in-Err-clause-ends g c = record {
+  ended = search rules;
+  was_open = search rules;
+  crash = search rules;
+}

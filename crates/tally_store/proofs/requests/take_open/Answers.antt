@@ -39,4 +39,4 @@ pub returns-in-Err-clause-stays : goal.returns-in-Err-clause-stays
 returns-in-Err-clause-stays g c = stays_in_state c.args.setup.now g.S.Store c.args.tx.now c.see_open.new.tx c.in-Err.ensures.reads.stays
 
 pub returns-in-Err-clause-fault : goal.returns-in-Err-clause-fault
-returns-in-Err-clause-fault g c = own-first (source_at g.R.RowSource c.args.source.now) c.import_fault_of.result c.import_fault_of.ensures
+returns-in-Err-clause-fault g c = own-first (source_at g.R.RowSource c.args.source.now) c.import_fault_of.result c.import_fault_of.ensures.own

@@ -35,11 +35,11 @@ returns-clause-again g c = λ fault ended.
     } in
     let same = c.next_row-next.ensures.again fault (ap (λ v. v.ended) c.self.view_is ∙ ended) in (
       same.0,
-      ap (λ r. view (g.R.Read.remaining r) (rows_of c.note.new.self) c.next_row-next.new.stage c.next_row-next.new.watch.failed) same.1
+      ap (λ r. view (g.R.Read.remaining r) (rows_of c.note.new.self) c.next_row-next.new.stage c.next_row-next.new.watch.failed) same.1.0
           ∙ ap (λ l. view (g.R.Read.remaining c.self.inside.reader) l c.next_row-next.new.stage c.next_row-next.new.watch.failed)
           (c.note.ensures ∙ ap (with_given (rows_of c.self.inside.given)) same.0 ∙ given-end (rows_of c.self.inside.given) fault)
-          ∙ ap (λ s. view (g.R.Read.remaining c.self.inside.reader) (rows_of c.self.inside.given) s c.next_row-next.new.watch.failed) same.2
-          ∙ ap (λ w. view (g.R.Read.remaining c.self.inside.reader) (rows_of c.self.inside.given) c.self.inside.stage w.failed) same.3 ∙ c.self.view_is,
+          ∙ ap (λ s. view (g.R.Read.remaining c.self.inside.reader) (rows_of c.self.inside.given) s c.next_row-next.new.watch.failed) same.1.1
+          ∙ ap (λ w. view (g.R.Read.remaining c.self.inside.reader) (rows_of c.self.inside.given) c.self.inside.stage w.failed) same.1.2 ∙ c.self.view_is,
     )
 
 pub returns-clause-before : goal.returns-clause-before

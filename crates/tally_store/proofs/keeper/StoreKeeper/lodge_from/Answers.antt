@@ -19,7 +19,7 @@ invariant_of-self g c =
     let came = delivery g.R.RowSource c.args.rows.now c.import_rows.new.source in
     let told = c.import_rows.ensures in
     let r = c.import_rows.result in
-    let took : Took setup old new came r = record { ended = told.ended; clean = λ clean. omega (arith, clean, told.crash.clean); done = told.done; fault = told.fault; shut = told.shut; was_open = told.was_open } in
+    let took : Took setup old new came r = record { ended = told.ends.ended; clean = λ clean. omega (arith, clean, told.ends.crash.clean); done = told.done; fault = told.fault; shut = told.shut; was_open = told.ends.was_open } in
     served_import setup old new came r (known_of c.import_rows.new.known) c.a_constituency_has_a_view.ensures.lawful c.self.invariant.stored took told.known
 
 pub returns-clause-imported : goal.returns-clause-imported
@@ -30,7 +30,7 @@ returns-clause-imported g c clean =
     let came = delivery g.R.RowSource c.args.rows.now c.import_rows.new.source in
     let told = c.import_rows.ensures in
     let r = c.import_rows.result in
-    let took : Took setup old new came r = record { ended = told.ended; clean = λ clean. omega (arith, clean, told.crash.clean); done = told.done; fault = told.fault; shut = told.shut; was_open = told.was_open } in
+    let took : Took setup old new came r = record { ended = told.ends.ended; clean = λ clean. omega (arith, clean, told.ends.crash.clean); done = told.done; fault = told.fault; shut = told.shut; was_open = told.ends.was_open } in
     subst (λ (h : Stored _). Imports h.setup (content_of h.setup (state g.S.Store h.conn)) came r (content_of setup new)) c.self.view_is
     (imports_after setup old new came r c.a_constituency_has_a_view.ensures.lawful c.self.invariant.stored took clean)
 
@@ -42,7 +42,7 @@ returns-clause-tables g c clean =
     let came = delivery g.R.RowSource c.args.rows.now c.import_rows.new.source in
     let told = c.import_rows.ensures in
     let r = c.import_rows.result in
-    let took : Took setup old new came r = record { ended = told.ended; clean = λ clean. omega (arith, clean, told.crash.clean); done = told.done; fault = told.fault; shut = told.shut; was_open = told.was_open } in
+    let took : Took setup old new came r = record { ended = told.ends.ended; clean = λ clean. omega (arith, clean, told.ends.crash.clean); done = told.done; fault = told.fault; shut = told.shut; was_open = told.ends.was_open } in
     shows_tables setup new c.a_constituency_has_a_view.ensures.lawful (stored_import setup old new came r c.self.invariant.stored took) clean
 
 pub returns-clause-text : goal.returns-clause-text

@@ -1,12 +1,16 @@
 //! Appending to a text that has room, which takes no memory.
 
-ghost use Rattle.std.specs.Prelude.{◌≡◌, ◌≤◌, ◌+◌, ◌++◌, length, string_bytes, string_len, string_capacity};
+ghost use Rattle.std.specs.Prelude.{◌≡◌, ◌≤◌, ◌+◌, ◌++◌, Some, length, string_bytes, string_len, string_capacity};
 ghost use Rattle.tally_import.specs.Check.{count_text, first_text, named_number};
 
 use itoa::Buffer;
 use tally_keeper::{FirstRow, ImportCount};
 
-pub(crate) fn push(text: &mut String, piece: &str)
+/// The most bytes of the six lines of an import.
+pub const COUNT_ROOM: usize = 128;
+
+/// Appends a piece to a text that has room for it.
+pub fn push(text: &mut String, piece: &str)
     requires { string_len text.old + length piece.now ≤ string_capacity text.old }
     ensures bytes { string_bytes text.new ≡ string_bytes text.old ++ piece.now }
     ensures len { string_len text.new ≡ string_len text.old + length piece.now }
@@ -18,8 +22,8 @@ pub(crate) fn push(text: &mut String, piece: &str)
     }
 }
 
-/// Appends a line of a name and a number.
-pub(crate) fn push_number(text: &mut String, name: &str, number: u32)
+/// Appends a line of a name and a number to a text that has room for it.
+pub fn push_number(text: &mut String, name: &str, number: u32)
     requires { string_len text.old + length name.now + 12 ≤ string_capacity text.old }
     ensures bytes { string_bytes text.new ≡ string_bytes text.old ++ named_number name.now number }
     ensures len { string_len text.new ≤ string_len text.old + length name.now + 12 }
@@ -32,9 +36,9 @@ pub(crate) fn push_number(text: &mut String, name: &str, number: u32)
     push(text, "\n");
 }
 
-/// Appends the six lines of an import.
-pub(crate) fn push_count(text: &mut String, count: &ImportCount)
-    requires { string_len text.old + 128 ≤ string_capacity text.old }
+/// Appends the six lines of an import to a text that has room for them.
+pub fn push_count(text: &mut String, count: &ImportCount)
+    requires { string_len text.old + COUNT_ROOM ≤ string_capacity text.old }
     ensures { string_bytes text.new ≡ string_bytes text.old ++ count_text count.now }
 {
     push_number(text, "lodged", count.lodged);

@@ -2,7 +2,7 @@ use Rattle.std.proofs.Common.{◌≡◌, true, take, drop, map, ◌-◌}
 use Rattle.std.specs.List.{list_all}
 use Rattle.csv.specs.Records.{fields_of}
 use Rattle.tally_import.specs.Rows.{is_number_text, number_of}
-use Rattle.tally_import.proofs.row.votes_of.Given as goal
+use Rattle.tally_import.proofs.row.push_numbers.Given as goal
 
 abbrev pub invariant-loop-place : goal.invariant-loop-place
 invariant-loop-place l = record {

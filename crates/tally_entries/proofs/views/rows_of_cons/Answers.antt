@@ -1,0 +1,27 @@
+use Rattle.std.proofs.lemmas.Result.{IfOk-weaker}
+use Rattle.tally_statements.specs.Office.{HasTables, IsInside}
+use Rattle.sqlite.specs.State.{State}
+use Rattle.sqlite.specs.Held.{state}
+use Rattle.tally_entries.proofs.views.rows_of_cons.Goals as goal
+
+has-tables : (s : State) → IsInside s → HasTables s
+has-tables s inside = record { schema = inside.schema; sound = λ _. inside.sound; inside = inside.inside }
+
+pub returns-clause-reads : goal.returns-clause-reads
+returns-clause-reads g c =
+    let old = state g.S.Store c.args.tx.now.conn.now in
+    let told = c.all_rows.ensures.reads in
+    record {
+      stays = record {
+        same_reference = told.stays.same_reference;
+        was_open = told.stays.was_open;
+        kept = λ clean inside. told.stays.kept clean (has-tables old inside);
+        survives = told.stays.survives;
+      };
+      same = λ clean inside. told.same clean (has-tables old inside);
+      answered_open = told.answered_open;
+    }
+
+pub returns-clause-found : goal.returns-clause-found
+returns-clause-found g c clean inside =
+    IfOk-weaker c.all_rows.result _ _ (λ rows shown. shown.same) (c.all_rows.ensures.shown clean (has-tables (state g.S.Store c.args.tx.now.conn.now) inside))
