@@ -140,7 +140,7 @@ def table(front):
 
 
 def refusals():
-    return {int(n): (word, status) for n, word, status, _ in table("| Number | Word | Status | Also |")}
+    return {int(n): (word, status) for n, word, status, _ in table("| Number | Word | Status | When, and what is with it |")}
 
 
 def words():

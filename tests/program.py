@@ -35,7 +35,7 @@ from pathlib import Path
 
 import model
 import openapi
-from office import RETURNS, SETUP, TABLES, THREE_STATIONS
+from office import PROFILE, RETURNS, SETUP, TABLES, THREE_STATIONS, constituency, party_list, station
 
 ROOT = Path(__file__).resolve().parent.parent
 PROGRAM = ROOT / "crates/tally_office/out/tally_office"
@@ -1180,7 +1180,6 @@ def given_up(desk, message):
 
 def waits_for(db, message):
     """What one client sees that keeps the office waiting, while the next one is there already and then gets its answer, as a third does."""
-    new(db=db)
     with serving(db, 3, failed=1) as desk, ThreadPoolExecutor(1) as other:
         waited = other.submit(given_up, desk, message)
         # So that it is the second in the line.
@@ -1191,15 +1190,52 @@ def waits_for(db, message):
         return seconds
 
 
+def reopened_a_thousand_times(db):
+    """An office of sixty lists, and the report of its certificates, of six million bytes: more than the buffers of two sockets take."""
+    name, editions = "n" * 80, range(2, 2002, 2)
+    new(PROFILE + constituency("c1", "Twin Town", 3, "d0") + "".join(party_list(f"L{n}", name, "Ana") for n in range(1, 61)) + station("s1"), db)
+    put("past", *(("c1", edition, n, 3 if n == 1 else 0) for edition in editions for n in range(1, 61)), db=db)
+    with database(db) as it:
+        it.execute("UPDATE cons SET edition = 2001, note = 'recount'")
+    lists = "".join(f"{f'L{n}':16}{3 if n == 1 else 0:5} {name}\n" for n in range(1, 61))
+    return "PAST c1 Twin Town\n" + "".join(f"edition {edition}\n{lists}" for edition in editions)
+
+
+def read_late(db):
+    """What a client reads that takes nothing of it for fifteen seconds, while the next one is there already and waits for its answer."""
+    with serving(db, 2) as desk, ThreadPoolExecutor(1) as other, socket.socket() as it:
+        it.setsockopt(socket.SOL_SOCKET, socket.SO_RCVBUF, 4096)
+        it.settimeout(60)
+        it.connect(("127.0.0.1", desk.port))
+        it.sendall(b"GET /con/c1/past HTTP/1.1\r\n\r\n")
+        it.shutdown(socket.SHUT_WR)
+        waits = other.submit(desk.get, "/progress", "c1                    1      1      0      0      0      0   2001 open\n")
+        time.sleep(15)
+        assert not waits.done()
+        found = b""
+        while piece := it.recv(65536):
+            found += piece
+        waits.result()
+        return found
+
+
 def test_clients_that_keep_the_office_waiting():
-    """Ten seconds for a read, thirty for a message in all: a client that sends nothing is given up, and one that sends a byte a second."""
-    for name in ("silent", "slow"):
+    """Ten seconds for a read, thirty for a message in all: a client that sends nothing is given up, and one that sends a byte a second. Of
+    the thirty for an answer one may take nothing for fifteen: it has the answer whole."""
+    # The offices are made one after the other, since each is made of the same file.
+    for name in ("silent", "slow", "late"):
         os.mkdir(name)
+    new(db="silent/office.db")
+    new(db="slow/office.db")
+    past = reopened_a_thousand_times("late/office.db").encode()
     slow = f"GET /progress HTTP/1.1\r\na: {'b' * 200}".encode()
-    with ThreadPoolExecutor(2) as both:
-        silent, slow = both.map(waits_for, ("silent/office.db", "slow/office.db"), (b"", slow))
+    with ThreadPoolExecutor(3) as all_three:
+        late = all_three.submit(read_late, "late/office.db")
+        silent, slow = all_three.map(waits_for, ("silent/office.db", "slow/office.db"), (b"", slow))
+        head, _, body = late.result().partition(b"\r\n\r\n")
     assert 9.5 <= silent <= 14, silent
     assert 29 <= slow <= 35, slow
+    assert head.startswith(b"HTTP/1.1 200 OK\r\n") and body == past, (head, len(body), len(past))
 
 
 @contextlib.contextmanager

@@ -5,16 +5,12 @@ use Rattle.std.proofs.lemmas.List.{get_or-map, length-map, get_or_past}
 use Rattle.tally_rules.specs.Threshold.{is_eligible, base_of}
 use Rattle.tally_rules.specs.declared.profile.Base.{Base}
 use Rattle.tally_rules.specs.declared.profile.Base.TheVariants.{Valid, Lists}
-use Rattle.tally_frac.specs.internal.DivisorLaws.{modified-positive, modified-rises}
-use Rattle.tally_rules.specs.declared.profile.LotRule.{LotRule}
-use Rattle.tally_rules.specs.declared.profile.Method.{Method}
-use Rattle.tally_rules.specs.declared.profile.Method.TheVariants.{DHondt, SainteLague, ModifiedSainteLague, Hare}
 use Rattle.tally_rules.specs.declared.profile.Profile.{Profile}
 use Rattle.tally_law.specs.Poll.{Poll, SharesOut}
 use Rattle.tally_law.specs.Lot.{IsOrderOf}
 use Rattle.tally_law.specs.Allotment.{Rule, divisors, hare, IsAllotment, IsAllotmentByVotes}
 use Rattle.tally_law.specs.LotNeed.{IsDecidedByVotes, IsNeed}
-use Rattle.tally_law.specs.Rules.{rule_by, rule_of, poll_of}
+use Rattle.tally_law.specs.Rules.{rule_of, poll_of}
 use Rattle.tally_contest.specs.internal.Terms.{IsRule, IsSound}
 use Rattle.tally_contest.proofs.Vectors.{Exchange, equal_or_exchange, get_or-le-sum}
 use Rattle.tally_contest.proofs.Sums.{sum-is}
@@ -22,16 +18,11 @@ use Rattle.tally_contest.proofs.PollLemmas.{sound_under}
 use Rattle.tally_contest.proofs.TermsRace.{are_races, one_allotment}
 use Rattle.tally_law.specs.Reordering.{IsReordering, numbers_in_order}
 use Rattle.tally_law.specs.LawStatements.{AllotmentsAreUnique, AllotmentsExist, LotsChooseAmongWhatVotesAllow, VotesDecideOrALotIsNeeded, NoLotIsNeededWhereVotesDecide, GroupsAreOfOneNumberOfVotes, EachOrderGivesAChoice, EachChoiceComesFromAnOrder, TheOrderOfTheSetupIsNothingWhereVotesDecide}
+use Rattle.tally_allot.proofs.DivisorRuleLemmas.{rule_by-is}
 use Rattle.tally_allot.proofs.LotLaws.{decided_not_needed, proper_if_taken, proper_without_lot}
 use Rattle.tally_allot.proofs.AllotmentLaws.{exists, by_votes, choice_of_order, group_of_votes}
 use Rattle.tally_allot.proofs.DecidedOrNeeded.{decided-or_need}
 use Rattle.tally_allot.proofs.Reordered.{reordered_poll, sum_over, setup_order_is_nothing, setup_order_decides}
-
-rule_by-is : (method : Method) (lot_rule : LotRule) → IsRule (rule_by method lot_rule)
-rule_by-is DHondt lot_rule = (record { positive = λ k some. some; rises = λ j k some lt. lt }, omega arith)
-rule_by-is SainteLague lot_rule = (record { positive = λ k some. omega (arith, some); rises = λ j k some lt. omega (arith, some, lt) }, omega arith)
-rule_by-is ModifiedSainteLague lot_rule = (record { positive = modified-positive; rises = modified-rises }, omega arith)
-rule_by-is Hare lot_rule = tt
 
 rule-is : (profile : Profile) → IsRule (rule_of profile)
 rule-is profile = rule_by-is profile.method profile.lot

@@ -3,7 +3,7 @@ use Rattle.std.proofs.Common.{◌≡◌, ℕ, zero, suc, ◌+◌, ◌-◌, ◌*�
 use Rattle.std.proofs.lemmas.Bool.{cases_lt, cases_eq}
 use Rattle.std.proofs.lemmas.List.{length-set, length_push, get_or_past, get_or_push, get_or_append_left}
 use Rattle.std.proofs.Math.Nat.{mul-le-mul_right, mul-le-mul_left, le_of_mul-le-mul_right}
-use Rattle.tally_frac.specs.Rank.{Pair, IsHigher}
+use Rattle.tally_frac.specs.Rank.{Pair, IsHigher, VotesRankAbove}
 use Rattle.tally_frac.proofs.FractionLaws.{scaled-greater, scaled-level}
 use Rattle.tally_frac.proofs.RankLaws.{weak-decided, weak-one_way, weak-not_below}
 use Rattle.tally_rules.specs.declared.profile.LotRule.{LotRule}
@@ -16,7 +16,7 @@ use Rattle.tally_contest.proofs.DivisorRace.{eligible_or_not}
 use Rattle.tally_allot.specs.VotesShort.{with_more_votes, IsSureOfMore, IsVotesShort, IsLeastNumber, HasNoMoreToGain, AreVotesShort, AreBelow}
 use Rattle.tally_allot.proofs.AllotmentLaws.{exists, by_votes}
 use Rattle.tally_allot.proofs.LotLaws.{proper_without_lot}
-use Rattle.tally_allot.specs.internal.ShortSteps.{RiseSlowly, VotesRankAbove, IsByVotes, AreFewestAbove, IsLowestOther, IsNumberOf, IsAnswerOf, AreAnswers, AreAnswersOf}
+use Rattle.tally_allot.specs.internal.ShortSteps.{RiseSlowly, IsByVotes, AreFewestAbove, IsLowestOther, IsNumberOf, IsAnswerOf, AreAnswers, AreAnswersOf}
 
 -- ---- Pairs of votes and a divisor
 

@@ -17,11 +17,11 @@ IsFaultOf rule poll seats lot WrongLot = HasEligible poll × IsLotWrong rule pol
 IsFaultOf rule poll seats lot Memory = Unit {0}
 
 -- the number of a fault
-abbrev pub number_of : AllotFault → ℕ
-number_of NoEligible = 1
-number_of (LotMissing group in_question) = 2
-number_of WrongLot = 3
-number_of Memory = 4
+abbrev pub allot_fault_number : AllotFault → ℕ
+allot_fault_number NoEligible = 1
+allot_fault_number (LotMissing group in_question) = 2
+allot_fault_number WrongLot = 3
+allot_fault_number Memory = 4
 
 -- No lot, where the votes decide, and else the lot that is needed.
 abbrev pub IsNeedOrNone : Rule → Poll → ℕ → Option Need → Type 0

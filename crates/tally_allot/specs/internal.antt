@@ -1,6 +1,4 @@
 -- Words of private contracts and of proofs. No promise to a caller speaks of them.
 pub mod AwardTable
-pub mod DivisorRules
 pub mod OnTerms
-pub mod DivisorRuleLaws
 pub mod ShortSteps

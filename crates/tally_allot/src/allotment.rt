@@ -13,7 +13,6 @@ ghost use Rattle.tally_law.specs.LotNeed.{IsLotTaken, IsAllotmentUnderLot};
 ghost use Rattle.tally_law.specs.Rules.{rule_of, poll_of};
 ghost use Rattle.tally_contest.specs.internal.Terms.{AreSound};
 
-use crate::divisor_rule::DivisorRule;
 use crate::fault::AllotFault;
 use crate::under_lot::{award_under_lot, seats_by_remainders};
 use crate::verdict::{LotVerdict, verdict_on_lot};
@@ -47,7 +46,7 @@ pub fn allot(
         (IsFaultOf (rule_of profile.now) (poll_of profile.now votes.now blank) seats lot.now) }
 {
     let poll = Poll::new(profile, votes, blank);
-    match DivisorRule::of(profile.method) {
+    match profile.method.divisor_rule() {
         Some(divisors) => seats_by_divisors(alloc, divisors, profile.lot, &poll, seats, lot),
         None => seats_by_quotas(alloc, &poll, seats, lot),
     }
@@ -112,7 +111,7 @@ pub fn lot_need(
     ensures fault { IfErr result (IsNeedFaultOf (poll_of profile.now votes.now blank)) }
 {
     let poll = Poll::new(profile, votes, blank);
-    match DivisorRule::of(profile.method) {
+    match profile.method.divisor_rule() {
         Some(divisors) => need_by_divisors(alloc, divisors, profile.lot, &poll, seats),
         None => need_by_quotas(alloc, &poll, seats),
     }
@@ -178,7 +177,7 @@ pub fn is_allotment(
         seats given.now }
 {
     let poll = Poll::new(profile, votes, blank);
-    match DivisorRule::of(profile.method) {
+    match profile.method.divisor_rule() {
         Some(divisors) => {
             is_allotment_by_divisors(divisors, profile.lot, &poll, seats, lot, given)
         }

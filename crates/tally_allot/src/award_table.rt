@@ -17,7 +17,6 @@ ghost use Rattle.tally_law.specs.LotNeed.{IsLotTaken};
 ghost use Rattle.tally_law.specs.Poll.{HasEligible};
 
 use crate::award::Award;
-use crate::divisor_rule::DivisorRule;
 use crate::fault::AllotFault;
 use crate::under_lot::award_under_lot;
 use std::alloc::{AllocError, Global};
@@ -48,7 +47,7 @@ pub fn awards(
         (IsFaultOf (rule_of profile.now) (poll_of profile.now votes.now blank) seats lot.now) }
 {
     let poll = Poll::new(profile, votes, blank);
-    let Some(divisors) = DivisorRule::of(profile.method) else {
+    let Some(divisors) = profile.method.divisor_rule() else {
         unreachable!()
     };
     awards_by(alloc, divisors, profile.lot, &poll, seats, lot)

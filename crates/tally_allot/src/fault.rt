@@ -1,7 +1,7 @@
 //! Why seats are not allotted.
 
 ghost use Rattle.std.specs.Prelude.{◌≡◌};
-ghost use Rattle.tally_allot.specs.AllotFault.{number_of};
+ghost use Rattle.tally_allot.specs.AllotFault.{allot_fault_number};
 ghost use Rattle.tally_allot.specs.declared.fault.AllotFault.TheVariants.{Memory};
 
 use std::alloc::{AllocError, AllocFailed};
@@ -35,7 +35,7 @@ pub enum AllotFault {
 impl AllotFault {
     /// The fault's number.
     pub fn number(&self) -> u32
-        ensures { result ≡ number_of self.now }
+        ensures { result ≡ allot_fault_number self.now }
     {
         match self {
             AllotFault::NoEligible => 1,

@@ -6,7 +6,6 @@
 mod allotment;
 mod award;
 mod award_table;
-mod divisor_rule;
 mod fault;
 pub mod laws;
 mod quota_row;

@@ -1,6 +1,6 @@
 //! Votes short.
 
-ghost use Rattle.std.specs.Prelude.{◌≡◌, ◌≢◌, ℕ, ◌+◌, ◌≤◌, ◌<◌, ◌↔◌, IsTrue, IfOk, IfErr, OnOk};
+ghost use Rattle.std.specs.Prelude.{◌≡◌, ◌≢◌, ℕ, ◌+◌, ◌≤◌, ◌<◌, IfOk, IfErr, OnOk};
 ghost use Rattle.std.specs.Prelude.{length, slice_index};
 ghost use Rattle.tally_frac.specs.Limits.{greatest_divisor, most_seats, most_votes};
 ghost use Rattle.tally_rules.specs.declared.profile.LotRule.{LotRule as rule_of_lots};
@@ -12,17 +12,16 @@ ghost use Rattle.tally_law.specs.Poll.{HasEligible};
 ghost use Rattle.tally_law.specs.Rules.{poll_of, rule_of};
 ghost use Rattle.tally_allot.specs.AllotFault.{IsFaultOf};
 ghost use Rattle.tally_law.specs.Conditions.{AreLimitsKept};
-ghost use Rattle.tally_allot.specs.internal.ShortSteps.{RiseSlowly, VotesRankAbove, IsByVotes};
+ghost use Rattle.tally_allot.specs.internal.ShortSteps.{RiseSlowly, IsByVotes};
 ghost use Rattle.tally_allot.specs.internal.ShortSteps.{AreFewestAbove, IsLowestOther, IsAnswerOf};
 ghost use Rattle.tally_allot.specs.internal.ShortSteps.{AreAnswers, AreAnswersOf};
 ghost use Rattle.tally_allot.specs.VotesShort.{AreVotesShort, AreBelow};
 
 use crate::allotment::seats_by_divisors;
-use crate::divisor_rule::DivisorRule;
 use crate::fault::AllotFault;
 use std::alloc::{AllocError, Global};
 use tally_contest::Poll;
-use tally_frac::Divisors;
+use tally_frac::{Divisors, votes_rank_above};
 use tally_rules::{LotRule, Profile};
 
 /// How many more votes each list needs for one more seat than it has now, in order of place, for a
@@ -51,7 +50,7 @@ pub fn votes_short(
         (IsFaultOf (rule_of profile.now) (poll_of profile.now votes.now blank) seats lot.now) }
 {
     let poll = Poll::new(profile, votes, blank);
-    let Some(divisors) = DivisorRule::of(profile.method) else {
+    let Some(divisors) = profile.method.divisor_rule() else {
         unreachable!()
     };
     short_by(alloc, divisors, profile.lot, &poll, seats, lot)
@@ -174,7 +173,7 @@ fn lower_of<D: Divisors>(
     let Some(lowest) = before else {
         return Some(other);
     };
-    if is_above(
+    if votes_rank_above(
         poll.votes_of(lowest),
         divisors.nth(held[lowest]),
         poll.votes_of(other),
@@ -183,22 +182,6 @@ fn lower_of<D: Divisors>(
         return Some(other);
     }
     Some(lowest)
-}
-
-/// Whether votes by one divisor rank above other votes by another, by the votes alone.
-fn is_above(votes: u64, divisor: u64, other_votes: u64, other_divisor: u64) -> bool
-    requires votes { votes ≤ most_votes }
-    requires divisor { divisor ≤ greatest_divisor }
-    requires other_votes { other_votes ≤ most_votes }
-    requires other_divisor { other_divisor ≤ greatest_divisor }
-    ensures { IsTrue result ↔ VotesRankAbove votes divisor other_votes other_divisor }
-{
-    let quotient = votes * other_divisor;
-    let other_quotient = other_votes * divisor;
-    if quotient != other_quotient {
-        return quotient > other_quotient;
-    }
-    votes > other_votes
 }
 
 /// The fewest votes that, by one divisor, rank above those of another list by another divisor.

@@ -34,7 +34,7 @@ pub(crate) fn verdict_on_lot<C: Contest>(contest: &C, seats: &[u32]) -> LotVerdi
         Some(need) => {
             if lot.is_empty() {
                 LotVerdict::Missing(need)
-            } else if is_order_of(lot, &need.group) {
+            } else if is_order_of(&need.group, lot) {
                 LotVerdict::Right
             } else {
                 LotVerdict::Wrong

@@ -9,17 +9,17 @@ use Rattle.tally_rules.specs.Constituency.{Constituency, ListEntry}
 use Rattle.tally_returns.specs.GoneCandidate.{GoneCandidate}
 use Rattle.tally_returns.specs.Return.{StationReturn}
 use Rattle.tally_returns.specs.View.{View}
-use Rattle.tally_answer.specs.Shown.{whole, code_at, shown_return, shown_gone, shown_con}
+use Rattle.tally_answer.specs.Shown.{whole_value, code_at_place, shown_return, shown_gone, shown_con}
 
-pub code_at-some : (lists : List ListEntry) (place l : ℕ) (list : ListEntry) → place ≡ suc l → slice_get lists l ≡ Some list → code_at lists place ≡ list.code
-code_at-some lists place l list at found =
-    ap (code_at lists) at ∙ ap (λ (f : Option ListEntry). unwrap_or (option_map (λ (e : ListEntry). e.code) f) []) found
+pub code_at_place-some : (lists : List ListEntry) (place l : ℕ) (list : ListEntry) → place ≡ suc l → slice_get lists l ≡ Some list → code_at_place lists place ≡ list.code
+code_at_place-some lists place l list at found =
+    ap (code_at_place lists) at ∙ ap (λ (f : Option ListEntry). unwrap_or (option_map (λ (e : ListEntry). e.code) f) []) found
 
-wholes_free : (ns : List ℕ) → items_have_float (items_of (map whole ns)) ≡ false
+wholes_free : (ns : List ℕ) → items_have_float (items_of (map whole_value ns)) ≡ false
 wholes_free [] = refl
 wholes_free (n ∷ ns) = wholes_free ns
 
-codes_free : (lists : List ListEntry) (places : List ℕ) → items_have_float (items_of (map (λ place. string (code_at lists place)) places)) ≡ false
+codes_free : (lists : List ListEntry) (places : List ℕ) → items_have_float (items_of (map (λ place. string (code_at_place lists place)) places)) ≡ false
 codes_free lists [] = refl
 codes_free lists (place ∷ places) = codes_free lists places
 

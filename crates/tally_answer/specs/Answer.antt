@@ -8,19 +8,19 @@ use Rattle.tally_answer.specs.declared.status.BodyType.{BodyType}
 use Rattle.tally_answer.specs.declared.status.BodyType.TheVariants as body
 
 -- RFC 9110, section 15
-abbrev pub status_number : AnswerStatus → ℕ
-status_number status.Done = 200
-status_number status.BadRequest = 400
-status_number status.NotFound = 404
-status_number status.GetOnly = 405
-status_number status.PostOnly = 405
-status_number status.Conflict = 409
-status_number status.LengthRequired = 411
-status_number status.Unavailable = 503
+abbrev pub http_status : AnswerStatus → ℕ
+http_status status.Done = 200
+http_status status.BadRequest = 400
+http_status status.NotFound = 404
+http_status status.GetOnly = 405
+http_status status.PostOnly = 405
+http_status status.Conflict = 409
+http_status status.LengthRequired = 411
+http_status status.Unavailable = 503
 
 -- the reason phrase that goes with the status, as `http` has it
 abbrev pub phrase : AnswerStatus → List ℕ
-phrase s = unwrap_or (reason_phrase (status_number s)) []
+phrase s = unwrap_or (reason_phrase (http_status s)) []
 
 abbrev pub type_name : BodyType → List ℕ
 type_name body.Json = codes "application/json"
@@ -29,7 +29,7 @@ type_name body.Text = codes "text/plain; charset=utf-8"
 -- The lines of a head, each with its line end.
 abbrev pub status_line : AnswerStatus → List ℕ
 status_line s =
-    codes "HTTP/1.1 " ++ decimal (status_number s) ++ codes " " ++ phrase s ++ codes "\r\n"
+    codes "HTTP/1.1 " ++ decimal (http_status s) ++ codes " " ++ phrase s ++ codes "\r\n"
 
 abbrev pub type_line : BodyType → List ℕ
 type_line t = codes "Content-Type: " ++ type_name t ++ codes "\r\n"

@@ -17,9 +17,9 @@ counts_before i =
 abbrev pub pair_text : FirstRow → List ℕ
 pair_text first = codes "[" ++ decimal first.row ++ codes "," ++ decimal first.number ++ codes "]"
 
-abbrev pub first_text : Option FirstRow → List ℕ
-first_text None = codes "null"
-first_text (Some first) = pair_text first
+abbrev pub first_value : Option FirstRow → List ℕ
+first_value None = codes "null"
+first_value (Some first) = pair_text first
 
 -- the members after it
 abbrev pub counts_after : ImportCount → List ℕ
@@ -29,7 +29,7 @@ counts_after i =
     ++ codes ",\"same\":" ++ decimal i.same ++ codes "}"
 
 abbrev pub import_body : ImportCount → List ℕ
-import_body i = counts_before i ++ first_text i.first ++ counts_after i
+import_body i = counts_before i ++ first_value i.first ++ counts_after i
 
 abbrev pub import_text : ImportCount → List ℕ
 import_text i = answer_text status.Done body.Json (import_body i)

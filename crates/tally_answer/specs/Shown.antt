@@ -10,42 +10,44 @@ use Rattle.tally_returns.specs.Return.{StationReturn}
 use Rattle.tally_returns.specs.View.{View}
 use Rattle.tally_answer.specs.Outcome.{status_word}
 
-abbrev pub whole : ℕ → Data
-whole n = number (unsigned n)
+abbrev pub whole_value : ℕ → Data
+whole_value n = number (unsigned n)
 
-abbrev pub wholes : List ℕ → Data
-wholes ns = array (items_of (map whole ns))
+abbrev pub whole_values : List ℕ → Data
+whole_values ns = array (items_of (map whole_value ns))
 
 -- the members of a return from that of its spoiled votes on
 abbrev pub members_from_spoiled : List ℕ → StationReturn → Members
 members_from_spoiled station kept =
-    member (codes "spoiled") (whole kept.counts.spoiled) (member (codes "station") (string station)
+    member (codes "spoiled") (whole_value kept.counts.spoiled)
+    (member (codes "station") (string station)
     (member (codes "status") (string (status_word kept.status))
-    (member (codes "votes") (wholes kept.counts.votes) no_members)))
+    (member (codes "votes") (whole_values kept.counts.votes) no_members)))
 
 abbrev pub shown_return : List ℕ → StationReturn → Data
 shown_return station kept =
-    object (member (codes "blank") (whole kept.counts.blank)
+    object (member (codes "blank") (whole_value kept.counts.blank)
     (member (codes "note") (string kept.note)
-    (member (codes "rev") (whole kept.rev) (member (codes "slip") (string kept.slip)
+    (member (codes "rev") (whole_value kept.rev) (member (codes "slip") (string kept.slip)
     (members_from_spoiled station kept)))))
 
 -- the code of the list at a place, from 1; a place without a list has none, and no lawful state has
 -- such a place
-abbrev pub code_at : List ListEntry → ℕ → List ℕ
-code_at lists zero = []
-code_at lists (suc l) =
+abbrev pub code_at_place : List ListEntry → ℕ → List ℕ
+code_at_place lists zero = []
+code_at_place lists (suc l) =
     unwrap_or (option_map (λ (list : ListEntry). list.code) (slice_get lists l)) []
 
 -- the codes of the lists at some places
-abbrev pub list_codes : List ListEntry → List ℕ → Data
-list_codes lists places = array (items_of (map (λ place. string (code_at lists place)) places))
+abbrev pub codes_at_places : List ListEntry → List ℕ → Data
+codes_at_places lists places =
+    array (items_of (map (λ place. string (code_at_place lists place)) places))
 
 abbrev pub shown_gone : List ListEntry → GoneCandidate → Data
 shown_gone lists gone =
-    object (member (codes "list") (string (code_at lists gone.list))
+    object (member (codes "list") (string (code_at_place lists gone.list))
     (member (codes "note") (string gone.note)
-    (member (codes "place") (whole gone.place) no_members)))
+    (member (codes "place") (whole_value gone.place) no_members)))
 
 abbrev pub all_gone : List ListEntry → List GoneCandidate → Data
 all_gone lists all = array (items_of (map (shown_gone lists) all))
@@ -53,14 +55,17 @@ all_gone lists all = array (items_of (map (shown_gone lists) all))
 -- the members of a constituency after those who are gone
 abbrev pub members_behind_gone : Constituency → View → Members
 members_behind_gone con v =
-    member (codes "lot") (list_codes con.lists v.lot)
-    (member (codes "note") (string v.note) (member (codes "seats") (wholes v.seats)
-    (member (codes "spoiled") (whole v.spoiled) (member (codes "stations") (whole v.stations)
-    (member (codes "votes") (wholes v.votes) no_members)))))
+    member (codes "lot") (codes_at_places con.lists v.lot)
+    (member (codes "note") (string v.note) (member (codes "seats") (whole_values v.seats)
+    (member (codes "spoiled") (whole_value v.spoiled)
+    (member (codes "stations") (whole_value v.stations)
+    (member (codes "votes") (whole_values v.votes) no_members)))))
 
 abbrev pub shown_con : Constituency → View → Data
 shown_con con v =
-    object (member (codes "blank") (whole v.blank) (member (codes "certified") (boolean v.certified)
-    (member (codes "closed") (whole v.closed) (member (codes "con") (string con.code)
-    (member (codes "edition") (whole v.edition) (member (codes "gone") (all_gone con.lists v.gone)
+    object (member (codes "blank") (whole_value v.blank)
+    (member (codes "certified") (boolean v.certified)
+    (member (codes "closed") (whole_value v.closed) (member (codes "con") (string con.code)
+    (member (codes "edition") (whole_value v.edition)
+    (member (codes "gone") (all_gone con.lists v.gone)
     (members_behind_gone con v)))))))

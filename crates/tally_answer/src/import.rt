@@ -1,7 +1,7 @@
 //! The answer to an import.
 
 ghost use Rattle.std.specs.Prelude.{◌≡◌, ◌≤◌, ◌+◌, ◌++◌, [], vec_len, vec_capacity};
-ghost use Rattle.tally_answer.specs.Import.{counts_before, counts_after, first_text, import_body, import_text, pair_text};
+ghost use Rattle.tally_answer.specs.Import.{counts_before, counts_after, first_value, import_body, import_text, pair_text};
 
 use crate::answer::write_answer;
 use crate::push::{push, push_around};
@@ -30,7 +30,7 @@ fn push_pair(out: &mut Vec<u8>, first: &FirstRow)
 
 fn push_first(out: &mut Vec<u8>, first: &Option<FirstRow>)
     requires { vec_len out.old + 32 ≤ vec_capacity out.old }
-    ensures items { out.new.items ≡ out.old.items ++ first_text first.now }
+    ensures items { out.new.items ≡ out.old.items ++ first_value first.now }
     ensures len { vec_len out.new ≤ vec_len out.old + 32 }
     ensures room { vec_capacity out.old ≤ vec_capacity out.new }
 {

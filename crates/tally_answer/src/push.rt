@@ -19,7 +19,8 @@ pub(crate) fn push(out: &mut Vec<u8>, text: &[u8])
 
 /// Appends a text, a number in decimal and a text.
 pub(crate) fn push_around(out: &mut Vec<u8>, before: &[u8], number: u32, after: &[u8])
-    requires { vec_len out.old + length before.now + 10 + length after.now ≤ vec_capacity out.old }
+    requires { vec_len out.old + length before.now + 10 + length after.now
+        ≤ vec_capacity out.old }
     ensures items { out.new.items ≡ out.old.items ++ (before.now ++ decimal number ++ after.now) }
     ensures len { vec_len out.new ≤ vec_len out.old + length before.now + 10 + length after.now }
     ensures room { vec_capacity out.old ≤ vec_capacity out.new }

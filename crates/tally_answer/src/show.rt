@@ -4,9 +4,9 @@ ghost use Rattle.std.specs.Prelude.{◌≡◌, IfOk, OnOk, string_bytes};
 ghost use Rattle.serde_json.specs.Data.{no_members, object, put as with_member, string};
 ghost use Rattle.serde_json.specs.View.{view, members_view};
 ghost use Rattle.serde_json.specs.Written.{compact_text};
-ghost use Rattle.tally_answer.specs.Shown.{all_gone, code_at, list_codes, members_behind_gone};
+ghost use Rattle.tally_answer.specs.Shown.{all_gone, code_at_place, codes_at_places, members_behind_gone};
 ghost use Rattle.tally_answer.specs.Shown.{members_from_spoiled};
-ghost use Rattle.tally_answer.specs.Shown.{shown_con, shown_gone, shown_return, whole, wholes};
+ghost use Rattle.tally_answer.specs.Shown.{shown_con, shown_gone, shown_return, whole_value, whole_values};
 
 use crate::outcome::status_word;
 use serde_json::{Map, Value, json};
@@ -14,8 +14,8 @@ use std::alloc::{AllocError, Global};
 use tally_returns::{ConView, Gone, Return};
 use tally_rules::{Constituency, ListEntry};
 
-fn wholes(alloc: Global, numbers: &[u32]) -> Result<Value, AllocError>
-    ensures { IfOk result (λ value. view value ≡ wholes numbers.now) }
+fn whole_values(alloc: Global, numbers: &[u32]) -> Result<Value, AllocError>
+    ensures { IfOk result (λ value. view value ≡ whole_values numbers.now) }
 {
     let mut items = Vec::with_capacity(alloc, numbers.len())?;
     for number in numbers {
@@ -24,8 +24,8 @@ fn wholes(alloc: Global, numbers: &[u32]) -> Result<Value, AllocError>
     Ok(Value::from(items))
 }
 
-fn long_wholes(alloc: Global, numbers: &[u64]) -> Result<Value, AllocError>
-    ensures { IfOk result (λ value. view value ≡ wholes numbers.now) }
+fn long_whole_values(alloc: Global, numbers: &[u64]) -> Result<Value, AllocError>
+    ensures { IfOk result (λ value. view value ≡ whole_values numbers.now) }
 {
     let mut items = Vec::with_capacity(alloc, numbers.len())?;
     for number in numbers {
@@ -54,7 +54,7 @@ fn put_number(
     number: u32,
 ) -> Result<(), AllocError>
     ensures { OnOk result (members_view map.new.entries
-        ≡ with_member key.now (whole number) (members_view map.old.entries)) }
+        ≡ with_member key.now (whole_value number) (members_view map.old.entries)) }
 {
     serde_json::put(map, alloc, key, Value::from(number))
 }
@@ -69,7 +69,12 @@ fn put_from_spoiled(
     ensures { OnOk result
         (members_view map.new.entries ≡ members_from_spoiled station.now kept.now) }
 {
-    serde_json::put(map, alloc, "votes", wholes(alloc, &kept.counts.votes)?)?;
+    serde_json::put(
+        map,
+        alloc,
+        "votes",
+        whole_values(alloc, &kept.counts.votes)?,
+    )?;
     put_text(map, alloc, "status", status_word(kept.status))?;
     put_text(map, alloc, "station", station)?;
     put_number(map, alloc, "spoiled", kept.counts.spoiled)
@@ -108,8 +113,8 @@ pub fn return_text(alloc: Global, station: &str, kept: &Return) -> Result<String
     return_value(alloc, station, kept)?.to_string(alloc)
 }
 
-fn code_at(lists: &[ListEntry], place: u32) -> &str
-    ensures { result.now ≡ code_at lists.now place }
+fn code_at_place(lists: &[ListEntry], place: u32) -> &str
+    ensures { result.now ≡ code_at_place lists.now place }
 {
     if place == 0 {
         return "";
@@ -120,12 +125,12 @@ fn code_at(lists: &[ListEntry], place: u32) -> &str
     }
 }
 
-fn codes_at(alloc: Global, lists: &[ListEntry], places: &[u32]) -> Result<Value, AllocError>
-    ensures { IfOk result (λ value. view value ≡ list_codes lists.now places.now) }
+fn codes_at_places(alloc: Global, lists: &[ListEntry], places: &[u32]) -> Result<Value, AllocError>
+    ensures { IfOk result (λ value. view value ≡ codes_at_places lists.now places.now) }
 {
     let mut items = Vec::with_capacity(alloc, places.len())?;
     for place in places {
-        items.push(Value::try_from_str(alloc, code_at(lists, *place))?)?;
+        items.push(Value::try_from_str(alloc, code_at_place(lists, *place))?)?;
     }
     Ok(Value::from(items))
 }
@@ -134,7 +139,7 @@ fn gone_value(alloc: Global, lists: &[ListEntry], gone: &Gone) -> Result<Value, 
     ensures { IfOk result (λ value. view value ≡ shown_gone lists.now gone.now) }
 {
     json!(in alloc; {
-        "list": code_at(lists, gone.list),
+        "list": code_at_place(lists, gone.list),
         "note": &gone.note,
         "place": gone.place
     })
@@ -159,12 +164,17 @@ fn put_behind_gone(
     requires { members_view map.old.entries ≡ no_members }
     ensures { OnOk result (members_view map.new.entries ≡ members_behind_gone con.now seen.now) }
 {
-    serde_json::put(map, alloc, "votes", long_wholes(alloc, &seen.votes)?)?;
+    serde_json::put(map, alloc, "votes", long_whole_values(alloc, &seen.votes)?)?;
     put_number(map, alloc, "stations", seen.stations)?;
     serde_json::put(map, alloc, "spoiled", Value::from(seen.spoiled))?;
-    serde_json::put(map, alloc, "seats", wholes(alloc, &seen.seats)?)?;
+    serde_json::put(map, alloc, "seats", whole_values(alloc, &seen.seats)?)?;
     put_text(map, alloc, "note", &seen.note)?;
-    serde_json::put(map, alloc, "lot", codes_at(alloc, &con.lists, &seen.lot)?)
+    serde_json::put(
+        map,
+        alloc,
+        "lot",
+        codes_at_places(alloc, &con.lists, &seen.lot)?,
+    )
 }
 
 fn put_con(
@@ -195,7 +205,8 @@ fn con_value(alloc: Global, con: &Constituency, seen: &ConView) -> Result<Value,
 
 /// The JSON of a constituency as it is seen.
 pub fn con_text(alloc: Global, con: &Constituency, seen: &ConView) -> Result<String, AllocError>
-    ensures { IfOk result (λ text. string_bytes text ≡ compact_text (shown_con con.now seen.now)) }
+    ensures { IfOk result (λ text.
+        string_bytes text ≡ compact_text (shown_con con.now seen.now)) }
 {
     con_value(alloc, con, seen)?.to_string(alloc)
 }

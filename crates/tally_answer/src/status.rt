@@ -1,7 +1,7 @@
 //! Statuses and types of answers.
 
 ghost use Rattle.std.specs.Prelude.{◌≡◌, ◌≤◌, length};
-ghost use Rattle.tally_answer.specs.Answer.{status_number, phrase, allow_line, type_name};
+ghost use Rattle.tally_answer.specs.Answer.{http_status, phrase, allow_line, type_name};
 
 use http::StatusCode;
 
@@ -36,7 +36,7 @@ pub enum BodyType {
 
 /// The status as `http` has it.
 pub(crate) fn code_of(status: AnswerStatus) -> StatusCode
-    ensures { result ≡ status_number status }
+    ensures { result ≡ http_status status }
 {
     match status {
         AnswerStatus::Done => StatusCode::OK,

@@ -27,20 +27,20 @@ abbrev pub within_u32 : ℕ → Option ℕ
 within_u32 n = if nat_le n 4294967295 then Some n else None
 
 -- a whole number from 0 to 4,294,967,295
-abbrev pub whole : Data → Option ℕ
-whole value = option_and_then within_u32 (option_and_then as_u64 (as_number value))
+abbrev pub as_whole : Data → Option ℕ
+as_whole value = option_and_then within_u32 (option_and_then as_u64 (as_number value))
 
-abbrev pub number_at : List ℕ → Data → Option ℕ
-number_at key body = option_and_then whole (get key body)
+abbrev pub number_under : List ℕ → Data → Option ℕ
+number_under key body = option_and_then as_whole (get key body)
 
-abbrev pub text_at : List ℕ → Data → Option (List ℕ)
-text_at key body = option_and_then as_str (get key body)
+abbrev pub text_under : List ℕ → Data → Option (List ℕ)
+text_under key body = option_and_then as_str (get key body)
 
-abbrev pub code : Data → Option (List ℕ)
-code value = option_and_then code_of (as_str value)
+abbrev pub as_code : Data → Option (List ℕ)
+as_code value = option_and_then code_of (as_str value)
 
-abbrev pub code_at : List ℕ → Data → Option (List ℕ)
-code_at key body = option_and_then code (get key body)
+abbrev pub code_under : List ℕ → Data → Option (List ℕ)
+code_under key body = option_and_then as_code (get key body)
 
 -- what each member of an array is, where each is one
 abbrev pub all_items : {A : Type 0} → (Data → Option A) → Items → Option (List A)
@@ -50,65 +50,66 @@ all_items member (item value values) = do
   others ← all_items member values
   Some (first ∷ others)
 
-abbrev pub numbers_at : List ℕ → Data → Option (List ℕ)
-numbers_at key body = option_and_then (all_items whole) (option_and_then as_array (get key body))
+abbrev pub numbers_under : List ℕ → Data → Option (List ℕ)
+numbers_under key body =
+    option_and_then (all_items as_whole) (option_and_then as_array (get key body))
 
-abbrev pub codes_at : List ℕ → Data → Option (List (List ℕ))
-codes_at key body = option_and_then (all_items code) (option_and_then as_array (get key body))
+abbrev pub codes_under : List ℕ → Data → Option (List (List ℕ))
+codes_under key body = option_and_then (all_items as_code) (option_and_then as_array (get key body))
 
-unfoldable pub counts_in : Data → Option VoteCounts
-counts_in body = do
-  blank ← number_at (codes "blank") body
-  spoiled ← number_at (codes "spoiled") body
-  votes ← numbers_at (codes "votes") body
+unfoldable pub counts_of_body : Data → Option VoteCounts
+counts_of_body body = do
+  blank ← number_under (codes "blank") body
+  spoiled ← number_under (codes "spoiled") body
+  votes ← numbers_under (codes "votes") body
   Some (record { votes = votes; blank = blank; spoiled = spoiled })
 
 unfoldable pub lodge_in : List ℕ → Data → Option AskSeen
 lodge_in station body = do
-  slip ← code_at (codes "slip") body
-  counts ← counts_in body
+  slip ← code_under (codes "slip") body
+  counts ← counts_of_body body
   Some (lodge station slip counts)
 
 unfoldable pub query_in : List ℕ → Data → Option AskSeen
 query_in station body = do
-  rev ← number_at (codes "rev") body
-  note ← text_at (codes "note") body
+  rev ← number_under (codes "rev") body
+  note ← text_under (codes "note") body
   Some (query station rev note)
 
 unfoldable pub correct_in : List ℕ → Data → Option AskSeen
 correct_in station body = do
-  rev ← number_at (codes "rev") body
-  slip ← code_at (codes "slip") body
-  counts ← counts_in body
+  rev ← number_under (codes "rev") body
+  slip ← code_under (codes "slip") body
+  counts ← counts_of_body body
   Some (correct station rev slip counts)
 
 unfoldable pub close_in : List ℕ → Data → Option AskSeen
 close_in station body = do
-  rev ← number_at (codes "rev") body
+  rev ← number_under (codes "rev") body
   Some (close station rev)
 
 unfoldable pub draw_in : List ℕ → Data → Option AskSeen
 draw_in con body = do
-  edition ← number_at (codes "edition") body
-  order ← codes_at (codes "order") body
+  edition ← number_under (codes "edition") body
+  order ← codes_under (codes "order") body
   Some (draw con edition order)
 
 unfoldable pub certify_in : List ℕ → Data → Option AskSeen
 certify_in con body = do
-  edition ← number_at (codes "edition") body
+  edition ← number_under (codes "edition") body
   Some (certify con edition)
 
 unfoldable pub reopen_in : List ℕ → Data → Option AskSeen
 reopen_in con body = do
-  edition ← number_at (codes "edition") body
-  note ← text_at (codes "note") body
+  edition ← number_under (codes "edition") body
+  note ← text_under (codes "note") body
   Some (reopen con edition note)
 
 unfoldable pub vacate_in : List ℕ → Data → Option AskSeen
 vacate_in con body = do
-  list ← code_at (codes "list") body
-  place ← number_at (codes "place") body
-  note ← text_at (codes "note") body
+  list ← code_under (codes "list") body
+  place ← number_under (codes "place") body
+  note ← text_under (codes "note") body
   Some (vacate con list place note)
 
 -- The command that a JSON value is, of one of these commands on the station or the constituency of

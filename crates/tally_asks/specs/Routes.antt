@@ -52,22 +52,22 @@ command_routes =
     ∷ (codes "/con/{c}/import/semicolon", route.Import separator.Semicolon)
     ∷ []
 
-abbrev pub Rows : Type 0
-Rows = RowsOf (RouteOf Route)
+abbrev pub RouteRows : Type 0
+RouteRows = RowsOf (RouteOf Route)
 
 -- the rows with one more route, as `matchit` places it
-abbrev pub with_scan : Rows → Route → Result Scan InsertError → Rows
+abbrev pub with_scan : RouteRows → Route → Result Scan InsertError → RouteRows
 with_scan rows route (Ok scan) = placed (scan.pattern, route_from scan route) rows
 with_scan rows route (Err fault) = rows
 
-unfoldable pub with_route : Rows → (List ℕ × Route) → Rows
+unfoldable pub with_route : RouteRows → (List ℕ × Route) → RouteRows
 with_route rows entry = with_scan rows entry.1 (parse_route entry.0)
 
-abbrev pub with_routes : Rows → List (List ℕ × Route) → Rows
+abbrev pub with_routes : RouteRows → List (List ℕ × Route) → RouteRows
 with_routes rows [] = rows
 with_routes rows (entry ∷ table) = with_routes (with_route rows entry) table
 
-abbrev pub desk_rows : Rows
+abbrev pub desk_rows : RouteRows
 desk_rows = with_routes (with_routes (with_routes [] station_routes) con_routes) command_routes
 
 -- The route of a target; one that is not UTF-8 has none.
@@ -86,8 +86,8 @@ takes_get (route.OnCon command) = false
 takes_get (route.Import sep) = false
 
 -- the method that a route takes
-abbrev pub method_of : Route → List ℕ
-method_of route = if takes_get route then codes "GET" else codes "POST"
+abbrev pub route_method : Route → List ℕ
+route_method route = if takes_get route then codes "GET" else codes "POST"
 
 -- the bytes before the first slash, or all of them
 abbrev pub up_to : List ℕ → Option ℕ → List ℕ

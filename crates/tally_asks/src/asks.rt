@@ -3,9 +3,9 @@
 ghost use Rattle.std.specs.Prelude.{◌≡◌, codes, option_map, IfOk, string_bytes};
 ghost use Rattle.serde_json.specs.View.{view};
 ghost use Rattle.tally_returns.specs.AskSeen.{ask_seen};
-ghost use Rattle.tally_asks.specs.Bodies.{IsCommand, text_at, lodge_in, query_in, correct_in, close_in, draw_in, certify_in, reopen_in, vacate_in, con_command, station_command};
+ghost use Rattle.tally_asks.specs.Bodies.{IsCommand, text_under, lodge_in, query_in, correct_in, close_in, draw_in, certify_in, reopen_in, vacate_in, con_command, station_command};
 
-use crate::fields::{code_under, codes_under, counts_in, number_under, text_under, value_of};
+use crate::fields::{code_under, codes_under, counts_of_body, number_under, text_under, value_of};
 use crate::routes::{ConCommand, StationCommand};
 use serde_json::Value;
 use std::alloc::{AllocError, Global};
@@ -14,7 +14,7 @@ use tally_rules::Code;
 
 fn note_in(alloc: Global, value: &Value) -> Result<Option<String>, AllocError>
     ensures { IfOk result
-        (λ found. option_map string_bytes found ≡ text_at (codes "note") (view value.now)) }
+        (λ found. option_map string_bytes found ≡ text_under (codes "note") (view value.now)) }
 {
     match text_under(value, "note") {
         Some(text) => Ok(Some(String::from_str(alloc, text)?)),
@@ -24,12 +24,13 @@ fn note_in(alloc: Global, value: &Value) -> Result<Option<String>, AllocError>
 
 #[tactic(auto, unfolding(crate::specs::Bodies::lodge_in))]
 fn lodge(alloc: Global, station: Code, value: &Value) -> Result<Option<Ask>, AllocError>
-    ensures { IfOk result (λ found. option_map ask_seen found ≡ lodge_in station (view value.now)) }
+    ensures { IfOk result (λ found.
+        option_map ask_seen found ≡ lodge_in station (view value.now)) }
 {
     let Some(slip) = code_under(value, "slip") else {
         return Ok(None);
     };
-    let Some(counts) = counts_in(alloc, value)? else {
+    let Some(counts) = counts_of_body(alloc, value)? else {
         return Ok(None);
     };
     Ok(Some(Ask::Lodge {
@@ -41,7 +42,8 @@ fn lodge(alloc: Global, station: Code, value: &Value) -> Result<Option<Ask>, All
 
 #[tactic(auto, unfolding(crate::specs::Bodies::query_in))]
 fn query(alloc: Global, station: Code, value: &Value) -> Result<Option<Ask>, AllocError>
-    ensures { IfOk result (λ found. option_map ask_seen found ≡ query_in station (view value.now)) }
+    ensures { IfOk result (λ found.
+        option_map ask_seen found ≡ query_in station (view value.now)) }
 {
     let Some(rev) = number_under(value, "rev") else {
         return Ok(None);
@@ -63,7 +65,7 @@ fn correct(alloc: Global, station: Code, value: &Value) -> Result<Option<Ask>, A
     let Some(slip) = code_under(value, "slip") else {
         return Ok(None);
     };
-    let Some(counts) = counts_in(alloc, value)? else {
+    let Some(counts) = counts_of_body(alloc, value)? else {
         return Ok(None);
     };
     Ok(Some(Ask::Correct {

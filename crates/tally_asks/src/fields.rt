@@ -3,7 +3,7 @@
 ghost use Rattle.std.specs.Prelude.{◌≡◌, option_map, option_and_then, IfOk};
 ghost use Rattle.serde_json.specs.Find.{get, as_array};
 ghost use Rattle.serde_json.specs.View.{view, items_view};
-ghost use Rattle.tally_asks.specs.Bodies.{IsBody, whole, number_at, text_at, code, code_at, all_items, numbers_at, codes_at, counts_in};
+ghost use Rattle.tally_asks.specs.Bodies.{IsBody, as_whole, number_under, text_under, as_code, code_under, all_items, numbers_under, codes_under, counts_of_body};
 
 use serde_json::Value;
 use std::alloc::{AllocError, Global};
@@ -27,44 +27,44 @@ pub(crate) fn value_of(alloc: Global, body: &[u8]) -> Result<Option<Value>, Allo
 }
 
 /// A whole number of 32 bits.
-fn whole(value: &Value) -> Option<u32>
-    ensures { result ≡ whole (view value.now) }
+fn as_whole(value: &Value) -> Option<u32>
+    ensures { result ≡ as_whole (view value.now) }
 {
     let number = value.as_u64()?;
     u32::try_from(number).ok()
 }
 
 pub(crate) fn number_under(value: &Value, key: &str) -> Option<u32>
-    ensures { result ≡ number_at key.now (view value.now) }
+    ensures { result ≡ number_under key.now (view value.now) }
 {
-    whole(value.get(key)?)
+    as_whole(value.get(key)?)
 }
 
 pub(crate) fn text_under<'v>(value: &'v Value, key: &str) -> Option<&'v str>
-    ensures { option_map (λ text. text.now) result ≡ text_at key.now (view value.now) }
+    ensures { option_map (λ text. text.now) result ≡ text_under key.now (view value.now) }
 {
     value.get(key)?.as_str()
 }
 
-fn code(value: &Value) -> Option<Code>
-    ensures { result ≡ code (view value.now) }
+fn as_code(value: &Value) -> Option<Code>
+    ensures { result ≡ as_code (view value.now) }
 {
     Code::new(value.as_str()?.as_bytes())
 }
 
 pub(crate) fn code_under(value: &Value, key: &str) -> Option<Code>
-    ensures { result ≡ code_at key.now (view value.now) }
+    ensures { result ≡ code_under key.now (view value.now) }
 {
-    code(value.get(key)?)
+    as_code(value.get(key)?)
 }
 
 fn wholes(alloc: Global, values: &[Value]) -> Result<Option<Vec<u32>>, AllocError>
-    ensures { IfOk result
-        (λ found. option_map (λ all. all.items) found ≡ all_items whole (items_view values.now)) }
+    ensures { IfOk result (λ found.
+        option_map (λ all. all.items) found ≡ all_items as_whole (items_view values.now)) }
 {
     let mut numbers = Vec::with_capacity(alloc, values.len())?;
     for value in values {
-        let Some(number) = whole(value) else {
+        let Some(number) = as_whole(value) else {
             return Ok(None);
         };
         numbers.push(number)?;
@@ -73,12 +73,12 @@ fn wholes(alloc: Global, values: &[Value]) -> Result<Option<Vec<u32>>, AllocErro
 }
 
 fn all_codes(alloc: Global, values: &[Value]) -> Result<Option<Vec<Code>>, AllocError>
-    ensures { IfOk result
-        (λ found. option_map (λ all. all.items) found ≡ all_items code (items_view values.now)) }
+    ensures { IfOk result (λ found.
+        option_map (λ all. all.items) found ≡ all_items as_code (items_view values.now)) }
 {
     let mut all = Vec::with_capacity(alloc, values.len())?;
     for value in values {
-        let Some(code) = code(value) else {
+        let Some(code) = as_code(value) else {
             return Ok(None);
         };
         all.push(code)?;
@@ -102,7 +102,7 @@ pub(crate) fn codes_under(
     key: &str,
 ) -> Result<Option<Vec<Code>>, AllocError>
     ensures { IfOk result
-        (λ found. option_map (λ all. all.items) found ≡ codes_at key.now (view value.now)) }
+        (λ found. option_map (λ all. all.items) found ≡ codes_under key.now (view value.now)) }
 {
     match array_under(value, key) {
         Some(values) => all_codes(alloc, values),
@@ -112,7 +112,7 @@ pub(crate) fn codes_under(
 
 fn numbers_under(alloc: Global, value: &Value, key: &str) -> Result<Option<Vec<u32>>, AllocError>
     ensures { IfOk result
-        (λ found. option_map (λ all. all.items) found ≡ numbers_at key.now (view value.now)) }
+        (λ found. option_map (λ all. all.items) found ≡ numbers_under key.now (view value.now)) }
 {
     match array_under(value, key) {
         Some(values) => wholes(alloc, values),
@@ -121,9 +121,9 @@ fn numbers_under(alloc: Global, value: &Value, key: &str) -> Result<Option<Vec<u
 }
 
 /// The counts of a return: its votes, blank and spoiled ones.
-#[tactic(auto, unfolding(crate::specs::Bodies::counts_in))]
-pub(crate) fn counts_in(alloc: Global, value: &Value) -> Result<Option<Counts>, AllocError>
-    ensures { IfOk result (λ found. found ≡ counts_in (view value.now)) }
+#[tactic(auto, unfolding(crate::specs::Bodies::counts_of_body))]
+pub(crate) fn counts_of_body(alloc: Global, value: &Value) -> Result<Option<Counts>, AllocError>
+    ensures { IfOk result (λ found. found ≡ counts_of_body (view value.now)) }
 {
     let Some(blank) = number_under(value, "blank") else {
         return Ok(None);

@@ -2,7 +2,7 @@
 
 ghost use Rattle.std.specs.Prelude.{◌≡◌, Option, option_map, IfOk, OnOk, map, bytes_eq};
 ghost use Rattle.matchit.specs.Router.{RouteOf};
-ghost use Rattle.tally_asks.specs.Routes.{desk_rows, with_route, with_routes, station_routes, con_routes, command_routes, takes_get, method_of, IsRouted};
+ghost use Rattle.tally_asks.specs.Routes.{desk_rows, with_route, with_routes, station_routes, con_routes, command_routes, takes_get, route_method, IsRouted};
 
 use http::Method;
 use matchit::{InsertError, Router};
@@ -168,7 +168,7 @@ pub fn takes_get(route: Route) -> bool
 
 /// Whether a route takes a method.
 pub fn takes(route: Route, method: &Method) -> bool
-    ensures { result ≡ bytes_eq method.now (method_of route) }
+    ensures { result ≡ bytes_eq method.now (route_method route) }
 {
     if takes_get(route) {
         return *method == Method::GET;

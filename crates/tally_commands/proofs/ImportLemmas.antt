@@ -2,13 +2,14 @@
 use Rattle.std.proofs.Common.{◌≡◌, ◌⊎◌, ℕ, List, [], Option, Some, None, Result, Ok, Err, IfErr, IfOk, OnOk, option_map, refl, sym, ap, ◌∙◌, inl, inr}
 use Rattle.tally_rules.specs.Constituency.{Constituency}
 use Rattle.tally_returns.specs.State.{State}
-use Rattle.tally_keeper.specs.Keeper.{Happens, Imports, IsFault, IsOwnFault, failed_import}
+use Rattle.tally_keeper.specs.Keeper.{Happens, Imports, IsImportFault, IsOwnFault, failed_import}
 use Rattle.tally_keeper.specs.Source.{Delivery, SourceAt}
 use Rattle.tally_keeper.proofs.TakenLemmas.{own-first}
 use Rattle.tally_import.specs.ReturnRows.{text_coming}
 use Rattle.tally_import.specs.ReturnRowsValue.{ReturnRows, coming, unread_rows}
 use Rattle.tally_records.specs.declared.separator.Sep.{Sep}
-use Rattle.tally_commands.specs.Imported.{IsFindTrouble, IsImported, IsImportTrouble, IsTroubleIn, coming_of}
+use Rattle.tally_commands.specs.Imported.{IsImportText, IsImportTrouble, IsTroubleIn, coming_of}
+use Rattle.tally_commands.specs.internal.Found.{IsFindTrouble}
 use Rattle.tally_commands.specs.Trouble.{import_trouble}
 use Rattle.tally_commands.specs.declared.trouble.Trouble.{Trouble}
 use Rattle.tally_commands.specs.declared.trouble.Trouble.TheVariants as trouble
@@ -49,7 +50,7 @@ own-no-read : IsOwnFault Read → ⊥
 own-no-read (inl is) = cc
 own-no-read (inr is) = cc
 
-read-of-source : (d : Delivery) (fault : ImportFault) → IsFault d fault → import_trouble fault ≡ trouble.Read → d.finish.ended ≡ Some (Some Read)
+read-of-source : (d : Delivery) (fault : ImportFault) → IsImportFault d fault → import_trouble fault ≡ trouble.Read → d.finish.ended ≡ Some (Some Read)
 read-of-source d BadHeader is told = cc
 read-of-source d TooLong is told = cc
 read-of-source d Read (rows, given, inl own) told = absurd (own-no-read own)
@@ -68,7 +69,7 @@ read-ended setup old new d (Err t) (fault, imports, told) is =
 
 -- the rows of a source were imported only once it came to its end
 pub end-then : {S : Type 0} (setup : List Constituency) (old new : Option State) (d : Delivery) (bytes : S → List ℕ) (Then : Type 0) (r : Result S Trouble)
-    → IfOk r (λ t. IsImported setup old d (bytes t) new) → (d.finish.ended ≡ Some None → Then) → OnOk r Then
+    → IfOk r (λ t. IsImportText setup old d (bytes t) new) → (d.finish.ended ≡ Some None → Then) → OnOk r Then
 end-then setup old new d bytes Then (Ok text) (count, imports, is) then = then imports.2.2
 end-then setup old new d bytes Then (Err t) imported then = tt
 

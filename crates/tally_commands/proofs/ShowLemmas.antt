@@ -17,7 +17,8 @@ use Rattle.tally_report.specs.declared.fault.ReportFault.TheVariants as fault
 use Rattle.tally_report.specs.Fault.{IsRefused}
 use Rattle.tally_report.specs.Reports.{report_fault}
 use Rattle.tally_report.specs.declared.report.Report.{Report}
-use Rattle.tally_commands.specs.Show.{IsProgressTrouble, IsReportTrouble, IsWithheld, Shows, refusal_trouble}
+use Rattle.tally_commands.specs.Show.{IsProgressTrouble, IsReportTrouble, Shows}
+use Rattle.tally_commands.specs.internal.Withheld.{IsWithheld, refusal_trouble}
 use Rattle.tally_commands.specs.Trouble.{report_trouble}
 use Rattle.tally_commands.specs.declared.trouble.Trouble.{Trouble}
 use Rattle.tally_commands.specs.declared.trouble.Trouble.TheVariants as trouble

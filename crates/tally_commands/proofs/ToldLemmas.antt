@@ -3,15 +3,15 @@ use Rattle.std.proofs.Common.{◌≡◌, ◌∙◌, ◌++◌, ◌+◌, ℕ, List
 use Rattle.std.proofs.KnownBytes.{Appends-trans}
 use Rattle.std.proofs.Math.Seq.{take-length, take-append-add, take-append_seam}
 use Rattle.std.specs.Io.KnownBytes.{Appends}
-use Rattle.tally_commands.specs.Told.{Told}
+use Rattle.tally_commands.specs.Reported.{IsReported}
 
 pub told-either : {E : Type 0} (old new : Option (List ℕ)) (text : List ℕ) (result : Result (Unit {0}) E)
-    → OnOk result (Appends old new text) → OnErr result ((n : ℕ) × Appends old new (take n text)) → Told old new text
+    → OnOk result (Appends old new text) → OnErr result ((n : ℕ) × Appends old new (take n text)) → IsReported old new text
 told-either old new text (Ok u) whole front = (length text, subst (Appends old new) (sym (take-length text)) whole)
 told-either old new text (Err e) whole front = front
 
 -- a front of the first of two texts is one of both
-pub told-front : (old new : Option (List ℕ)) (words rest : List ℕ) → (n : ℕ) × Appends old new (take n words) → Told old new (words ++ rest)
+pub told-front : (old new : Option (List ℕ)) (words rest : List ℕ) → (n : ℕ) × Appends old new (take n words) → IsReported old new (words ++ rest)
 told-front old new words rest (n, front) =
     let text = take n words in
     let split : words ++ rest ≡ text ++ (drop n words ++ rest) =
@@ -19,6 +19,6 @@ told-front old new words rest (n, front) =
     (length text, subst (Appends old new) (sym (ap (take (length text)) split ∙ take-append_seam text (drop n words ++ rest))) front)
 
 -- the first of two texts was written, and the second or a front of it behind
-pub told-behind : (old mid new : Option (List ℕ)) (words rest : List ℕ) → Appends old mid words → Told mid new rest → Told old new (words ++ rest)
+pub told-behind : (old mid new : Option (List ℕ)) (words rest : List ℕ) → Appends old mid words → IsReported mid new rest → IsReported old new (words ++ rest)
 told-behind old mid new words rest whole (n, front) =
     (length words + n, subst (Appends old new) (sym (take-append-add words rest n)) (Appends-trans old mid new words (take n rest) whole front))

@@ -12,12 +12,7 @@ use Rattle.tally_import.specs.Check.{count_text}
 use Rattle.tally_import.specs.ReturnRows.{text_coming}
 use Rattle.tally_commands.specs.Trouble.{import_trouble}
 use Rattle.tally_commands.specs.declared.trouble.Trouble.{Trouble}
-use Rattle.tally_commands.specs.declared.trouble.Trouble.TheVariants.{NoConstituency, Memory}
-
--- No constituency has the code; or one has it, and its copy ran out of memory.
-abbrev pub IsFindTrouble : Option Constituency → Trouble → Type 0
-IsFindTrouble None t = t ≡ NoConstituency
-IsFindTrouble (Some con) t = t ≡ Memory
+use Rattle.tally_commands.specs.declared.trouble.Trouble.TheVariants.{NoConstituency}
 
 -- the six lines of an import's counts
 abbrev pub IsCountText : List ℕ → Type 0
@@ -25,22 +20,28 @@ IsCountText text = (count : ImportCount) × (text ≡ count_text count)
 
 -- All rows that a source gave within a call were imported, and the text is the six lines of their
 -- count.
-abbrev pub IsImported : List Constituency → Option State → Delivery → List ℕ → Option State → Type 0
-IsImported setup old d text new =
+abbrev pub IsImportText : List Constituency → Option State → Delivery → List ℕ → Option State
+    → Type 0
+IsImportText setup old d text new =
     (count : ImportCount) × Imports setup old d (Ok count) new × (text ≡ count_text count)
 
 -- The import had a fault, and the trouble is that of this fault. It changed nothing, unless a disk
 -- that failed has shut the keeper.
-abbrev pub IsImportTrouble : List Constituency → Option State → Delivery → Trouble → Option State → Type 0
+abbrev pub IsImportTrouble : List Constituency → Option State → Delivery → Trouble → Option State
+    → Type 0
 IsImportTrouble setup old d t new =
     (fault : ImportFault) × Imports setup old d (Err fault) new × (t ≡ import_trouble fault)
 
 -- the same of a source of which this was known
-abbrev pub IsImportedComing : List Constituency → Option State → Option Coming → List ℕ → Option State → Type 0
-IsImportedComing setup old known text new = (d : Delivery) × (d.start.coming ≡ known) × IsImported setup old d text new
+abbrev pub IsImportedComing : List Constituency → Option State → Option Coming → List ℕ
+    → Option State → Type 0
+IsImportedComing setup old known text new =
+    (d : Delivery) × (d.start.coming ≡ known) × IsImportText setup old d text new
 
-abbrev pub IsTroubleComing : List Constituency → Option State → Option Coming → Trouble → Option State → Type 0
-IsTroubleComing setup old known t new = (d : Delivery) × (d.start.coming ≡ known) × IsImportTrouble setup old d t new
+abbrev pub IsTroubleComing : List Constituency → Option State → Option Coming → Trouble
+    → Option State → Type 0
+IsTroubleComing setup old known t new =
+    (d : Delivery) × (d.start.coming ≡ known) × IsImportTrouble setup old d t new
 
 -- ---- texts of which the bytes may be known
 
@@ -50,16 +51,20 @@ coming_of con sep bytes = option_map (text_coming con sep) bytes
 
 -- The rows of a text were imported into the constituency of this code, and these are the six lines
 -- of their count.
-abbrev pub IsTextImported : List ℕ → Sep → Option (List ℕ) → List Constituency → Option State → List ℕ → Option State → Type 0
+abbrev pub IsTextImported : List ℕ → Sep → Option (List ℕ) → List Constituency → Option State
+    → List ℕ → Option State → Type 0
 IsTextImported code sep bytes setup old lines new =
     (con : Constituency) × (constituency_with code setup ≡ Some con)
     × IsImportedComing setup old (coming_of con sep bytes) lines new
 
 -- No constituency has the code, and nothing was done; or the import had a fault.
-abbrev pub IsTroubleIn : Option Constituency → Sep → Option (List ℕ) → List Constituency → Option State → Trouble → Option State → Type 0
+abbrev pub IsTroubleIn : Option Constituency → Sep → Option (List ℕ) → List Constituency
+    → Option State → Trouble → Option State → Type 0
 IsTroubleIn None sep bytes setup old t new = (t ≡ NoConstituency) × (new ≡ old)
-IsTroubleIn (Some con) sep bytes setup old t new = IsTroubleComing setup old (coming_of con sep bytes) t new
+IsTroubleIn (Some con) sep bytes setup old t new =
+    IsTroubleComing setup old (coming_of con sep bytes) t new
 
 -- Why the rows of a text were not imported into the constituency of this code.
-abbrev pub IsTextTrouble : List ℕ → Sep → Option (List ℕ) → List Constituency → Option State → Trouble → Option State → Type 0
+abbrev pub IsTextTrouble : List ℕ → Sep → Option (List ℕ) → List Constituency → Option State
+    → Trouble → Option State → Type 0
 IsTextTrouble code sep bytes setup = IsTroubleIn (constituency_with code setup) sep bytes setup

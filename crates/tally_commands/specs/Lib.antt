@@ -1,4 +1,5 @@
-pub mod Told
+pub mod internal
+pub mod Reported
 pub mod Trouble
 pub mod Show
 pub mod Imported

@@ -22,4 +22,5 @@ served_line answered failed =
 -- Of so many connections each was answered or failed.
 abbrev pub IsServedText : ℕ → List ℕ → Type 0
 IsServedText count text =
-    (answered : ℕ) × (failed : ℕ) × (answered + failed ≡ count) × (text ≡ served_line answered failed)
+    (answered : ℕ) × (failed : ℕ) × (answered + failed ≡ count)
+    × (text ≡ served_line answered failed)

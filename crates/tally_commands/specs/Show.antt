@@ -9,7 +9,6 @@ use Rattle.tally_returns.specs.View.{View}
 use Rattle.tally_returns.specs.declared.ask.Ask.{Ask}
 use Rattle.tally_returns.specs.declared.ask.Ask.TheVariants.{ShowCon, ShowProgress}
 use Rattle.tally_returns.specs.declared.progress.ProgressRow.{ProgressRow}
-use Rattle.tally_returns.specs.declared.refusal.Refusal.{Refusal}
 use Rattle.tally_returns.specs.declared.refusal.Refusal.TheVariants as refusal
 use Rattle.tally_returns.specs.declared.reply.Reply.{Reply}
 use Rattle.tally_returns.specs.declared.reply.Reply.TheVariants as reply
@@ -19,7 +18,6 @@ use Rattle.tally_report.specs.declared.fault.ReportFault.{ReportFault}
 use Rattle.tally_report.specs.declared.fault.ReportFault.TheVariants as fault
 use Rattle.tally_report.specs.Reports.{IsReport, report_fault}
 use Rattle.tally_report.specs.declared.report.Report.{Report}
-use Rattle.tally_commands.specs.Trouble.{report_trouble}
 use Rattle.tally_commands.specs.declared.trouble.Trouble.{Trouble}
 use Rattle.tally_commands.specs.declared.trouble.Trouble.TheVariants as trouble
 
@@ -34,25 +32,33 @@ abbrev pub IsGiven : Constituency → View → Report → List ℕ → Type 0
 IsGiven con view which text = (report_fault con view which ≡ None) × IsReport con view which text
 
 -- The text is the report of the constituency of this code, by what it has come to.
-abbrev pub IsReportShown : List Constituency → Option State → List ℕ → Report → List ℕ → Option State → Type 0
+abbrev pub IsReportShown : List Constituency → Option State → List ℕ → Report → List ℕ
+    → Option State → Type 0
 IsReportShown setup old code which text new =
     (con : Constituency) × (view : View) × (constituency_with code setup ≡ Some con)
     × Shows setup old (ShowCon code) (reply.Con view) new × IsGiven con view which text
 
 -- Why a report is not given, by what the constituency of this code has come to.
-abbrev pub HasFault : List Constituency → Option State → List ℕ → Report → ReportFault → Option State → Type 0
+abbrev pub HasFault : List Constituency → Option State → List ℕ → Report → ReportFault
+    → Option State → Type 0
 HasFault setup old code which why new =
     (con : Constituency) × (view : View) × (constituency_with code setup ≡ Some con)
     × Shows setup old (ShowCon code) (reply.Con view) new × (report_fault con view which ≡ Some why)
 
 -- No constituency has the code; there is a fault of the report; it is out of memory, or the
 -- database failed. No other trouble comes.
-abbrev pub IsReportTrouble : List Constituency → Option State → List ℕ → Report → Trouble → Option State → Type 0
-IsReportTrouble setup old code which trouble.NoConstituency new = (constituency_with code setup ≡ None) × (new ≡ old)
-IsReportTrouble setup old code which trouble.NotCertified new = HasFault setup old code which fault.NotCertified new
-IsReportTrouble setup old code which trouble.OtherMethod new = HasFault setup old code which fault.OtherMethod new
-IsReportTrouble setup old code which trouble.Memory new = Happens setup old (request (ShowCon code) (Err refusal.Memory)) new
-IsReportTrouble setup old code which trouble.Store new = Happens setup old (request (ShowCon code) (Err refusal.Store)) new
+abbrev pub IsReportTrouble : List Constituency → Option State → List ℕ → Report → Trouble
+    → Option State → Type 0
+IsReportTrouble setup old code which trouble.NoConstituency new =
+    (constituency_with code setup ≡ None) × (new ≡ old)
+IsReportTrouble setup old code which trouble.NotCertified new =
+    HasFault setup old code which fault.NotCertified new
+IsReportTrouble setup old code which trouble.OtherMethod new =
+    HasFault setup old code which fault.OtherMethod new
+IsReportTrouble setup old code which trouble.Memory new =
+    Happens setup old (request (ShowCon code) (Err refusal.Memory)) new
+IsReportTrouble setup old code which trouble.Store new =
+    Happens setup old (request (ShowCon code) (Err refusal.Store)) new
 IsReportTrouble setup old code which other new = ⊥
 
 -- ---- progress
@@ -60,27 +66,13 @@ IsReportTrouble setup old code which other new = ⊥
 -- The text shows how far each constituency has come.
 abbrev pub IsProgressShown : List Constituency → Option State → List ℕ → Option State → Type 0
 IsProgressShown setup old text new =
-    (rows : Vec ProgressRow Global) × Shows setup old ShowProgress (reply.Progress rows) new × (text ≡ progress_text rows.items)
+    (rows : Vec ProgressRow Global) × Shows setup old ShowProgress (reply.Progress rows) new
+    × (text ≡ progress_text rows.items)
 
 -- It is out of memory, or the database failed.
 abbrev pub IsProgressTrouble : List Constituency → Option State → Trouble → Option State → Type 0
-IsProgressTrouble setup old trouble.Memory new = Happens setup old (request ShowProgress (Err refusal.Memory)) new
-IsProgressTrouble setup old trouble.Store new = Happens setup old (request ShowProgress (Err refusal.Store)) new
+IsProgressTrouble setup old trouble.Memory new =
+    Happens setup old (request ShowProgress (Err refusal.Memory)) new
+IsProgressTrouble setup old trouble.Store new =
+    Happens setup old (request ShowProgress (Err refusal.Store)) new
 IsProgressTrouble setup old other new = ⊥
-
--- ---- words of private contracts
-
--- it holds of the constituency of this code, where there is one
-abbrev pub OfCon : List Constituency → List ℕ → (Constituency → Type 0) → Type 0
-OfCon setup code Holds = (con : Constituency) → constituency_with code setup ≡ Some con → Holds con
-
--- the trouble where a report has this fault, or none
-abbrev pub IsWithheld : Option ReportFault → Trouble → Type 0
-IsWithheld (Some why) t = t ≡ report_trouble why
-IsWithheld None t = t ≡ trouble.Memory
-
--- the trouble where a request that shows something is refused: a keeper that is trusted refuses it
--- for nothing else
-abbrev pub refusal_trouble : Refusal → Trouble
-refusal_trouble refusal.Memory = trouble.Memory
-refusal_trouble other = trouble.Store

@@ -140,7 +140,8 @@ IsTroubleOfText t = (t ≡ NoConstituency) ⊎ IsTroubleOfRows t
 
 -- of showing a report
 abbrev pub IsTroubleOfReport : Trouble → Type 0
-IsTroubleOfReport t = (t ≡ NoConstituency) ⊎ (t ≡ NotCertified) ⊎ (t ≡ OtherMethod) ⊎ IsTroubleOfDatabase t
+IsTroubleOfReport t =
+    (t ≡ NoConstituency) ⊎ (t ≡ NotCertified) ⊎ (t ≡ OtherMethod) ⊎ IsTroubleOfDatabase t
 
 -- of showing the progress
 abbrev pub IsTroubleOfProgress : Trouble → Type 0

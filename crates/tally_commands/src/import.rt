@@ -1,14 +1,17 @@
-//! Imports of returns.
+//! Imports of returns. Errors are matched and returned, and not passed on by `?`, since the `?` of
+//! an enum that holds a text (`Trouble`) has no proof yet.
 
 ghost use Rattle.std.specs.Prelude.{◌≡◌, Err, IfErr, IfOk, OnOk, Some, false, is_some, string_bytes, true};
 ghost use Rattle.tally_rules.specs.Setup.{constituency_with};
 ghost use Rattle.tally_records.specs.Watch.{NotesNothing, has_failed};
 ghost use Rattle.tally_keeper.specs.Delivery.{delivery};
-ghost use Rattle.tally_commands.specs.Imported.{IsCountText, IsFindTrouble, IsImportTrouble, IsImported};
+ghost use Rattle.tally_keeper.specs.StaysKeeper.{StaysKeeper};
+ghost use Rattle.tally_commands.specs.Imported.{IsCountText, IsImportTrouble, IsImportText};
 ghost use Rattle.tally_commands.specs.Imported.{IsImportedComing, IsTextImported, IsTextTrouble, IsTroubleComing, coming_of};
 ghost use Rattle.tally_commands.specs.Trouble.{IsTroubleOfText, IsTroubleOfRows};
+ghost use Rattle.tally_commands.specs.internal.Found.{IsFindTrouble};
 
-use crate::named::con_named;
+use crate::named::con_with_code;
 use crate::trouble::Trouble;
 use std::alloc::Global;
 use std::io::Read;
@@ -21,7 +24,7 @@ use tally_rules::{Constituency, Setup};
 pub fn has_con(setup: &Setup, code: &str) -> bool
     ensures { result ≡ is_some (constituency_with code.now setup.now) }
 {
-    con_named(setup, code).is_some()
+    con_with_code(setup, code).is_some()
 }
 
 /// A copy of the constituency of a code, which an import needs.
@@ -29,7 +32,7 @@ fn find_con(alloc: Global, setup: &Setup, code: &str) -> Result<Constituency, Tr
     ensures found { IfOk result (λ con. constituency_with code.now setup.now ≡ Some con) }
     ensures trouble { IfErr result (IsFindTrouble (constituency_with code.now setup.now)) }
 {
-    let Some(con) = con_named(setup, code) else {
+    let Some(con) = con_with_code(setup, code) else {
         return Err(Trouble::NoConstituency);
     };
     match con.try_copy(alloc) {
@@ -41,7 +44,7 @@ fn find_con(alloc: Global, setup: &Setup, code: &str) -> Result<Constituency, Tr
 /// Imports the rows of a text into the constituency of a code: all of them, or with a trouble none,
 /// unless a disk that failed has shut the keeper. Answers how many were lodged, as text. A failed
 /// read is answered only where one was noted on the watch; where the rows were imported, none was.
-pub fn import_text<K: Keeper, R: Read + Drop>(
+pub fn import_returns<K: Keeper, R: Read + Drop>(
     alloc: Global,
     keeper: &mut K,
     code: &str,
@@ -49,8 +52,7 @@ pub fn import_text<K: Keeper, R: Read + Drop>(
     reader: R,
     watch: &mut Watch<R>,
 ) -> Result<String, Trouble>
-    ensures setup { K.constituencies keeper.new ≡ K.constituencies keeper.old }
-    ensures trusted { K.IsTrusted keeper.new → K.IsTrusted keeper.old }
+    ensures stays { StaysKeeper K.Keeper keeper.old keeper.new }
     ensures text { IfOk result (λ text. IsCountText (string_bytes text)) }
     ensures named { IfErr result IsTroubleOfText }
     ensures read { K.IsTrusted keeper.new →
@@ -79,8 +81,7 @@ fn import_constituency<K: Keeper, R: Read + Drop>(
     reader: R,
     watch: &mut Watch<R>,
 ) -> Result<String, Trouble>
-    ensures setup { K.constituencies keeper.new ≡ K.constituencies keeper.old }
-    ensures trusted { K.IsTrusted keeper.new → K.IsTrusted keeper.old }
+    ensures stays { StaysKeeper K.Keeper keeper.old keeper.new }
     ensures text { IfOk result (λ text. IsCountText (string_bytes text)) }
     ensures named { IfErr result IsTroubleOfRows }
     ensures read { K.IsTrusted keeper.new →
@@ -118,12 +119,11 @@ pub fn import_from<K: Keeper, R: RowSource>(
     keeper: &mut K,
     rows: &mut R,
 ) -> Result<String, Trouble>
-    ensures setup { K.constituencies keeper.new ≡ K.constituencies keeper.old }
-    ensures trusted { K.IsTrusted keeper.new → K.IsTrusted keeper.old }
+    ensures stays { StaysKeeper K.Keeper keeper.old keeper.new }
     ensures text { IfOk result (λ text. IsCountText (string_bytes text)) }
     ensures named { IfErr result IsTroubleOfRows }
     ensures imported { K.IsTrusted keeper.new → IfOk result (λ text.
-        IsImported (K.constituencies keeper.old) (K.content keeper.old)
+        IsImportText (K.constituencies keeper.old) (K.content keeper.old)
         (delivery R.RowSource rows.old rows.new) (string_bytes text) (K.content keeper.new)) }
     ensures trouble { K.IsTrusted keeper.new → IfErr result (λ trouble.
         IsImportTrouble (K.constituencies keeper.old) (K.content keeper.old)

@@ -10,7 +10,7 @@ mod show;
 mod standard_error;
 mod trouble;
 
-pub use import::{has_con, import_from, import_text};
+pub use import::{has_con, import_from, import_returns};
 pub use make::{CONSTITUENCIES_ROOM, constituencies_text};
 pub use serve::{LISTENING_ROOM, SERVED_ROOM, listening_text, served_text};
 pub use show::{show_progress, show_report};

@@ -6,7 +6,7 @@ ghost use Rattle.tally_rules.specs.Setup.{constituency_with};
 use tally_rules::{Code, Constituency, Setup};
 
 /// The constituency whose code a text is.
-pub(crate) fn con_named<'a>(setup: &'a Setup, text: &str) -> Option<&'a Constituency>
+pub(crate) fn con_with_code<'a>(setup: &'a Setup, text: &str) -> Option<&'a Constituency>
     ensures { option_copied result ≡ constituency_with text.now setup.now }
 {
     // Called for what its contract says: the codes of a setup are codes.
@@ -21,6 +21,6 @@ pub(crate) fn con_named<'a>(setup: &'a Setup, text: &str) -> Option<&'a Constitu
 pub(crate) fn code_named(setup: &Setup, text: &str) -> Option<Code>
     ensures { result ≡ option_map (λ con. text.now) (constituency_with text.now setup.now) }
 {
-    let con = con_named(setup, text)?;
+    let con = con_with_code(setup, text)?;
     Some(con.code)
 }

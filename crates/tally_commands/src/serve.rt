@@ -12,8 +12,8 @@ pub const LISTENING_ROOM: usize = 64;
 /// The most bytes of the line of a server that has ended.
 pub const SERVED_ROOM: usize = 64;
 
-/// Appends where a server listens and for how many connections to a text that has the room. It takes
-/// no memory.
+/// Appends where a server listens and for how many connections to a text that has the room. It
+/// takes no memory.
 pub fn listening_text(text: &mut String, port: u16, count: u32)
     requires { string_len text.old + LISTENING_ROOM ≤ string_capacity text.old }
     ensures { string_bytes text.new ≡ string_bytes text.old ++ listening_line port count }

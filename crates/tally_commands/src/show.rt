@@ -2,13 +2,14 @@
 
 ghost use Rattle.std.specs.Prelude.{◌≡◌, Err, IfErr, IfOk, None, Some, string_bytes};
 ghost use Rattle.tally_steps.specs.Outcome.{IsLawfulView};
+ghost use Rattle.tally_keeper.specs.StaysKeeper.{StaysKeeper};
 ghost use Rattle.tally_report.specs.ProgressText.{progress_text};
 ghost use Rattle.tally_returns.specs.View.{FitsView};
 ghost use Rattle.tally_rules.specs.Setup.{constituency_with};
 ghost use Rattle.tally_report.specs.Reports.{IsReport, report_fault};
 ghost use Rattle.tally_commands.specs.Trouble.{IsTroubleOfDatabase, IsTroubleOfProgress, IsTroubleOfReport};
 ghost use Rattle.tally_commands.specs.Show.{IsGiven, IsProgressShown, IsProgressTrouble, IsReportShown, IsReportTrouble};
-ghost use Rattle.tally_commands.specs.Show.{IsWithheld, OfCon, refusal_trouble};
+ghost use Rattle.tally_commands.specs.internal.Withheld.{IsWithheld, OfCon, refusal_trouble};
 
 use crate::named::code_named;
 use crate::trouble::Trouble;
@@ -25,8 +26,7 @@ pub fn show_report<K: Keeper>(
     con: &str,
     which: Report,
 ) -> Result<String, Trouble>
-    ensures setup { K.constituencies keeper.new ≡ K.constituencies keeper.old }
-    ensures trusted { K.IsTrusted keeper.new → K.IsTrusted keeper.old }
+    ensures stays { StaysKeeper K.Keeper keeper.old keeper.new }
     ensures unknown { constituency_with con.now (K.constituencies keeper.old) ≡ None
         → (result ≡ Err Trouble.NoConstituency) × (keeper.new ≡ keeper.old) }
     ensures named { IfErr result IsTroubleOfReport }
@@ -48,8 +48,7 @@ pub fn show_report<K: Keeper>(
 
 /// How far each constituency has come. It is shown, and nothing changes.
 pub fn show_progress<K: Keeper>(alloc: Global, keeper: &mut K) -> Result<String, Trouble>
-    ensures setup { K.constituencies keeper.new ≡ K.constituencies keeper.old }
-    ensures trusted { K.IsTrusted keeper.new → K.IsTrusted keeper.old }
+    ensures stays { StaysKeeper K.Keeper keeper.old keeper.new }
     ensures named { IfErr result IsTroubleOfProgress }
     ensures shown { K.IsTrusted keeper.new → IfOk result (λ text.
         IsProgressShown (K.constituencies keeper.old) (K.content keeper.old)

@@ -3,7 +3,7 @@
 ghost use Rattle.std.specs.Prelude.{◌≡◌, ◌≢◌};
 ghost use Rattle.tally_rules.specs.declared.fault.SetupFault.{SetupFault};
 ghost use Rattle.tally_commands.specs.declared.trouble.Trouble.TheVariants.{Setup};
-ghost use Rattle.tally_commands.specs.Told.{Told};
+ghost use Rattle.tally_commands.specs.Reported.{IsReported};
 ghost use Rattle.tally_commands.specs.Trouble.{check_trouble, create_trouble, import_trouble, open_trouble, report_trouble};
 ghost use Rattle.tally_commands.specs.Trouble.{IsTroubleOfMaking, IsTroubleOfOpening, IsTroubleOfReport, IsTroubleOfRows};
 ghost use Rattle.tally_commands.specs.Trouble.{setup_line, setup_status, trouble_line, trouble_status};
@@ -154,7 +154,7 @@ impl Trouble {
     /// Writes its line on standard error, where a write that fails is passed over, and answers the
     /// exit status. It takes no memory.
     pub fn report<E: Write>(&self, errors: &mut E) -> u8
-        ensures told { Told (E.contents errors.old) (E.contents errors.new)
+        ensures reported { IsReported (E.contents errors.old) (E.contents errors.new)
             (trouble_line self.now) }
         ensures status { result ≡ trouble_status self.now }
     {
@@ -163,7 +163,7 @@ impl Trouble {
     }
 
     fn tell<E: Write>(&self, errors: &mut E)
-        ensures { Told (E.contents errors.old) (E.contents errors.new)
+        ensures { IsReported (E.contents errors.old) (E.contents errors.new)
             (trouble_line self.now) }
     {
         match self {
@@ -223,7 +223,7 @@ fn setup_status(fault: &SetupFault) -> u8
 }
 
 fn tell_setup<E: Write>(fault: &SetupFault, errors: &mut E)
-    ensures { Told (E.contents errors.old) (E.contents errors.new) (setup_line fault.now) }
+    ensures { IsReported (E.contents errors.old) (E.contents errors.new) (setup_line fault.now) }
 {
     match fault {
         SetupFault::NotToml => tell("refused: not_toml\n", errors),

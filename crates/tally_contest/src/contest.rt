@@ -55,7 +55,8 @@ pub trait Contest {
         requires other { other < length (terms self.now).poll.votes }
         requires pair { IsPair (placed_race (terms self.now)) list seat }
         requires other_pair { IsPair (placed_race (terms self.now)) other other_seat }
-        ensures { IsTrue result ↔ (placed_race (terms self.now)).Above list seat other other_seat };
+        ensures { IsTrue result ↔
+            (placed_race (terms self.now)).Above list seat other other_seat };
 
     /// Whether one pair ranks above another by the votes alone.
     fn is_above_by_votes(&self, list: usize, seat: u32, other: usize, other_seat: u32) -> bool

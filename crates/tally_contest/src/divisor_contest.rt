@@ -1,8 +1,8 @@
 //! Contests under a divisor rule.
 
-ghost use Rattle.std.specs.Prelude.{◌≡◌, ℕ, ◌*◌, ◌<◌, ◌≤◌, ◌⊎◌, ◌↔◌, IsTrue, false, slice_index};
+ghost use Rattle.std.specs.Prelude.{◌≡◌, ℕ, ◌<◌, ◌≤◌, false, slice_index};
 ghost use Rattle.std.specs.Prelude.{slice_index_or};
-ghost use Rattle.tally_frac.specs.Limits.{greatest_divisor, most_lists, most_seats, most_votes};
+ghost use Rattle.tally_frac.specs.Limits.{most_lists, most_seats};
 ghost use Rattle.tally_contest.specs.internal.KeptPoll.{kept_poll};
 ghost use Rattle.tally_law.specs.Allotment.{divisors as by_divisors};
 ghost use Rattle.tally_law.specs.Lot.{place_of};
@@ -11,7 +11,7 @@ ghost use Rattle.tally_contest.specs.internal.Pairs.{place_at, turns};
 use crate::contest::Contest;
 use crate::lot::{places_under, turning_under};
 use crate::poll::Poll;
-use tally_frac::{Divisors, MOST_LISTS};
+use tally_frac::{Divisors, MOST_LISTS, votes_rank_above};
 use tally_rules::{ListSet, LotRule};
 
 /// The lists of a poll that contest its seats under a divisor rule (LOREG article 163.1 b) to d)).
@@ -124,35 +124,24 @@ impl<D: Divisors> Contest for DivisorContest<'_, D> {
 
     fn is_above(&self, list: usize, seat: u32, other: usize, other_seat: u32) -> bool {
         let votes = self.poll.votes_of(list);
+        let divisor = self.divisors.nth(seat);
         let other_votes = self.poll.votes_of(other);
-        let quotient = product(votes, self.divisors.nth(other_seat));
-        let other_quotient = product(other_votes, self.divisors.nth(seat));
-        if quotient != other_quotient {
-            return quotient > other_quotient;
+        let other_divisor = self.divisors.nth(other_seat);
+        if votes_rank_above(votes, divisor, other_votes, other_divisor) {
+            return true;
         }
-        if votes != other_votes {
-            return votes > other_votes;
+        if votes_rank_above(other_votes, other_divisor, votes, divisor) {
+            return false;
         }
         self.place_at(list, seat) < self.place_at(other, other_seat)
     }
 
     fn is_above_by_votes(&self, list: usize, seat: u32, other: usize, other_seat: u32) -> bool {
-        let votes = self.poll.votes_of(list);
-        let other_votes = self.poll.votes_of(other);
-        let quotient = product(votes, self.divisors.nth(other_seat));
-        let other_quotient = product(other_votes, self.divisors.nth(seat));
-        if quotient != other_quotient {
-            return quotient > other_quotient;
-        }
-        votes > other_votes
+        votes_rank_above(
+            self.poll.votes_of(list),
+            self.divisors.nth(seat),
+            self.poll.votes_of(other),
+            self.divisors.nth(other_seat),
+        )
     }
-}
-
-/// Votes times a divisor: at most 5,000,000,000 * 5,005, which is below 2^64.
-fn product(votes: u64, divisor: u64) -> u64
-    requires votes { votes ≤ most_votes }
-    requires divisor { divisor ≤ greatest_divisor }
-    ensures { result ≡ votes * divisor }
-{
-    votes * divisor
 }

@@ -37,7 +37,8 @@ fn put_entry(places: &mut [usize; MOST_LISTS], lot: &[u32], index: usize)
 /// The lists whose places are counted from the last for even seats: those that the lot names, where
 /// lots alternate.
 pub(crate) fn turning_under(lot_rule: LotRule, lot: &[u32]) -> ListSet
-    ensures { (l : ℕ) → l < most_lists → slice_index_or result l false ≡ turns lot_rule lot.now l }
+    ensures { (l : ℕ) → l < most_lists →
+        slice_index_or result l false ≡ turns lot_rule lot.now l }
 {
     match lot_rule {
         LotRule::Fixed => ListSet::empty(),
@@ -46,7 +47,8 @@ pub(crate) fn turning_under(lot_rule: LotRule, lot: &[u32]) -> ListSet
 }
 
 fn named_in(lot: &[u32]) -> ListSet
-    ensures { (l : ℕ) → l < most_lists → slice_index_or result l false ≡ spec.is_named lot.now l }
+    ensures { (l : ℕ) → l < most_lists →
+        slice_index_or result l false ≡ spec.is_named lot.now l }
 {
     let mut named = ListSet::empty();
     for place in lot {
@@ -68,7 +70,7 @@ fn places_in_setup() -> [usize; MOST_LISTS]
 }
 
 /// Whether a lot names each list of a group once, and no other.
-pub fn is_order_of(lot: &[u32], group: &ListSet) -> bool
+pub fn is_order_of(group: &ListSet, lot: &[u32]) -> bool
     ensures { IsTrue result ↔ spec.IsOrderOf group.now lot.now }
 {
     let mut left = *group;

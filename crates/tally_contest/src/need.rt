@@ -73,7 +73,7 @@ fn is_order_of_equals<C: Contest>(contest: &C, lot: &[u32]) -> bool
         return false;
     }
     let group = lists_with(contest, contest.votes(first - 1));
-    is_order_of(lot, &group)
+    is_order_of(&group, lot)
 }
 
 /// The eligible lists with so many votes.

@@ -1,7 +1,7 @@
 //! The votes of a poll, and which lists are eligible.
 
 ghost use Rattle.std.specs.Prelude.{◌≡◌, ◌<◌, ◌≤◌, length, sum, slice_index, slice_index_or, false};
-ghost use Rattle.tally_frac.specs.Limits.{most_lists, most_votes};
+ghost use Rattle.tally_frac.specs.Limits.{most_lists, most_votes, whole_base};
 ghost use Rattle.tally_rules.specs.Threshold.{IsWithinVotes};
 ghost use Rattle.tally_law.specs.Poll.{eligible_votes};
 ghost use Rattle.tally_law.specs.Rules.{poll_of};
@@ -19,7 +19,7 @@ pub struct Poll<'a> {
     pub base: u64,
     ghost few_lists: { length votes.now ≤ most_lists },
     ghost few_votes: { sum votes.now ≤ most_votes },
-    ghost whole_at_most: { threshold ≤ 10000 },
+    ghost whole_at_most: { threshold ≤ whole_base },
     ghost few_in_base: { base ≤ most_votes },
 }
 
@@ -30,7 +30,7 @@ impl<'a> Poll<'a> {
     pub fn new(profile: &Profile, votes: &'a [u64], blank: u64) -> Poll<'a>
         requires lists { length votes.now ≤ most_lists }
         requires votes { IsWithinVotes votes.now blank }
-        requires threshold { profile.now.threshold ≤ 10000 }
+        requires threshold { profile.now.threshold ≤ whole_base }
         ensures votes { result.votes.now ≡ votes.now }
         ensures poll { kept_poll result ≡ poll_of profile.now votes.now blank }
     {

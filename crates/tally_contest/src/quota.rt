@@ -4,7 +4,7 @@ ghost use Rattle.std.specs.Prelude.{◌≡◌, ℕ, ◌<◌, ◌≤◌, length, 
 ghost use Rattle.tally_frac.specs.Limits.{most_seats};
 ghost use Rattle.tally_contest.specs.internal.KeptPoll.{kept_poll};
 ghost use Rattle.tally_law.specs.Poll.{eligible_votes};
-ghost use Rattle.tally_contest.specs.internal.Quotas as spec;
+ghost use Rattle.tally_contest.specs.internal.Quotas.{quota_of};
 ghost use Rattle.tally_contest.specs.declared.quota.Quota.{Quota as row_type};
 
 use crate::poll::Poll;
@@ -25,7 +25,7 @@ pub(crate) struct Quota {
 pub(crate) fn quotas_of(poll: &Poll, seats: u32) -> [Quota; MOST_LISTS]
     requires { seats ≤ most_seats }
     ensures { (l : ℕ) (d : row_type) → l < length poll.now.votes.now →
-        slice_index_or result l d ≡ spec.quota_of (kept_poll poll.now) seats l }
+        slice_index_or result l d ≡ quota_of (kept_poll poll.now) seats l }
 {
     let total = poll.eligible_votes();
     let mut quotas = [Quota {
@@ -34,18 +34,18 @@ pub(crate) fn quotas_of(poll: &Poll, seats: u32) -> [Quota; MOST_LISTS]
         remainder: 0,
     }; MOST_LISTS];
     for list in 0..poll.votes.len() {
-        quotas[list] = quota_of(poll, seats, total, list);
+        quotas[list] = quota_from_total(poll, seats, total, list);
     }
     quotas
 }
 
 /// The quota of a list, where the eligible lists have so many votes together: at most
 /// 5,000,000,000 * 500 is divided.
-fn quota_of(poll: &Poll, seats: u32, total: u64, list: usize) -> Quota
+fn quota_from_total(poll: &Poll, seats: u32, total: u64, list: usize) -> Quota
     requires seats { seats ≤ most_seats }
     requires total { total ≡ eligible_votes (kept_poll poll.now) }
     requires list { list < length poll.now.votes.now }
-    ensures { result ≡ spec.quota_of (kept_poll poll.now) seats list }
+    ensures { result ≡ quota_of (kept_poll poll.now) seats list }
 {
     if !poll.is_eligible(list) {
         return Quota {

@@ -61,8 +61,8 @@ KeepersKeepStatesLawful =
     → IsLawfulState setup t
 
 -- whatever happened since a lawful state, a certified constituency has a view with a certificate
-abbrev pub CertificatesOfKeepersStand : Type 0
-CertificatesOfKeepersStand =
+abbrev pub CertificatesOfKeepersAreRight : Type 0
+CertificatesOfKeepersAreRight =
     (setup : List Constituency) (s t : State) (events : List Event) → All BringsCodes events
     → IsSetup setup → IsLawfulState setup s → Happen setup (Some s) events (Some t)
     → (code : List ℕ) (con : Constituency) → constituency_with code setup ≡ Some con

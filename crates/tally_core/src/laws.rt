@@ -34,11 +34,11 @@ pub fn a_keeper_keeps_a_lawful_state()
 /// Whatever happened to a keeper since its state was a lawful one, as the opening one is, a
 /// certified constituency has all its stations closed, exactly its seats are allotted, by the one
 /// allotment of its closed votes, and a lot is recorded wherever one is needed.
-pub fn a_certificate_of_a_keeper_stands_on_closed_votes()
-    ensures { law.CertificatesOfKeepersStand }
+pub fn a_certificate_of_a_keeper_is_of_closed_votes()
+    ensures { law.CertificatesOfKeepersAreRight }
 {
     // Called for what its contract says: the same law of the runs of the machine.
-    machine::a_certificate_stands_on_closed_votes();
+    machine::a_certificate_is_of_closed_votes();
 }
 
 /// A certificate that was reopened stays on record, word for word, whatever happens to a keeper.

@@ -1,46 +1,11 @@
 //! A keeper in memory.
 
-use crate::setups::{check_fresh, fresh};
+use crate::setups::check_fresh;
 use std::alloc::Global;
 use std::test::*;
-use tally_core::{Ask, run};
 use tally_scripts::{
-    ALTERNATING, HARE, LIFE, RECOUNT, RIVERS, TWIN_TOWN, VACANCIES, command, twin_town,
+    ALTERNATING, HARE, LIFE, RECOUNT, RIVERS, TWICE, TWIN_TOWN, VACANCIES, twin_town,
 };
-
-fn asks(alloc: Global, lines: &str) -> Result<Vec<Ask>, Fail> {
-    let mut asks = Vec::new(alloc);
-    for line in lines.lines() {
-        asks.push(command(alloc, line)?)?;
-    }
-    asks.push(Ask::ShowProgress)?;
-    Ok(asks)
-}
-
-/// What a new keeper answers to a run of these commands and to one that shows the progress.
-fn answers(alloc: Global, lines: &str) -> Result<String, Fail> {
-    let asks = asks(alloc, lines)?;
-    let mut book = fresh(alloc, TWIN_TOWN)?;
-    let answers = run(alloc, &mut book, &asks)?;
-    Ok(format!(in alloc; "{answers:?}")?)
-}
-
-const RUN: &str = "lodge s1 p1 100,100
-lodge s1 p1 100,100
-close s1 1
-close s1 1";
-
-const RUN_ANSWERED: &str =
-    "[Ok(Lodged { rev: 1 }), Ok(Same { rev: 1 }), Ok(Moved { rev: 2 }), Err(Stale { now: 2 }), \
-    Ok(Progress([ProgressRow { con: \"c1\", stations: 1, received: 0, queried: 0, corrected: 0, \
-    closed: 1, edition: 1, certified: false }]))]";
-
-#[test]
-fn a_run_and_the_progress_after_it(rt: HostRuntime) -> Result<(), Fail> {
-    let told = answers(rt.alloc(), RUN)?;
-    assert!(rt; told.as_str() == RUN_ANSWERED);
-    Ok(())
-}
 
 // A station of 300 electors; 6 is TooManyVotes.
 const ELECTORS: &str = "lodge s1 p1 150,150 1 = refused 6
@@ -76,7 +41,7 @@ draw c1 2 B,A = stale 1
 draw c1 1 B,A = edition 2
 draw c1 2 A,B = refused 16
 certify c1 2 = edition 3
-show c1 = certified 3 1/1 [100, 100] [2, 1] [1, 2]";
+show c1 = certified 3 0 0 0 1/1 [100, 100] 0 0 [2, 1] [1, 2]";
 
 // 3 seats, and the third is that of the first in the lot. 9 is Certified, 20 AlreadyGone, 21
 // NotHolder. B has one candidate, so that its second seat is empty.
@@ -97,7 +62,7 @@ vacate c1 A 3 resigned = refused 3
 vacate c1 Z 1 resigned = refused 3
 vacate c1 A 2 = refused 5
 reopen c1 3 count again = edition 4
-show c1 = open 4 1/1 [100, 100] [2, 1] [] count again 2.1 resigned past 3 [1, 2]";
+show c1 = open 4 0 0 0 1/1 [100, 100] 0 0 [2, 1] [] count again 2.1 resigned past 3 [1, 2]";
 
 // By Hare with one seat the quota is 100, and each list has a remainder of 50.
 const LOT_BY_HARE: &str = "lodge s1 p1 50,50 = lodged 1
@@ -105,7 +70,7 @@ close s1 1 = moved 2
 certify c1 1 = lot of 1 2 for 1
 draw c1 1 A,B = edition 2
 certify c1 2 = edition 3
-show c1 = certified 3 1/1 [50, 50] [1, 2] [1, 0]";
+show c1 = certified 3 0 0 0 1/1 [50, 50] 0 0 [1, 2] [1, 0]";
 
 // 4 seats, and all four quotients have one; 17 is LotNotNeeded.
 const DECIDED: &str = "lodge s1 p1 100,100 = lodged 1
@@ -113,7 +78,7 @@ close s1 1 = moved 2
 draw c1 1 B,A = refused 17
 draw c1 1 Z = refused 17
 certify c1 1 = edition 2
-show c1 = certified 2 1/1 [100, 100] [] [2, 2]";
+show c1 = certified 2 0 0 0 1/1 [100, 100] 0 0 [] [2, 2]";
 
 // 15 is NoEligible.
 const NOBODY: &str = "lodge s1 p1 0,0 = lodged 1
@@ -122,8 +87,9 @@ draw c1 1 B,A = refused 15
 certify c1 1 = refused 15";
 
 // A method of Twin Town, the number of seats, and a script.
-const SCRIPTS: [(&str, u32, &str); 11] = [
+const SCRIPTS: [(&str, u32, &str); 12] = [
     ("dhondt", 3, LIFE),
+    ("dhondt", 3, TWICE),
     ("dhondt", 3, ELECTORS),
     ("dhondt", 3, RECOUNT),
     (ALTERNATING_LOTS, 3, ALTERNATING),

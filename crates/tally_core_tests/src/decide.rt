@@ -1,9 +1,9 @@
 //! What is decided of a command on a return.
 
 ghost use Rattle.std.specs.Prelude.{◌≡◌, IsSome, IsTrue};
-ghost use Rattle.std.specs.Option.{ForSome, option_copied};
+ghost use Rattle.std.specs.Option.{option_copied};
 ghost use Rattle.tally_returns.specs.Decide.{limits_named, station_in};
-ghost use Rattle.tally_returns.specs.Lawful.{IsLawful};
+ghost use Rattle.tally_returns.specs.Lawful.{IsLawfulWhereNamed};
 
 use std::alloc::Global;
 use std::test::*;
@@ -15,7 +15,8 @@ use tally_scripts::{TWIN_TOWN, code, command, setup, told_refusal};
 /// is recorded is lawful there.
 fn may_decide(con: &Constituency, found: Option<&Return>, ask: &Ask) -> bool
     ensures station { IsTrue result → IsSome (limits_named con.now ask.now) }
-    ensures lawful { IsTrue result → ForSome (limits_named con.now ask.now) (λ station. ForSome (option_copied found.entry) (IsLawful station)) }
+    ensures lawful { IsTrue result →
+        IsLawfulWhereNamed con.now ask.now (option_copied found.entry) }
 {
     let Some(station) = ask.station() else {
         return false;

@@ -8,7 +8,8 @@ use std::test::*;
 use tally_core::Keeper;
 use tally_import::{ReturnRows, Sep};
 use tally_scripts::{
-    ALTERNATING, HARE, LIFE, RECOUNT, RIVERS, TWIN_TOWN, VACANCIES, first_wrong, twin_town, with,
+    ALTERNATING, HARE, LIFE, RECOUNT, RIVERS, TWIN_TOWN, VACANCIES, first_wrong_of_run, twin_town,
+    with,
 };
 
 /// A new keeper that takes so many requests and imports.
@@ -29,7 +30,7 @@ fn check_wrong<K: Keeper>(
     script: &str,
     wanted: &str,
 ) -> Result<(), Fail> {
-    let wrong = first_wrong(alloc, keeper, script)?;
+    let wrong = first_wrong_of_run(alloc, keeper, script)?;
     if wrong.as_str() == wanted {
         return Ok(());
     }

@@ -1,23 +1,36 @@
 -- What the steps of an answer leave is an answer.
-use Rattle.std.proofs.Common.{◌≡◌, ◌∙◌, ℕ, List, [], Option, Some, None, Ok, IfSome, option_map, option_and_then, refl, sym, ap, subst, inl, inr}
+use Rattle.std.proofs.Common.{◌≡◌, ◌∙◌, ℕ, List, [], Bool, true, false, Option, Some, None, Result, Ok, Err, IfOk, IfSome, option_map, option_and_then, refl, sym, ap, subst, inl, inr}
 use Rattle.std.specs.Option.{option_map_or}
 use Rattle.serde_json.specs.Data.{Data}
 use Rattle.tally_rules.specs.Constituency.{Constituency, ListEntry}
 use Rattle.tally_rules.specs.Limits.{IsSetup}
 use Rattle.tally_rules.specs.Setup.{constituency_with, station_with}
 use Rattle.tally_rules.specs.declared.constituency.Station.{Station}
+use Rattle.std.proofs.lemmas.List.Elements.{All-from_recursion}
+use Rattle.tally_law.specs.Allotment.{Rule, divisors, hare}
+use Rattle.tally_report.specs.Fault.{divisors_fault}
+use Rattle.tally_report.specs.QuotientsText.{quotients_of}
+use Rattle.tally_report.specs.Reports.{IsEnoughFor}
+use Rattle.tally_report.specs.declared.report.Report.{Report}
+use Rattle.tally_report.specs.declared.report.Report.TheVariants as report
 use Rattle.tally_returns.specs.AskSeen.{AskSeen, ask_seen}
+use Rattle.tally_returns.specs.PastSeats.{PastSeats}
 use Rattle.tally_returns.specs.State.{State}
-use Rattle.tally_returns.specs.View.{View}
+use Rattle.tally_returns.specs.View.{HasEachList, View}
 use Rattle.tally_returns.specs.declared.ask.Ask.{Ask}
 use Rattle.tally_returns.specs.declared.ask.Ask.TheVariants.{ShowCon}
 use Rattle.tally_returns.specs.declared.reply.Reply.TheVariants as reply
 use Rattle.tally_returns.specs.declared.refusal.Refusal.TheVariants.{NoConstituency, NoStation}
 use Rattle.tally_steps.specs.LawStatements.{ViewsAreLawful}
 use Rattle.tally_steps.specs.LawfulState.{IsLawfulState}
-use Rattle.tally_steps.specs.Outcome.{IsLawfulView}
-use Rattle.tally_steps.specs.Step.{IsConStepSeen, con_shown}
+use Rattle.tally_steps.specs.Outcome.{IsLawfulPast, IsLawfulView, rule_in}
+use Rattle.tally_steps.specs.Step.{IsConStepSeen, after_change, con_shown, no_change}
 use Rattle.tally_keeper.specs.Keeper.{Happens, request}
+use Rattle.tally_keeper.specs.Shown.{AnswersShowCon}
+use Rattle.tally_returns.specs.declared.refusal.Refusal.{Refusal}
+use Rattle.tally_desk.specs.Reports.{IsReportText, IsReportTextBy}
+use Rattle.tally_desk.specs.Shown.{as_con}
+use Rattle.tally_desk.specs.internal.ShownFor.{HasPastIf, ShowsFor, is_past}
 use Rattle.tally_message.specs.declared.message.Message.{Message}
 use Rattle.tally_asks.specs.Routes.{con_of_target, station_of_target}
 use Rattle.tally_asks.specs.Bodies.{IsBody, IsCommand}
@@ -26,7 +39,7 @@ use Rattle.tally_records.specs.declared.separator.Sep.{Sep}
 use Rattle.tally_desk.specs.internal.Gives.{Gives, OrdersRead}
 use Rattle.tally_desk.specs.declared.named.Subject.TheVariants as on
 use Rattle.tally_desk.specs.internal.Named.{lists_of}
-use Rattle.tally_desk.specs.Requests.{Commands, Imports, ImportsText, Named, AtCon, AtNamed, AtStation, Orders, OrdersOf, con_named, station_named}
+use Rattle.tally_desk.specs.Requests.{Commands, ImportsBody, ImportsText, Named, AtCon, AtNamed, AtStation, Orders, OrdersOf, con_in_target, station_in_target}
 
 -- ---- what is shown
 
@@ -49,6 +62,82 @@ shown-lawful law setup None (Some t) code view found limits lawful is h = absurd
 shown-lawful law setup None None code view found limits lawful is (inl none) = cc
 shown-lawful law setup None None code view found limits lawful is (inr none) = cc
 
+-- and nothing changed where it was shown
+shown-still : (setup : List Constituency) (s t : State) (code : List ℕ) (view : View) (found : Option Constituency) → IsConStepSeen found s (ShowCon code) (Ok (con_shown view)) t → t ≡ s
+shown-still setup s t code view (Some found) (v, decided, seen, decides, answered, after) = after ∙ ap (after_change s found.code) decides
+shown-still setup s t code view None step = step.1
+
+pub shown-kept : (setup : List Constituency) (old new : Option State) (code : List ℕ) (view : View) → Happens setup old (request (ShowCon code) (Ok (reply.Con view))) new → new ≡ old
+shown-kept setup (Some s) (Some t) code view (inl step) = ap Some (shown-still setup s t code view (constituency_with code setup) step)
+shown-kept setup (Some s) (Some t) code view (inr (inl none, kept)) = cc
+shown-kept setup (Some s) (Some t) code view (inr (inr none, kept)) = cc
+shown-kept setup (Some s) None code view (inl none) = cc
+shown-kept setup (Some s) None code view (inr none) = cc
+shown-kept setup None (Some t) code view h = absurd h
+shown-kept setup None None code view (inl none) = cc
+shown-kept setup None None code view (inr none) = cc
+
+-- ---- without certificates on record
+
+-- a lawful view is one without them too
+lawful-bare : (con : Constituency) (view : View) (past : List PastSeats) → view.past ≡ [] → IsLawfulView con (record view { past = past }) → IsLawfulView con view
+lawful-bare con view past bare is =
+    subst (λ (p : List PastSeats). IsLawfulView con (record view { past = p })) (sym bare) (record {
+      fits = record { lists = is.fits.lists; votes = is.fits.votes; edition = is.fits.edition; stations = is.fits.stations; seats = is.fits.seats; past = All-from_recursion (HasEachList con) [] tt };
+      few = is.few;
+      lawful = record { first = is.lawful.first; last = is.lawful.last; note = is.lawful.note; lot = is.lawful.lot; certified = is.lawful.certified; gone = is.lawful.gone; past = All-from_recursion (IsLawfulPast con view.edition) [] tt };
+      seats = is.seats;
+    })
+
+-- what is shown for a report is enough for it
+pub enough-shown : (which : Report) (con : Constituency) (view : View) (past : List PastSeats) → HasPastIf (is_past which) past (Ok view) → IsLawfulView con (record view { past = past }) → IsEnoughFor which con view
+enough-shown report.Tally con view past has lawful = tt
+enough-shown report.Seats con view past has lawful = tt
+enough-shown report.Quotients con view past has lawful = lawful-bare con view past has lawful
+enough-shown report.Awards con view past has lawful = lawful-bare con view past has lawful
+enough-shown report.Quota con view past has lawful = tt
+enough-shown report.Short con view past has lawful = lawful-bare con view past has lawful
+enough-shown report.Holders con view past has lawful = tt
+enough-shown report.Past con view past has lawful = tt
+
+-- the quotients are those of the whole view
+same-quotients : (rule : Rule) (con : Constituency) (view : View) (past : List PastSeats) → quotients_of rule con view ≡ quotients_of rule con (record view { past = past })
+same-quotients (divisors nth unit lot_rule) con view past = refl
+same-quotients hare con view past = refl
+
+-- and its text is that of the whole view
+pub text-whole : (which : Report) (con : Constituency) (view : View) (past : List PastSeats) (text : List ℕ) → HasPastIf (is_past which) past (Ok view) → IsReportText con view which text → IsReportText con (record view { past = past }) which text
+text-whole report.Tally con view past text has is = is
+text-whole report.Seats con view past text has is = is
+text-whole report.Quotients con view past text has is =
+    subst (λ (q : List ℕ). IsReportTextBy (divisors_fault con view) (λ t. t ≡ q) text) (same-quotients (rule_in con) con view past) is
+text-whole report.Awards con view past text has is = is
+text-whole report.Quota con view past text has is = is
+text-whole report.Short con view past text has is = is
+text-whole report.Holders con view past text has is = is
+text-whole report.Past con view past text has is = subst (λ (p : List PastSeats). IsReportText con (record view { past = p }) report.Past text) has is
+
+-- what a request was answered, shown with its own certificates
+pub shown-whole : (setup : List Constituency) (old new : Option State) (con : List ℕ) (which : Report) (r : Result View Refusal) → is_past which ≡ true → Happens setup old (request (ShowCon con) (as_con r)) new → ShowsFor which setup old con r new
+shown-whole setup old new con which (Ok view) past is = (view.past, is, subst (λ b. HasPastIf b view.past (Ok view)) (sym past) refl)
+shown-whole setup old new con which (Err why) past is = ([], is, tt)
+
+pub shown-bare : (setup : List Constituency) (old new : Option State) (con : List ℕ) (which : Report) (r : Result View Refusal) → is_past which ≡ false → IfOk r (λ view. view.past ≡ []) → AnswersShowCon setup old con r new → ShowsFor which setup old con r new
+shown-bare setup old new con which (Ok view) past bare is = (is.0, is.1, subst (λ b. HasPastIf b is.0 (Ok view)) (sym past) bare)
+shown-bare setup old new con which (Err why) past bare is = (is.0, is.1, tt)
+
+-- nothing changed where a constituency was shown
+pub kept-shown : (setup : List Constituency) (old new : Option State) (con : List ℕ) (r : Result View Refusal) → AnswersShowCon setup old con r new → IfOk r (λ _. new ≡ old)
+kept-shown setup old new con (Ok view) is = shown-kept setup old new con (record view { past = is.0 }) is.1
+kept-shown setup old new con (Err why) is = tt
+
+-- what is shown for a report is enough for it, of whichever constituency
+pub enough-for : ViewsAreLawful → (setup : List Constituency) (old new : Option State) (con : List ℕ) (which : Report) (r : Result View Refusal) → IsSetup setup → IfSome old (IsLawfulState setup) → ShowsFor which setup old con r new
+    → IfOk r (λ view. (found : Constituency) → constituency_with con setup ≡ Some found → IsEnoughFor which found view)
+enough-for law setup old new con which (Ok view) limits lawful is = λ found there.
+    enough-shown which found view is.0 is.2 (shown-lawful law setup old new con (record view { past = is.0 }) found limits lawful there is.1)
+enough-for law setup old new con which (Err why) limits lawful is = tt
+
 -- ---- what a path names
 
 abbrev code_in : Option Named → Option (List ℕ)
@@ -70,12 +159,12 @@ con_at setup code = option_map (λ (con : Constituency). (code, con)) (constitue
 abbrev station_at : List Constituency → List ℕ → Option Named
 station_at setup code = option_map (λ (place : Constituency × Station). (code, place.0)) (station_with code setup)
 
-con-named : (setup : List Constituency) (target code : List ℕ) → code_in (con_named setup target) ≡ Some code
-    → (con : Constituency) × (con_named setup target ≡ Some (code, con)) × (constituency_with code setup ≡ Some con)
+con-named : (setup : List Constituency) (target code : List ℕ) → code_in (con_in_target setup target) ≡ Some code
+    → (con : Constituency) × (con_in_target setup target ≡ Some (code, con)) × (constituency_with code setup ≡ Some con)
 con-named setup target code is = go (con_of_target target) refl is
   where
     go : (o : Option (List ℕ)) → con_of_target target ≡ o → code_in (option_and_then (con_at setup) o) ≡ Some code
-        → (con : Constituency) × (con_named setup target ≡ Some (code, con)) × (constituency_with code setup ≡ Some con)
+        → (con : Constituency) × (con_in_target setup target ≡ Some (code, con)) × (constituency_with code setup ≡ Some con)
     go None e h = cc
     go (Some c) e h =
         let f = found-con setup c code (constituency_with c setup) refl h in (
@@ -84,12 +173,12 @@ con-named setup target code is = go (con_of_target target) refl is
           subst (λ (q : List ℕ). constituency_with q setup ≡ Some f.0) f.2 f.1,
         )
 
-station-named : (setup : List Constituency) (target code : List ℕ) → code_in (station_named setup target) ≡ Some code
-    → (place : Constituency × Station) × (station_named setup target ≡ Some (code, place.0)) × (station_with code setup ≡ Some place)
+station-named : (setup : List Constituency) (target code : List ℕ) → code_in (station_in_target setup target) ≡ Some code
+    → (place : Constituency × Station) × (station_in_target setup target ≡ Some (code, place.0)) × (station_with code setup ≡ Some place)
 station-named setup target code is = go (station_of_target target) refl is
   where
     go : (o : Option (List ℕ)) → station_of_target target ≡ o → code_in (option_and_then (station_at setup) o) ≡ Some code
-        → (place : Constituency × Station) × (station_named setup target ≡ Some (code, place.0)) × (station_with code setup ≡ Some place)
+        → (place : Constituency × Station) × (station_in_target setup target ≡ Some (code, place.0)) × (station_with code setup ≡ Some place)
     go None e h = cc
     go (Some c) e h =
         let f = found-station setup c code (station_with c setup) refl h in (
@@ -103,21 +192,21 @@ Answering = List ℕ → Constituency → List ℕ → Option State → Type 0
 
 -- an answer on the constituency that was found
 pub con-answer : (s setup : List Constituency) (old new : Option State) (m : Message) (t code : List ℕ) (r : Option (List ℕ)) (F : Answering) (text : List ℕ)
-    → r ≡ code_in (con_named s t) → s ≡ setup → t ≡ m.target.items → r ≡ Some code
+    → r ≡ code_in (con_in_target s t) → s ≡ setup → t ≡ m.target.items → r ≡ Some code
     → ((con : Constituency) → constituency_with code setup ≡ Some con → F code con text new) → AtCon setup old m F text new
 con-answer s setup old new m t code r F text named setup_is target_is found answer =
-    let is : code_in (con_named setup m.target.items) ≡ Some code =
-    sym (ap (λ x. code_in (con_named x t)) setup_is ∙ ap (λ x. code_in (con_named setup x)) target_is) ∙ sym named ∙ found in
+    let is : code_in (con_in_target setup m.target.items) ≡ Some code =
+    sym (ap (λ x. code_in (con_in_target x t)) setup_is ∙ ap (λ x. code_in (con_in_target setup x)) target_is) ∙ sym named ∙ found in
     let n = con-named setup m.target.items code is in
     subst (λ (o : Option Named). AtNamed NoConstituency old o F text new) (sym n.1) (answer n.0 n.2)
 
 -- an answer on the station that was found
 pub station-answer : (s setup : List Constituency) (old new : Option State) (m : Message) (t code : List ℕ) (r : Option (List ℕ)) (F : Answering) (text : List ℕ)
-    → r ≡ code_in (station_named s t) → s ≡ setup → t ≡ m.target.items → r ≡ Some code
+    → r ≡ code_in (station_in_target s t) → s ≡ setup → t ≡ m.target.items → r ≡ Some code
     → ((place : Constituency × Station) → station_with code setup ≡ Some place → F code place.0 text new) → AtStation setup old m F text new
 station-answer s setup old new m t code r F text named setup_is target_is found answer =
-    let is : code_in (station_named setup m.target.items) ≡ Some code =
-    sym (ap (λ x. code_in (station_named x t)) setup_is ∙ ap (λ x. code_in (station_named setup x)) target_is) ∙ sym named ∙ found in
+    let is : code_in (station_in_target setup m.target.items) ≡ Some code =
+    sym (ap (λ x. code_in (station_in_target x t)) setup_is ∙ ap (λ x. code_in (station_in_target setup x)) target_is) ∙ sym named ∙ found in
     let n = station-named setup m.target.items code is in
     subst (λ (o : Option Named). AtNamed NoStation old o F text new) (sym n.1) (answer n.0 n.2)
 
@@ -150,7 +239,7 @@ station-ordered setup old new m place read code body text asked body_is is found
 
 pub con-imported : (s setup : List Constituency) (old new : Option State) (m : Message) (con found : Constituency) (sep : Sep) (code body text : List ℕ) → s ≡ setup
     → constituency_with code s ≡ Some found → body ≡ m.body.items → constituency_with code setup ≡ Some con → ImportsText setup old found sep body text new
-    → Imports setup old con sep m text new
+    → ImportsBody setup old con sep m text new
 con-imported s setup old new m con found sep code body text setup_is found_is body_is is imports =
     let both : Some found ≡ Some con = sym (subst (λ x. constituency_with code x ≡ Some found) setup_is found_is) ∙ is in
     let same : found ≡ con = cc in

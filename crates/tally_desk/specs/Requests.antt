@@ -57,56 +57,61 @@ abbrev pub Named : Type 0
 Named = List ℕ × Constituency
 
 -- the station that a target names, and its constituency
-abbrev pub station_named : List Constituency → List ℕ → Option Named
-station_named setup target =
+abbrev pub station_in_target : List Constituency → List ℕ → Option Named
+station_in_target setup target =
     option_and_then (λ code. option_map (λ place. (code, place.0)) (station_with code setup))
     (station_of_target target)
 
 -- the constituency that a target names
-abbrev pub con_named : List Constituency → List ℕ → Option Named
-con_named setup target =
+abbrev pub con_in_target : List Constituency → List ℕ → Option Named
+con_in_target setup target =
     option_and_then (λ code. option_map (λ con. (code, con)) (constituency_with code setup))
     (con_of_target target)
 
 -- Which answer there is, and which state is left: a statement on the two.
-abbrev pub Answer : Type 1
-Answer = List ℕ → Option State → Type 0
+abbrev pub MessageAnswer : Type 1
+MessageAnswer = List ℕ → Option State → Type 0
 
 -- what is answered where the path names this, or nothing that the setup has
 abbrev pub AtNamed :
-    Refusal → Option State → Option Named → (List ℕ → Constituency → Answer) → Answer
+    Refusal → Option State → Option Named → (List ℕ → Constituency → MessageAnswer) → MessageAnswer
 AtNamed why old None IsAnswer text new = Refuses old why text new
 AtNamed why old (Some named) IsAnswer text new = IsAnswer named.0 named.1 text new
 
 abbrev pub AtStation :
-    List Constituency → Option State → Message → (List ℕ → Constituency → Answer) → Answer
-AtStation setup old m = AtNamed refusal.NoStation old (station_named setup m.target.items)
+    List Constituency → Option State → Message → (List ℕ → Constituency → MessageAnswer)
+    → MessageAnswer
+AtStation setup old m = AtNamed refusal.NoStation old (station_in_target setup m.target.items)
 
 abbrev pub AtCon :
-    List Constituency → Option State → Message → (List ℕ → Constituency → Answer) → Answer
-AtCon setup old m = AtNamed refusal.NoConstituency old (con_named setup m.target.items)
+    List Constituency → Option State → Message → (List ℕ → Constituency → MessageAnswer)
+    → MessageAnswer
+AtCon setup old m = AtNamed refusal.NoConstituency old (con_in_target setup m.target.items)
 
 -- ---- requests
 
 -- A request is made of the office, and what it is answered has this text.
 abbrev pub Asks :
-    List Constituency → Option State → Ask → (Result Reply Refusal → List ℕ → Type 0) → Answer
+    List Constituency → Option State → Ask → (Result Reply Refusal → List ℕ → Type 0)
+    → MessageAnswer
 Asks setup old a HasText text new =
     (r : Result Reply Refusal) × keeper.Happens setup old (keeper.request a r) new × HasText r text
 
 -- a command on a constituency with these lists, or on a station of one
-abbrev pub Commands : List Constituency → Option State → List ListEntry → Ask → Answer
+abbrev pub Commands : List Constituency → Option State → List ListEntry → Ask → MessageAnswer
 Commands setup old lists a = Asks setup old a (λ r t. t ≡ outcome_text lists r)
 
 -- the command that a body is, or a bad body
-abbrev pub OrdersOf : List Constituency → Option State → Constituency → Option AskSeen → Answer
+abbrev pub OrdersOf : List Constituency → Option State → Constituency → Option AskSeen
+    → MessageAnswer
 OrdersOf setup old con None text new = Says old word.BadBody text new
 OrdersOf setup old con (Some seen) text new =
     (a : Ask) × (ask_seen a ≡ seen) × Commands setup old con.lists a text new
 
 -- the command that the message's body is, by what each JSON value is
 abbrev pub Orders :
-    List Constituency → Option State → Constituency → (Data → Option AskSeen) → Message → Answer
+    List Constituency → Option State → Constituency → (Data → Option AskSeen) → Message
+    → MessageAnswer
 Orders setup old con command m text new =
     (value : Option Data) × IsBody m.body.items value
     × OrdersOf setup old con (option_and_then command value) text new
@@ -120,7 +125,7 @@ HasReturnText code (Ok (reply.Return kept)) text =
 HasReturnText code (Ok other) text = ⊥
 HasReturnText code (Err why) text = text ≡ refusal_text why
 
-abbrev pub ShowsReturn : List Constituency → Option State → List ℕ → Answer
+abbrev pub ShowsReturn : List Constituency → Option State → List ℕ → MessageAnswer
 ShowsReturn setup old code = Asks setup old (ask.ShowReturn code) (HasReturnText code)
 
 -- a constituency, as JSON
@@ -130,7 +135,7 @@ HasConText con (Ok (reply.Con view)) text =
 HasConText con (Ok other) text = ⊥
 HasConText con (Err why) text = text ≡ refusal_text why
 
-abbrev pub ShowsCon : List Constituency → Option State → Constituency → List ℕ → Answer
+abbrev pub ShowsCon : List Constituency → Option State → Constituency → List ℕ → MessageAnswer
 ShowsCon setup old con code = Asks setup old (ask.ShowCon code) (HasConText con)
 
 -- a report of a constituency, as plain text
@@ -139,7 +144,8 @@ HasReportText con which (Ok (reply.Con view)) text = IsReportText con view which
 HasReportText con which (Ok other) text = ⊥
 HasReportText con which (Err why) text = text ≡ refusal_text why
 
-abbrev pub Reports : List Constituency → Option State → Constituency → List ℕ → Report → Answer
+abbrev pub Reports : List Constituency → Option State → Constituency → List ℕ → Report
+    → MessageAnswer
 Reports setup old con code which = Asks setup old (ask.ShowCon code) (HasReportText con which)
 
 -- how far each constituency has come, as plain text
@@ -149,7 +155,7 @@ HasProgressText (Ok (reply.Progress rows)) text =
 HasProgressText (Ok other) text = ⊥
 HasProgressText (Err why) text = text ≡ refusal_text why
 
-abbrev pub ShowsProgress : List Constituency → Option State → Answer
+abbrev pub ShowsProgress : List Constituency → Option State → MessageAnswer
 ShowsProgress setup old = Asks setup old ask.ShowProgress HasProgressText
 
 -- ---- imports
@@ -168,12 +174,13 @@ imported_text (Err fault) = word_text (import_word fault)
 
 -- A text is imported into a constituency as rows of CSV (RFC 4180) with this separator.
 abbrev pub ImportsText :
-    List Constituency → Option State → Constituency → Sep → List ℕ → Answer
+    List Constituency → Option State → Constituency → Sep → List ℕ → MessageAnswer
 ImportsText setup old con sep csv text new =
     (d : Delivery) × (r : Result ImportCount ImportFault)
     × keeper.ImportsComing setup old (Some (text_coming con sep csv)) d r new
     × (text ≡ imported_text r)
 
 -- the same of the body of a message
-abbrev pub Imports : List Constituency → Option State → Constituency → Sep → Message → Answer
-Imports setup old con sep m = ImportsText setup old con sep m.body.items
+abbrev pub ImportsBody : List Constituency → Option State → Constituency → Sep → Message
+    → MessageAnswer
+ImportsBody setup old con sep m = ImportsText setup old con sep m.body.items

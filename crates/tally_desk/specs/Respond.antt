@@ -15,10 +15,10 @@ use Rattle.tally_message.specs.declared.message.MessageFault.TheVariants as faul
 use Rattle.tally_asks.specs.declared.routes.Route.{Route}
 use Rattle.tally_asks.specs.declared.routes.Route.TheVariants as route
 use Rattle.tally_asks.specs.Bodies.{con_command, station_command}
-use Rattle.tally_asks.specs.Routes.{IsRouted, method_of, takes_get}
+use Rattle.tally_asks.specs.Routes.{IsRouted, route_method, takes_get}
 use Rattle.tally_answer.specs.declared.word.Word.{Word}
 use Rattle.tally_answer.specs.declared.word.Word.TheVariants as word
-use Rattle.tally_desk.specs.Requests.{Answer, AtCon, AtStation, Imports, Orders, Reports, Says, ShowsCon, ShowsProgress, ShowsReturn}
+use Rattle.tally_desk.specs.Requests.{MessageAnswer, AtCon, AtStation, ImportsBody, Orders, Reports, Says, ShowsCon, ShowsProgress, ShowsReturn}
 
 -- What is answered to a message that has this fault; nothing where a read failed.
 abbrev pub fault_word : MessageFault → Option Word
@@ -37,7 +37,7 @@ SaysAny old None text new = ⊥
 SaysAny old (Some w) text new = Says old w text new
 
 -- The table of routes: what each asks of the office, by the target and the body of the message.
-abbrev pub IsAnswerOn : List Constituency → Option State → Route → Message → Answer
+abbrev pub IsAnswerOn : List Constituency → Option State → Route → Message → MessageAnswer
 IsAnswerOn setup old route.Progress m = ShowsProgress setup old
 IsAnswerOn setup old route.Return m = AtStation setup old m (λ code con. ShowsReturn setup old code)
 IsAnswerOn setup old route.Con m = AtCon setup old m (λ code con. ShowsCon setup old con code)
@@ -48,7 +48,7 @@ IsAnswerOn setup old (route.OnStation command) m =
 IsAnswerOn setup old (route.OnCon command) m =
     AtCon setup old m (λ code con. Orders setup old con (con_command command code) m)
 IsAnswerOn setup old (route.Import sep) m =
-    AtCon setup old m (λ code con. Imports setup old con sep m)
+    AtCon setup old m (λ code con. ImportsBody setup old con sep m)
 
 -- the 405 that allows GET, or the one that allows POST
 abbrev pub other_method : Bool → Word
@@ -56,17 +56,18 @@ other_method true = word.GetOnly
 other_method false = word.PostOnly
 
 -- by whether the method is the route's
-abbrev pub ByMethod : List Constituency → Option State → Route → Message → Bool → Answer
+abbrev pub ByMethod : List Constituency → Option State → Route → Message → Bool → MessageAnswer
 ByMethod setup old route m true = IsAnswerOn setup old route m
 ByMethod setup old route m false = Says old (other_method (takes_get route))
 
 -- by the route of the target
-abbrev pub ByRoute : List Constituency → Option State → Message → Option Route → Answer
+abbrev pub ByRoute : List Constituency → Option State → Message → Option Route → MessageAnswer
 ByRoute setup old m None = Says old word.NoRoute
-ByRoute setup old m (Some route) = ByMethod setup old route m (bytes_eq m.method (method_of route))
+ByRoute setup old m (Some route) =
+    ByMethod setup old route m (bytes_eq m.method (route_method route))
 
 -- The answer to a message or to a fault of one.
-abbrev pub IsAnswer : List Constituency → Option State → Result Message MessageFault → Answer
+abbrev pub IsAnswer : List Constituency → Option State → Result Message MessageFault → MessageAnswer
 IsAnswer setup old (Err fault) text new = SaysAny old (fault_word fault) text new
 IsAnswer setup old (Ok m) text new =
     (row : Option (RouteOf Route)) × IsRouted m.target.items row

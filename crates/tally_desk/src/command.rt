@@ -4,12 +4,13 @@ ghost use Rattle.std.specs.Prelude.{◌≡◌, IfSome, Some, Result};
 ghost use Rattle.tally_rules.specs.Setup.{constituency_with};
 ghost use Rattle.tally_returns.specs.declared.refusal.Refusal.TheVariants.{NoConstituency, NoStation};
 ghost use Rattle.tally_returns.specs.declared.refusal.Refusal.{Refusal};
+ghost use Rattle.tally_keeper.specs.StaysKeeper.{StaysKeeper};
 ghost use Rattle.tally_asks.specs.declared.routes.Route.TheVariants as route;
 ghost use Rattle.tally_desk.specs.internal.Gives.{Answered, GivesOn, OrdersRead};
 ghost use Rattle.tally_desk.specs.internal.Named.{lists_of};
 ghost use Rattle.tally_desk.specs.Requests.{ImportsText, imported_text};
 
-use crate::named::{Subject, con_named, lists_of, station_named};
+use crate::named::{Subject, con_in_target, lists_of, station_in_target};
 use crate::room::Room;
 use std::alloc::Global;
 use tally_answer::Word;
@@ -21,8 +22,7 @@ use tally_rules::{Code, Constituency, Setup};
 
 /// Carries out the command that a body was read as. Its answer takes no memory.
 fn order<K: Keeper>(room: Room, keeper: &mut K, subject: Subject, ask: Option<Ask>) -> Vec<u8>
-    ensures setup { K.constituencies keeper.new ≡ K.constituencies keeper.old }
-    ensures trusted { K.IsTrusted keeper.new → K.IsTrusted keeper.old }
+    ensures stays { StaysKeeper K.Keeper keeper.old keeper.new }
     ensures orders { Answered K.Keeper
         (λ setup state. OrdersRead setup state (lists_of setup subject) ask)
         keeper.old result.items keeper.new }
@@ -41,13 +41,12 @@ pub(crate) fn order_on_station<K: Keeper>(
     command: StationCommand,
     message: &Message,
 ) -> Option<Vec<u8>>
-    ensures setup { K.constituencies keeper.new ≡ K.constituencies keeper.old }
-    ensures trusted { K.IsTrusted keeper.new → K.IsTrusted keeper.old }
+    ensures stays { StaysKeeper K.Keeper keeper.old keeper.new }
     ensures gives { GivesOn K.Keeper (route.OnStation command) message.now
         keeper.old result keeper.new }
 {
     let room = Room::reserve(alloc)?;
-    let Some(station) = station_named(keeper.setup(), &message.target) else {
+    let Some(station) = station_in_target(keeper.setup(), &message.target) else {
         return Some(room.refusal(Refusal::NoStation));
     };
     match ask_on_station(alloc, command, station, &message.body) {
@@ -63,13 +62,12 @@ pub(crate) fn order_on_con<K: Keeper>(
     command: ConCommand,
     message: &Message,
 ) -> Option<Vec<u8>>
-    ensures setup { K.constituencies keeper.new ≡ K.constituencies keeper.old }
-    ensures trusted { K.IsTrusted keeper.new → K.IsTrusted keeper.old }
+    ensures stays { StaysKeeper K.Keeper keeper.old keeper.new }
     ensures gives { GivesOn K.Keeper (route.OnCon command) message.now
         keeper.old result keeper.new }
 {
     let room = Room::reserve(alloc)?;
-    let Some(con) = con_named(keeper.setup(), &message.target) else {
+    let Some(con) = con_in_target(keeper.setup(), &message.target) else {
         return Some(room.refusal(Refusal::NoConstituency));
     };
     match ask_on_con(alloc, command, con, &message.body) {
@@ -108,8 +106,7 @@ fn lodge_rows<K: Keeper>(
     con: Constituency,
     text: &[u8],
 ) -> Vec<u8>
-    ensures setup { K.constituencies keeper.new ≡ K.constituencies keeper.old }
-    ensures trusted { K.IsTrusted keeper.new → K.IsTrusted keeper.old }
+    ensures stays { StaysKeeper K.Keeper keeper.old keeper.new }
     ensures imports { Answered K.Keeper (λ setup state. ImportsText setup state con sep text.now)
         keeper.old result.items keeper.new }
 {
@@ -125,12 +122,11 @@ pub(crate) fn import<K: Keeper>(
     sep: Sep,
     message: &Message,
 ) -> Option<Vec<u8>>
-    ensures setup { K.constituencies keeper.new ≡ K.constituencies keeper.old }
-    ensures trusted { K.IsTrusted keeper.new → K.IsTrusted keeper.old }
+    ensures stays { StaysKeeper K.Keeper keeper.old keeper.new }
     ensures gives { GivesOn K.Keeper (route.Import sep) message.now keeper.old result keeper.new }
 {
     let room = Room::reserve(alloc)?;
-    let Some(code) = con_named(keeper.setup(), &message.target) else {
+    let Some(code) = con_in_target(keeper.setup(), &message.target) else {
         return Some(room.refusal(Refusal::NoConstituency));
     };
     let con = con_copy(alloc, keeper.setup(), code)?;

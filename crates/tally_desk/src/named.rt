@@ -4,7 +4,7 @@ ghost use Rattle.std.specs.Prelude.{◌≡◌, ◌≤◌, length, option_map, op
 ghost use Rattle.tally_frac.specs.Limits.{most_lists};
 ghost use Rattle.tally_rules.specs.Constituency as value;
 ghost use Rattle.tally_rules.specs.Setup.{constituency_with, station_with};
-ghost use Rattle.tally_desk.specs.Requests.{con_named, station_named};
+ghost use Rattle.tally_desk.specs.Requests.{con_in_target, station_in_target};
 ghost use Rattle.tally_desk.specs.internal.Named.{lists_of};
 
 use tally_asks::{con_of_target, station_of_target};
@@ -18,20 +18,20 @@ pub(crate) enum Subject {
 }
 
 /// The station of the setup that a target names.
-pub(crate) fn station_named(setup: &Setup, target: &[u8]) -> Option<Code>
-    ensures { result ≡ option_map (λ named. named.0) (station_named setup.now target.now) }
+pub(crate) fn station_in_target(setup: &Setup, target: &[u8]) -> Option<Code>
+    ensures { result ≡ option_map (λ named. named.0) (station_in_target setup.now target.now) }
 {
     let code = station_of_target(target)?;
-    let _place = setup.station(code)?;
+    setup.station(code)?;
     Some(code)
 }
 
 /// The constituency of the setup that a target names.
-pub(crate) fn con_named(setup: &Setup, target: &[u8]) -> Option<Code>
-    ensures { result ≡ option_map (λ named. named.0) (con_named setup.now target.now) }
+pub(crate) fn con_in_target(setup: &Setup, target: &[u8]) -> Option<Code>
+    ensures { result ≡ option_map (λ named. named.0) (con_in_target setup.now target.now) }
 {
     let code = con_of_target(target)?;
-    let _con = setup.con(code)?;
+    setup.con(code)?;
     Some(code)
 }
 

@@ -3,6 +3,7 @@
 ghost use Rattle.std.specs.Prelude.{◌≡◌, IfSome, Ok};
 ghost use Rattle.tally_asks.specs.Routes.{desk_rows, takes_get};
 ghost use Rattle.tally_answer.specs.Words.{word_text};
+ghost use Rattle.tally_keeper.specs.StaysKeeper.{StaysKeeper};
 ghost use Rattle.tally_desk.specs.internal.Gives.{GivesBy, GivesOn};
 ghost use Rattle.tally_desk.specs.Respond.{ByRoute, IsAnswer, fault_word, other_method};
 
@@ -49,14 +50,13 @@ fn other_method(route: Route) -> Word
 }
 
 /// Answers a message on its route.
-fn answer_on<K: Keeper>(
+fn answer_by_route<K: Keeper>(
     alloc: Global,
     keeper: &mut K,
     route: Route,
     message: &Message,
 ) -> Option<Vec<u8>>
-    ensures setup { K.constituencies keeper.new ≡ K.constituencies keeper.old }
-    ensures trusted { K.IsTrusted keeper.new → K.IsTrusted keeper.old }
+    ensures stays { StaysKeeper K.Keeper keeper.old keeper.new }
     ensures gives { GivesOn K.Keeper route message.now keeper.old result keeper.new }
 {
     match route {
@@ -78,8 +78,7 @@ fn answer<K: Keeper>(
     message: &Message,
 ) -> Option<Vec<u8>>
     requires { router.now ≡ desk_rows }
-    ensures setup { K.constituencies keeper.new ≡ K.constituencies keeper.old }
-    ensures trusted { K.IsTrusted keeper.new → K.IsTrusted keeper.old }
+    ensures stays { StaysKeeper K.Keeper keeper.old keeper.new }
     ensures gives { GivesBy K.Keeper (λ setup state. IsAnswer setup state (Ok message.now))
         keeper.old result keeper.new }
 {
@@ -89,7 +88,7 @@ fn answer<K: Keeper>(
     if !takes(route, &message.method) {
         return say(alloc, other_method(route));
     }
-    answer_on(alloc, keeper, route, message)
+    answer_by_route(alloc, keeper, route, message)
 }
 
 /// Answers a message or a fault of one. `None` where the fault is a failed read, or where there is
@@ -101,8 +100,7 @@ pub(crate) fn respond<K: Keeper>(
     message: &Result<Message, MessageFault>,
 ) -> Option<Vec<u8>>
     requires { router.now ≡ desk_rows }
-    ensures setup { K.constituencies keeper.new ≡ K.constituencies keeper.old }
-    ensures trusted { K.IsTrusted keeper.new → K.IsTrusted keeper.old }
+    ensures stays { StaysKeeper K.Keeper keeper.old keeper.new }
     ensures gives { GivesBy K.Keeper (λ setup state. IsAnswer setup state message.now)
         keeper.old result keeper.new }
 {

@@ -13,13 +13,14 @@ ghost use Rattle.tally_answer.specs.declared.status.BodyType.TheVariants as body
 ghost use Rattle.tally_report.specs.ProgressText.{progress_text};
 ghost use Rattle.tally_report.specs.Reports.{IsEnoughFor};
 ghost use Rattle.tally_asks.specs.declared.routes.Route.TheVariants as route;
+ghost use Rattle.tally_keeper.specs.StaysKeeper.{StaysKeeper};
 ghost use Rattle.tally_desk.specs.internal.Gives.{GivesBy, GivesOn};
 ghost use Rattle.tally_desk.specs.Requests.{ShowsProgress};
 
-use crate::named::{con_named, station_named};
+use crate::named::{con_in_target, station_in_target};
 use crate::report::report_answer;
 use crate::room::{Room, json_answer, text_answer};
-use crate::shown::{progress_of, return_of, view_of};
+use crate::shown::{progress_of, return_of, view_for};
 use std::alloc::Global;
 use tally_answer::{con_text, return_text};
 use tally_keeper::{ConView, Keeper, ProgressRow, Refusal, Return};
@@ -88,8 +89,7 @@ fn report_shown(
 
 /// Shows how far each constituency has come.
 pub(crate) fn show_progress<K: Keeper>(alloc: Global, keeper: &mut K) -> Option<Vec<u8>>
-    ensures setup { K.constituencies keeper.new ≡ K.constituencies keeper.old }
-    ensures trusted { K.IsTrusted keeper.new → K.IsTrusted keeper.old }
+    ensures stays { StaysKeeper K.Keeper keeper.old keeper.new }
     ensures gives { GivesBy K.Keeper ShowsProgress keeper.old result keeper.new }
 {
     let room = Room::reserve(alloc)?;
@@ -105,12 +105,11 @@ pub(crate) fn show_return<K: Keeper>(
     keeper: &mut K,
     message: &Message,
 ) -> Option<Vec<u8>>
-    ensures setup { K.constituencies keeper.new ≡ K.constituencies keeper.old }
-    ensures trusted { K.IsTrusted keeper.new → K.IsTrusted keeper.old }
+    ensures stays { StaysKeeper K.Keeper keeper.old keeper.new }
     ensures gives { GivesOn K.Keeper route.Return message.now keeper.old result keeper.new }
 {
     let room = Room::reserve(alloc)?;
-    let Some(station) = station_named(keeper.setup(), &message.target) else {
+    let Some(station) = station_in_target(keeper.setup(), &message.target) else {
         return Some(room.refusal(Refusal::NoStation));
     };
     match return_of(keeper, station) {
@@ -125,15 +124,14 @@ pub(crate) fn show_con<K: Keeper>(
     keeper: &mut K,
     message: &Message,
 ) -> Option<Vec<u8>>
-    ensures setup { K.constituencies keeper.new ≡ K.constituencies keeper.old }
-    ensures trusted { K.IsTrusted keeper.new → K.IsTrusted keeper.old }
+    ensures stays { StaysKeeper K.Keeper keeper.old keeper.new }
     ensures gives { GivesOn K.Keeper route.Con message.now keeper.old result keeper.new }
 {
     let room = Room::reserve(alloc)?;
-    let Some(code) = con_named(keeper.setup(), &message.target) else {
+    let Some(code) = con_in_target(keeper.setup(), &message.target) else {
         return Some(room.refusal(Refusal::NoConstituency));
     };
-    match view_of(keeper, code) {
+    match keeper.show_con(code) {
         Ok(view) => con_shown(alloc, keeper.setup(), code, &view),
         Err(refusal) => Some(room.refusal(refusal)),
     }
@@ -146,15 +144,14 @@ pub(crate) fn show_report<K: Keeper>(
     message: &Message,
     which: Report,
 ) -> Option<Vec<u8>>
-    ensures setup { K.constituencies keeper.new ≡ K.constituencies keeper.old }
-    ensures trusted { K.IsTrusted keeper.new → K.IsTrusted keeper.old }
+    ensures stays { StaysKeeper K.Keeper keeper.old keeper.new }
     ensures gives { GivesOn K.Keeper (route.Report which) message.now keeper.old result keeper.new }
 {
     let room = Room::reserve(alloc)?;
-    let Some(code) = con_named(keeper.setup(), &message.target) else {
+    let Some(code) = con_in_target(keeper.setup(), &message.target) else {
         return Some(room.refusal(Refusal::NoConstituency));
     };
-    match view_of(keeper, code) {
+    match view_for(keeper, code, which) {
         Ok(view) => report_shown(alloc, room, keeper.setup(), code, &view, which),
         Err(refusal) => Some(room.refusal(refusal)),
     }

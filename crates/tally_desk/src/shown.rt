@@ -2,22 +2,25 @@
 
 ghost use Rattle.std.specs.Prelude.{◌≡◌, Some, IfOk};
 ghost use Rattle.tally_keeper.specs.Keeper.{Happens, request};
+ghost use Rattle.tally_keeper.specs.StaysKeeper.{StaysKeeper};
 ghost use Rattle.tally_steps.specs.Outcome.{IsLawfulView};
 ghost use Rattle.tally_returns.specs.View.{FitsView};
 ghost use Rattle.tally_returns.specs.declared.ask.Ask.TheVariants.{ShowCon, ShowProgress, ShowReturn};
 ghost use Rattle.tally_rules.specs.Constituency as value;
 ghost use Rattle.tally_rules.specs.Setup.{constituency_with};
 ghost use Rattle.tally_desk.specs.Shown.{as_con, as_progress};
+ghost use Rattle.tally_report.specs.Reports.{IsEnoughFor};
 ghost use Rattle.tally_desk.specs.internal.Gives.{as_return};
+ghost use Rattle.tally_desk.specs.internal.ShownFor.{ShowsFor, is_past};
 
 use tally_keeper::{Ask, ConView, Keeper, ProgressRow, Refusal, Reply, Return};
 use tally_machine::laws::a_constituency_has_a_view;
+use tally_report::Report;
 use tally_rules::Code;
 
 /// The return of a station. It is shown, and nothing changes.
 pub(crate) fn return_of<K: Keeper>(keeper: &mut K, station: Code) -> Result<Return, Refusal>
-    ensures setup { K.constituencies keeper.new ≡ K.constituencies keeper.old }
-    ensures trusted { K.IsTrusted keeper.new → K.IsTrusted keeper.old }
+    ensures stays { StaysKeeper K.Keeper keeper.old keeper.new }
     ensures shows { K.IsTrusted keeper.new
         → Happens (K.constituencies keeper.old) (K.content keeper.old)
         (request (ShowReturn station) (as_return result)) (K.content keeper.new) }
@@ -33,8 +36,7 @@ pub(crate) fn return_of<K: Keeper>(keeper: &mut K, station: Code) -> Result<Retu
 
 /// What a constituency has come to. It is shown, and nothing changes.
 pub fn view_of<K: Keeper>(keeper: &mut K, con: Code) -> Result<ConView, Refusal>
-    ensures setup { K.constituencies keeper.new ≡ K.constituencies keeper.old }
-    ensures trusted { K.IsTrusted keeper.new → K.IsTrusted keeper.old }
+    ensures stays { StaysKeeper K.Keeper keeper.old keeper.new }
     ensures fits { IfOk result (λ view. (found : value.Constituency)
         → constituency_with con (K.constituencies keeper.old) ≡ Some found
         → FitsView found view) }
@@ -58,10 +60,48 @@ pub fn view_of<K: Keeper>(keeper: &mut K, con: Code) -> Result<ConView, Refusal>
     }
 }
 
+/// Whether a report shows certificates on record.
+fn shows_past(which: Report) -> bool
+    ensures { result ≡ is_past which }
+{
+    match which {
+        Report::Past => true,
+        _ => false,
+    }
+}
+
+/// What a constituency has come to, for a report: with its certificates on record only where the
+/// report shows them. Nothing changes.
+pub(crate) fn view_for<K: Keeper>(
+    keeper: &mut K,
+    con: Code,
+    which: Report,
+) -> Result<ConView, Refusal>
+    ensures stays { StaysKeeper K.Keeper keeper.old keeper.new }
+    ensures fits { IfOk result (λ view. (found : value.Constituency)
+        → constituency_with con (K.constituencies keeper.old) ≡ Some found
+        → FitsView found view) }
+    ensures shows { K.IsTrusted keeper.new → ShowsFor which
+        (K.constituencies keeper.old) (K.content keeper.old) con result (K.content keeper.new) }
+    ensures enough { K.IsTrusted keeper.new → IfOk result (λ view. (found : value.Constituency)
+        → constituency_with con (K.constituencies keeper.old) ≡ Some found
+        → IsEnoughFor which found view) }
+    ensures kept { K.IsTrusted keeper.new
+        → IfOk result (λ _. K.content keeper.new ≡ K.content keeper.old) }
+{
+    if shows_past(which) {
+        return view_of(keeper, con);
+    }
+    // Called for what its contract says: each view of a lawful state is lawful.
+    a_constituency_has_a_view();
+    // Called for what its contract says: a setup is within its limits.
+    let _cons = keeper.setup().cons();
+    keeper.show_con(con)
+}
+
 /// How far each constituency has come. It is shown, and nothing changes.
 pub fn progress_of<K: Keeper>(keeper: &mut K) -> Result<Vec<ProgressRow>, Refusal>
-    ensures setup { K.constituencies keeper.new ≡ K.constituencies keeper.old }
-    ensures trusted { K.IsTrusted keeper.new → K.IsTrusted keeper.old }
+    ensures stays { StaysKeeper K.Keeper keeper.old keeper.new }
     ensures shows { K.IsTrusted keeper.new
         → Happens (K.constituencies keeper.old) (K.content keeper.old)
         (request ShowProgress (as_progress result)) (K.content keeper.new) }

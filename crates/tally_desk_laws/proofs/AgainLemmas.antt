@@ -32,7 +32,7 @@ use Rattle.tally_import.specs.ReturnRows.{text_coming}
 use Rattle.tally_message.specs.declared.message.Message.{Message}
 use Rattle.tally_message.specs.declared.message.MessageFault.{MessageFault}
 use Rattle.tally_asks.specs.Bodies.{IsBody, con_command, station_command}
-use Rattle.tally_asks.specs.Routes.{IsRouted, method_of, takes_get}
+use Rattle.tally_asks.specs.Routes.{IsRouted, route_method, takes_get}
 use Rattle.tally_asks.specs.declared.routes.Route.{Route}
 use Rattle.tally_answer.specs.Outcome.{outcome_text}
 use Rattle.tally_answer.specs.Words.{word_text}
@@ -40,7 +40,7 @@ use Rattle.tally_answer.specs.declared.word.Word.{Word}
 use Rattle.tally_answer.specs.declared.word.Word.TheVariants.{BadBody, NoRoute, Unavailable}
 use Rattle.tally_message.specs.LawStatements.{IsSame, IsSameMessage}
 use Rattle.tally_desk_laws.specs.LawStatements.{ComesTo, IsImportRoute, IsOfImport, StateStays, TellsNoImport, TellsNothingLodged}
-use Rattle.tally_desk.specs.Requests.{Imports, Named, AtNamed, Orders, OrdersOf, Refuses, Says, con_named, import_word, imported_text, station_named}
+use Rattle.tally_desk.specs.Requests.{ImportsBody, Named, AtNamed, Orders, OrdersOf, Refuses, Says, con_in_target, import_word, imported_text, station_in_target}
 use Rattle.tally_desk.specs.Respond.{Answers, ByMethod, ByRoute, IsAnswer, Office, SaysAny, fault_word, other_method}
 use Rattle.tally_desk_laws.proofs.MessageLemmas.{happen-append}
 use Rattle.tally_desk_laws.proofs.RouteLemmas.{IsImportKind, IsOfKind, IsShown, Kind, import, import-kind, kind, of-kind, order_on_con, order_on_station, shown}
@@ -254,7 +254,7 @@ orders-twice IsImport none setup old mid later new read m n text other same con 
     ))
 
 imports-twice : (IsImport : Type 0) (setup : List Constituency) (old mid later new : Option State) (sep : Sep) (m n : Message) (text other : List ℕ)
-    → n.body.items ≡ m.body.items → (con : Constituency) → Imports setup old con sep m text mid → Imports setup later con sep n other new
+    → n.body.items ≡ m.body.items → (con : Constituency) → ImportsBody setup old con sep m text mid → ImportsBody setup later con sep n other new
     → IsTwice IsImport setup old mid later new text other
 imports-twice IsImport setup old mid later new sep m n text other same con first second = inr (inr (record {
   coming = text_coming con sep m.body.items;
@@ -277,21 +277,21 @@ kind-twice : Laws → (k : Kind) (setup : List Constituency) (old mid later new 
     → IsTwice (IsImportKind k) setup old mid later new text other
 kind-twice laws shown setup old mid later new m n text other target body first second = inl (shown-keeps laws setup later new second, λ never. absurd never)
 kind-twice laws (order_on_station command) setup old mid later new m n text other target body first second =
-    named-twice old mid later new NoStation (station_named setup m.target.items) (λ of con. Orders setup old con (station_command command of) m)
+    named-twice old mid later new NoStation (station_in_target setup m.target.items) (λ of con. Orders setup old con (station_command command of) m)
     (λ of con. Orders setup later con (station_command command of) n) text other (IsTwice ⊥ setup old mid later new text other)
     (λ refused. inl (same-keeps later new refused.1, λ never. absurd never))
     (λ of. orders-twice ⊥ (λ never. never) setup old mid later new (station_command command of) m n text other body) first
-    (subst (λ t. AtNamed NoStation later (station_named setup t) (λ of con. Orders setup later con (station_command command of) n) other new) target second)
+    (subst (λ t. AtNamed NoStation later (station_in_target setup t) (λ of con. Orders setup later con (station_command command of) n) other new) target second)
 kind-twice laws (order_on_con command) setup old mid later new m n text other target body first second =
-    named-twice old mid later new NoConstituency (con_named setup m.target.items) (λ of con. Orders setup old con (con_command command of) m)
+    named-twice old mid later new NoConstituency (con_in_target setup m.target.items) (λ of con. Orders setup old con (con_command command of) m)
     (λ of con. Orders setup later con (con_command command of) n) text other (IsTwice ⊥ setup old mid later new text other)
     (λ refused. inl (same-keeps later new refused.1, λ never. absurd never))
     (λ of. orders-twice ⊥ (λ never. never) setup old mid later new (con_command command of) m n text other body) first
-    (subst (λ t. AtNamed NoConstituency later (con_named setup t) (λ of con. Orders setup later con (con_command command of) n) other new) target second)
+    (subst (λ t. AtNamed NoConstituency later (con_in_target setup t) (λ of con. Orders setup later con (con_command command of) n) other new) target second)
 kind-twice laws (import sep) setup old mid later new m n text other target body first second =
-    named-twice old mid later new NoConstituency (con_named setup m.target.items) (λ of con. Imports setup old con sep m) (λ of con. Imports setup later con sep n) text other (IsTwice (Unit {0}) setup old mid later new text other)
+    named-twice old mid later new NoConstituency (con_in_target setup m.target.items) (λ of con. ImportsBody setup old con sep m) (λ of con. ImportsBody setup later con sep n) text other (IsTwice (Unit {0}) setup old mid later new text other)
     (λ refused. inl (same-keeps later new refused.1, λ of. inr refused.0)) (λ of con. imports-twice (Unit {0}) setup old mid later new sep m n text other body con) first
-    (subst (λ t. AtNamed NoConstituency later (con_named setup t) (λ of con. Imports setup later con sep n) other new) target second)
+    (subst (λ t. AtNamed NoConstituency later (con_in_target setup t) (λ of con. ImportsBody setup later con sep n) other new) target second)
 
 -- a target has one route
 route-one : (target : List ℕ) (v w : Option (RouteOf Route)) → IsRouted target v → IsRouted target w → v ≡ w
@@ -325,8 +325,8 @@ message-twice laws setup old mid later new m n text other (method, target, body)
     go (Some found) is first second =
         twice-of (IsOfImport m) (IsImportRoute found.value) setup old mid later new text other
         (λ (of : IsOfImport m). let same : of.0 ≡ found = (let k = route-one m.target.items (Some of.0) (Some found) of.1 is in cc) in subst (λ (e : RouteOf Route). IsImportRoute e.value) same of.2)
-        (method-twice laws setup old mid later new found.value m n text other (bytes_eq m.method (method_of found.value)) target body first
-        (subst (λ l. ByMethod setup later found.value n (bytes_eq l (method_of found.value)) other new) method second))
+        (method-twice laws setup old mid later new found.value m n text other (bytes_eq m.method (route_method found.value)) target body first
+        (subst (λ l. ByMethod setup later found.value n (bytes_eq l (route_method found.value)) other new) method second))
 
 said-keeps : (old new : Option State) (o : Option Word) (text : List ℕ) → SaysAny old o text new → Keeps old new
 said-keeps old new None text is = absurd is
@@ -432,7 +432,7 @@ failed-again setup old mid later new coming came again fault count good first se
     sudden cause.Memory g h = g refl
     sudden cause.Store g h = h
 
-    go : keeper.IsFault came fault → ⊥
+    go : keeper.IsImportFault came fault → ⊥
     go (rows, are, inl (inl own)) = subst (λ f. imported_text (Err f) ≢ word_text Unavailable) own good refl
     go (rows, are, inl (inr own)) = subst (λ f. imported_text (Err f) ≢ word_text Unavailable) own good refl
     go (rows, are, inr (inl (end, inl h))) = sudden fault good h

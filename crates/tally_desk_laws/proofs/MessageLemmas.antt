@@ -27,15 +27,15 @@ use Rattle.tally_message.specs.declared.message.Message.{Message}
 use Rattle.tally_message.specs.declared.message.MessageFault.{MessageFault}
 use Rattle.tally_message.specs.declared.message.MessageFault.TheVariants as fault
 use Rattle.tally_serve.specs.Serving.{Follows, IsExchange, Serves}
-use Rattle.tally_asks.specs.Bodies.{◌>>=◌, close_in, code, code_at, con_command, counts_in, codes_at, certify_in, correct_in, draw_in, lodge_in, number_at, query_in, reopen_in, station_command, text_at, vacate_in}
-use Rattle.tally_asks.specs.Routes.{method_of}
+use Rattle.tally_asks.specs.Bodies.{◌>>=◌, close_in, as_code, code_under, con_command, counts_of_body, codes_under, certify_in, correct_in, draw_in, lodge_in, number_under, query_in, reopen_in, station_command, text_under, vacate_in}
+use Rattle.tally_asks.specs.Routes.{route_method}
 use Rattle.tally_asks.specs.declared.routes.Route.{Route}
 use Rattle.tally_asks.specs.declared.routes.ConCommand.{ConCommand}
 use Rattle.tally_asks.specs.declared.routes.ConCommand.TheVariants as on_con
 use Rattle.tally_asks.specs.declared.routes.StationCommand.{StationCommand}
 use Rattle.tally_asks.specs.declared.routes.StationCommand.TheVariants as on_station
 use Rattle.tally_desk_laws.specs.LawStatements.{ComesTo}
-use Rattle.tally_desk.specs.Requests.{Imports, Named, AtNamed, Orders, OrdersOf, Says, con_named, station_named}
+use Rattle.tally_desk.specs.Requests.{ImportsBody, Named, AtNamed, Orders, OrdersOf, Says, con_in_target, station_in_target}
 use Rattle.tally_desk.specs.Respond.{Answers, ByMethod, ByRoute, IsAnswer, Office, SaysAny, fault_word}
 use Rattle.tally_answer.specs.declared.word.Word.{Word}
 use Rattle.tally_answer.specs.declared.word.Word.TheVariants.{Unavailable}
@@ -59,9 +59,9 @@ and-some : {A B : Type 0} (next : A → Option B) (o : Option A) (b : B) → opt
 and-some next None b is = absurd (let k = is in cc)
 and-some next (Some a) b is = (a, refl, is)
 
-code-at : (key : List ℕ) (body : Data) (slip : List ℕ) → code_at key body ≡ Some slip → is_code slip ≡ true
+code-at : (key : List ℕ) (body : Data) (slip : List ℕ) → code_under key body ≡ Some slip → is_code slip ≡ true
 code-at key body slip is =
-    let value = and-some code (get key body) slip is in
+    let value = and-some as_code (get key body) slip is in
     let text = and-some code_of (as_str value.0) slip value.2 in
     code-taken text.0 slip text.2
 
@@ -102,55 +102,55 @@ with-slip seen made slip is named good =
 lodge-coded : (of : List ℕ) (body : Data) (seen : AskSeen) → lodge_in of body ≡ Some seen → IsCoded seen
 unfolding lodge_in
 lodge-coded of body seen is =
-    let slip = bind-some (code_at (codes "slip") body) _ seen is in
-    let counts = bind-some (counts_in body) _ seen slip.2 in
+    let slip = bind-some (code_under (codes "slip") body) _ seen is in
+    let counts = bind-some (counts_of_body body) _ seen slip.2 in
     with-slip seen (of_seen.lodge of slip.0 counts.0) slip.0 counts.2 refl (code-at (codes "slip") body slip.0 slip.1)
 
 query-coded : (of : List ℕ) (body : Data) (seen : AskSeen) → query_in of body ≡ Some seen → IsCoded seen
 unfolding query_in
 query-coded of body seen is =
-    let rev = bind-some (number_at (codes "rev") body) _ seen is in
-    let note = bind-some (text_at (codes "note") body) _ seen rev.2 in
+    let rev = bind-some (number_under (codes "rev") body) _ seen is in
+    let note = bind-some (text_under (codes "note") body) _ seen rev.2 in
     without seen (of_seen.query of rev.0 note.0) note.2 refl
 
 correct-coded : (of : List ℕ) (body : Data) (seen : AskSeen) → correct_in of body ≡ Some seen → IsCoded seen
 unfolding correct_in
 correct-coded of body seen is =
-    let rev = bind-some (number_at (codes "rev") body) _ seen is in
-    let slip = bind-some (code_at (codes "slip") body) _ seen rev.2 in
-    let counts = bind-some (counts_in body) _ seen slip.2 in
+    let rev = bind-some (number_under (codes "rev") body) _ seen is in
+    let slip = bind-some (code_under (codes "slip") body) _ seen rev.2 in
+    let counts = bind-some (counts_of_body body) _ seen slip.2 in
     with-slip seen (of_seen.correct of rev.0 slip.0 counts.0) slip.0 counts.2 refl (code-at (codes "slip") body slip.0 slip.1)
 
 close-coded : (of : List ℕ) (body : Data) (seen : AskSeen) → close_in of body ≡ Some seen → IsCoded seen
 unfolding close_in
 close-coded of body seen is =
-    let rev = bind-some (number_at (codes "rev") body) _ seen is in without seen (of_seen.close of rev.0) rev.2 refl
+    let rev = bind-some (number_under (codes "rev") body) _ seen is in without seen (of_seen.close of rev.0) rev.2 refl
 
 draw-coded : (of : List ℕ) (body : Data) (seen : AskSeen) → draw_in of body ≡ Some seen → IsCoded seen
 unfolding draw_in
 draw-coded of body seen is =
-    let edition = bind-some (number_at (codes "edition") body) _ seen is in
-    let order = bind-some (codes_at (codes "order") body) _ seen edition.2 in
+    let edition = bind-some (number_under (codes "edition") body) _ seen is in
+    let order = bind-some (codes_under (codes "order") body) _ seen edition.2 in
     without seen (of_seen.draw of edition.0 order.0) order.2 refl
 
 certify-coded : (of : List ℕ) (body : Data) (seen : AskSeen) → certify_in of body ≡ Some seen → IsCoded seen
 unfolding certify_in
 certify-coded of body seen is =
-    let edition = bind-some (number_at (codes "edition") body) _ seen is in without seen (of_seen.certify of edition.0) edition.2 refl
+    let edition = bind-some (number_under (codes "edition") body) _ seen is in without seen (of_seen.certify of edition.0) edition.2 refl
 
 reopen-coded : (of : List ℕ) (body : Data) (seen : AskSeen) → reopen_in of body ≡ Some seen → IsCoded seen
 unfolding reopen_in
 reopen-coded of body seen is =
-    let edition = bind-some (number_at (codes "edition") body) _ seen is in
-    let note = bind-some (text_at (codes "note") body) _ seen edition.2 in
+    let edition = bind-some (number_under (codes "edition") body) _ seen is in
+    let note = bind-some (text_under (codes "note") body) _ seen edition.2 in
     without seen (of_seen.reopen of edition.0 note.0) note.2 refl
 
 vacate-coded : (of : List ℕ) (body : Data) (seen : AskSeen) → vacate_in of body ≡ Some seen → IsCoded seen
 unfolding vacate_in
 vacate-coded of body seen is =
-    let list = bind-some (code_at (codes "list") body) _ seen is in
-    let place = bind-some (number_at (codes "place") body) _ seen list.2 in
-    let note = bind-some (text_at (codes "note") body) _ seen place.2 in
+    let list = bind-some (code_under (codes "list") body) _ seen is in
+    let place = bind-some (number_under (codes "place") body) _ seen list.2 in
+    let note = bind-some (text_under (codes "note") body) _ seen place.2 in
     without seen (of_seen.vacate of list.0 place.0 note.0) note.2 refl
 
 -- each command that is read has a code as its slip, if it has one
@@ -179,7 +179,7 @@ none-came : (setup : List Constituency) (old new : Option State) → new ≡ old
 none-came setup old new same = (None, tt, same)
 
 one-came : (setup : List Constituency) (old new : Option State) (event : Event) → BringsCodes event → Happens setup old event new → IsEvent setup old new
-one-came setup old new event code is = (Some event, code, (new, is, refl))
+one-came setup old new event as_code is = (Some event, as_code, (new, is, refl))
 
 said-came : (setup : List Constituency) (old new : Option State) (o : Option Word) (text : List ℕ) → SaysAny old o text new → IsEvent setup old new
 said-came setup old new None text is = absurd is
@@ -216,13 +216,13 @@ import-came setup old new known d (Err why) is = one-came setup old new (failed_
 kind-came : (k : Kind) (setup : List Constituency) (old new : Option State) (m : Message) (text : List ℕ) → IsOfKind k setup old m text new → IsEvent setup old new
 kind-came shown setup old new m text is = shown-came setup old new is
 kind-came (order_on_station command) setup old new m text is =
-    named-came setup old new NoStation (station_named setup m.target.items) (λ of con. Orders setup old con (station_command command of) m) text
+    named-came setup old new NoStation (station_in_target setup m.target.items) (λ of con. Orders setup old con (station_command command of) m) text
     (λ of con. order-came setup old new (station_command command of) m text con (station-coded command of)) is
 kind-came (order_on_con command) setup old new m text is =
-    named-came setup old new NoConstituency (con_named setup m.target.items) (λ of con. Orders setup old con (con_command command of) m) text
+    named-came setup old new NoConstituency (con_in_target setup m.target.items) (λ of con. Orders setup old con (con_command command of) m) text
     (λ of con. order-came setup old new (con_command command of) m text con (con-coded command of)) is
 kind-came (import sep) setup old new m text is =
-    named-came setup old new NoConstituency (con_named setup m.target.items) (λ of con. Imports setup old con sep m) text
+    named-came setup old new NoConstituency (con_in_target setup m.target.items) (λ of con. ImportsBody setup old con sep m) text
     (λ of con done. import-came setup old new (Some (text_coming con sep m.body.items)) done.0 done.1 done.2) is
 
 method-came : (setup : List Constituency) (old new : Option State) (r : Route) (m : Message) (text : List ℕ) (b : Bool) → ByMethod setup old r m b text new → IsEvent setup old new
@@ -231,7 +231,7 @@ method-came setup old new r m text false is = none-came setup old new is.1
 
 route-came : (setup : List Constituency) (old new : Option State) (m : Message) (text : List ℕ) (o : Option Route) → ByRoute setup old m o text new → IsEvent setup old new
 route-came setup old new m text None is = none-came setup old new is.1
-route-came setup old new m text (Some r) is = method-came setup old new r m text (bytes_eq m.method (method_of r)) is
+route-came setup old new m text (Some r) is = method-came setup old new r m text (bytes_eq m.method (route_method r)) is
 
 answer-came : (setup : List Constituency) (old new : Option State) (message : Result Message MessageFault) (text : List ℕ)
     → IsAnswer setup old message text new ⊎ Says old Unavailable text new → IsEvent setup old new
@@ -256,8 +256,8 @@ came-none : (old new : Office) → new ≡ old → Came old new
 came-none old new same = ([], All-nil BringsCodes, (ap (λ (o : Office). o.setup) same, ap (λ (o : Office). o.state) same))
 
 came-once : (old new : Office) (event : Option Event) → IfSome event BringsCodes → ComesTo old (option_to_list event) new → Came old new
-came-once old new None code comes = ([], All-nil BringsCodes, comes)
-came-once old new (Some event) code comes = (event ∷ [], All-cons BringsCodes event [] code (All-nil BringsCodes), comes)
+came-once old new None as_code comes = ([], All-nil BringsCodes, comes)
+came-once old new (Some event) as_code comes = (event ∷ [], All-cons BringsCodes event [] as_code (All-nil BringsCodes), comes)
 
 came-both : (old mid new : Office) → Came old mid → Came mid new → Came old new
 came-both old mid new first second = (

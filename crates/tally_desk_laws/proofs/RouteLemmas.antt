@@ -19,7 +19,7 @@ use Rattle.tally_asks.specs.declared.routes.Route.{Route}
 use Rattle.tally_asks.specs.declared.routes.Route.TheVariants as route
 use Rattle.tally_asks.specs.declared.routes.StationCommand.{StationCommand}
 use Rattle.tally_desk_laws.specs.LawStatements.{IsImportRoute}
-use Rattle.tally_desk.specs.Requests.{Asks, HasConText, HasProgressText, HasReportText, HasReturnText, Imports, Named, AtCon, AtNamed, AtStation, Orders, con_named, station_named}
+use Rattle.tally_desk.specs.Requests.{Asks, HasConText, HasProgressText, HasReportText, HasReturnText, ImportsBody, Named, AtCon, AtNamed, AtStation, Orders, con_in_target, station_in_target}
 use Rattle.tally_desk.specs.Respond.{IsAnswerOn}
 use Rattle.tally_report.specs.declared.report.Report.{Report}
 
@@ -93,7 +93,7 @@ abbrev pub IsOfKind : Kind → List Constituency → Option State → Message �
 IsOfKind shown setup old m text new = IsShown setup old new
 IsOfKind (order_on_station command) setup old m text new = AtStation setup old m (λ code con. Orders setup old con (station_command command code) m) text new
 IsOfKind (order_on_con command) setup old m text new = AtCon setup old m (λ code con. Orders setup old con (con_command command code) m) text new
-IsOfKind (import sep) setup old m text new = AtCon setup old m (λ code con. Imports setup old con sep m) text new
+IsOfKind (import sep) setup old m text new = AtCon setup old m (λ code con. ImportsBody setup old con sep m) text new
 
 -- where the route is one of an import, it is of that kind
 abbrev pub IsImportKind : Kind → Type 0
@@ -111,7 +111,7 @@ reported setup old new con code which text is = asked setup old new (ShowCon cod
 report-on : (setup : List Constituency) (old new : Option State) (m : Message) (which : Report) (text : List ℕ)
     → AtCon setup old m (λ code con. Asks setup old (ShowCon code) (HasReportText con which)) text new → IsShown setup old new
 report-on setup old new m which text is =
-    named-shown setup old new NoConstituency (con_named setup m.target.items) (λ code con. Asks setup old (ShowCon code) (HasReportText con which)) text
+    named-shown setup old new NoConstituency (con_in_target setup m.target.items) (λ code con. Asks setup old (ShowCon code) (HasReportText con which)) text
     (λ code con. reported setup old new con code which text) is
 
 -- what an answer on a route is
@@ -119,10 +119,10 @@ pub of-kind : (setup : List Constituency) (old new : Option State) (r : Route) (
     → IsAnswerOn setup old r m text new → IsOfKind (kind r) setup old m text new
 of-kind setup old new route.Progress m text is = asked setup old new ShowProgress HasProgressText text progress-brings (progress-idle text) is
 of-kind setup old new route.Return m text is =
-    named-shown setup old new NoStation (station_named setup m.target.items) (λ code con. Asks setup old (ShowReturn code) (HasReturnText code)) text
+    named-shown setup old new NoStation (station_in_target setup m.target.items) (λ code con. Asks setup old (ShowReturn code) (HasReturnText code)) text
     (λ code con. asked setup old new (ShowReturn code) (HasReturnText code) text (return-brings code) (return-idle code text)) is
 of-kind setup old new route.Con m text is =
-    named-shown setup old new NoConstituency (con_named setup m.target.items) (λ code con. Asks setup old (ShowCon code) (HasConText con)) text
+    named-shown setup old new NoConstituency (con_in_target setup m.target.items) (λ code con. Asks setup old (ShowCon code) (HasConText con)) text
     (λ code con. asked setup old new (ShowCon code) (HasConText con) text (con-brings code) (con-idle con text)) is
 of-kind setup old new (route.Report which) m text is = report-on setup old new m which text is
 of-kind setup old new (route.OnStation command) m text is = is

@@ -131,5 +131,5 @@ SameBytesLodgeNothingAgain =
     → IsMessageOrFault c.input c.fails (Ok m) → IsOfImport m → Answers old (Ok m) text mid
     → text ≢ word_text Unavailable → ComesTo mid events later → again.input ≡ c.input
     → IsExchange Answers later again other e new
-    → StateStays later new × ((told : List ℕ) × IsWrittenTo again e told
-    × (TellsNothingLodged told ⊎ TellsNoImport told))
+    → StateStays later new × ((answer : List ℕ) × IsWrittenTo again e answer
+    × (TellsNothingLodged answer ⊎ TellsNoImport answer))

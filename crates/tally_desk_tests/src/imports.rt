@@ -4,7 +4,7 @@ use crate::books::fresh;
 use crate::outcomes::check_outcome;
 use std::alloc::Global;
 use std::test::*;
-use tally_commands::{Sep, Watch, import_text};
+use tally_commands::{Sep, Watch, import_returns};
 use tally_core::Book;
 use tally_scripts::TWIN_TOWN;
 
@@ -60,7 +60,7 @@ fn check_import(
     status: u8,
     want: &'static str,
 ) -> Result<(), Fail> {
-    let outcome = import_text(alloc, office, code, sep, text.as_bytes(), &mut Watch::new());
+    let outcome = import_returns(alloc, office, code, sep, text.as_bytes(), &mut Watch::new());
     check_outcome(alloc, &outcome, status, want)
 }
 

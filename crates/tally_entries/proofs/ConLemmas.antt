@@ -25,8 +25,9 @@ use Rattle.tally_statements.specs.declared.table.KeyedTable.{KeyedTable}
 use Rattle.tally_statements.specs.declared.table.KeyedTable.TheVariants.{Cons, Lots, Seats, Gone, Totals, Past}
 use Rattle.tally_statements.specs.Office.{rows_in, HasRows}
 use Rattle.tally_tables.specs.Cells.{item_row, items_of, numbers_with_places, con_rows, lot_rows, seat_rows, gone_row, gone_rows, past_row, past_rows, record_rows}
-use Rattle.tally_entries.specs.Constituencies.{ChangesOnly, MovesRows, MovesSeats, HasLot, HasGone, HasRecord, IsAt, sum_rows}
-use Rattle.tally_entries.specs.Entries.{Adds, HasItems, stored_in}
+use Rattle.tally_entries.specs.Constituencies.{ChangesOnly, MovesRows, MovesSeats, HasLot, HasGone, HasRecord, HasEdition, sum_rows}
+use Rattle.tally_entries.specs.Entries.{stored_in}
+use Rattle.tally_entries.specs.internal.Written.{Adds, HasItems}
 use Rattle.tally_entries.proofs.LotLemmas.{lot_put}
 use Rattle.tally_entries.proofs.ReturnLemmas.{items_keyed}
 use Rattle.tally_entries.proofs.RowLemmas.{adds_then, numbered_then}
@@ -164,7 +165,7 @@ only_con cons con before rows is held =
     one_permutation (Text con ∷ Int (pos before.edition) ∷ Int (pos (flag before.certified)) ∷ Text before.note ∷ []) (filter (has_key con) (cells rows))
     (subst (λ o. IsPermutation (flat_map con_rows (map (λ v. (con, v)) (option_to_list o))) (filter (has_key con) (cells rows))) is (rows_of_key con_rows con_keyed cons con rows held))
 
-pub con_changed : (con : List ℕ) (edition : ℕ) (certified : Bool) (note : List ℕ) (cons : FinMap code_cmp ConState) (before standing : ConState) (old new : State) → IsAt edition certified note before standing → AreRowsOf con_rows cons (stored_in Cons old)
+pub con_changed : (con : List ℕ) (edition : ℕ) (certified : Bool) (note : List ℕ) (cons : FinMap code_cmp ConState) (before standing : ConState) (old new : State) → HasEdition edition certified note before standing → AreRowsOf con_rows cons (stored_in Cons old)
     → HasRows Cons ((Text con ∷ Int (pos edition) ∷ Int (pos (flag certified)) ∷ Text note ∷ []) ∷ others con (rows_in Cons old)) old new
     → ChangesOnly Cons old new × AreRowsOf con_rows (insert cons con standing) (stored_in Cons new)
 con_changed con edition certified note cons before standing old new at held put =

@@ -13,7 +13,8 @@ use Rattle.tally_statements.specs.declared.table.KeyedTable.{KeyedTable}
 use Rattle.tally_statements.specs.declared.table.KeyedTable.TheVariants.{Lots}
 use Rattle.tally_statements.specs.Office.{rows_in, HasRows}
 use Rattle.tally_tables.specs.Cells.{item_row, numbers_with_places, lot_rows}
-use Rattle.tally_entries.specs.Entries.{Adds, stored_in}
+use Rattle.tally_entries.specs.Entries.{stored_in}
+use Rattle.tally_entries.specs.internal.Written.{Adds}
 use Rattle.tally_entries.proofs.ReturnLemmas.{items_keyed}
 
 pub added_beside : (t : KeyedTable) (rows rest : List Row) (old mid new : State) → HasRows t rest old mid → Adds t rows mid new → HasRows t (rows ++ rest) old new

@@ -9,7 +9,7 @@ use Rattle.tally_returns.specs.Counts.{VoteCounts}
 use Rattle.tally_statements.specs.declared.table.KeyedTable.{KeyedTable}
 use Rattle.tally_statements.specs.Office.{rows_in, IsInside}
 use Rattle.tally_tables.specs.Cells.{item_row, items_of, numbers_with_places, spoiled_item}
-use Rattle.tally_entries.specs.Entries.{Adds}
+use Rattle.tally_entries.specs.internal.Written.{Adds}
 
 -- ---- what each call leaves of the last commit
 

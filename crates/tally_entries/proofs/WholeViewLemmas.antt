@@ -31,7 +31,7 @@ use Rattle.tally_statements.specs.Office.{IsFound}
 use Rattle.tally_tables.specs.Cells.{con_rows, gone_row, gone_rows, items_of, lot_rows, numbers_with_places, past_rows, record_rows, seat_rows, total_rows, totals_of}
 use Rattle.tally_tables.specs.Reading.{all_gone_of, numbers_from, past_of, standing_of, sums_of}
 use Rattle.tally_tables.specs.TablesOfState.{AreTables}
-use Rattle.tally_tables.specs.Views.{Tables, statuses_of, view_in}
+use Rattle.tally_tables.specs.Views.{Tables, statuses_of, view_from_tables}
 use Rattle.tally_tables.specs.declared.views.Statuses.{Statuses}
 use Rattle.tally_tables.proofs.ConLemmas.{IsReadablePast, all_gone_are, all_gone_rows, all_past_again, all_past_rows, standing_row, sums_of_view}
 use Rattle.tally_tables.proofs.ItemLemmas.{IsRead, and_then_some, items_are, map_some, number_is, number_reads, number_rows}
@@ -53,7 +53,7 @@ record ReadsAs (con : Constituency) (statuses : Statuses) (row : Row) (tables : 
   past : past_of con.code (length con.lists) tables.past ≡ Some v.past
   statuses_are : statuses ≡ statuses_of v
 
-reads_as : (con : Constituency) (statuses : Statuses) (row : Row) (tables : Tables) (v : View) → view_in con statuses row tables ≡ Some v → ReadsAs con statuses row tables v
+reads_as : (con : Constituency) (statuses : Statuses) (row : Row) (tables : Tables) (v : View) → view_from_tables con statuses row tables ≡ Some v → ReadsAs con statuses row tables v
 reads_as con statuses row tables v h =
     let standing = and_then_some _ (standing_of con.code row) v h in
     let lot = and_then_some _ (numbers_from con.code 1 tables.lots) v standing.2 in
@@ -127,7 +127,7 @@ few_votes con returns limits = omega (arith, limits.lists, length-map-range_with
 abbrev row_of : List ℕ → ConState → Row
 row_of key c = standing_row key (c.edition, c.certified, c.note)
 
-one_row : (con : Constituency) (statuses : Statuses) (rows : Rows) (v : View) (row : Row) → rows.cons ≡ row ∷ [] → view_of_rows con statuses rows ≡ Some v → view_in con statuses row rows.tables ≡ Some v
+one_row : (con : Constituency) (statuses : Statuses) (rows : Rows) (v : View) (row : Row) → rows.cons ≡ row ∷ [] → view_of_rows con statuses rows ≡ Some v → view_from_tables con statuses row rows.tables ≡ Some v
 one_row con statuses rows v row is read = subst (λ l. view_of_rows con statuses (record { cons = l; tables = rows.tables }) ≡ Some v) is read
 
 module _ (setup : List Constituency) (con : Constituency) (s : Seen) (text : List ℕ) (of : State) (limits : IsConstituency con) (known : constituency_with con.code setup ≡ Some con) (lawful : IsLawfulState setup of) (tables : AreTables setup text of s.now.trees) where

@@ -6,8 +6,10 @@ ghost use Rattle.tally_statements.specs.Office.{Inserts, SetsItem};
 ghost use Rattle.tally_statements.specs.declared.table.KeyedTable.TheVariants.{Cons, Lots, Seats, Totals};
 ghost use Rattle.tally_statements.specs.declared.table.KeyedTable.TheVariants as table;
 ghost use Rattle.tally_tables.specs.Cells.{con_rows, gone_rows, lot_rows, past_rows, record_rows};
-ghost use Rattle.tally_entries.specs.Constituencies.{Changes, ChangesSums, HasGone, HasLot, HasRecord, IsAt, Writes, WritesSeats, candidate_row};
-ghost use Rattle.tally_entries.specs.Entries.{AddsRows, PutsNumbers};
+ghost use Rattle.tally_entries.specs.Constituencies.{Changes, ChangesSums, HasGone, HasLot, HasRecord, HasEdition, Writes, WritesSeats};
+ghost use Rattle.tally_entries.specs.internal.Written.{candidate_row};
+ghost use Rattle.tally_entries.specs.Entries.{PutsNumbers};
+ghost use Rattle.tally_entries.specs.internal.Written.{AddsRows};
 ghost use Rattle.tally_entries.specs.internal.Sums.{MovesItem, MovesItems, MovesNumbers};
 ghost use Rattle.tally_statements.specs.Inside.{Acts, Stays};
 
@@ -58,7 +60,8 @@ pub fn put_con<S: Alter>(
     note: &str,
 ) -> Result<(), Error>
     ensures stays { Stays S.Store tx.old tx.new }
-    ensures written { Acts S.Store (Changes Cons con_rows con.now (IsAt edition certified note.now))
+    ensures written { Acts S.Store
+        (Changes Cons con_rows con.now (HasEdition edition certified note.now))
         tx.old tx.new result }
 {
     update_con(tx, con, edition, certified, note)

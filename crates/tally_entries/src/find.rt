@@ -1,10 +1,9 @@
 //! Looking up the return of a station.
 
-ghost use Rattle.std.specs.Prelude.{◌≡◌, ◌∷◌, [], None, Some, IsErr, List, ℕ};
-ghost use Rattle.tally_returns.specs.Return.{StationReturn};
+ghost use Rattle.std.specs.Prelude.{◌≡◌, [], None, IsErr};
 ghost use Rattle.tally_tables.specs.Reading.{entries_in};
 ghost use Rattle.tally_entries.specs.Entries.{Finds, FindsReturn};
-ghost use Rattle.tally_entries.specs.internal.Found.{FindsNone, FindsOne};
+ghost use Rattle.tally_entries.specs.internal.Found.{FindsNone, FindsOne, GivesOnly};
 ghost use Rattle.tally_statements.specs.Inside.{OnlyReads};
 
 use sqlite::{Alter, Error, ErrorCode, Row, Transaction};
@@ -17,7 +16,7 @@ use tally_tables::{Entry, entries_in};
 /// The only return among those that were read, if there is one.
 fn only_return(mut entries: Vec<Entry>) -> Option<Return>
     ensures none { entries.items ≡ [] → result ≡ None }
-    ensures one { (e : List ℕ × StationReturn) → entries.items ≡ e ∷ [] → result ≡ Some e.1 }
+    ensures one { GivesOnly entries.items result }
 {
     let Entry { standing, .. } = entries.pop()?;
     Some(standing)

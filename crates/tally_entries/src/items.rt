@@ -4,7 +4,8 @@ ghost use Rattle.std.specs.Prelude.{◌≤◌, map, length};
 ghost use Rattle.tally_frac.specs.Limits.{most_lists};
 ghost use Rattle.tally_statements.specs.Office.{Inserts, item_cells};
 ghost use Rattle.tally_tables.specs.Cells.{item_row, items_of, numbers_with_places};
-ghost use Rattle.tally_entries.specs.Entries.{AddsRows, SetsCounts, SetsVotes, keyed_table};
+ghost use Rattle.tally_entries.specs.Entries.{keyed_table};
+ghost use Rattle.tally_entries.specs.internal.Written.{AddsRows, SetsCounts, SetsVotes};
 ghost use Rattle.tally_statements.specs.Inside.{Acts, Stays};
 ghost use Rattle.tally_statements.specs.declared.table.KeyedTable.TheVariants.{Counts};
 

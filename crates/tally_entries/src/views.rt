@@ -4,9 +4,10 @@ ghost use Rattle.std.specs.Prelude.{◌≡◌, ◌≤◌, IfOk, Some, length, op
 ghost use Rattle.sqlite_value.specs.Order.{column};
 ghost use Rattle.tally_returns.specs.View.{FitsView};
 ghost use Rattle.tally_rows.specs.Cells.{number_of};
-ghost use Rattle.tally_statements.specs.Office.{IsFound};
+ghost use Rattle.tally_rules.specs.Limits.{most_stations};
+ghost use Rattle.tally_statements.specs.Office.{IsFound, ShowsTable};
 ghost use Rattle.tally_tables.specs.Reading.{status_of, sums_of};
-ghost use Rattle.tally_entries.specs.Constituencies.{AreCons, FindsCertified, FindsProgressRow, FindsSums, FindsView};
+ghost use Rattle.tally_entries.specs.Constituencies.{FindsCertified, FindsProgressRow, FindsSums, FindsView};
 ghost use Rattle.tally_entries.specs.Entries.{Finds, FindsFrom};
 ghost use Rattle.tally_entries.specs.internal.Found.{AreFound, AreWithin, ChangesNothing, FindsKnown, FindsStatus, FindsStatuses, IsStageAmong, certified_in, row_with, status_in, view_of_rows, with_station};
 ghost use Rattle.tally_statements.specs.Inside.{IsOpenInside, OnlyReads, StaysFrom};
@@ -18,7 +19,7 @@ use tally_returns::{ConView, ProgressRow, Status};
 use tally_rows::{number_at, text_at};
 use tally_rules::{Code, Constituency, Setup, Station};
 use tally_statements::{KeyedTable, all_rows, rows_of_key};
-use tally_tables::{ConTables, Statuses, Sums, standing_in, status_of, sums_in, view_in};
+use tally_tables::{ConTables, Statuses, Sums, standing_in, status_of, sums_in, view_from_tables};
 
 /// Whether the constituency that has this row is certified. Other rows are an error.
 fn certified_in(rows: &[Row], con: &str) -> Result<bool, Error>
@@ -181,7 +182,7 @@ fn find_status<S: Alter>(
 
 /// These numbers with one station more, whose return has this status, if there is one.
 fn with_station(so_far: Statuses, status: Option<Status>) -> Statuses
-    requires room { AreWithin 5000 so_far }
+    requires room { AreWithin most_stations so_far }
     ensures { result ≡ with_station so_far status }
 {
     let mut now = so_far;
@@ -202,7 +203,7 @@ fn find_statuses<S: Alter>(
     tx: &mut Transaction<'_, S>,
     stations: &[Station],
 ) -> Result<Statuses, Error>
-    requires few { length stations.now ≤ 5000 }
+    requires few { length stations.now ≤ most_stations }
     ensures stays { StaysFrom IsOpenInside S.Store tx.old tx.new }
     ensures found { FindsFrom IsOpenInside S.Store (FindsStatuses stations.now)
         tx.old tx.new result }
@@ -258,7 +259,7 @@ fn view_of_rows(
         totals: &rows.totals,
         past: &rows.past,
     };
-    match view_in(alloc, con, statuses, &rows.cons[0], tables) {
+    match view_from_tables(alloc, con, statuses, &rows.cons[0], tables) {
         Ok(Some(view)) => Ok(view),
         Ok(None) => Err(Error::SqliteFailure(ErrorCode::DatabaseCorrupt)),
         Err(_) => Err(Error::SqliteFailure(ErrorCode::OutOfMemory)),
@@ -305,10 +306,11 @@ pub fn find_view<S: Alter>(
     fitting_view(alloc, con, statuses, &rows)
 }
 
-/// The rows of all constituencies in `cons`.
+/// The rows of all constituencies in `cons`, in the order of their codes.
 pub fn rows_of_cons<S: Alter>(tx: &mut Transaction<'_, S>) -> Result<Vec<Row>, Error>
     ensures reads { OnlyReads S.Store tx.old tx.new result }
-    ensures found { Finds S.Store (λ seen rows. AreCons rows.items seen) tx.old tx.new result }
+    ensures found { Finds S.Store (λ seen rows. ShowsTable KeyedTable.Cons seen rows.items)
+        tx.old tx.new result }
 {
     all_rows(tx, KeyedTable::Cons)
 }

@@ -18,6 +18,10 @@ last_divisor = 501
 abbrev pub greatest_divisor : ℕ
 greatest_divisor = 5005
 
+-- the greatest threshold: the whole base, in ten-thousandths
+abbrev pub whole_base : ℕ
+whole_base = 10000
+
 -- the votes of a constituency
 abbrev pub most_votes : ℕ
 most_votes = 5000000000

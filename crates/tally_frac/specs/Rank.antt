@@ -31,13 +31,24 @@ IsTied x v y w = IsLevel x y × (v ≡ w)
 abbrev pub RanksAboveByVotes : Pair → Pair → Type 0
 RanksAboveByVotes p q = IsHigher (quotient p) p.votes (quotient q) q.votes
 
--- .. or they tie
+-- votes by one divisor rank above other votes by another, in the weak rank, which no place enters
+abbrev pub VotesRankAbove : (votes divisor other_votes other_divisor : ℕ) → Type 0
+VotesRankAbove votes divisor other_votes other_divisor =
+    RanksAboveByVotes
+    (record { votes = votes; divisor = divisor; place = 0 })
+    (record { votes = other_votes; divisor = other_divisor; place = 0 })
+
+-- of two pairs neither ranks above the other in the weak rank: they tie
 abbrev pub TiesByVotes : Pair → Pair → Type 0
 TiesByVotes p q = IsTied (quotient p) p.votes (quotient q) q.votes
 
 -- the strict rank: as the weak rank, then by earlier place
 abbrev pub RanksAbove : Pair → Pair → Type 0
 RanksAbove p q = RanksAboveByVotes p q ⊎ (TiesByVotes p q × (p.place < q.place))
+
+-- .. or they tie by votes and have one place
+abbrev pub TiesByVotesAndPlace : Pair → Pair → Type 0
+TiesByVotesAndPlace p q = TiesByVotes p q × (p.place ≡ q.place)
 
 -- the strict rank where the order of a lot is turned round: as the weak rank, then by later place
 abbrev pub RanksAboveTurned : Pair → Pair → Type 0

@@ -5,7 +5,9 @@ ghost use Rattle.std.specs.declared.cmp.Ordering.TheVariants.{Equal};
 ghost use Rattle.tally_frac.specs.Fraction.{Fraction, IsGreater, IsLevel, whole_part};
 ghost use Rattle.tally_frac.specs.LawStatements.{AreAlike, Chain, IsGreaterWhereAbove};
 ghost use Rattle.tally_frac.specs.LawStatements.{IsLessWhereBelow, IsSameInAnyUnit};
+ghost use Rattle.tally_frac.specs.LawStatements.{IsTransitiveAt, of_turned};
 ghost use Rattle.tally_frac.specs.Rank.{Pair, RanksAboveByVotes, TiesByVotes, RanksAbove};
+ghost use Rattle.tally_frac.specs.Rank.{TiesByVotesAndPlace};
 ghost use Rattle.tally_frac.specs.Rank.{RanksAboveTurned, IsWithinLimits};
 ghost use Rattle.tally_frac.specs.Rank.{turned_pair};
 
@@ -20,7 +22,7 @@ pub fn fractions_are_ordered()
 
 /// What is greater than a greater fraction is greater.
 pub fn greater_fractions_chain()
-    ensures { (x y z : Fraction) → 1 ≤ x.den → IsGreater x y → IsGreater y z → IsGreater x z }
+    ensures { (x y z : Fraction) → 1 ≤ x.den → IsTransitiveAt IsGreater x y z }
 {}
 
 /// Level fractions are of equal value: being level is an equivalence, holds between a fraction and
@@ -28,10 +30,11 @@ pub fn greater_fractions_chain()
 pub fn level_fractions_are_equal()
     ensures reflexive { (x : Fraction) → IsLevel x x }
     ensures symmetric { (x y : Fraction) → IsLevel x y → IsLevel y x }
-    ensures transitive { (x y z : Fraction) → 1 ≤ y.den → IsLevel x y → IsLevel y z → IsLevel x z }
+    ensures transitive { (x y z : Fraction) → 1 ≤ y.den → IsTransitiveAt IsLevel x y z }
     ensures other_terms { (x : Fraction) (k : ℕ) →
         IsLevel x (record { num = k * x.num; den = k * x.den }) }
-    ensures alike { (x y : Fraction) → 1 ≤ x.den → 1 ≤ y.den → IsLevel x y ↔ AreAlike x y }
+    ensures alike { (x y : Fraction) → 1 ≤ x.den → 1 ≤ y.den →
+        IsLevel x y ↔ AreAlike x y }
 {}
 
 /// The whole part is the greatest whole number that is not above the fraction, and a greater
@@ -81,9 +84,9 @@ pub fn earlier_seats_rank_above()
 /// one of these holds.
 pub fn strict_rank_is_ordered()
     ensures total { (p q : Pair) → RanksAbove p q ⊎
-        ((TiesByVotes p q × (p.place ≡ q.place)) ⊎ RanksAbove q p) }
+        (TiesByVotesAndPlace p q ⊎ RanksAbove q p) }
     ensures one_way { (p q : Pair) → RanksAbove p q → ¬ (RanksAbove q p) }
-    ensures not_tied { (p q : Pair) → RanksAbove p q → ¬ (TiesByVotes p q × (p.place ≡ q.place)) }
+    ensures not_tied { (p q : Pair) → RanksAbove p q → ¬ (TiesByVotesAndPlace p q) }
 {}
 
 /// What ranks above a pair that ranks above a third ranks above the third.
@@ -103,8 +106,6 @@ pub fn keys_follow_the_strict_rank()
 /// even.
 pub fn turned_keys_follow_the_turned_rank()
     ensures has_key { (p : Pair) → IsWithinLimits p → IsWithinLimits (turned_pair p) }
-    ensures greater { IsGreaterWhereAbove
-        (λ p q. ⟦<RankKey as Ord>⟧.cmp (turned_pair p) (turned_pair q)) RanksAboveTurned }
-    ensures less { IsLessWhereBelow (λ p q. ⟦<RankKey as Ord>⟧.cmp (turned_pair p) (turned_pair q))
-        RanksAboveTurned }
+    ensures greater { IsGreaterWhereAbove (of_turned ⟦<RankKey as Ord>⟧.cmp) RanksAboveTurned }
+    ensures less { IsLessWhereBelow (of_turned ⟦<RankKey as Ord>⟧.cmp) RanksAboveTurned }
 {}

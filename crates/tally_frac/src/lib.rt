@@ -10,8 +10,11 @@ mod rank;
 mod share;
 mod threshold;
 
-pub use divisors::{DHondt, Divisors, ModifiedSainteLague, SainteLague};
-pub use limits::{GREATEST_DIVISOR, MOST_LISTS, MOST_SEATS, MOST_VOTES};
-pub use rank::RankKey;
+pub use divisors::{DHondt, DivisorRule, Divisors, ModifiedSainteLague, SainteLague};
+pub use limits::{
+    GREATEST_DIVISOR, MOST_CANDIDATES, MOST_CONSTITUENCIES, MOST_ELECTORS, MOST_LISTS,
+    MOST_PROFILES, MOST_SEATS, MOST_STATIONS, MOST_VOTES, WHOLE_BASE,
+};
+pub use rank::{RankKey, votes_rank_above};
 pub use share::Share;
 pub use threshold::is_at_least;

@@ -1,5 +1,20 @@
-//! The limits of what seats are allotted by. The crates of the setup and of the seats use them by
-//! these names.
+//! The limits of a setup and of what seats are allotted by. The crates above use them by these
+//! names.
+
+/// The most constituencies of a setup.
+pub const MOST_CONSTITUENCIES: usize = 200;
+
+/// The most profiles of a setup.
+pub const MOST_PROFILES: usize = 200;
+
+/// The most stations of a constituency.
+pub const MOST_STATIONS: usize = 5_000;
+
+/// The most candidates of a list.
+pub const MOST_CANDIDATES: usize = 1_000;
+
+/// The most electors of a station.
+pub const MOST_ELECTORS: u32 = 1_000_000;
 
 /// The most lists of a constituency.
 pub const MOST_LISTS: usize = 60;
@@ -9,6 +24,9 @@ pub const MOST_SEATS: u32 = 500;
 
 /// The most votes of a constituency, those of its lists and the blank ones together.
 pub const MOST_VOTES: u64 = 5_000_000_000;
+
+/// The greatest threshold: the whole base, in ten-thousandths.
+pub const WHOLE_BASE: u32 = 10_000;
 
 /// The greatest of the first 501 divisors of any rule, in units of the rule.
 pub const GREATEST_DIVISOR: u64 = 5_005;

@@ -1,8 +1,9 @@
 //! The rank of a pair of a list and one of its seats.
 
-ghost use Rattle.std.specs.Prelude.{◌≡◌, ◌↔◌, Some, IsSome, IfSome, refl};
+ghost use Rattle.std.specs.Prelude.{◌≡◌, ◌≤◌, ◌↔◌, Some, IsSome, IfSome, IsTrue, refl};
 ghost use Rattle.std.specs.Cmp.{partial_equiv_from_equiv, po};
-ghost use Rattle.tally_frac.specs.Rank.{IsWithinLimits};
+ghost use Rattle.tally_frac.specs.Limits.{greatest_divisor, most_votes};
+ghost use Rattle.tally_frac.specs.Rank.{IsWithinLimits, VotesRankAbove};
 ghost use Rattle.tally_frac.specs.internal.RankOrder.{rank_cmp, same_pair, rank_cmp-total, same_pair-equiv};
 ghost use Rattle.tally_frac.specs.internal.RankOrder.{same_pair-ties};
 
@@ -90,6 +91,7 @@ impl Ord for RankKey {
 
     ghost matches_eq = { same_pair-ties };
 
+    // `votes_rank_above` answers no more than yes or no, and would be asked twice.
     fn cmp(&self, other: &RankKey) -> Ordering {
         // Both products are at most 5,000,000,000 * 5,005, which is below 2^64.
         let mine = self.votes * other.divisor;
@@ -98,4 +100,22 @@ impl Ord for RankKey {
             .then(self.votes.cmp(&other.votes))
             .then(other.place.cmp(&self.place))
     }
+}
+
+/// Whether votes by one divisor rank above other votes by another: by greater quotient of votes and
+/// divisor, then by more votes (LOREG article 163.1 d), first half). Votes are up to 5,000,000,000
+/// and divisors up to 5,005, so that no product reaches 2^64.
+pub fn votes_rank_above(votes: u64, divisor: u64, other_votes: u64, other_divisor: u64) -> bool
+    requires votes { votes ≤ most_votes }
+    requires divisor { divisor ≤ greatest_divisor }
+    requires other_votes { other_votes ≤ most_votes }
+    requires other_divisor { other_divisor ≤ greatest_divisor }
+    ensures { IsTrue result ↔ VotesRankAbove votes divisor other_votes other_divisor }
+{
+    let quotient = votes * other_divisor;
+    let other_quotient = other_votes * divisor;
+    if quotient != other_quotient {
+        return quotient > other_quotient;
+    }
+    votes > other_votes
 }

@@ -6,7 +6,7 @@ use Rattle.std.proofs.lemmas.Bool.{le-leb, leb-true}
 use Rattle.std.proofs.Math.Seq.{drop-cons}
 use Rattle.std.proofs.lemmas.List.{append-nil}
 use Rattle.tally_rules.specs.Code.{is_code, code_of}
-use Rattle.tally_import.specs.Header.{same_text, are_distinct, are_lists, header_lists}
+use Rattle.tally_import.specs.Header.{same_text, are_distinct_codes, are_lists, header_lists}
 
 -- whether a code stands among others
 abbrev pub stands_in : List (List ℕ) → List ℕ → Bool
@@ -22,7 +22,7 @@ are_new : List (List ℕ) → List (List ℕ) → Bool
 are_new seen rest = list_all (λ x. not (stands_in seen x)) rest
 
 all_good : List (List ℕ) → List (List ℕ) → Bool
-all_good seen rest = list_all is_code rest && are_distinct rest && are_new seen rest
+all_good seen rest = list_all is_code rest && are_distinct_codes rest && are_new seen rest
 
 any-push : (p : List ℕ → Bool) (xs : List (List ℕ)) (x : List ℕ) → list_any p (xs ++ x ∷ []) ≡ (list_any p xs || p x)
 any-push p [] x = or_false (p x)
@@ -59,9 +59,9 @@ unfolding lists_from all_good are_new
 lists_from-good seen [] = ap Some (sym (append-nil seen))
 lists_from-good seen (code ∷ rest) =
     ap (λ o. if is_code code && not (stands_in seen code) then o else None) (lists_from-good (seen ++ code ∷ []) rest)
-    ∙ ap (λ b. if is_code code && not (stands_in seen code) then (if (list_all is_code rest && are_distinct rest) && b then Some ((seen ++ code ∷ []) ++ rest) else None) else None) (new-push seen code rest)
-    ∙ ap (λ l. if is_code code && not (stands_in seen code) then (if (list_all is_code rest && are_distinct rest) && (are_new seen rest && not (list_any (same_text code) rest)) then Some l else None) else None) (append_assoc seen (code ∷ []) rest)
-    ∙ regroup (is_code code) (stands_in seen code) (list_all is_code rest) (are_distinct rest) (are_new seen rest) (list_any (same_text code) rest) (Some (seen ++ code ∷ rest))
+    ∙ ap (λ b. if is_code code && not (stands_in seen code) then (if (list_all is_code rest && are_distinct_codes rest) && b then Some ((seen ++ code ∷ []) ++ rest) else None) else None) (new-push seen code rest)
+    ∙ ap (λ l. if is_code code && not (stands_in seen code) then (if (list_all is_code rest && are_distinct_codes rest) && (are_new seen rest && not (list_any (same_text code) rest)) then Some l else None) else None) (append_assoc seen (code ∷ []) rest)
+    ∙ regroup (is_code code) (stands_in seen code) (list_all is_code rest) (are_distinct_codes rest) (are_new seen rest) (list_any (same_text code) rest) (Some (seen ++ code ∷ rest))
   where
     regroup : (c s a d n t : Bool) (o : Option (List (List ℕ)))
         → (if c && not s then (if (a && d) && (n && not t) then o else None) else None) ≡ (if ((c && a) && (not t && d)) && (not s && n) then o else None)
@@ -114,10 +114,10 @@ new-nothing (x ∷ rest) = new-nothing rest
 lists_from-nothing : (lists : List (List ℕ)) → 1 ≤ length lists → length lists ≤ 60 → (if are_lists lists then Some lists else None) ≡ lists_from [] lists
 unfolding all_good
 lists_from-nothing lists some few =
-    ap (λ b. if ((b && nat_le (length lists) 60) && list_all is_code lists) && are_distinct lists then Some lists else None) (le-leb 1 (length lists) some)
-    ∙ ap (λ b. if (b && list_all is_code lists) && are_distinct lists then Some lists else None) (le-leb (length lists) 60 few)
-    ∙ go (list_all is_code lists && are_distinct lists)
-    ∙ ap (λ b. if (list_all is_code lists && are_distinct lists) && b then Some lists else None) (sym (new-nothing lists))
+    ap (λ b. if ((b && nat_le (length lists) 60) && list_all is_code lists) && are_distinct_codes lists then Some lists else None) (le-leb 1 (length lists) some)
+    ∙ ap (λ b. if (b && list_all is_code lists) && are_distinct_codes lists then Some lists else None) (le-leb (length lists) 60 few)
+    ∙ go (list_all is_code lists && are_distinct_codes lists)
+    ∙ ap (λ b. if (list_all is_code lists && are_distinct_codes lists) && b then Some lists else None) (sym (new-nothing lists))
     ∙ sym (lists_from-good [] lists)
   where
     go : (b : Bool) → (if b then Some lists else None) ≡ (if b && true then Some lists else None)
@@ -164,7 +164,7 @@ and-right true b is = is
 and-right false b is = let never : false ≡ true = is in cc never
 
 few-lists : (lists : List (List ℕ)) → are_lists lists ≡ true → length lists ≤ 60
-few-lists lists is = leb-true (length lists) 60 (and-right (nat_le 1 (length lists)) _ (and-left _ (list_all is_code lists) (and-left _ (are_distinct lists) is)))
+few-lists lists is = leb-true (length lists) 60 (and-right (nat_le 1 (length lists)) _ (and-left _ (list_all is_code lists) (and-left _ (are_distinct_codes lists) is)))
 
 pub header-few : (fields : List (List ℕ)) (lists : List (List ℕ)) → Some lists ≡ header_lists fields → length lists ≤ 60
 header-few [] lists is = cc

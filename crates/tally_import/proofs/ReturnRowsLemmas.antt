@@ -15,7 +15,7 @@ use Rattle.tally_keeper.specs.declared.source.ImportFault.{ImportFault}
 use Rattle.tally_keeper.specs.declared.source.ImportFault.TheVariants as cause
 use Rattle.tally_records.specs.Input.{AreAll, complete_records, text_records, text_stop}
 use Rattle.tally_records.specs.Given.{HasGiven, IsReadingOn, sep_of}
-use Rattle.tally_import.specs.ReturnRows.{Advances, AllRowsCame, GivesRow, IsAt, IsNext, IsReadingRows, IsTrueAt, coming_after, bytes_coming, coming_of, import_fault, is_header, no_header, came_by, ending, fault_alone, rows_coming, station_limits_in, still_coming, text_coming}
+use Rattle.tally_import.specs.ReturnRows.{Advances, AllRowsCame, GivesRow, IsAtStage, IsNext, IsReadingRows, IsTrueAt, coming_after, bytes_coming, records_coming, import_fault, is_header, fault_without_header, came_by, ending, fault_alone, rows_coming, station_limits_in, still_coming, text_coming}
 use Rattle.tally_import.specs.ReturnRowsValue.{coming_at, own_fault}
 use Rattle.tally_import.specs.Rows.{row_of}
 use Rattle.tally_records.specs.declared.end.Stop.{Stop}
@@ -56,11 +56,11 @@ rows-full f (suc l) (x ∷ xs) = rows-full f l xs
 -- ---- what comes behind a header
 
 pub header-coming : (con : Constituency) (header : List (List ℕ)) (records : List (List (List ℕ))) (stop : Option Stop)
-    → is_header (list_codes con.lists) header ≡ true → coming_of con (header ∷ records) stop ≡ rows_coming con records stop
+    → is_header (list_codes con.lists) header ≡ true → records_coming con (header ∷ records) stop ≡ rows_coming con records stop
 header-coming con header records stop is = ap (λ b. if b then rows_coming con records stop else fault_alone (Some cause.BadHeader)) is
 
 pub other-coming : (con : Constituency) (header : List (List ℕ)) (records : List (List (List ℕ))) (stop : Option Stop)
-    → is_header (list_codes con.lists) header ≡ false → coming_of con (header ∷ records) stop ≡ fault_alone (Some cause.BadHeader)
+    → is_header (list_codes con.lists) header ≡ false → records_coming con (header ∷ records) stop ≡ fault_alone (Some cause.BadHeader)
 other-coming con header records stop is = ap (λ b. if b then rows_coming con records stop else fault_alone (Some cause.BadHeader)) is
 
 -- ---- what is given next
@@ -79,7 +79,7 @@ whole-coming : (con : Constituency) (sep : Sep) (text : List ℕ) (header : List
 whole-coming con sep text header given stop came good count within records how =
     let f = row_of (station_limits_in con) (length con.lists) in
     let coming : text_coming con sep text ≡ rows_coming con given stop =
-    ap (λ l. coming_of con l (text_stop text)) records ∙ ap (coming_of con (header ∷ given)) how ∙ header-coming con header given stop good in
+    ap (λ l. records_coming con l (text_stop text)) records ∙ ap (records_coming con (header ∷ given)) how ∙ header-coming con header given stop good in
     ap (coming_after came) coming
     ∙ ap (λ (rows : List Row). record { rows = rows; fault = (rows_coming con given stop).fault }) (rows-over f row_limit came given (omega (arith, count)))
     ∙ ap fault_alone (not-long (length given) stop (omega (arith, count, within)))
@@ -91,7 +91,7 @@ pub bytes-coming : (con : Constituency) (sep : Sep) (bytes : List ℕ) (header :
 bytes-coming con sep bytes header given stop came good count within records =
     let f = row_of (station_limits_in con) (length con.lists) in
     let coming : bytes_coming con sep bytes stop ≡ rows_coming con given stop =
-    ap (λ l. coming_of con l stop) records ∙ header-coming con header given stop good in
+    ap (λ l. records_coming con l stop) records ∙ header-coming con header given stop good in
     ap (coming_after came) coming
     ∙ ap (λ (rows : List Row). record { rows = rows; fault = (rows_coming con given stop).fault }) (rows-over f row_limit came given (omega (arith, count)))
     ∙ ap fault_alone (not-long (length given) stop (omega (arith, count, within)))
@@ -106,11 +106,11 @@ rows-read con sep (Some text) left header given came good count within all =
 
 -- a read failed before a record was complete
 pub header-read : (con : Constituency) (sep : Sep) (text left : Option (List ℕ)) (stop : Option Stop)
-    → AreAll sep text left [] stop → no_header stop ≡ cause.Read → IfSome text (λ t. AllRowsCame con sep 0 t left)
+    → AreAll sep text left [] stop → fault_without_header stop ≡ cause.Read → IfSome text (λ t. AllRowsCame con sep 0 t left)
 header-read con sep text left None all is = cc
 header-read con sep text left (Some TooLong) all is = cc
 header-read con sep None left (Some Read) all is = tt
-header-read con sep (Some text) left (Some Read) all is = (all.0, all.1, ap (λ l. coming_after 0 (coming_of con l (Some Read))) all.2)
+header-read con sep (Some text) left (Some Read) all is = (all.0, all.1, ap (λ l. coming_after 0 (records_coming con l (Some Read))) all.2)
 
 pub rows-end : (con : Constituency) (sep : Sep) (text left : Option (List ℕ)) (header : List (List ℕ)) (given : List (List (List ℕ))) (came : ℕ)
     → is_header (list_codes con.lists) header ≡ true → length given ≡ came → came ≤ row_limit
@@ -136,7 +136,7 @@ front-coming : (con : Constituency) (r : Records) (text : List ℕ) (left : Opti
     → (more : List (List (List ℕ))) × (text_coming con (sep_of r) text ≡ rows_coming con (given ++ more) (text_stop text))
 front-coming con r text left header given good has =
     let front = HasGiven-front text left (header ∷ given) r has in
-    (front.0, ap (λ l. coming_of con l (text_stop text)) front.1 ∙ header-coming con header (given ++ front.0) (text_stop text) good)
+    (front.0, ap (λ l. records_coming con l (text_stop text)) front.1 ∙ header-coming con header (given ++ front.0) (text_stop text) good)
 
 pub rows-next : (con : Constituency) (r : Records) (text left : Option (List ℕ)) (header fields : List (List ℕ)) (given : List (List (List ℕ))) (came : ℕ)
     → is_header (list_codes con.lists) header ≡ true → length given ≡ came → came < row_limit
@@ -171,17 +171,17 @@ rows-many con r (Some text) left header fields given good count has =
 -- ---- the header
 
 pub header-stop : (con : Constituency) (sep : Sep) (text left : Option (List ℕ)) (stop : Option Stop)
-    → AreAll sep text left [] stop → IsNext text (text_coming con sep) (no_header stop)
+    → AreAll sep text left [] stop → IsNext text (text_coming con sep) (fault_without_header stop)
 header-stop con sep None left None all = ((λ e. cc), inr tt)
 header-stop con sep (Some text) left None all =
     let h = AreAll-text sep text left [] None all (λ e. cc) in
-    let is : text_coming con sep text ≡ fault_alone (Some cause.BadHeader) = ap (λ l. coming_of con l (text_stop text)) h.0 ∙ ap (coming_of con []) h.1 in
+    let is : text_coming con sep text ≡ fault_alone (Some cause.BadHeader) = ap (λ l. records_coming con l (text_stop text)) h.0 ∙ ap (records_coming con []) h.1 in
     ((λ e. cc), inr (ap (λ c. c.rows) is, ap (λ c. c.fault) is))
 header-stop con sep text left (Some Read) all = (import_fault-own Read, inl tt)
 header-stop con sep None left (Some TooLong) all = (import_fault-own TooLong, inr tt)
 header-stop con sep (Some text) left (Some TooLong) all =
     let h = AreAll-text sep text left [] (Some TooLong) all (λ e. cc) in
-    let is : text_coming con sep text ≡ fault_alone (Some cause.TooLong) = ap (λ l. coming_of con l (text_stop text)) h.0 ∙ ap (coming_of con []) h.1 in
+    let is : text_coming con sep text ≡ fault_alone (Some cause.TooLong) = ap (λ l. records_coming con l (text_stop text)) h.0 ∙ ap (records_coming con []) h.1 in
     (import_fault-own TooLong, inr (ap (λ c. c.rows) is, ap (λ c. c.fault) is))
 
 pub header-bad : (con : Constituency) (r : Records) (text left : Option (List ℕ)) (header : List (List ℕ))
@@ -190,7 +190,7 @@ header-bad con r None left header bad has = ((λ e. cc), inr tt)
 header-bad con r (Some text) left header bad has =
     let front = HasGiven-front text left (header ∷ []) r has in
     let is : text_coming con (sep_of r) text ≡ fault_alone (Some cause.BadHeader) =
-    ap (λ l. coming_of con l (text_stop text)) front.1 ∙ other-coming con header front.0 (text_stop text) bad in
+    ap (λ l. records_coming con l (text_stop text)) front.1 ∙ other-coming con header front.0 (text_stop text) bad in
     ((λ e. cc), inr (ap (λ c. c.rows) is, ap (λ c. c.fault) is))
 
 -- ---- the rows at work
@@ -323,7 +323,7 @@ advanced-fault (Some t) old_left left con sep old fault (own, inr next) =
 
 -- an end stays
 pub advanced-ended : (text left : Option (List ℕ)) (con : Constituency) (sep : Sep) (fault : Option ImportFault)
-    → IsAt text left con sep (Ended fault) → Advances text con sep left (Ended fault) (at_end fault) left (Ended fault)
+    → IsAtStage text left con sep (Ended fault) → Advances text con sep left (Ended fault) (at_end fault) left (Ended fault)
 advanced-ended None left con sep None at = (at, (tt, refl))
 advanced-ended (Some t) left con sep None at = (at, ((refl, refl), refl))
 advanced-ended None left con sep (Some fault) at = (at, ((λ e. at (ap Some e)), inr (tt, refl)))
@@ -358,7 +358,7 @@ own-same cause.Memory own = refl
 own-same cause.Store own = absurd (own refl)
 
 -- what still comes is told by how many rows came and how they ended
-pub still-shown : (text left : Option (List ℕ)) (con : Constituency) (sep : Sep) (stage : Stage) → IsAt text left con sep stage
+pub still-shown : (text left : Option (List ℕ)) (con : Constituency) (sep : Sep) (stage : Stage) → IsAtStage text left con sep stage
     → option_map (coming_at con sep (came_by stage) (ending stage)) text ≡ option_map (still_coming con sep stage) text
 still-shown None left con sep stage at = refl
 still-shown (Some t) left con sep Unread at = refl
@@ -367,7 +367,7 @@ still-shown (Some t) left con sep (Ended None) at = refl
 still-shown (Some t) left con sep (Ended (Some fault)) at = ap (λ f. Some (fault_alone (Some f))) (own-same fault (λ e. at (ap Some e)))
 
 pub advanced-shown : (text old_left left : Option (List ℕ)) (con : Constituency) (sep : Sep) (old new : Stage) (result : Result (Option Row) ImportFault)
-    → IsAt text old_left con sep old → Advances text con sep old_left old result left new
+    → IsAtStage text old_left con sep old → Advances text con sep old_left old result left new
     → GivesNext (option_map (coming_at con sep (came_by old) (ending old)) text) result (option_map (coming_at con sep (came_by new) (ending new)) text)
 advanced-shown text old_left left con sep old new result at given =
     subst (λ k. GivesNext k result (option_map (coming_at con sep (came_by new) (ending new)) text)) (sym (still-shown text old_left con sep old at))

@@ -3,6 +3,7 @@ use Rattle.std.specs.Prelude.{◌≡◌, ◌+◌, ◌++◌, if◌then◌else◌,
 use Rattle.std.specs.Fmt.{decimal}
 use Rattle.std.specs.FinMap.{empty}
 use Rattle.std.specs.Io.KnownBytes.{Appends, Keeps}
+use Rattle.tally_rules.specs.Limits.{most_electors}
 use Rattle.tally_returns.specs.Counts.{VoteCounts}
 use Rattle.tally_returns.specs.Lodge.{Stations}
 use Rattle.tally_keeper.specs.Import.{answers, count_of, lodged_counts}
@@ -19,9 +20,9 @@ use Rattle.tally_import.specs.declared.check.CheckFault.{CheckFault}
 use Rattle.tally_import.specs.declared.check.CheckFault.TheVariants.{BadHeader, TooLong, Read, Memory, Write}
 use Rattle.tally_records.specs.declared.separator.Sep.{Sep}
 
--- every code is a station, of 1,000,000 electors
+-- every code is a station, with as many electors as a station may have: 1,000,000
 abbrev pub every_code : ℕ → Stations
-every_code lists station = Some (record { lists = lists; electors = 1000000 })
+every_code lists station = Some (record { lists = lists; electors = most_electors })
 
 -- ---- the check text
 
@@ -30,7 +31,8 @@ named_number name n = name ++ 32 ∷ decimal n ++ 10 ∷ []
 
 abbrev pub first_text : Option FirstRow → List ℕ
 first_text None = codes "first -\n"
-first_text (Some first) = codes "first " ++ decimal first.row ++ 32 ∷ decimal first.number ++ 10 ∷ []
+first_text (Some first) =
+    codes "first " ++ decimal first.row ++ 32 ∷ decimal first.number ++ 10 ∷ []
 
 -- the six lines of an import
 abbrev pub count_text : ImportCount → List ℕ
@@ -49,7 +51,8 @@ votes_for place returns = sum_by (λ c. slice_index c.votes place) returns
 -- the totals of the returns, the lists from this place on
 abbrev pub lists_text : ℕ → List (List ℕ) → List VoteCounts → List ℕ
 lists_text place [] returns = []
-lists_text place (code ∷ lists) returns = named_number code (votes_for place returns) ++ lists_text (place + 1) lists returns
+lists_text place (code ∷ lists) returns =
+    named_number code (votes_for place returns) ++ lists_text (place + 1) lists returns
 
 abbrev pub totals_text : List (List ℕ) → List VoteCounts → List ℕ
 totals_text lists returns =
@@ -75,13 +78,16 @@ check_fault stopped.Read = Read
 abbrev pub rows_of_records : ℕ → List (List (List ℕ)) → List Row
 rows_of_records lists records = map (row_of (every_code lists) lists) records
 
-abbrev pub result_at_end : List (List ℕ) → List (List (List ℕ)) → Option Stop → Result (List ℕ) CheckFault
+abbrev pub result_at_end : List (List ℕ) → List (List (List ℕ)) → Option Stop
+    → Result (List ℕ) CheckFault
 result_at_end lists records None = Ok (check_text lists (rows_of_records (length lists) records))
 result_at_end lists records (Some stop) = Err (check_fault stop)
 
-abbrev pub under_header : Option (List (List ℕ)) → List (List (List ℕ)) → Option Stop → Result (List ℕ) CheckFault
+abbrev pub under_header : Option (List (List ℕ)) → List (List (List ℕ)) → Option Stop
+    → Result (List ℕ) CheckFault
 under_header None records stop = Err BadHeader
-under_header (Some lists) records stop = if nat_lt row_limit (length records) then Err TooLong else result_at_end lists records stop
+under_header (Some lists) records stop =
+    if nat_lt row_limit (length records) then Err TooLong else result_at_end lists records stop
 
 abbrev pub no_header : Option Stop → Result (List ℕ) CheckFault
 no_header None = Err BadHeader
@@ -100,18 +106,27 @@ check_result sep bytes stop = records_result (complete_records sep bytes stop) s
 -- What is found in the bytes that came of a text, of which `left` is not read, before its end or
 -- before what stopped it: the check text or the first fault.
 abbrev pub Found : Sep → List ℕ → Option (List ℕ) → (Result (List ℕ) CheckFault → Type 0) → Type 0
-Found sep text left P = (bytes : List ℕ) × (stop : Option Stop) × Gave text left bytes stop × P (check_result sep bytes stop)
+Found sep text left P =
+    (bytes : List ℕ) × (stop : Option Stop) × Gave text left bytes stop
+    × P (check_result sep bytes stop)
 
 -- What the check of a text answers, and what it leaves on its writer: the check text is written, or
 -- the first fault is answered and nothing written. A write that failed leaves a prefix of the text.
 -- Out of memory may come at any place.
-abbrev pub Checks : Sep → List ℕ → Option (List ℕ) → Option (List ℕ) → Option (List ℕ) → Result (Unit {0}) CheckFault → Type 0
-Checks sep text left old new (Ok u) = Found sep text left (λ found. (t : List ℕ) × (found ≡ Ok t) × Appends old new t)
-Checks sep text left old new (Err BadHeader) = Found sep text left (λ found. found ≡ Err BadHeader) × Keeps old new
-Checks sep text left old new (Err TooLong) = Found sep text left (λ found. found ≡ Err TooLong) × Keeps old new
-Checks sep text left old new (Err Read) = Found sep text left (λ found. found ≡ Err Read) × Keeps old new
+abbrev pub Checks : Sep → List ℕ → Option (List ℕ) → Option (List ℕ) → Option (List ℕ)
+    → Result (Unit {0}) CheckFault → Type 0
+Checks sep text left old new (Ok u) =
+    Found sep text left (λ found. (t : List ℕ) × (found ≡ Ok t) × Appends old new t)
+Checks sep text left old new (Err BadHeader) =
+    Found sep text left (λ found. found ≡ Err BadHeader) × Keeps old new
+Checks sep text left old new (Err TooLong) =
+    Found sep text left (λ found. found ≡ Err TooLong) × Keeps old new
+Checks sep text left old new (Err Read) =
+    Found sep text left (λ found. found ≡ Err Read) × Keeps old new
 Checks sep text left old new (Err Memory) = Keeps old new
-Checks sep text left old new (Err Write) = Found sep text left (λ found. (t : List ℕ) × (n : ℕ) × (found ≡ Ok t) × Appends old new (take n t))
+Checks sep text left old new (Err Write) =
+    Found sep text left
+    (λ found. (t : List ℕ) × (n : ℕ) × (found ≡ Ok t) × Appends old new (take n t))
 
 -- a failed check has written nothing, except one whose writing failed
 abbrev pub IsSilent : Option (List ℕ) → Option (List ℕ) → Result (Unit {0}) CheckFault → Type 0
@@ -123,9 +138,9 @@ IsSilent old new (Err Read) = Keeps old new
 IsSilent old new (Err Memory) = Keeps old new
 
 -- the number of a fault
-abbrev pub fault_number : CheckFault → ℕ
-fault_number BadHeader = 1
-fault_number TooLong = 2
-fault_number Read = 3
-fault_number Memory = 4
-fault_number Write = 5
+abbrev pub check_fault_number : CheckFault → ℕ
+check_fault_number BadHeader = 1
+check_fault_number TooLong = 2
+check_fault_number Read = 3
+check_fault_number Memory = 4
+check_fault_number Write = 5

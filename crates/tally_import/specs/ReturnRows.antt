@@ -43,31 +43,37 @@ abbrev pub fault_alone : Option ImportFault → Coming
 fault_alone fault = record { rows = []; fault = fault }
 
 -- the fault of a text that has no complete record
-abbrev pub no_header : Option Stop → ImportFault
-no_header None = cause.BadHeader
-no_header (Some stop) = import_fault stop
+abbrev pub fault_without_header : Option Stop → ImportFault
+fault_without_header None = cause.BadHeader
+fault_without_header (Some stop) = import_fault stop
 
 -- the rows that at most 20,000 records are, and after them a fault where there are more, or what
 -- stopped the text
 abbrev pub rows_coming : Constituency → List (List (List ℕ)) → Option Stop → Coming
 rows_coming con records stop = record {
   rows = map (row_of (station_limits_in con) (length con.lists)) (take row_limit records);
-  fault = if nat_lt row_limit (length records) then Some cause.TooLong else option_map import_fault stop;
+  fault =
+      if nat_lt row_limit (length records)
+      then Some cause.TooLong
+      else option_map import_fault stop;
 }
 
 -- What comes of a text's complete records, and of what stopped it: the header is looked at first,
 -- then the rows, and then what stopped the text.
-abbrev pub coming_of : Constituency → List (List (List ℕ)) → Option Stop → Coming
-coming_of con [] stop = fault_alone (Some (no_header stop))
-coming_of con (header ∷ records) stop = if is_header (list_codes con.lists) header then rows_coming con records stop else fault_alone (Some cause.BadHeader)
+abbrev pub records_coming : Constituency → List (List (List ℕ)) → Option Stop → Coming
+records_coming con [] stop = fault_alone (Some (fault_without_header stop))
+records_coming con (header ∷ records) stop =
+    if is_header (list_codes con.lists) header
+    then rows_coming con records stop
+    else fault_alone (Some cause.BadHeader)
 
 -- what comes of the bytes that came, and of what stopped them
 abbrev pub bytes_coming : Constituency → Sep → List ℕ → Option Stop → Coming
-bytes_coming con sep bytes stop = coming_of con (complete_records sep bytes stop) stop
+bytes_coming con sep bytes stop = records_coming con (complete_records sep bytes stop) stop
 
 -- what comes of a text
 abbrev pub text_coming : Constituency → Sep → List ℕ → Coming
-text_coming con sep text = coming_of con (text_records sep text) (text_stop text)
+text_coming con sep text = records_coming con (text_records sep text) (text_stop text)
 
 -- ---- how far the rows have come
 
@@ -79,7 +85,8 @@ coming_after came coming = record { rows = drop came coming.rows; fault = coming
 -- that came, nothing comes after so many rows but the failed read.
 abbrev pub AllRowsCame : Constituency → Sep → ℕ → List ℕ → Option (List ℕ) → Type 0
 AllRowsCame con sep came text left = (bytes : List ℕ) × Gave text left bytes (Some stopped.Read)
-    × (coming_after came (bytes_coming con sep bytes (Some stopped.Read)) ≡ fault_alone (Some cause.Read))
+    × (coming_after came (bytes_coming con sep bytes (Some stopped.Read))
+    ≡ fault_alone (Some cause.Read))
 
 -- what still comes of a text
 abbrev pub still_coming : Constituency → Sep → Stage → List ℕ → Coming
@@ -89,48 +96,62 @@ still_coming con sep (Ended fault) text = fault_alone fault
 
 -- the set has the stations of the constituency
 abbrev pub HasStations : Constituency → BTreeSet (List ℕ) → Type 0
-HasStations con set = (code : List ℕ) → contains code_cmp set code ≡ is_some (station_limits_in con code)
+HasStations con set =
+    (code : List ℕ) → contains code_cmp set code ≡ is_some (station_limits_in con code)
 
 -- The header and these records of this text were given.
-pub record HasCome (text left : Option (List ℕ)) (rows : Rows) (lists header : List (List ℕ)) (records : List (List (List ℕ))) : Type 0 where
+pub record HasCome (text left : Option (List ℕ)) (rows : Rows) (lists header : List (List ℕ))
+    (records : List (List (List ℕ))) : Type 0 where
   pub good : is_header lists header ≡ true
   pub count : length records ≡ rows.came
   pub given : HasGiven text left (header ∷ records) rows.records
 
 -- the rows after the header, at work
-pub record IsReadingRows (text left : Option (List ℕ)) (con : Constituency) (sep : Sep) (rows : Rows) : Type 0 where
+pub record IsReadingRows (text left : Option (List ℕ)) (con : Constituency) (sep : Sep)
+    (rows : Rows) : Type 0 where
   pub reading : IsReadingOn rows.records
   pub separator : sep_of rows.records ≡ sep
   pub lists : rows.lists ≡ length con.lists
   pub few : length con.lists ≤ most_lists
   pub stations : HasStations con rows.stations
   pub within : rows.came ≤ row_limit
-  pub come : (header : List (List ℕ)) × (given : List (List (List ℕ))) × HasCome text left rows (list_codes con.lists) header given
+  pub come : (header : List (List ℕ)) × (given : List (List (List ℕ)))
+      × HasCome text left rows (list_codes con.lists) header given
 
 -- the stage of the rows of a text, of which this is left
-abbrev pub IsAt : Option (List ℕ) → Option (List ℕ) → Constituency → Sep → Stage → Type 0
-IsAt text left con sep Unread = left ≡ text
-IsAt text left con sep (Reading rows) = IsReadingRows text left con sep rows
-IsAt text left con sep (Ended fault) = fault ≢ Some cause.Store
+abbrev pub IsAtStage : Option (List ℕ) → Option (List ℕ) → Constituency → Sep → Stage → Type 0
+IsAtStage text left con sep Unread = left ≡ text
+IsAtStage text left con sep (Reading rows) = IsReadingRows text left con sep rows
+IsAtStage text left con sep (Ended fault) = fault ≢ Some cause.Store
 
 -- the fault is out of memory or a failed read, or it is what comes of the text and no row before it
 abbrev pub IsNext : Option (List ℕ) → (List ℕ → Coming) → ImportFault → Type 0
-IsNext text coming fault = (fault ≢ cause.Store) × (IsSudden fault ⊎ IfSome text (λ t. ((coming t).rows ≡ []) × ((coming t).fault ≡ Some fault)))
+IsNext text coming fault =
+    (fault ≢ cause.Store)
+    × (IsSudden fault ⊎ IfSome text (λ t. ((coming t).rows ≡ []) × ((coming t).fault ≡ Some fault)))
 
 -- What the rows after the header give next, and where they are then.
-abbrev pub GivesRow : Option (List ℕ) → Option (List ℕ) → Constituency → Sep → Rows → Result (Option Row) ImportFault → Rows → Type 0
+abbrev pub GivesRow : Option (List ℕ) → Option (List ℕ) → Constituency → Sep → Rows
+    → Result (Option Row) ImportFault → Rows → Type 0
 GivesRow text left con sep old (Ok (Some row)) new = IsReadingRows text left con sep new
-    × IfSome text (λ t. (rest : List Row) × (drop old.came (text_coming con sep t).rows ≡ row ∷ rest) × (drop new.came (text_coming con sep t).rows ≡ rest))
-GivesRow text left con sep old (Ok None) new = IfSome text (λ t. coming_after old.came (text_coming con sep t) ≡ fault_alone None)
-GivesRow text left con sep old (Err fault) new = IsNext text (λ t. coming_after old.came (text_coming con sep t)) fault
+    × IfSome text (λ t. (rest : List Row)
+    × (drop old.came (text_coming con sep t).rows ≡ row ∷ rest)
+    × (drop new.came (text_coming con sep t).rows ≡ rest))
+GivesRow text left con sep old (Ok None) new =
+    IfSome text (λ t. coming_after old.came (text_coming con sep t) ≡ fault_alone None)
+GivesRow text left con sep old (Err fault) new =
+    IsNext text (λ t. coming_after old.came (text_coming con sep t)) fault
 
 -- What a call gives from one stage to the next.
-abbrev pub Advances : Option (List ℕ) → Constituency → Sep → Option (List ℕ) → Stage → Result (Option Row) ImportFault → Option (List ℕ) → Stage → Type 0
-Advances text con sep old_left old result left new = IsAt text left con sep new
-    × GivesNext (option_map (still_coming con sep old) text) result (option_map (still_coming con sep new) text)
+abbrev pub Advances : Option (List ℕ) → Constituency → Sep → Option (List ℕ) → Stage
+    → Result (Option Row) ImportFault → Option (List ℕ) → Stage → Type 0
+Advances text con sep old_left old result left new = IsAtStage text left con sep new
+    × GivesNext (option_map (still_coming con sep old) text) result
+    (option_map (still_coming con sep new) text)
 
 -- The header of a text was read, and this is left.
-pub record IsBegun (text left : Option (List ℕ)) (con : Constituency) (sep : Sep) (stage : Stage) : Type 0 where
+pub record IsBegun (text left : Option (List ℕ)) (con : Constituency) (sep : Sep) (stage : Stage)
+    : Type 0 where
   pub rows : Rows
   pub is : stage ≡ Reading rows
   pub first : rows.came ≡ 0
@@ -139,7 +160,8 @@ pub record IsBegun (text left : Option (List ℕ)) (con : Constituency) (sep : S
 -- something can be given at this stage: the header was read
 abbrev pub IsStarted : Stage → Type 0
 IsStarted Unread = ⊥
-IsStarted (Reading rows) = IsReadingOn rows.records × (rows.lists ≤ most_lists) × (rows.came ≤ row_limit)
+IsStarted (Reading rows) =
+    IsReadingOn rows.records × (rows.lists ≤ most_lists) × (rows.came ≤ row_limit)
 IsStarted (Ended fault) = ⊤
 
 -- ---- the end

@@ -24,7 +24,16 @@ pub record ReturnRows : Type 0 where
 -- the rows of a text of which nothing was read
 abbrev pub unread_rows : Constituency → Sep → Option (List ℕ) → ReturnRows
 unread_rows con sep text =
-    record { con = con; sep = sep; text = text; left = text; given = []; came = 0; ended = None; failed = false }
+    record {
+      con = con;
+      sep = sep;
+      text = text;
+      left = text;
+      given = [];
+      came = 0;
+      ended = None;
+      failed = false;
+    }
 
 -- Where the text is known, all that was complete before a failed read was given, and this is left.
 abbrev pub HasGivenAll : ReturnRows → Option (List ℕ) → Type 0

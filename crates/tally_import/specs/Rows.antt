@@ -10,22 +10,29 @@ use Rattle.tally_keeper.specs.declared.import.Row.TheVariants.{Lodge, Bad}
 
 -- 1 to 9 digits; leading zeros are allowed
 abbrev pub is_number_text : List ℕ → Bool
-is_number_text text = nat_le 1 (length text) && nat_le (length text) 9 && list_all is_ascii_digit text
+is_number_text text =
+    nat_le 1 (length text) && nat_le (length text) 9 && list_all is_ascii_digit text
 
 -- the number that digits write
-abbrev pub number_of : List ℕ → ℕ
-number_of text = fold (λ n digit. 10 * n + (digit - 48)) 0 text
+abbrev pub written_number : List ℕ → ℕ
+written_number text = fold (λ n digit. 10 * n + (digit - 48)) 0 text
 
 -- the numbers that texts write, where each is one
-abbrev pub numbers_of : List (List ℕ) → Option (List ℕ)
-numbers_of texts = if list_all is_number_text texts then Some (map number_of texts) else None
+abbrev pub written_numbers : List (List ℕ) → Option (List ℕ)
+written_numbers texts =
+    if list_all is_number_text texts then Some (map written_number texts) else None
 
 -- The row that a record is, where these are the stations and there are so many lists: station,
 -- slip, blank, spoiled and one number for each list; else it is bad.
 abbrev pub row_of : Stations → ℕ → List (List ℕ) → Row
 row_of stations lists (station ∷ slip ∷ blank ∷ spoiled ∷ votes) =
-    if is_code station && is_code slip && is_some (stations station) && is_number_text blank && is_number_text spoiled
+    if is_code station && is_code slip && is_some (stations station) && is_number_text blank
+    && is_number_text spoiled
     && (length votes == lists) && list_all is_number_text votes
-    then Lodge (ask.Lodge station slip (record { votes = map number_of votes; blank = number_of blank; spoiled = number_of spoiled }))
+    then Lodge (ask.Lodge station slip (record {
+      votes = map written_number votes;
+      blank = written_number blank;
+      spoiled = written_number spoiled;
+    }))
     else Bad
 row_of stations lists fields = Bad

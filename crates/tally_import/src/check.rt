@@ -62,11 +62,11 @@ impl From<Stop> for CheckFault {
 }
 
 impl CheckFault {
-    ghost use Rattle.tally_import.specs.Check.{fault_number};
+    ghost use Rattle.tally_import.specs.Check.{check_fault_number};
 
     /// The fault's number.
     pub fn number(&self) -> u32
-        ensures { result ≡ fault_number self.now }
+        ensures { result ≡ check_fault_number self.now }
     {
         match self {
             CheckFault::BadHeader => 1,

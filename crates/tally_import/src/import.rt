@@ -2,11 +2,10 @@
 
 ghost use Rattle.std.specs.Prelude.{◌≡◌, ◌+◌, ◌≤◌, ◌++◌, List, [], ◌∷◌, length, Some, IfOk, OnOk};
 ghost use Rattle.tally_frac.specs.Limits.{most_lists};
-ghost use Rattle.tally_keeper.specs.Import.{row_answer, after_row, lodged_counts};
+ghost use Rattle.tally_keeper.specs.Import.{after_row, lodged_counts};
 ghost use Rattle.tally_keeper.specs.Import.{RowAnswer, count_of, or_else};
 ghost use Rattle.tally_keeper.specs.Source.{row_limit};
-ghost use Rattle.tally_returns.specs.Lodge.{lodge, lodge_answer};
-ghost use Rattle.tally_returns.specs.Return.{Returns};
+ghost use Rattle.tally_returns.specs.Lodge.{lodge};
 ghost use Rattle.tally_keeper.specs.declared.import.Row.{Row};
 ghost use Rattle.tally_import.specs.Check.{every_code};
 ghost use Rattle.tally_import.specs.internal.Notes.{with_row};
@@ -14,13 +13,11 @@ ghost use Rattle.tally_import.specs.internal.Notes.{with_row};
 use crate::totals::{Totals, add_return, no_totals};
 use std::alloc::{AllocError, Global};
 use std::collections::HashMap;
+use tally_frac::MOST_ELECTORS;
 use tally_keeper::{
     Ask, Counts, FirstRow, ImportCount, LodgeReply, Refusal, Return, Row, decide_lodge,
 };
 use tally_rules::Code;
-
-/// How many electors a station is taken to have.
-const ELECTORS: u32 = 1_000_000;
 
 /// How far an import has come.
 #[derive(Drop)]
@@ -36,7 +33,7 @@ pub(crate) struct Import {
 }
 
 impl Import {
-    ghost use Rattle.tally_import.specs.internal.Progress.{HasTaken, Holds, TableMoves, Taken, lodged_of};
+    ghost use Rattle.tally_import.specs.internal.Progress.{HasTaken, IsLodgeAnswer, IsRowAnswer, TableMoves, Taken, lodged_of};
     ghost use Rattle.tally_import.specs.internal.Totals.{AreTotalsOfFew, TotalsRise};
 
     /// An import that has taken no row, of so many lists.
@@ -53,6 +50,7 @@ impl Import {
     }
 
     /// Takes the next row, by its number. Once it is out of memory the import is of no further use.
+    /// It takes one layer off, which the prover needs.
     pub(crate) fn take(&mut self, alloc: Global, number: u32, row: Row) -> Result<(), AllocError>
         requires so_far { (taken : Taken) × HasTaken taken self.old
             × (number ≡ length taken.rows + 1) }
@@ -70,7 +68,8 @@ impl Import {
         Ok(())
     }
 
-    // Lodges the return of a row. A row of another command is passed over, as a bad one is.
+    /// Lodges what a Lodge brings. Another request has no answer. It takes one layer off, which the
+    /// prover needs.
     fn lodge_row(
         &mut self,
         alloc: Global,
@@ -78,8 +77,8 @@ impl Import {
     ) -> Result<Option<Result<LodgeReply, Refusal>>, AllocError>
         requires lists { self.old.lists ≤ most_lists }
         requires totals { AreTotalsOfFew self.old.lists self.old.totals }
-        ensures answer { IfOk result (λ answer. (returns : Returns) → Holds self.old.returns returns
-            → row_answer (every_code self.old.lists) returns (Row.Lodge ask) ≡ answer) }
+        ensures answer { IfOk result
+            (IsRowAnswer self.old.lists self.old.returns (Row.Lodge ask)) }
         ensures table { OnOk result (TableMoves self.old.returns self.new.returns
             (λ returns. after_row (every_code self.old.lists) returns (Row.Lodge ask))) }
         ensures totals { IfOk result (λ answer. TotalsRise self.old.lists self.old.totals
@@ -109,8 +108,8 @@ impl Import {
     ) -> Result<Result<LodgeReply, Refusal>, AllocError>
         requires lists { self.old.lists ≤ most_lists }
         requires totals { AreTotalsOfFew self.old.lists self.old.totals }
-        ensures answer { IfOk result (λ answer. (returns : Returns) → Holds self.old.returns returns
-            → answer ≡ lodge_answer (every_code self.old.lists) returns station slip counts) }
+        ensures answer { IfOk result
+            (IsLodgeAnswer self.old.lists self.old.returns station slip counts) }
         ensures table { OnOk result (TableMoves self.old.returns self.new.returns
             (λ returns. lodge (every_code self.old.lists) returns station slip counts)) }
         ensures totals { IfOk result (λ answer. TotalsRise self.old.lists self.old.totals
@@ -119,7 +118,8 @@ impl Import {
         ensures count { self.new.count ≡ self.old.count }
     {
         let found = self.returns.get(&station);
-        let answer = decide_lodge(self.lists, ELECTORS, found, slip, &counts);
+        // A file says of no station how many electors it has.
+        let answer = decide_lodge(self.lists, MOST_ELECTORS, found, slip, &counts);
         let Ok(LodgeReply::Lodged { .. }) = answer else {
             return Ok(answer);
         };

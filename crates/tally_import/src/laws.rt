@@ -8,7 +8,7 @@ use tally_records::{Sep, Stop};
 
 /// A fault that was found in the bytes before a text was stopped is the fault of the whole text,
 /// whatever would have come.
-pub fn faults_before_a_stop_stand()
+pub fn faults_before_a_stop_remain()
     ensures { (sep : Sep) (bytes rest : List ℕ) (stop : Stop) (fault : CheckFault)
         → check_result sep bytes (Some stop) ≡ Err fault → fault ≢ check_fault stop
         → check_result sep (bytes ++ rest) None ≡ Err fault }

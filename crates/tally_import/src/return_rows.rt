@@ -21,7 +21,7 @@ ghost use Rattle.tally_records.specs.declared.separator.Sep.{Sep};
 ghost use Rattle.tally_import.specs.ReturnRowsValue.{HasGivenAll, coming, unread_rows};
 ghost use Rattle.tally_import.specs.internal.NextRow.{AdvancesAny, EndsAgain, FailsLast};
 ghost use Rattle.tally_import.specs.internal.ReturnRowsWithin.{coming-within};
-ghost use Rattle.tally_import.specs.ReturnRows.{Advances, GivesRow, IsAt, IsBegun, IsNext, IsReadingRows, IsStarted, IsTrueAt, IsTrueFault, IsTrueResult, came_by, ending, import_fault, is_header, no_header, still_coming, text_coming};
+ghost use Rattle.tally_import.specs.ReturnRows.{Advances, GivesRow, IsAtStage, IsBegun, IsNext, IsReadingRows, IsStarted, IsTrueAt, IsTrueFault, IsTrueResult, came_by, ending, import_fault, is_header, fault_without_header, still_coming, text_coming};
 
 use crate::header::{FIXED_NAMES, has_fixed_names};
 use crate::row::row_of;
@@ -53,7 +53,7 @@ pub struct ReturnRows<R: Read> {
 impl<R: Read> Model for ReturnRows<R> {
     ghost use Rattle.tally_keeper.specs.Given.{rows_of};
     ghost use Rattle.tally_records.specs.Watch.{has_failed};
-    ghost use Rattle.tally_import.specs.ReturnRows.{IsAt, IsTrueAt, came_by, ending};
+    ghost use Rattle.tally_import.specs.ReturnRows.{IsAtStage, IsTrueAt, came_by, ending};
     ghost use Rattle.tally_import.specs.ReturnRowsValue as value;
 
     ghost Value = { value.ReturnRows };
@@ -70,7 +70,7 @@ impl<R: Read> Model for ReturnRows<R> {
     } };
 
     ghost invariant = { λ s.
-        IsAt (R.remaining s.unread.value) (R.remaining s.reader) s.con s.sep s.stage
+        IsAtStage (R.remaining s.unread.value) (R.remaining s.reader) s.con s.sep s.stage
         × IsTrueAt s.stage (has_failed s.watch) };
 }
 
@@ -120,8 +120,8 @@ impl<R: Read> ReturnRows<R> {
 }
 
 impl<R: Read + Drop> ReturnRows<R> {
-    /// The watch on the reader. A read failed where the rows ended with one, and none where they came
-    /// to their end.
+    /// The watch on the reader. A read failed where the rows ended with one, and none where they
+    /// came to their end.
     pub fn into_watch(self) -> Watch<R>
         ensures failed { has_failed result ≡ self.failed }
         ensures read { self.ended ≡ Some (Some cause.Read) → has_failed result ≡ true }
@@ -182,7 +182,8 @@ fn next_row<R: Read>(
     con: &Constituency,
     stage: &mut Stage,
 ) -> Result<Option<Row>, ImportFault>
-    requires { IsAt (R.remaining unread.now.value) (R.remaining reader.old) con.now sep stage.old }
+    requires { IsAtStage (R.remaining unread.now.value) (R.remaining reader.old) con.now sep
+        stage.old }
     ensures advances { Advances (R.remaining unread.now.value) con.now sep
         (R.remaining reader.old) stage.old result (R.remaining reader.new) stage.new }
     ensures row { IfOk result (λ row. IfSome row IsLodgeOrBad) }
@@ -257,7 +258,7 @@ fn next_started<R: Read>(
     ensures read { IsTrueAt stage.old (has_failed watch.old)
         → IsTrueResult result (has_failed watch.new) }
     ensures before { (text : Option (List ℕ)) (con : Constituency) (sep : Sep)
-        → IsAt text (R.remaining reader.old) con sep stage.old → ending stage.old ≡ None
+        → IsAtStage text (R.remaining reader.old) con sep stage.old → ending stage.old ≡ None
         → FailsLast text con sep (came_by stage.old) result (R.remaining reader.new) }
 {
     let rows = match stage {
@@ -362,7 +363,7 @@ fn import_fault(stop: Stop) -> ImportFault
 
 /// The fault of a text that has no complete record.
 fn header_fault(end: End) -> ImportFault
-    ensures fault { result ≡ no_header end.stop }
+    ensures fault { result ≡ fault_without_header end.stop }
     ensures read { (before failed : Bool) → failed ≡ flag_after_stop end.stop before
         → IsTrueFault result failed }
 {
@@ -405,8 +406,8 @@ fn is_header(lists: &[ListEntry], fields: &ByteRecord) -> bool
 
 /// The codes of stations, in which each is found in logarithmic time.
 fn station_codes(alloc: Global, stations: &[Station]) -> Result<BTreeSet<Code>, AllocError>
-    ensures { IfOk result (λ codes. (code : List ℕ)
-        → contains code_cmp codes code ≡ list_any (bytes_eq code) (station_codes stations.now)) }
+    ensures { IfOk result (λ codes. (code : List ℕ) → contains code_cmp codes code
+        ≡ list_any (bytes_eq code) (station_codes stations.now)) }
 {
     let mut codes = BTreeSet::new(alloc);
     for station in stations {

@@ -25,7 +25,8 @@ pub fn push(text: &mut String, piece: &str)
 /// Appends a line of a name and a number to a text that has room for it.
 pub fn push_number(text: &mut String, name: &str, number: u32)
     requires { string_len text.old + length name.now + 12 ≤ string_capacity text.old }
-    ensures bytes { string_bytes text.new ≡ string_bytes text.old ++ named_number name.now number }
+    ensures bytes { string_bytes text.new
+        ≡ string_bytes text.old ++ named_number name.now number }
     ensures len { string_len text.new ≤ string_len text.old + length name.now + 12 }
     ensures room { string_capacity text.old ≤ string_capacity text.new }
 {

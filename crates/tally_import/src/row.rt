@@ -4,7 +4,7 @@ ghost use Rattle.std.specs.Prelude.{◌≡◌, ◌≤◌, [], drop, option_map, 
 ghost use Rattle.csv.specs.Records.{fields_of};
 ghost use Rattle.tally_frac.specs.Limits.{most_lists};
 ghost use Rattle.tally_import.specs.Check.{every_code};
-ghost use Rattle.tally_import.specs.Rows.{is_number_text, number_of, row_of, numbers_of};
+ghost use Rattle.tally_import.specs.Rows.{is_number_text, written_number, row_of, written_numbers};
 
 use crate::header::FIXED_NAMES;
 use csv::ByteRecord;
@@ -30,10 +30,10 @@ pub(crate) fn row_of(alloc: Global, lists: usize, fields: &ByteRecord) -> Result
     let Some(slip) = Code::new(field(fields, 1)) else {
         return Ok(Row::Bad);
     };
-    let Some(blank) = number(field(fields, 2)) else {
+    let Some(blank) = written_number(field(fields, 2)) else {
         return Ok(Row::Bad);
     };
-    let Some(spoiled) = number(field(fields, 3)) else {
+    let Some(spoiled) = written_number(field(fields, 3)) else {
         return Ok(Row::Bad);
     };
     let Some(votes) = votes_of(alloc, lists, fields)? else {
@@ -58,7 +58,7 @@ fn votes_of(
     fields: &ByteRecord,
 ) -> Result<Option<Vec<u32>>, AllocError>
     ensures { IfOk result (λ votes.
-        option_map (λ v. v.items) votes ≡ numbers_of (drop 4 (fields_of fields.now))) }
+        option_map (λ v. v.items) votes ≡ written_numbers (drop 4 (fields_of fields.now))) }
 {
     let mut votes = Vec::with_capacity(alloc, lists)?;
     if !push_numbers(&mut votes, fields)? {
@@ -74,10 +74,10 @@ fn votes_of(
 fn push_numbers(votes: &mut Vec<u32>, fields: &ByteRecord) -> Result<bool, AllocError>
     requires { votes.old.items ≡ [] }
     ensures { IfOk result (λ all. (if all then Some votes.new.items else None)
-        ≡ numbers_of (drop 4 (fields_of fields.now))) }
+        ≡ written_numbers (drop 4 (fields_of fields.now))) }
 {
     for place in FIXED_NAMES..fields.len() {
-        let Some(n) = number(field(fields, place)) else {
+        let Some(n) = written_number(field(fields, place)) else {
             return Ok(false);
         };
         votes.push(n)?;
@@ -86,8 +86,9 @@ fn push_numbers(votes: &mut Vec<u32>, fields: &ByteRecord) -> Result<bool, Alloc
 }
 
 /// The number that a text of 1 to 9 digits writes.
-fn number(text: &[u8]) -> Option<u32>
-    ensures { result ≡ (if is_number_text text.now then Some (number_of text.now) else None) }
+fn written_number(text: &[u8]) -> Option<u32>
+    ensures { result ≡
+        (if is_number_text text.now then Some (written_number text.now) else None) }
 {
     if text.is_empty() || text.len() > DIGITS {
         return None;

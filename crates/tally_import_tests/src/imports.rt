@@ -35,13 +35,14 @@ const FRONT: &str = "station,slip,blank,spoiled,A,B\ns1,p1,0,0,10,20\ns2,p2,1,0,
 
 const ALL_LODGED: &str = "return s1 = 1 p1 Received [10, 20] 0 0 \n\
 return s2 = 1 p2 Received [30, 40] 1 0 \n\
-return s3 = 1 p3 Received [50, 60] 0 2 ";
+return s3 = 1 p3 Received [50, 60] 0 2 \n\
+show c1 = open 1 3 0 0 0/3 [0, 0] 0 0 [] []";
 
 // 8 is NoReturn.
 const NONE_LODGED: &str = "return s1 = refused 8
 return s2 = refused 8
 return s3 = refused 8
-show c1 = open 1 0/3 [0, 0] [] []";
+show c1 = open 1 0 0 0 0/3 [0, 0] 0 0 [] []";
 
 /// A text, what separates its fields, how many bytes a read gives, how a read fails at its end,
 /// what its import comes to, and lines with their answers.

@@ -21,7 +21,7 @@ use Rattle.tally_returns.specs.View.{View, view_of}
 use Rattle.tally_tables.specs.Views.{statuses_of}
 use Rattle.tally_tables.specs.declared.views.Statuses.{Statuses}
 use Rattle.tally_judge.specs.Numbers.{HasNumbersOfRows, Numbers}
-use Rattle.tally_judge.specs.OfficeRows.{Rows}
+use Rattle.tally_judge.specs.OfficeRows.{RowsInOrder}
 use Rattle.tally_judge.specs.internal.Entries.{IsLedgerOf}
 use Rattle.tally_judge.specs.internal.Tree.{AreNumbered, IsNumbered, numbers_at, with_numbers}
 use Rattle.tally_judge.proofs.VerdictLemmas.{returns_back}
@@ -85,7 +85,7 @@ numbers_with con returns = record {
 same_numbers : (con : Constituency) (s t : State) (seats others : List ℕ) → s.returns ≡ t.returns → statuses_of (view_of con s seats) ≡ statuses_of (view_of con t others)
 same_numbers con s t seats others same = ap (numbers_with con) same
 
-pub numbers_stated : (setup : List Constituency) (rows : Rows) (kept : Kept) (numbers : Numbers) → IsSetup setup → IsLedgerOf setup rows.returns rows.counts kept → AreNumbered kept numbers → HasNumbersOfRows setup rows numbers
+pub numbers_stated : (setup : List Constituency) (rows : RowsInOrder) (kept : Kept) (numbers : Numbers) → IsSetup setup → IsLedgerOf setup rows.returns rows.counts kept → AreNumbered kept numbers → HasNumbersOfRows setup rows numbers
 numbers_stated setup rows kept numbers limits ledger numbered s lawful of_rows con there =
     let own : kept.setup ≡ setup = ap (λ (k : Kept). k.setup) ledger.kept_is in
     let same : kept.returns ≡ s.returns = returns_back setup rows ledger.es kept s limits ledger.kept_is ledger.entries.read lawful of_rows in

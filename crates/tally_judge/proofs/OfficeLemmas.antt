@@ -14,13 +14,13 @@ use Rattle.std.proofs.lemmas.Slice.Eq.{bytes_eq-Decides}
 use Rattle.sqlite_keyed.proofs.ListLemmas.{all_weaker}
 use Rattle.sqlite_value.specs.Order.{Row}
 use Rattle.tally_rules.specs.Constituency.{Constituency}
-use Rattle.tally_rules.specs.Codes.{is_among}
+use Rattle.tally_rules.specs.Codes.{is_among_codes}
 use Rattle.tally_rules.specs.Setup.{constituency_with, constituency_codes}
 use Rattle.tally_returns.specs.Counts.{VoteCounts}
 use Rattle.tally_returns.specs.GoneCandidate.{GoneCandidate}
 use Rattle.tally_returns.specs.PastSeats.{PastSeats}
 use Rattle.tally_returns.specs.Return.{Returns}
-use Rattle.tally_returns.specs.State.{State, ConState, GoneCandidates, Records, con_state, opening_con}
+use Rattle.tally_returns.specs.State.{State, ConState, GoneCandidates, PastRecords, con_state, opening_con}
 use Rattle.tally_returns.specs.View.{View, view_with, view_of, gone_candidate, past_record}
 use Rattle.tally_ledger.specs.Kept.{Kept, view_in}
 use Rattle.tally_steps.specs.LawfulState.{IsUnderPlaces, IsLawfulIn, IsLawfulState}
@@ -31,7 +31,7 @@ use Rattle.tally_rows.proofs.RowsLemmas.{text_total, keys_rise}
 use Rattle.tally_tables.specs.Cells.{item_row, items_of, con_rows, lot_rows, seat_rows, gone_row, gone_rows, record_rows, total_rows, past_rows}
 use Rattle.tally_judge.specs.internal.Found.{IsLawfulFound, gone_places, past_edition, same_numbers}
 use Rattle.tally_judge.specs.internal.Entries.{rises, rises_on, key_of, AreReturnsOf}
-use Rattle.tally_judge.specs.OfficeRows.{Rows, AreOfficeRows}
+use Rattle.tally_judge.specs.OfficeRows.{RowsInOrder, AreOfficeRows}
 use Rattle.tally_tables.specs.Views.{Tables}
 use Rattle.tally_tables.proofs.ConLemmas.{gone_entry, past_entry, sums_of_view, row_of_view, tables_of_view}
 use Rattle.tally_tables.proofs.FoundLemmas.{AreRowsOfViews, all_rows, all_tables}
@@ -43,7 +43,7 @@ use Rattle.tally_judge.proofs.OrderLemmas.{sorted_on, sorted_from_rises}
 abbrev pub gone_of : View → GoneCandidates
 gone_of v = from_sorted (map gone_entry v.gone)
 
-abbrev pub past_of : View → Records
+abbrev pub past_of : View → PastRecords
 past_of v = from_sorted (map past_entry v.past)
 
 abbrev pub con_of : View → ConState
@@ -156,11 +156,11 @@ past_map key (p ∷ past) = ap (λ l. record_rows key (past_entry p) ++ l) (past
 -- ---- the constituencies that were read are those of the setup
 
 -- one of them by its code
-among_has : (P : List ℕ × View → Type 0) (code : List ℕ) (vs : List (List ℕ × View)) → AllByRecursion P vs → is_among code (map key_of vs) ≡ true → (e : List ℕ × View) × (code ≡ e.0) × P e
+among_has : (P : List ℕ × View → Type 0) (code : List ℕ) (vs : List (List ℕ × View)) → AllByRecursion P vs → is_among_codes code (map key_of vs) ≡ true → (e : List ℕ × View) × (code ≡ e.0) × P e
 among_has P code [] all h = absurd (true≢false (sym h))
 among_has P code (e ∷ vs) all h = go (bytes_eq code e.0) refl h (among_has P code vs all.1)
   where
-    go : (b : Bool) → bytes_eq code e.0 ≡ b → (b || is_among code (map key_of vs)) ≡ true → (is_among code (map key_of vs) ≡ true → (x : List ℕ × View) × (code ≡ x.0) × P x) → (x : List ℕ × View) × (code ≡ x.0) × P x
+    go : (b : Bool) → bytes_eq code e.0 ≡ b → (b || is_among_codes code (map key_of vs)) ≡ true → (is_among_codes code (map key_of vs) ≡ true → (x : List ℕ × View) × (code ≡ x.0) × P x) → (x : List ℕ × View) × (code ≡ x.0) × P x
     go true is more later = (e, (bytes_eq-Decides code e.0).0 is, all.0)
     go false is more later = later more
 
@@ -183,13 +183,13 @@ seen_from : (kept : Kept) (cons : List (List ℕ × ConState)) (all vs : List (L
 seen_from kept cons all [] p q r = tt
 seen_from kept cons all (e ∷ vs) p q r = (record { found = p.0; state = q.0; view = r.0 }, seen_from kept cons all vs p.1 q.1 r.1)
 
-pub known_among : (code : List ℕ) (setup : List Constituency) (con : Constituency) → constituency_with code setup ≡ Some con → is_among code (constituency_codes setup) ≡ true
+pub known_among : (code : List ℕ) (setup : List Constituency) (con : Constituency) → constituency_with code setup ≡ Some con → is_among_codes code (constituency_codes setup) ≡ true
 known_among code [] con h = absurd (let e = h in cc)
 known_among code (c ∷ setup) con h = go (bytes_eq code c.code) refl h (known_among code setup con)
   where
-    go : (b : Bool) → bytes_eq code c.code ≡ b → cond b (Some c) (constituency_with code setup) ≡ Some con → (constituency_with code setup ≡ Some con → is_among code (constituency_codes setup) ≡ true) → (bytes_eq code c.code || is_among code (constituency_codes setup)) ≡ true
-    go true is e later = ap (λ b. b || is_among code (constituency_codes setup)) is
-    go false is e later = ap (λ b. b || is_among code (constituency_codes setup)) is ∙ later e
+    go : (b : Bool) → bytes_eq code c.code ≡ b → cond b (Some c) (constituency_with code setup) ≡ Some con → (constituency_with code setup ≡ Some con → is_among_codes code (constituency_codes setup) ≡ true) → (bytes_eq code c.code || is_among_codes code (constituency_codes setup)) ≡ true
+    go true is e later = ap (λ b. b || is_among_codes code (constituency_codes setup)) is
+    go false is e later = ap (λ b. b || is_among_codes code (constituency_codes setup)) is ∙ later e
 
 without_seats : (con : Constituency) (v : View) → IsLawfulCon con v → IsLawfulCon con (record v { seats = [] })
 without_seats con v h = record { first = h.first; last = h.last; note = h.note; lot = h.lot; certified = h.certified; gone = h.gone; past = h.past }
@@ -209,7 +209,7 @@ record IsShown (kept : Kept) (vs : List (List ℕ × View)) (s : State) (con : C
   pub at : find text_cmp e.0 vs ≡ Some e.1
 
 shown_at : (kept : Kept) (vs : List (List ℕ × View)) (sorted : T (is_sorted text_cmp (map state_entry vs))) → AllByRecursion (IsSeen kept (map state_entry vs) vs) vs
-    → ((code : List ℕ) → is_among code (constituency_codes kept.setup) ≡ true → is_among code (map key_of vs) ≡ true)
+    → ((code : List ℕ) → is_among_codes code (constituency_codes kept.setup) ≡ true → is_among_codes code (map key_of vs) ≡ true)
     → (code : List ℕ) (con : Constituency) → constituency_with code kept.setup ≡ Some con → IsShown kept vs (record { returns = kept.returns; cons = from_sorted (map state_entry vs) }) con
 shown_at kept vs sorted seen covered code con is =
     let cs = map state_entry vs in
@@ -287,8 +287,8 @@ totals_row kept e h =
     let sums : sums_of_view e.1 ≡ sums_of_view (view_in kept h.con) = λ i. record { votes = n.votes i; blank = n.blank i; spoiled = n.spoiled i } in
     ap (λ c. map (item_row e.0) (items_of c)) (sums ∙ sym (ap (λ o. totals_at kept.returns o) h.known))
 
-pub office_passed : (kept : Kept) (rows : Rows) (vs : List (List ℕ × View)) → AreReturnsOf kept.setup rows.returns rows.counts kept.returns → AreRowsOfViews rows.cons rows.tables vs → rises vs ≡ true → All (IsLawfulFound kept) vs
-    → ((code : List ℕ) → is_among code (constituency_codes kept.setup) ≡ true → is_among code (map key_of vs) ≡ true) → (s : State) × IsLawfulState kept.setup s × AreOfficeRows kept.setup s rows
+pub office_passed : (kept : Kept) (rows : RowsInOrder) (vs : List (List ℕ × View)) → AreReturnsOf kept.setup rows.returns rows.counts kept.returns → AreRowsOfViews rows.cons rows.tables vs → rises vs ≡ true → All (IsLawfulFound kept) vs
+    → ((code : List ℕ) → is_among_codes code (constituency_codes kept.setup) ≡ true → is_among_codes code (map key_of vs) ≡ true) → (s : State) × IsLawfulState kept.setup s × AreOfficeRows kept.setup s rows
 office_passed kept rows vs returns read up all covered =
     let cs = map state_entry vs in
     let sorted : T (is_sorted text_cmp cs) = sorted_on text_cmp key_of (λ e. con_of e.1) text_total vs up in

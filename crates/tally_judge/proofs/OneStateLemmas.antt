@@ -8,14 +8,14 @@ use Rattle.std.specs.FinMap.Entries.{is_sorted}
 use Rattle.std.proofs.lemmas.List.Elements.{recursion_from_All}
 use Rattle.tally_rules.specs.Constituency.{Constituency}
 use Rattle.tally_rules.specs.Limits.{IsSetup}
-use Rattle.tally_returns.specs.State.{State, ConState, GoneCandidates, Records}
+use Rattle.tally_returns.specs.State.{State, ConState, GoneCandidates, PastRecords}
 use Rattle.tally_returns.specs.View.{view_with, gone_candidate, gone_candidates, past_record, past_records}
 use Rattle.tally_returns.specs.Return.{Returns}
 use Rattle.tally_steps.specs.LawfulState.{IsUnderPlaces, IsLawfulState}
 use Rattle.tally_steps.specs.LawStatements.{ViewsAreLawful}
 use Rattle.tally_rows.specs.Rows.{text_cmp}
 use Rattle.tally_tables.proofs.ConLemmas.{gone_entry, past_entry}
-use Rattle.tally_judge.specs.OfficeRows.{Rows, AreOfficeRows, AreLawfulRows, AreRowsOfOneState}
+use Rattle.tally_judge.specs.OfficeRows.{RowsInOrder, AreOfficeRows, AreLawfulRows, AreRowsOfOneState}
 use Rattle.tally_judge.proofs.LedgerLemmas.{kept_of}
 use Rattle.tally_judge.proofs.OfficeLemmas.{con_of, state_entry}
 use Rattle.tally_judge.proofs.StateLemmas.{IsHeld, all_held, view_entry, view_is, views_of, under_held}
@@ -39,7 +39,7 @@ gone_is gone under =
     let again = gone_again (entries gone) (recursion_from_All IsUnderPlaces (entries gone) under) in
     same_entries_map _ _ (entries-from_sorted text_cmp (map gone_entry (gone_candidates gone)) (subst (λ l. T (is_sorted text_cmp l)) (sym again) (entries_sorted gone)) ∙ again)
 
-past_is : (past : Records) → from_sorted {R = nat_cmp} (map past_entry (past_records past)) ≡ past
+past_is : (past : PastRecords) → from_sorted {R = nat_cmp} (map past_entry (past_records past)) ≡ past
 past_is past =
     let again = past_again (entries past) in
     same_entries_map _ _ (entries-from_sorted nat_cmp (map past_entry (past_records past)) (subst (λ l. T (is_sorted nat_cmp l)) (sym again) (entries_sorted past)) ∙ again)
@@ -65,7 +65,7 @@ entries_back setup s given lawful (e ∷ es) h = ap₂ (λ x l. x ∷ l) (entry_
 
 -- ---- two states with the same rows
 
-pub one_state : (setup : List Constituency) (rows : Rows) (s t : State) → IsSetup setup → ViewsAreLawful → IsLawfulState setup s → AreOfficeRows setup s rows → IsLawfulState setup t → AreOfficeRows setup t rows → t ≡ s
+pub one_state : (setup : List Constituency) (rows : RowsInOrder) (s t : State) → IsSetup setup → ViewsAreLawful → IsLawfulState setup s → AreOfficeRows setup s rows → IsLawfulState setup t → AreOfficeRows setup t rows → t ≡ s
 one_state setup rows s t limits views lawful_s of_s lawful_t of_t =
     let read_s = must_read setup rows s limits lawful_s of_s in
     let read_t = must_read setup rows t limits lawful_t of_t in
@@ -80,7 +80,7 @@ one_state setup rows s t limits views lawful_s of_s lawful_t of_t =
     let cons : t.cons ≡ s.cons = same_entries_map t.cons s.cons (sym back_t ∙ ap (map state_entry) shown ∙ back_s) in
     λ i. record { returns = returns i; cons = cons i }
 
-pub rows_of_one : (setup : List Constituency) (rows : Rows) → IsSetup setup → ViewsAreLawful → AreLawfulRows setup rows → AreRowsOfOneState setup rows
+pub rows_of_one : (setup : List Constituency) (rows : RowsInOrder) → IsSetup setup → ViewsAreLawful → AreLawfulRows setup rows → AreRowsOfOneState setup rows
 rows_of_one setup rows limits views h = record {
   state = h.0;
   lawful = h.1;

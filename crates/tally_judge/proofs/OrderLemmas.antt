@@ -1,13 +1,29 @@
 -- Keys that rise are those of a finite map, in order.
 use Rattle.std.proofs.Common.{◌≡◌, ◌<◌, ◌≤◌, ◌&&◌, ◌-◌, ◌+◌, ℕ, map, Bool, true, false, T, List, [], ◌∷◌, drop, length, length-drop, get_or, refl, sym, ap, ap₂, subst, ◌∙◌, arith, Ordering, Less, Equal, Greater}
 use Rattle.std.specs.Cmp.{IsTotalOrder}
-use Rattle.std.specs.Ordering.{is_lt}
+use Rattle.std.specs.Ordering.{MatchOrdering, is_lt, nat_cmp, ordering_then}
 use Rattle.std.specs.FinMap.Entries.{is_sorted, below_all}
 use Rattle.std.proofs.lemmas.Bool.{and_parts}
+use Rattle.std.proofs.lemmas.Cmp.{ranked}
 use Rattle.std.proofs.lemmas.List.{drop_more}
+use Rattle.tally_returns.specs.GoneCandidate.{GoneCandidate}
+use Rattle.tally_returns.specs.View.{is_before}
 use Rattle.tally_rows.specs.Rows.{text_cmp}
 use Rattle.tally_rows.proofs.RowsLemmas.{text_total}
 use Rattle.tally_judge.specs.internal.Entries.{rises_on, key_of, rises}
+use Rattle.tally_judge.specs.internal.Found.{gone_places}
+
+-- the order of candidates who are gone is that of their two places
+pub before_is : (g h : GoneCandidate) → is_before g h ≡ is_lt (text_cmp (gone_places g) (gone_places h))
+before_is g h = by_lists (nat_cmp g.list h.list) (nat_cmp g.place h.place) (ranked g.list h.list (nat_cmp g.list h.list) refl) (ranked g.place h.place (nat_cmp g.place h.place) refl)
+  where
+    by_lists : (a b : Ordering) → MatchOrdering a (g.list < h.list) (g.list ≡ h.list) (h.list < g.list) → MatchOrdering b (g.place < h.place) (g.place ≡ h.place) (h.place < g.place)
+        → is_before g h ≡ is_lt (ordering_then a (ordering_then b Equal))
+    by_lists Less b lists places = grind (arith, lists)
+    by_lists Equal Less lists places = grind (arith, lists, places)
+    by_lists Equal Equal lists places = grind (arith, lists, places)
+    by_lists Equal Greater lists places = grind (arith, lists, places)
+    by_lists Greater b lists places = grind (arith, lists)
 
 both : (a b : Bool) → T a → T b → T (a && b)
 both true b p q = q

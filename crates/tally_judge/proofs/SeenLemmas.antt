@@ -9,7 +9,7 @@ use Rattle.tally_allot.specs.declared.fault.AllotFault.{AllotFault}
 use Rattle.tally_allot.specs.declared.fault.AllotFault.TheVariants.{NoEligible, LotMissing, WrongLot, Memory}
 use Rattle.tally_steps.specs.Outcome.{HasSeats, IsLawfulView, poll_in, rule_in}
 use Rattle.tally_steps.proofs.CertificationLemmas.{lot-right}
-use Rattle.tally_returns.specs.Lawful.{is_kept_note, may_stand}
+use Rattle.tally_returns.specs.Lawful.{is_kept_note, is_note_or_empty}
 use Rattle.tally_returns.specs.View.{View}
 use Rattle.tally_rules.specs.Constituency.{Constituency}
 use Rattle.tally_rules.specs.Text.{is_note}
@@ -36,11 +36,11 @@ record IsInRange (view : View) : Type 0 where
   pub few : view.stations ≤ 5000
   pub first : 1 ≤ view.edition
   pub last : view.edition ≤ 9999
-  pub note : may_stand view.note ≡ true
+  pub note : is_note_or_empty view.note ≡ true
 
 in_range : (view : View) → is_in_range view ≡ true → IsInRange view
 in_range view h =
-    let note = and_parts (nat_le view.stations 5000 && nat_le 1 view.edition && nat_le view.edition 9999) (may_stand view.note) h in
+    let note = and_parts (nat_le view.stations 5000 && nat_le 1 view.edition && nat_le view.edition 9999) (is_note_or_empty view.note) h in
     let last = and_parts (nat_le view.stations 5000 && nat_le 1 view.edition) (nat_le view.edition 9999) note.0 in
     let first = and_parts (nat_le view.stations 5000) (nat_le 1 view.edition) last.0 in record {
       few = leb-true view.stations 5000 first.0;
@@ -53,7 +53,7 @@ pub frame_of : (con : Constituency) (view : View) → IsLawfulView con view → 
 frame_of con view h = record {
   fits = h.fits;
   range =
-      and_from (nat_le view.stations 5000 && nat_le 1 view.edition && nat_le view.edition 9999) (may_stand view.note)
+      and_from (nat_le view.stations 5000 && nat_le 1 view.edition && nat_le view.edition 9999) (is_note_or_empty view.note)
       (and_from (nat_le view.stations 5000 && nat_le 1 view.edition) (nat_le view.edition 9999)
       (and_from (nat_le view.stations 5000) (nat_le 1 view.edition) (le-leb view.stations 5000 h.few) (le-leb 1 view.edition h.lawful.first)) (le-leb view.edition 9999 h.lawful.last)) h.lawful.note;
   gone = h.lawful.gone;

@@ -28,7 +28,7 @@ use Rattle.tally_rows.proofs.RowsLemmas.{keys_rise}
 use Rattle.tally_tables.specs.Cells.{item_row, items_of, con_rows, lot_rows, seat_rows, gone_row, gone_rows, record_rows, total_rows, past_rows}
 use Rattle.tally_judge.specs.internal.Found.{IsLawfulFound, gone_places, past_edition, same_numbers}
 use Rattle.tally_judge.specs.internal.Entries.{rises_on}
-use Rattle.tally_judge.specs.OfficeRows.{Rows, AreOfficeRows}
+use Rattle.tally_judge.specs.OfficeRows.{RowsInOrder, AreOfficeRows}
 use Rattle.tally_tables.specs.TablesOfState.{AreSeats}
 use Rattle.tally_tables.specs.Views.{statuses_of}
 use Rattle.tally_tables.proofs.ConLemmas.{gone_entry, past_entry, sums_of_view, row_of_view, tables_of_view}
@@ -106,7 +106,7 @@ totals_held setup s given e h =
     ap (λ o. map (item_row e.0) (items_of (option_map_or (λ (con : Constituency). sums_of_view (view_with con e.1 s.returns [])) o (record { votes = []; blank = 0; spoiled = 0 })))) h.known
     ∙ ap (λ v. (tables_of_view e.0 v).totals) (sym (view_is setup s given e h))
 
-pub rows_of_state : (setup : List Constituency) (s : State) (rows : Rows) → ((code : List ℕ) → is_some (get s.cons code) ≡ is_some (constituency_with code setup)) → (h : AreOfficeRows setup s rows) → AreRowsOfViews rows.cons rows.tables (views_of setup s h.given)
+pub rows_of_state : (setup : List Constituency) (s : State) (rows : RowsInOrder) → ((code : List ℕ) → is_some (get s.cons code) ≡ is_some (constituency_with code setup)) → (h : AreOfficeRows setup s rows) → AreRowsOfViews rows.cons rows.tables (views_of setup s h.given)
 rows_of_state setup s rows known h =
     let es = entries s.cons in
     let all = all_held setup s known in

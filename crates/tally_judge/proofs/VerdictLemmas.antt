@@ -14,7 +14,7 @@ use Rattle.std.proofs.lemmas.List.Elements.{recursion_from_All, All-from_recursi
 use Rattle.std.proofs.lemmas.Slice.Eq.{bytes_eq-Decides}
 use Rattle.sqlite_keyed.proofs.ListLemmas.{all_weaker, all-append}
 use Rattle.tally_rules.specs.Code.{is_code}
-use Rattle.tally_rules.specs.Codes.{is_among}
+use Rattle.tally_rules.specs.Codes.{is_among_codes}
 use Rattle.tally_rules.specs.Constituency.{Constituency}
 use Rattle.tally_rules.specs.Limits.{IsConstituency, IsSetup, IsStation}
 use Rattle.tally_rules.specs.Setup.{all_stations, constituency_with, constituency_codes, station_with}
@@ -31,7 +31,7 @@ use Rattle.tally_rows.specs.Rows.{text_cmp}
 use Rattle.tally_rows.proofs.RowsLemmas.{text_total, text_exact, keys_rise}
 use Rattle.tally_judge.specs.internal.Found.{AreAllLawful, AreLawfulCons, IsLawfulFound}
 use Rattle.tally_judge.specs.internal.Entries.{AreReturnsOf, IsLawfulEntry, IsLedgerOf, key_of, rises}
-use Rattle.tally_judge.specs.OfficeRows.{Rows, AreOfficeRows, AreLawfulRows}
+use Rattle.tally_judge.specs.OfficeRows.{RowsInOrder, AreOfficeRows, AreLawfulRows}
 use Rattle.tally_tables.specs.Reading.{entries_in}
 use Rattle.tally_tables.specs.Views.{Tables, views_from}
 use Rattle.tally_judge.proofs.CountLemmas.{AreApart, AreWithin, no_more, all_covered, apart_from_distinct}
@@ -89,7 +89,7 @@ keys_within setup (e ∷ es) h = (known_among e.0 setup h.0.0 h.0.1, keys_within
 same_returns : (es : List (List ℕ × StationReturn)) → T (is_sorted text_cmp es) → from_entries {R = text_cmp} es ≡ from_sorted es
 same_returns es sorted = same_map text_total text_exact _ _ (λ q. get-from_entries text_total es q ∙ sym (get-entries (from_sorted es) q ∙ ap (find text_cmp q) (entries-from_sorted text_cmp es sorted)))
 
-pub verdict_passed : (setup : List Constituency) (rows : Rows) (es : List (List ℕ × StationReturn)) (kept : Kept) (vs : List (List ℕ × View)) → kept ≡ record (opening_kept setup) { returns = from_entries es }
+pub verdict_passed : (setup : List Constituency) (rows : RowsInOrder) (es : List (List ℕ × StationReturn)) (kept : Kept) (vs : List (List ℕ × View)) → kept ≡ record (opening_kept setup) { returns = from_entries es }
     → entries_in setup rows.returns rows.counts ≡ Some es → rises es ≡ true → All (IsLawfulEntry setup) es → views_from kept.setup (view_in kept) rows.cons rows.tables ≡ Some vs
     → AreAllLawful kept vs → AreLawfulRows setup rows
 verdict_passed setup rows es kept vs is read up lawful views all_lawful =
@@ -106,17 +106,17 @@ verdict_passed setup rows es kept vs is read up lawful views all_lawful =
 -- ---- rows that must pass
 
 -- the returns of a lawful state with these rows
-pub returns_of_state : (setup : List Constituency) (rows : Rows) (s : State) → IsLawfulState setup s → AreOfficeRows setup s rows → AreReturnsOf setup rows.returns rows.counts s.returns
+pub returns_of_state : (setup : List Constituency) (rows : RowsInOrder) (s : State) → IsLawfulState setup s → AreOfficeRows setup s rows → AreReturnsOf setup rows.returns rows.counts s.returns
 returns_of_state setup rows s lawful h = record { lawful = lawful.stations; rows_are = h.returns; counts_are = h.counts }
 
-pub must_read : (setup : List Constituency) (rows : Rows) (s : State) → IsSetup setup → IsLawfulState setup s → AreOfficeRows setup s rows
+pub must_read : (setup : List Constituency) (rows : RowsInOrder) (s : State) → IsSetup setup → IsLawfulState setup s → AreOfficeRows setup s rows
     → (entries_in setup rows.returns rows.counts ≡ Some (entries s.returns)) × (rises (entries s.returns) ≡ true) × All (IsLawfulEntry setup) (entries s.returns)
 must_read setup rows s limits lawful h = returns_must_pass setup rows.returns rows.counts s.returns (stations_have_codes setup limits) (returns_of_state setup rows s lawful h)
 
 entries_back : (m : Returns) → from_entries {R = text_cmp} (entries m) ≡ m
 entries_back m = same_map text_total text_exact _ _ (λ q. get-from_entries text_total (entries m) q ∙ sym (get-entries m q))
 
-pub known_state : (setup : List Constituency) (rows : Rows) (s : State) (kept : Kept) → kept ≡ record (opening_kept setup) { returns = from_entries (entries s.returns) } → IsSetup setup → ViewsAreLawful → IsLawfulState setup s
+pub known_state : (setup : List Constituency) (rows : RowsInOrder) (s : State) (kept : Kept) → kept ≡ record (opening_kept setup) { returns = from_entries (entries s.returns) } → IsSetup setup → ViewsAreLawful → IsLawfulState setup s
     → (h : AreOfficeRows setup s rows) → IsKnown setup s kept h.given
 known_state setup rows s kept is limits views lawful h = record {
   setup_is = ap (λ (k : Kept). k.setup) is;
@@ -128,38 +128,38 @@ known_state setup rows s kept is limits views lawful h = record {
 }
 
 -- the constituency of each code has an entry
-find_again : (code : List ℕ) (setup : List Constituency) → is_among code (constituency_codes setup) ≡ true → is_some (constituency_with code setup) ≡ true
+find_again : (code : List ℕ) (setup : List Constituency) → is_among_codes code (constituency_codes setup) ≡ true → is_some (constituency_with code setup) ≡ true
 find_again code [] h = absurd (true≢false (sym h))
 find_again code (c ∷ setup) h = go (bytes_eq code c.code) h (find_again code setup)
   where
-    go : (b : Bool) → (b || is_among code (constituency_codes setup)) ≡ true → (is_among code (constituency_codes setup) ≡ true → is_some (constituency_with code setup) ≡ true) → is_some (cond b (Some c) (constituency_with code setup)) ≡ true
+    go : (b : Bool) → (b || is_among_codes code (constituency_codes setup)) ≡ true → (is_among_codes code (constituency_codes setup) ≡ true → is_some (constituency_with code setup) ≡ true) → is_some (cond b (Some c) (constituency_with code setup)) ≡ true
     go true h later = refl
     go false h later = later h
 
-some_among : {X : Type 0} (code : List ℕ) (es : List (List ℕ × X)) → is_some (find text_cmp code es) ≡ true → is_among code (map (λ e. e.0) es) ≡ true
+some_among : {X : Type 0} (code : List ℕ) (es : List (List ℕ × X)) → is_some (find text_cmp code es) ≡ true → is_among_codes code (map (λ e. e.0) es) ≡ true
 some_among code [] h = absurd (true≢false (sym h))
 some_among code (e ∷ es) h = go (bytes_eq code e.0) refl (some_among code es)
   where
     tied : bytes_eq code e.0 ≡ false → eq_by_cmp text_cmp code e.0 ≡ false
     tied differs = false_from_ne_true _ (λ t. true≢false (sym ((bytes_eq-Decides code e.0).1 (text_exact code e.0 (equal_is _ t))) ∙ differs))
 
-    go : (b : Bool) → bytes_eq code e.0 ≡ b → (is_some (find text_cmp code es) ≡ true → is_among code (map (λ x. x.0) es) ≡ true) → (b || is_among code (map (λ x. x.0) es)) ≡ true
+    go : (b : Bool) → bytes_eq code e.0 ≡ b → (is_some (find text_cmp code es) ≡ true → is_among_codes code (map (λ x. x.0) es) ≡ true) → (b || is_among_codes code (map (λ x. x.0) es)) ≡ true
     go true is later = refl
     go false is later = later (ap is_some (sym (ap (λ t. cond t (Some e.1) (find text_cmp code es)) (tied is))) ∙ h)
 
-codes_within : (setup : List Constituency) (s : State) → ((code : List ℕ) → is_some (get s.cons code) ≡ is_some (constituency_with code setup)) → (cons : List Constituency) → ((code : List ℕ) → is_among code (constituency_codes cons) ≡ true → is_among code (constituency_codes setup) ≡ true)
+codes_within : (setup : List Constituency) (s : State) → ((code : List ℕ) → is_some (get s.cons code) ≡ is_some (constituency_with code setup)) → (cons : List Constituency) → ((code : List ℕ) → is_among_codes code (constituency_codes cons) ≡ true → is_among_codes code (constituency_codes setup) ≡ true)
     → AreWithin (constituency_codes cons) (map (λ (e : List ℕ × ConState). e.0) (entries s.cons))
 codes_within setup s known [] from = tt
 codes_within setup s known (con ∷ cons) from =
-    let here = from con.code (ap (λ b. b || is_among con.code (constituency_codes cons)) ((bytes_eq-Decides con.code con.code).1 refl)) in (
+    let here = from con.code (ap (λ b. b || is_among_codes con.code (constituency_codes cons)) ((bytes_eq-Decides con.code con.code).1 refl)) in (
       some_among con.code (entries s.cons) (ap is_some (sym (get-entries s.cons con.code)) ∙ known con.code ∙ find_again con.code setup here),
       codes_within setup s known cons (λ code is. from code (later code is)),
     )
   where
-    later : (code : List ℕ) → is_among code (constituency_codes cons) ≡ true → is_among code (constituency_codes (con ∷ cons)) ≡ true
+    later : (code : List ℕ) → is_among_codes code (constituency_codes cons) ≡ true → is_among_codes code (constituency_codes (con ∷ cons)) ≡ true
     later code is = go (bytes_eq code con.code)
       where
-        go : (b : Bool) → (b || is_among code (constituency_codes cons)) ≡ true
+        go : (b : Bool) → (b || is_among_codes code (constituency_codes cons)) ≡ true
         go true = refl
         go false = is
 
@@ -173,7 +173,7 @@ all_mapped P f [] h = tt
 all_mapped P f (x ∷ xs) h = (h.0, all_mapped P f xs h.1)
 
 -- what the rows of a lawful state read as, and that it passes
-pub must_view : (setup : List Constituency) (rows : Rows) (s : State) (kept : Kept) (h : AreOfficeRows setup s rows) → IsKnown setup s kept h.given
+pub must_view : (setup : List Constituency) (rows : RowsInOrder) (s : State) (kept : Kept) (h : AreOfficeRows setup s rows) → IsKnown setup s kept h.given
     → (views_from kept.setup (view_in kept) rows.cons rows.tables ≡ Some (views_of setup s h.given)) × AreAllLawful kept (views_of setup s h.given)
 must_view setup rows s kept h k =
     let es = entries s.cons in
@@ -214,12 +214,12 @@ must_rise setup rows counts returns es limits is h =
     subst (λ (x : List (List ℕ × StationReturn)). (rises x ≡ true) × All (IsLawfulEntry setup) x) (same_read setup rows counts returns es limits is h) (read.1, read.2)
 
 -- the returns that are kept are those of each lawful state with these rows
-pub returns_back : (setup : List Constituency) (rows : Rows) (es : List (List ℕ × StationReturn)) (kept : Kept) (s : State) → IsSetup setup → kept ≡ record (opening_kept setup) { returns = from_entries es }
+pub returns_back : (setup : List Constituency) (rows : RowsInOrder) (es : List (List ℕ × StationReturn)) (kept : Kept) (s : State) → IsSetup setup → kept ≡ record (opening_kept setup) { returns = from_entries es }
     → Some es ≡ entries_in setup rows.returns rows.counts → IsLawfulState setup s → AreOfficeRows setup s rows → kept.returns ≡ s.returns
 returns_back setup rows es kept s limits is read lawful of_rows =
     ap (λ (k : Kept). k.returns) is ∙ ap (from_entries {R = text_cmp}) (sym (same_read setup rows.returns rows.counts s.returns es limits read (returns_of_state setup rows s lawful of_rows))) ∙ entries_back s.returns
 
-pub must_be_lawful : (setup : List Constituency) (rows : Rows) (kept : Kept) → IsSetup setup → ViewsAreLawful → IsLedgerOf setup rows.returns rows.counts kept → AreLawfulRows setup rows → AreLawfulCons kept rows.cons rows.tables
+pub must_be_lawful : (setup : List Constituency) (rows : RowsInOrder) (kept : Kept) → IsSetup setup → ViewsAreLawful → IsLedgerOf setup rows.returns rows.counts kept → AreLawfulRows setup rows → AreLawfulCons kept rows.cons rows.tables
 must_be_lawful setup rows kept limits views ledger h =
     let same = same_read setup rows.returns rows.counts h.0.returns ledger.es limits ledger.entries.read (returns_of_state setup rows h.0 h.1 h.2) in
     let known = known_state setup rows h.0 kept (ledger.kept_is ∙ ap (kept_of setup) (sym same)) limits views h.1 h.2 in
@@ -235,5 +235,5 @@ found_lawful kept cons tables vs is h =
 pub not_found_lawful : (kept : Kept) (cons : List Row) (tables : Tables) → None ≡ views_from kept.setup (view_in kept) cons tables → AreLawfulCons kept cons tables → ⊥
 not_found_lawful kept cons tables is h = let k = is ∙ h.1 in cc
 
-pub rows_passed : (setup : List Constituency) (rows : Rows) (kept : Kept) → IsLedgerOf setup rows.returns rows.counts kept → AreLawfulCons kept rows.cons rows.tables → AreLawfulRows setup rows
+pub rows_passed : (setup : List Constituency) (rows : RowsInOrder) (kept : Kept) → IsLedgerOf setup rows.returns rows.counts kept → AreLawfulCons kept rows.cons rows.tables → AreLawfulRows setup rows
 rows_passed setup rows kept ledger h = verdict_passed setup rows ledger.es kept h.0 ledger.kept_is (sym ledger.entries.read) ledger.entries.rise ledger.entries.lawful h.1 h.2

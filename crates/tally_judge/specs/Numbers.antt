@@ -10,7 +10,7 @@ use Rattle.tally_returns.specs.View.{view_of}
 use Rattle.tally_steps.specs.LawfulState.{IsLawfulState}
 use Rattle.tally_tables.specs.Views.{statuses_of}
 use Rattle.tally_tables.specs.declared.views.Statuses.{Statuses}
-use Rattle.tally_judge.specs.OfficeRows.{AreOfficeRows, Rows}
+use Rattle.tally_judge.specs.OfficeRows.{AreOfficeRows, RowsInOrder}
 
 -- by the code of the constituency
 abbrev pub Numbers : Type 0
@@ -27,6 +27,6 @@ HasNumbers setup s numbers =
     → get numbers con.code ≡ Some (statuses_of (view_of con s []))
 
 -- the same of every lawful state whose rows these are
-abbrev pub HasNumbersOfRows : List Constituency → Rows → Numbers → Type 0
+abbrev pub HasNumbersOfRows : List Constituency → RowsInOrder → Numbers → Type 0
 HasNumbersOfRows setup rows numbers =
     (s : State) → IsLawfulState setup s → AreOfficeRows setup s rows → HasNumbers setup s numbers

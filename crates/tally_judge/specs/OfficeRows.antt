@@ -12,14 +12,14 @@ use Rattle.tally_tables.specs.TablesOfState.{AreSeats}
 use Rattle.tally_tables.specs.Views.{Tables, tables_in}
 use Rattle.tally_judge.specs.declared.office.OfficeRows.{OfficeRows}
 
-pub record Rows : Type 0 where
+pub record RowsInOrder : Type 0 where
   pub returns : List Row
   pub counts : List Row
   pub cons : List Row
   pub tables : Tables
 
-abbrev pub rows_in : OfficeRows → Rows
-rows_in rows = record {
+abbrev pub rows_in_order : OfficeRows → RowsInOrder
+rows_in_order rows = record {
   returns = rows.returns.now;
   counts = rows.counts.now;
   cons = rows.cons.now;
@@ -28,7 +28,7 @@ rows_in rows = record {
 
 -- These are the rows of the tables of a state over a setup, as `AreTables` has them, without their
 -- rowids and in the order of the keys.
-pub record AreOfficeRows (setup : List Constituency) (s : State) (rows : Rows) : Type 0 where
+pub record AreOfficeRows (setup : List Constituency) (s : State) (rows : RowsInOrder) : Type 0 where
   pub given : List ℕ → List ℕ
   pub allotted : AreSeats setup s given
   pub returns : rows.returns ≡ flat_map (return_rows setup) (entries s.returns)
@@ -41,11 +41,11 @@ pub record AreOfficeRows (setup : List Constituency) (s : State) (rows : Rows) :
   pub past : rows.tables.past ≡ flat_map past_rows (entries s.cons)
 
 -- These are the rows of a lawful state.
-abbrev pub AreLawfulRows : List Constituency → Rows → Type 0
+abbrev pub AreLawfulRows : List Constituency → RowsInOrder → Type 0
 AreLawfulRows setup rows = (s : State) × IsLawfulState setup s × AreOfficeRows setup s rows
 
 -- These are the rows of a lawful state, and of no other one.
-pub record AreRowsOfOneState (setup : List Constituency) (rows : Rows) : Type 0 where
+pub record AreRowsOfOneState (setup : List Constituency) (rows : RowsInOrder) : Type 0 where
   pub state : State
   pub lawful : IsLawfulState setup state
   pub rows_are : AreOfficeRows setup state rows

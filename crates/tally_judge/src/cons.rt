@@ -1,10 +1,11 @@
 //! Which constituencies that were read are those of a lawful state.
 
-ghost use Rattle.std.specs.Prelude.{◌≡◌, All, IfOk, IsTrue};
+ghost use Rattle.std.specs.Prelude.{◌≡◌, IfOk, IsTrue};
 ghost use Rattle.std.specs.Ordering.{is_lt, nat_cmp};
 ghost use Rattle.tally_judge.specs.internal.Entries.{is_below, rises, rises_on};
-ghost use Rattle.tally_judge.specs.internal.Found.{AreAllLawful, AreLawfulCons, IsLawfulFound, gone_places};
-ghost use Rattle.tally_judge.specs.internal.Found.{is_as_counted, past_edition, same_numbers};
+ghost use Rattle.tally_judge.specs.internal.Found.{AreAllLawful, AreEachLawful, AreLawfulCons};
+ghost use Rattle.tally_judge.specs.internal.Found.{IsLawfulFound, gone_places, is_as_counted};
+ghost use Rattle.tally_judge.specs.internal.Found.{past_edition, same_numbers};
 ghost use Rattle.tally_rows.specs.Rows.{text_cmp};
 ghost use Rattle.tally_tables.specs.Views.{tables_in};
 
@@ -50,8 +51,8 @@ fn are_all_lawful(alloc: Global, ledger: &Ledger, found: &[ConFound]) -> Result<
 
 /// Whether each is a constituency of a lawful state with the returns of the ledger.
 fn are_each_lawful(alloc: Global, ledger: &Ledger, found: &[ConFound]) -> Result<bool, AllocError>
-    ensures lawful { IfOk result (λ yes. IsTrue yes → All (IsLawfulFound ledger.now) found.now) }
-    ensures otherwise { IfOk result (λ yes. All (IsLawfulFound ledger.now) found.now → IsTrue yes) }
+    ensures lawful { IfOk result (λ yes. IsTrue yes → AreEachLawful ledger.now found.now) }
+    ensures otherwise { IfOk result (λ yes. AreEachLawful ledger.now found.now → IsTrue yes) }
 {
     for con in found {
         if !is_lawful(alloc, ledger, con)? {
@@ -122,20 +123,11 @@ fn gone_rise(gone: &[Gone]) -> bool
     ensures { result ≡ rises_on gone_places text_cmp gone.now }
 {
     for i in 1..gone.len() {
-        if !is_before(&gone[i - 1], &gone[i]) {
+        if !gone[i - 1].is_before(&gone[i]) {
             return false;
         }
     }
     true
-}
-
-fn is_before(one: &Gone, other: &Gone) -> bool
-    ensures { result ≡ is_lt (text_cmp (gone_places one.now) (gone_places other.now)) }
-{
-    [one.list, one.place]
-        .as_slice()
-        .cmp([other.list, other.place].as_slice())
-        .is_lt()
 }
 
 /// Whether each certificate is of an edition below the next.

@@ -2,8 +2,9 @@
 
 ghost use Rattle.std.specs.Prelude.{◌≡◌, IfOk, option_map};
 ghost use Rattle.tally_ledger.specs.Kept.{view_in};
-ghost use Rattle.tally_tables.specs.Views.{con_counted, view_with_code, statuses_of, tables_in};
+ghost use Rattle.tally_tables.specs.Views.{view_with_code, tables_in};
 ghost use Rattle.tally_tables.specs.Views.{views_from};
+ghost use Rattle.tally_judge.specs.internal.Found.{con_counted};
 
 use sqlite::Row;
 use std::alloc::{AllocError, Global};
@@ -12,7 +13,7 @@ use tally_ledger::Ledger;
 use tally_returns::ConView;
 use tally_rows::text_at;
 use tally_rules::{Code, Constituency};
-use tally_tables::{ConTables, Statuses, view_in};
+use tally_tables::{ConTables, statuses_of, view_from_tables};
 
 /// A constituency that was read: its code, and what is seen of it.
 #[derive(Drop)]
@@ -41,19 +42,6 @@ fn con_at<'a>(ledger: &'a Ledger, row: &Row) -> Option<(&'a Constituency, &'a Co
     Some((con, counted))
 }
 
-/// The numbers of stations and of returns in each status, of what is seen of a constituency.
-pub(crate) fn statuses_of(view: &ConView) -> Statuses
-    ensures { result ≡ statuses_of view.now }
-{
-    Statuses {
-        stations: view.stations,
-        received: view.received,
-        queried: view.queried,
-        corrected: view.corrected,
-        closed: view.closed,
-    }
-}
-
 /// A constituency, by its row of `cons` and its rows of the other tables.
 fn found_at(
     alloc: Global,
@@ -65,7 +53,7 @@ fn found_at(
     ensures { IfOk result (λ found.
         found ≡ view_with_code counted.now row.now (tables_in tables.entry) con.now) }
 {
-    let found = view_in(alloc, con, statuses_of(counted), row, tables)?;
+    let found = view_from_tables(alloc, con, statuses_of(counted), row, tables)?;
     Ok(found.map(|view| ConFound {
         con: con.code,
         view,

@@ -4,12 +4,11 @@ ghost use Rattle.std.specs.Prelude.{◌≡◌, OnOk};
 ghost use Rattle.tally_judge.specs.Numbers.{numbers_of};
 ghost use Rattle.tally_judge.specs.internal.Tree.{AreNumbered, numbers_at, with_numbers};
 
-use crate::found::statuses_of;
 use std::alloc::AllocError;
 use std::collections::BTreeMap;
 use tally_ledger::Ledger;
 use tally_rules::Code;
-use tally_tables::Statuses;
+use tally_tables::{Statuses, statuses_of};
 
 /// Puts the numbers of each constituency of the setup into a tree, by the returns in the ledger.
 pub(crate) fn put_all(

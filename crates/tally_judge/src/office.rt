@@ -7,7 +7,7 @@ ghost use Rattle.tally_judge.specs.internal.Entries.{IsLedgerOf, rises};
 ghost use Rattle.tally_judge.specs.internal.Found.{AreLawfulCons};
 ghost use Rattle.tally_judge.specs.internal.Tree.{AreNumbered};
 ghost use Rattle.tally_judge.specs.Numbers.{HasNumbersOfRows, numbers_of};
-ghost use Rattle.tally_judge.specs.OfficeRows.{AreLawfulRows, AreRowsOfOneState, rows_in};
+ghost use Rattle.tally_judge.specs.OfficeRows.{AreLawfulRows, AreRowsOfOneState, rows_in_order};
 ghost use Rattle.tally_ledger.specs.Kept.{opening_kept};
 ghost use Rattle.tally_returns.specs.Return.{Returns};
 ghost use Rattle.tally_rules.specs.Limits.{IsSetup};
@@ -44,12 +44,12 @@ pub fn accept_rows(
     known: &mut BTreeMap<Code, Statuses>,
 ) -> Result<Option<Setup>, AllocError>
     ensures passed { IfOk result (λ found.
-        OnSome found (AreRowsOfOneState setup (rows_in rows.entry))) }
+        OnSome found (AreRowsOfOneState setup (rows_in_order rows.entry))) }
     ensures must_pass { IfOk result (λ found.
-        AreLawfulRows setup (rows_in rows.entry) → IsSome found) }
+        AreLawfulRows setup (rows_in_order rows.entry) → IsSome found) }
     ensures setup { IfOk result (λ found. IfSome found (λ again. again ≡ setup)) }
     ensures numbers { IfOk result (λ found.
-        OnSome found (HasNumbersOfRows setup (rows_in rows.entry) (numbers_of known.new))) }
+        OnSome found (HasNumbersOfRows setup (rows_in_order rows.entry) (numbers_of known.new))) }
 {
     // Called for what its contract says: the setup is within its limits.
     let _cons = setup.cons();

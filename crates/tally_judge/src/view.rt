@@ -3,18 +3,16 @@
 ghost use Rattle.std.specs.Prelude.{◌≡◌, ◌≢◌, ◌≤◌, All, IfOk, IsTrue, [], length, sum};
 ghost use Rattle.tally_frac.specs.Limits.{most_lists};
 ghost use Rattle.tally_steps.specs.Outcome.{IsLawfulGone, IsLawfulPast, IsLawfulView, is_candidate};
-ghost use Rattle.tally_returns.specs.Lawful.{is_kept_note, may_stand};
+ghost use Rattle.tally_returns.specs.Lawful.{is_kept_note};
 ghost use Rattle.tally_returns.specs.View.{FitsView, HasEachList};
 ghost use Rattle.tally_judge.specs.internal.Seen.{HasLawfulFrame, IsCertified, IsLotRight, IsOpen};
 ghost use Rattle.tally_judge.specs.internal.Seen.{is_in_range};
 
 use std::alloc::{AllocError, Global};
 use tally_allot::{AllotFault, allot, is_allotment};
-use tally_returns::{ConView, Gone, LAST_EDITION, Past};
+use tally_frac::MOST_STATIONS;
+use tally_returns::{ConView, Gone, LAST_EDITION, Past, is_note_or_empty};
 use tally_rules::{Constituency, good_note};
-
-/// The most stations of a constituency.
-const MOST_STATIONS: u32 = 5_000;
 
 /// Whether a lawful state may show a constituency in this way: its lot, its seats, those who are
 /// gone, and its certificates that were reopened.
@@ -51,16 +49,10 @@ fn has_lawful_frame(con: &Constituency, view: &ConView) -> bool
 fn is_in_range(view: &ConView) -> bool
     ensures { result ≡ is_in_range view.now }
 {
-    view.stations <= MOST_STATIONS
+    view.stations as usize <= MOST_STATIONS
         && view.edition >= 1
         && view.edition <= LAST_EDITION
-        && may_stand(view.note.as_str())
-}
-
-fn may_stand(note: &str) -> bool
-    ensures { result ≡ may_stand note.now }
-{
-    note.is_empty() || good_note(note)
+        && is_note_or_empty(view.note.as_str())
 }
 
 /// Whether all stations are closed, and the seats and the lot are those of the one allotment.

@@ -7,6 +7,7 @@ pub mod KeeperLemmas
 pub mod LodgeLemmas
 pub mod RowsLemmas
 pub mod RunLemmas
+pub mod StaysLemmas
 pub mod StepLemmas
 pub mod StoreLemmas
 pub mod TakenLemmas

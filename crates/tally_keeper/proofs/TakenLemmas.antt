@@ -10,7 +10,7 @@ use Rattle.tally_returns.specs.declared.ask.Ask.TheVariants.{Lodge}
 use Rattle.tally_keeper.specs.internal.Held.{IsHeld}
 use Rattle.tally_keeper.specs.Import.{RowAnswer, IsBelow, IsCodedRow, row_answer, after_row, answers, returns_after_import, count_of, count_with_row}
 use Rattle.tally_keeper.specs.Given.{with_given}
-use Rattle.tally_keeper.specs.Keeper.{IsFault, IsImportOf, IsOwnFault}
+use Rattle.tally_keeper.specs.Keeper.{IsImportFault, IsImportOf, IsOwnFault}
 use Rattle.tally_keeper.specs.Source.{AreAllGiven, AreGiven, Coming, Delivery, GaveAll, IsSudden, IsWithin, GivesNext, SourceAt, ends_by, row_limit}
 use Rattle.tally_keeper.specs.declared.import.ImportCount.{ImportCount}
 use Rattle.tally_keeper.specs.declared.import.Row.{Row}
@@ -131,7 +131,7 @@ given-so_far stations old now all left next count many h same = (same ∙ h.give
 
 -- a fault of the source is one of the import
 pub SoFar-fault : (stations : Stations) (old now : Returns) (all left next : SourceAt) (count : ImportCount) (many : ℕ) (fault : ImportFault)
-    → SoFar stations old now all left count many → GivesAt left (Err fault) next → IsFault (record { start = all; finish = next }) fault
+    → SoFar stations old now all left count many → GivesAt left (Err fault) next → IsImportFault (record { start = all; finish = next }) fault
 SoFar-fault stations old now all left next count many fault h given =
     (h.rows, given-so_far stations old now all left next count many h given.1, inr (inl (given.2, go all.coming h.taken given.0.1)))
   where
@@ -146,7 +146,7 @@ SoFar-fault stations old now all left next count many fault h given =
 
 -- a fault of the keeper's own comes after a row that the source gave
 pub SoFar-own : (stations : Stations) (old now : Returns) (all left next : SourceAt) (count : ImportCount) (many : ℕ) (r : Row) (fault : ImportFault)
-    → SoFar stations old now all left count many → GivesAt left (Ok (Some r)) next → IsOwnFault fault → IsFault (record { start = all; finish = next }) fault
+    → SoFar stations old now all left count many → GivesAt left (Ok (Some r)) next → IsOwnFault fault → IsImportFault (record { start = all; finish = next }) fault
 SoFar-own stations old now all left next count many r fault h given own = (
   h.rows ++ r ∷ [],
   (
@@ -157,7 +157,7 @@ SoFar-own stations old now all left next count many r fault h given own = (
 )
 
 -- a fault of the keeper's own before any row
-pub own-first : (at : SourceAt) (fault : ImportFault) → IsOwnFault fault → IsFault (record { start = at; finish = at }) fault
+pub own-first : (at : SourceAt) (fault : ImportFault) → IsOwnFault fault → IsImportFault (record { start = at; finish = at }) fault
 own-first at fault own = ([], (sym (append-nil at.given), all at.coming), inl own)
   where
     all : (known : Option Coming) → IfSome known (λ coming. (rest : List Row) × (coming.rows ≡ rest))
@@ -165,7 +165,7 @@ own-first at fault own = ([], (sym (append-nil at.given), all at.coming), inl ow
     all (Some coming) = (coming.rows, refl)
 
 -- a fault of the keeper's own after all that the source gave
-pub own-last : (d : Delivery) (fault : ImportFault) → GaveAll d → IsOwnFault fault → IsFault d fault
+pub own-last : (d : Delivery) (fault : ImportFault) → GaveAll d → IsOwnFault fault → IsImportFault d fault
 own-last d fault gave own = (gave.0, (gave.1.0, all d.start.coming gave.1.3), inl own)
   where
     all : (known : Option Coming) → IfSome known (λ coming. (coming.rows ≡ gave.0) × (coming.fault ≡ None)) → IfSome known (λ coming. (rest : List Row) × (coming.rows ≡ gave.0 ++ rest))
@@ -174,7 +174,7 @@ own-last d fault gave own = (gave.0, (gave.1.0, all d.start.coming gave.1.3), in
 
 -- one row more than the limit comes only of a source of which nothing is known
 pub SoFar-many : (stations : Stations) (old now : Returns) (all left : SourceAt) (count : ImportCount) (many : ℕ)
-    → SoFar stations old now all left count many → many ≡ row_limit + 1 → IfSome all.coming IsWithin → IsFault (record { start = all; finish = left }) TooLong
+    → SoFar stations old now all left count many → many ≡ row_limit + 1 → IfSome all.coming IsWithin → IsImportFault (record { start = all; finish = left }) TooLong
 SoFar-many stations old now all left count many h over within =
     (h.rows, given-so_far stations old now all left left count many h refl, inr (inr (refl, h.many_are ∙ over, none all.coming h.taken within)))
   where

@@ -4,7 +4,11 @@ use Rattle.tally_keeper.specs.declared.source.RowSource.{Ghosts}
 
 -- how far it is
 abbrev pub source_at : {R : Type 0} (g : Ghosts R) → R → SourceAt
-source_at g source = record { coming = g.coming source; given = g.given source; ended = g.ended source }
+source_at g source = record {
+  coming = g.coming source;
+  given = g.given source;
+  ended = g.ended source;
+}
 
 -- how far it was before a call, and how far it is after it
 abbrev pub delivery : {R : Type 0} (g : Ghosts R) → R → R → Delivery

@@ -4,7 +4,7 @@ use Rattle.std.specs.Prelude.{◌≡◌, if◌then◌else◌, ◌+◌, ◌<◌, 
 use Rattle.tally_rules.specs.Code.{is_code}
 use Rattle.tally_returns.specs.Counts.{VoteCounts}
 use Rattle.tally_returns.specs.Return.{Returns}
-use Rattle.tally_returns.specs.Refusals.{number}
+use Rattle.tally_returns.specs.Refusals.{refusal_number}
 use Rattle.tally_returns.specs.Lodge.{Stations, lodge, lodge_answer}
 use Rattle.tally_returns.specs.declared.ask.Ask.TheVariants.{Lodge}
 use Rattle.tally_returns.specs.declared.refusal.Refusal.{Refusal}
@@ -28,23 +28,27 @@ IsCodedRow (row.Lodge (Lodge station slip counts)) = is_code slip ≡ true
 IsCodedRow other = Unit {0}
 
 abbrev pub row_answer : Stations → Returns → Row → RowAnswer
-row_answer stations returns (row.Lodge (Lodge station slip counts)) = Some (lodge_answer stations returns station slip counts)
+row_answer stations returns (row.Lodge (Lodge station slip counts)) =
+    Some (lodge_answer stations returns station slip counts)
 row_answer stations returns other = None
 
 -- the returns after a row
 abbrev pub after_row : Stations → Returns → Row → Returns
-after_row stations returns (row.Lodge (Lodge station slip counts)) = lodge stations returns station slip counts
+after_row stations returns (row.Lodge (Lodge station slip counts)) =
+    lodge stations returns station slip counts
 after_row stations returns other = returns
 
 -- what the rows are answered, in order
 abbrev pub answers : Stations → Returns → List Row → List RowAnswer
 answers stations returns [] = []
-answers stations returns (r ∷ rows) = row_answer stations returns r ∷ answers stations (after_row stations returns r) rows
+answers stations returns (r ∷ rows) =
+    row_answer stations returns r ∷ answers stations (after_row stations returns r) rows
 
 -- the returns after all rows
 abbrev pub returns_after_import : Stations → Returns → List Row → Returns
 returns_after_import stations returns [] = returns
-returns_after_import stations returns (r ∷ rows) = returns_after_import stations (after_row stations returns r) rows
+returns_after_import stations returns (r ∷ rows) =
+    returns_after_import stations (after_row stations returns r) rows
 
 -- one thing of a row that was lodged, another of one that was there already, of a refused one, of a
 -- bad one
@@ -79,7 +83,7 @@ is_bad = by_answer false false (λ e. false) true
 -- what is noted of a row that was neither lodged nor there already: its refusal's number, or 0 of a
 -- bad one
 abbrev pub note_number : RowAnswer → Option ℕ
-note_number = by_answer None None (λ e. Some (number e)) (Some 0)
+note_number = by_answer None None (λ e. Some (refusal_number e)) (Some 0)
 
 abbrev pub or_else : {X : Type 0} → Option X → Option X → Option X
 or_else (Some x) later = Some x
@@ -100,7 +104,7 @@ abbrev pub with_refusal : ImportCount → ℕ → Refusal → ImportCount
 with_refusal c row refusal = record c {
   differs = c.differs + (if says_differs refusal then 1 else 0);
   refused = c.refused + (if says_differs refusal then 0 else 1);
-  first = or_else c.first (note_at row (Some (number refusal)));
+  first = or_else c.first (note_at row (Some (refusal_number refusal)));
 }
 
 -- the count with one more row
@@ -135,7 +139,8 @@ count_of answered = record {
 
 -- the counts of the returns that rows lodged, in order
 abbrev pub lodged_counts : List Row → List RowAnswer → List VoteCounts
-lodged_counts (row.Lodge (Lodge station slip counts) ∷ rows) (Some (Ok (Lodged rev)) ∷ answered) = counts ∷ lodged_counts rows answered
+lodged_counts (row.Lodge (Lodge station slip counts) ∷ rows) (Some (Ok (Lodged rev)) ∷ answered) =
+    counts ∷ lodged_counts rows answered
 lodged_counts (r ∷ rows) (a ∷ answered) = lodged_counts rows answered
 lodged_counts [] answered = []
 lodged_counts (r ∷ rows) [] = []

@@ -22,7 +22,8 @@ pub data Event : Type 0 where
 
 -- An import that was done leaves what the Lodge commands of its rows leave one by one, refused and
 -- bad rows passed over. Their slips are codes.
-abbrev pub IsImport : List Constituency → State → List Row → List RowAnswer → ImportCount → State → Type 0
+abbrev pub IsImport : List Constituency → State → List Row → List RowAnswer → ImportCount → State
+    → Type 0
 IsImport setup s rows answered count t = (length rows ≤ row_limit)
     × (answered ≡ answers (stations_of setup) s.returns rows)
     × (count ≡ count_of answered)
@@ -54,7 +55,8 @@ Happens setup None event None = IsNotTaken event
 -- one thing after the other
 abbrev pub Happen : List Constituency → Option State → List Event → Option State → Type 0
 Happen setup old [] new = new ≡ old
-Happen setup old (event ∷ events) new = (mid : Option State) × Happens setup old event mid × Happen setup mid events new
+Happen setup old (event ∷ events) new =
+    (mid : Option State) × Happens setup old event mid × Happen setup mid events new
 
 -- ---- requests
 
@@ -65,7 +67,8 @@ requests [] rs = []
 requests (ask ∷ asks) [] = []
 
 -- requests one after the other, all of them answered
-abbrev pub Runs : List Constituency → Option State → List Ask → List (Result Reply Refusal) → Option State → Type 0
+abbrev pub Runs : List Constituency → Option State → List Ask → List (Result Reply Refusal)
+    → Option State → Type 0
 Runs setup old asks rs new = (length rs ≡ length asks) × Happen setup old (requests asks rs) new
 
 -- ---- imports
@@ -78,28 +81,35 @@ IsOwnFault fault = (fault ≡ Memory) ⊎ (fault ≡ Store)
 -- comes, the fault that comes after just these rows
 abbrev pub IsFaultOfSource : Delivery → List Row → ImportFault → Type 0
 IsFaultOfSource d rows fault = (d.finish.ended ≡ Some (Some fault))
-    × (IsSudden fault ⊎ IfSome d.start.coming (λ coming. (coming.rows ≡ rows) × (coming.fault ≡ Some fault)))
+    × (IsSudden fault
+    ⊎ IfSome d.start.coming (λ coming. (coming.rows ≡ rows) × (coming.fault ≡ Some fault)))
 
 -- A keeper counts too many rows at the first one above the limit, and only where it is not known
 -- what comes.
 abbrev pub IsCountedTooLong : Delivery → List Row → ImportFault → Type 0
-IsCountedTooLong d rows fault = (fault ≡ TooLong) × (length rows ≡ row_limit + 1) × (d.start.coming ≡ None)
+IsCountedTooLong d rows fault =
+    (fault ≡ TooLong) × (length rows ≡ row_limit + 1) × (d.start.coming ≡ None)
 
 -- a fault of an import, after the rows that its source gave
-abbrev pub IsFault : Delivery → ImportFault → Type 0
-IsFault d fault = (rows : List Row) × AreGiven d rows
+abbrev pub IsImportFault : Delivery → ImportFault → Type 0
+IsImportFault d fault = (rows : List Row) × AreGiven d rows
     × (IsOwnFault fault ⊎ (IsFaultOfSource d rows fault ⊎ IsCountedTooLong d rows fault))
 
 -- an import of all rows that a source gave, of any source, and what it leaves
-abbrev pub IsImportOf : List Constituency → Option State → Delivery → ImportCount → Option State → Type 0
+abbrev pub IsImportOf : List Constituency → Option State → Delivery → ImportCount → Option State
+    → Type 0
 IsImportOf setup old d count new =
-    (rows : List Row) × (answered : List RowAnswer) × AreAllGiven d rows × Happens setup old (whole_import rows answered count) new
+    (rows : List Row) × (answered : List RowAnswer) × AreAllGiven d rows
+    × Happens setup old (whole_import rows answered count) new
 
 -- What an import comes to, by what its source gave.
-abbrev pub Imports : List Constituency → Option State → Delivery → Result ImportCount ImportFault → Option State → Type 0
+abbrev pub Imports : List Constituency → Option State → Delivery → Result ImportCount ImportFault
+    → Option State → Type 0
 Imports setup old d (Ok count) new = IsImportOf setup old d count new
-Imports setup old d (Err fault) new = IsFault d fault × Happens setup old (failed_import fault) new
+Imports setup old d (Err fault) new =
+    IsImportFault d fault × Happens setup old (failed_import fault) new
 
 -- the same where this was known of what comes
-abbrev pub ImportsComing : List Constituency → Option State → Option Coming → Delivery → Result ImportCount ImportFault → Option State → Type 0
+abbrev pub ImportsComing : List Constituency → Option State → Option Coming → Delivery
+    → Result ImportCount ImportFault → Option State → Type 0
 ImportsComing setup old known d r new = (d.start.coming ≡ known) × Imports setup old d r new

@@ -5,4 +5,7 @@ pub mod Given
 pub mod Held
 pub mod Import
 pub mod Keeper
+pub mod Shown
 pub mod Source
+pub mod Stays
+pub mod StaysKeeper

@@ -32,9 +32,15 @@ IsSudden Store = ⊥
 -- What a source gives next: the first of the rows that come, or its end or its fault after the last
 -- row, which stays. What comes is not always known; a fault of a database is not one of a source.
 abbrev pub GivesNext : Option Coming → Result (Option Row) ImportFault → Option Coming → Type 0
-GivesNext old (Ok (Some row)) new = IfSome old (λ coming. (rest : List Row) × (coming.rows ≡ row ∷ rest) × (new ≡ Some (record coming { rows = rest })))
-GivesNext old (Ok None) new = IfSome old (λ coming. (coming.rows ≡ []) × (coming.fault ≡ None)) × (new ≡ old)
-GivesNext old (Err fault) new = (fault ≢ Store) × (IsSudden fault ⊎ (IfSome old (λ coming. (coming.rows ≡ []) × (coming.fault ≡ Some fault)) × (new ≡ old)))
+GivesNext old (Ok (Some row)) new =
+    IfSome old (λ coming. (rest : List Row) × (coming.rows ≡ row ∷ rest)
+    × (new ≡ Some (record coming { rows = rest })))
+GivesNext old (Ok None) new =
+    IfSome old (λ coming. (coming.rows ≡ []) × (coming.fault ≡ None)) × (new ≡ old)
+GivesNext old (Err fault) new =
+    (fault ≢ Store)
+    × (IsSudden fault
+    ⊎ (IfSome old (λ coming. (coming.rows ≡ []) × (coming.fault ≡ Some fault)) × (new ≡ old)))
 
 -- a source gives at most so many rows, and then its end or a fault of its own
 abbrev pub IsWithin : Coming → Type 0

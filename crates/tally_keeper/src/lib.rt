@@ -6,11 +6,13 @@
 mod given;
 mod import;
 mod keeper;
+mod runs;
 mod source;
 
 pub use given::Given;
 pub use import::{FirstRow, ImportCount, Row};
-pub use keeper::{Keeper, run};
+pub use keeper::Keeper;
+pub use runs::run;
 pub use source::{ImportFault, ROW_LIMIT, RowSource};
 pub use tally_ledger::moved;
 pub use tally_returns::{

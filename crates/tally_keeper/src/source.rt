@@ -54,8 +54,8 @@ impl From<AllocError> for ImportFault {
     }
 }
 
-/// Gives the rows of an import one at a time, Lodge commands and bad rows: at most 20,000, and then
-/// its end or a fault, which it answers from then on.
+/// Gives the rows of an import one at a time, Lodge commands and bad rows, and then its end or a
+/// fault, which it answers from then on. Where it is known what comes, that is at most 20,000 rows.
 pub trait RowSource {
     /// The rows that it still gives and what comes after them, where that is known.
     ghost coming: { Self → Option Coming };

@@ -1,6 +1,6 @@
 -- The conditions of every allotment, which its caller keeps.
 use Rattle.std.specs.Prelude.{ℕ, ◌≤◌, List, length}
-use Rattle.tally_frac.specs.Limits.{most_lists, most_seats}
+use Rattle.tally_frac.specs.Limits.{most_lists, most_seats, whole_base}
 use Rattle.tally_rules.specs.Threshold.{IsWithinVotes}
 use Rattle.tally_rules.specs.declared.profile.Profile.{Profile}
 
@@ -12,4 +12,4 @@ pub record AreLimitsKept (profile : Profile) (seats : ℕ) (votes : List ℕ) (b
   pub few_votes : IsWithinVotes votes blank
   pub some_seat : 1 ≤ seats
   pub few_seats : seats ≤ most_seats
-  pub whole_at_most : profile.threshold ≤ 10000
+  pub whole_at_most : profile.threshold ≤ whole_base

@@ -1,22 +1,23 @@
 -- The rule and the poll that a profile makes.
-use Rattle.std.specs.Prelude.{ℕ, List}
-use Rattle.tally_frac.specs.Divisors.{dhondt_divisor, sainte_lague_divisor}
-use Rattle.tally_frac.specs.Divisors.{modified_sainte_lague_divisor}
+use Rattle.std.specs.Prelude.{ℕ, List, Option, None, Some}
+use Rattle.tally_frac.specs.Divisors.{divisor_of, unit_of}
+use Rattle.tally_frac.specs.declared.divisors.DivisorRule.{DivisorRule}
+use Rattle.tally_rules.specs.DivisorRule.{divisor_rule_of}
 use Rattle.tally_rules.specs.Threshold.{eligible_lists}
 use Rattle.tally_rules.specs.declared.profile.LotRule.{LotRule}
 use Rattle.tally_rules.specs.declared.profile.Method.{Method}
-use Rattle.tally_rules.specs.declared.profile.Method.TheVariants.{DHondt, SainteLague}
-use Rattle.tally_rules.specs.declared.profile.Method.TheVariants.{ModifiedSainteLague, Hare}
 use Rattle.tally_rules.specs.declared.profile.Profile.{Profile}
 use Rattle.tally_law.specs.Poll.{Poll}
 use Rattle.tally_law.specs.Allotment.{Rule, divisors, hare}
 
+-- the rule by the divisors of a divisor rule, whose lots decide so, and Hare's where there is none
+abbrev pub rule_with : Option DivisorRule → LotRule → Rule
+rule_with (Some rule) lot_rule = divisors (divisor_of rule) (unit_of rule) lot_rule
+rule_with None lot_rule = hare
+
 -- the rule of a method whose lots decide so
 abbrev pub rule_by : Method → LotRule → Rule
-rule_by DHondt lot_rule = divisors dhondt_divisor 1 lot_rule
-rule_by SainteLague lot_rule = divisors sainte_lague_divisor 1 lot_rule
-rule_by ModifiedSainteLague lot_rule = divisors modified_sainte_lague_divisor 5 lot_rule
-rule_by Hare lot_rule = hare
+rule_by method lot_rule = rule_with (divisor_rule_of method) lot_rule
 
 abbrev pub rule_of : Profile → Rule
 rule_of profile = rule_by profile.method profile.lot

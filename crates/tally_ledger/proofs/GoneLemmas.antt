@@ -10,8 +10,8 @@ use Rattle.std.specs.declared.cmp.Ordering.TheVariants.{Less, Equal, Greater}
 use Rattle.std.proofs.lemmas.Cmp.{ranked}
 use Rattle.tally_rules.specs.Code.{code_cmp}
 use Rattle.tally_returns.specs.GoneCandidate.{GoneCandidate}
-use Rattle.tally_returns.specs.View.{gone_candidate, gone_candidates}
-use Rattle.tally_ledger.specs.internal.Rows.{gone_by_places, gone_place, is_before, with_gone}
+use Rattle.tally_returns.specs.View.{gone_candidate, gone_candidates, is_before}
+use Rattle.tally_ledger.specs.internal.Rows.{gone_by_places, gone_place, with_gone}
 use Rattle.tally_ledger.proofs.MapLemmas.{rows-insert}
 
 -- the place of a candidate's list, and its own place there

@@ -6,7 +6,7 @@ use Rattle.tally_rules.specs.Constituency.{Constituency}
 use Rattle.tally_steps.specs.Step.{ConChange, certified_with, open_again, con_state_after}
 use Rattle.tally_returns.specs.PastSeats.{PastSeats}
 use Rattle.tally_returns.specs.Return.{Returns}
-use Rattle.tally_returns.specs.State.{State, ConState, Records, con_state, opening_cons}
+use Rattle.tally_returns.specs.State.{State, ConState, PastRecords, con_state, opening_cons}
 use Rattle.tally_returns.specs.View.{View, past_records, view_of}
 use Rattle.tally_ledger.specs.MapOf.{map_of}
 
@@ -42,7 +42,7 @@ opening_kept setup = record {
 }
 
 -- each certificate on record is of an earlier edition
-abbrev pub AreEarlier : Records → ℕ → Type 0
+abbrev pub AreEarlier : PastRecords → ℕ → Type 0
 AreEarlier past edition = All (λ (p : PastSeats). p.edition < edition) (past_records past)
 
 -- a certificate gives seats, and a reopening takes them

@@ -97,7 +97,8 @@ impl Ledger {
 
     /// How far each constituency has come, in the setup's order.
     pub fn progress(&self, alloc: Global) -> Result<Vec<ProgressRow>, AllocError>
-        ensures { IfOk result (λ rows. rows.items ≡ progress self.now.setup (state_in self.now)) }
+        ensures { IfOk result (λ rows.
+            rows.items ≡ progress self.now.setup (state_in self.now)) }
     {
         let cons = self.setup.cons();
         let mut rows = Vec::with_capacity(alloc, cons.len())?;
@@ -178,7 +179,8 @@ impl Ledger {
         requires known { IsSome (constituency_with con self.now.setup) }
         requires new { get (con_state (state_in self.now) con).gone
             (gone.list ∷ gone.place ∷ []) ≡ None }
-        ensures gone { OnOk result (self.new ≡ with_change self.old con (gone_for_good gone None)) }
+        ensures gone { OnOk result (self.new
+            ≡ with_change self.old con (gone_for_good gone None)) }
         ensures kept { OnErr result (self.new ≡ self.old) }
     {
         set_gone(&mut self.views, con, gone)

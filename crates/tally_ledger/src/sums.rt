@@ -3,6 +3,7 @@
 ghost use Rattle.std.specs.Prelude.{◌≡◌, ◌≤◌, length};
 ghost use Rattle.tally_ledger.specs.Sums.{CanMove, moved_sum};
 ghost use Rattle.tally_ledger.specs.internal.Sums.{CanCount, CanCountOne, CanMoveCounts, CanMoveEach, moved_sums, with_counts, with_return_counted, with_status};
+ghost use Rattle.tally_rules.specs.Limits.{most_stations};
 
 use tally_returns::{ConView, Counts, Return, Status};
 
@@ -44,7 +45,7 @@ fn count_status(view: &mut ConView, status: Status, add: bool)
 
 fn one_moved(n: u32, add: bool) -> u32
     requires can { CanMove n 1 add }
-    requires few { n ≤ 5000 }
+    requires few { n ≤ most_stations }
     ensures { result ≡ moved_sum n 1 add }
 {
     if add { n + 1 } else { n - 1 }

@@ -3,7 +3,7 @@
 ghost use Rattle.std.specs.Prelude.{◌≡◌, ◌<◌, ◌+◌, ◌^◌, [], IfOk, OnErr, OnOk, false, true, string_bytes};
 ghost use Rattle.std.specs.FinMap.{empty, get};
 ghost use Rattle.std.specs.Option.{ForSome, option_copied};
-ghost use Rattle.tally_ledger.specs.internal.Rows.{gone_place, is_before, opening_view, opening_views, row_of, views_of, with_certificate, with_gone, with_lot, with_one_gone, with_reopening, with_view};
+ghost use Rattle.tally_ledger.specs.internal.Rows.{gone_place, opening_view, opening_views, row_of, views_of, with_certificate, with_gone, with_lot, with_one_gone, with_reopening, with_view};
 ghost use Rattle.tally_ledger.specs.internal.Sums.{CanCount, with_return_counted};
 ghost use Rattle.tally_returns.specs.View.{View};
 ghost use Rattle.tally_rules.specs.Limits.{IsSetup};
@@ -163,17 +163,11 @@ fn gone_place(gone: &[Gone], candidate: &Gone) -> usize
     ensures { result ≡ gone_place candidate.now gone.now }
 {
     for (place, other) in gone.iter().enumerate() {
-        if !is_before(other, candidate) {
+        if !other.is_before(candidate) {
             return place;
         }
     }
     gone.len()
-}
-
-fn is_before(one: &Gone, other: &Gone) -> bool
-    ensures { result ≡ is_before one.now other.now }
-{
-    one.list < other.list || one.list == other.list && one.place < other.place
 }
 
 /// How far a constituency has come.

@@ -26,7 +26,7 @@ use Rattle.clap.specs.declared.parser.matches.ArgMatches.TheViews.{out-SubComman
 use Rattle.clap.specs.declared.parser.matches.SubCommand.{SubCommand}
 use Rattle.std.specs.Box.{box_value}
 use Rattle.std.specs.Result.{IsErrAnd}
-use Rattle.tally_line.specs.Line.{IsRefusal, IsWithinLimits, LineSeen, NewSeen, ImportSeen, ShowSeen, ServeSeen, fault_from, LacksCon, is_out_of_memory, lacks_con, lacks_report, line_of, line_of_command, line_seen, needs_con, number_in, number_of, office_app, report_of, sep_of, show_line, show_seen, usage_kinds}
+use Rattle.tally_line.specs.Line.{IsRefusal, IsLineWithinLimits, LineSeen, NewSeen, ImportSeen, ShowSeen, ServeSeen, fault_from, LacksCon, is_out_of_memory, lacks_con, lacks_report, line_of, line_of_command, line_seen, needs_con, number_in_range, number_given, office_app, report_of, sep_given, show_line, show_seen, usage_kinds}
 use Rattle.tally_line.specs.internal.Arguments.{IsCommandFault, has, has_arguments}
 use Rattle.tally_line.specs.declared.line.Line.{Line}
 use Rattle.tally_line.specs.declared.line.Line.TheVariants as line
@@ -223,14 +223,14 @@ accepted : (b : Bool) (k : ErrorKind) → cond b [] (k ∷ []) ≡ [] → b ≡ 
 accepted true k e = refl
 accepted false k e = absurd (not_empty k [] e)
 
-number_some : (low high : ℕ) (text : Text) → is_unsigned_in low high text ≡ true → is_some (number_in low high text) ≡ true
+number_some : (low high : ℕ) (text : Text) → is_unsigned_in low high text ≡ true → is_some (number_in_range low high text) ≡ true
 number_some low high text is = rw is refl
 
 -- a number that clap takes is one
 read_number : (low high : ℕ) (o : Option Text) → (v : Text) × (o ≡ Some v) × (value_kinds false (vp.Unsigned low high) v ≡ [])
-    → is_some (option_and_then (number_in low high) o) ≡ true
+    → is_some (option_and_then (number_in_range low high) o) ≡ true
 read_number low high o given =
-    ap (λ (x : Option Text). is_some (option_and_then (number_in low high) x)) given.1 ∙ number_some low high given.0 (accepted _ _ given.2)
+    ap (λ (x : Option Text). is_some (option_and_then (number_in_range low high) x)) given.1 ∙ number_some low high given.0 (accepted _ _ given.2)
 
 new_has : (rows : List Row) → LeafFits (command_named (codes "new")) rows → has_arguments (codes "new", rows) ≡ true
 new_has rows leaf =
@@ -268,7 +268,7 @@ both_parts false b e = absurd (true≢false (sym e))
 
 -- what is known of the arguments of `serve`
 pub serve_arguments : (name : Text) (rows : List Row) → name ≡ codes "serve" → has_arguments (name, rows) ≡ true
-    → (has (codes "db") rows ≡ true) × (is_some (number_of (codes "port") 1 65535 rows) ≡ true) × (is_some (number_of (codes "count") 1 1000000 rows) ≡ true)
+    → (has (codes "db") rows ≡ true) × (is_some (number_given (codes "port") 1 65535 rows) ≡ true) × (is_some (number_given (codes "count") 1 1000000 rows) ≡ true)
 serve_arguments name rows is e =
     let given : has_arguments (codes "serve", rows) ≡ true = subst (λ (n : Text). has_arguments (n, rows) ≡ true) is e in
     let db = both_parts _ _ given in
@@ -371,7 +371,7 @@ IsSeenWithin (ServeSeen db port count) = (1 ≤ port) × (port ≤ 65535) × (1 
 IsSeenWithin (ShowSeen db name con) = needs_con name ≡ true → is_some con ≡ true
 IsSeenWithin _ = Unit {0}
 
-number_within : (low high : ℕ) (o : Option Text) → OnFound (λ n. (low ≤ n) × (n ≤ high)) (option_and_then (number_in low high) o)
+number_within : (low high : ℕ) (o : Option Text) → OnFound (λ n. (low ≤ n) × (n ≤ high)) (option_and_then (number_in_range low high) o)
 number_within low high None = tt
 number_within low high (Some text) = go (is_unsigned_in low high text) refl
   where
@@ -385,7 +385,7 @@ new_within (Some d) None = tt
 new_within (Some d) (Some s) = tt
 
 import_within : (db con csv : Option Text) (rows : List Row)
-    → OnFound IsSeenWithin (option_and_then (λ d. option_and_then (λ c. option_and_then (λ v. Some (ImportSeen d c v (sep_of rows))) csv) con) db)
+    → OnFound IsSeenWithin (option_and_then (λ d. option_and_then (λ c. option_and_then (λ v. Some (ImportSeen d c v (sep_given rows))) csv) con) db)
 import_within None con csv rows = tt
 import_within (Some d) None csv rows = tt
 import_within (Some d) (Some c) None rows = tt
@@ -422,21 +422,21 @@ command_within p =
     (one_of_two (bytes_eq p.0 (codes "import")) _ _ (import_within (first_of (codes "db") p.1) (first_of (codes "con") p.1) (first_of (codes "csv") p.1) p.1)
     (one_of_two (bytes_eq p.0 (codes "show")) _ _ (show_within (first_of (codes "db") p.1) (report_of p.1) (first_of (codes "con") p.1))
     (one_of_two (bytes_eq p.0 (codes "serve")) _ _
-    (serve_within (first_of (codes "db") p.1) (number_of (codes "port") 1 65535 p.1) (number_of (codes "count") 1 1000000 p.1)
+    (serve_within (first_of (codes "db") p.1) (number_given (codes "port") 1 65535 p.1) (number_given (codes "count") 1 1000000 p.1)
     (number_within 1 65535 (first_of (codes "port") p.1)) (number_within 1 1000000 (first_of (codes "count") p.1))) tt))))
 
 is_some_text : {T : Type 0} (f : T → Text) (o : Option T) → is_some (option_map f o) ≡ is_some o
 is_some_text f None = refl
 is_some_text f (Some x) = refl
 
-seen_within : (l : Line) → IsSeenWithin (line_seen l) → IsWithinLimits l
+seen_within : (l : Line) → IsSeenWithin (line_seen l) → IsLineWithinLimits l
 seen_within (line.Check sep) h = tt
 seen_within (line.New db setup) h = tt
 seen_within (line.Import db con csv sep) h = tt
 seen_within (line.Show db name con) h = λ needs. sym (is_some_text _ con) ∙ h needs
 seen_within (line.Serve db port count) h = h
 
-pub within_limits : (p : Text × List Row) (l : Line) → line_of_command p ≡ Some (line_seen l) → IsWithinLimits l
+pub within_limits : (p : Text × List Row) (l : Line) → line_of_command p ≡ Some (line_seen l) → IsLineWithinLimits l
 within_limits p l is = seen_within l (subst (OnFound IsSeenWithin) is (command_within p))
 
 -- ---- refusals
@@ -488,7 +488,7 @@ pub line_read : (words : List Text) (name : Text) (rows : List Row) (r : Result 
 line_read words name rows (Ok l) asked is = line_is words name rows asked ∙ is
 line_read words name rows (Err f) asked is = tt
 
-pub limits_read : (name : Text) (rows : List Row) (r : Result Line LineFault) → IfOk r (λ l. line_of_command (name, rows) ≡ Some (line_seen l)) → IfOk r IsWithinLimits
+pub limits_read : (name : Text) (rows : List Row) (r : Result Line LineFault) → IfOk r (λ l. line_of_command (name, rows) ≡ Some (line_seen l)) → IfOk r IsLineWithinLimits
 limits_read name rows (Ok l) is = within_limits (name, rows) l is
 limits_read name rows (Err f) is = tt
 

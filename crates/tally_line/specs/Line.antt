@@ -51,7 +51,9 @@ check_app = with_rule (new_app (codes "check")) semicolon_rule
 
 -- `new --db FILE --setup FILE`
 abbrev pub new_office_app : App
-new_office_app = with_rule (with_rule (new_app (codes "new")) (wanted_rule (codes "db"))) (wanted_rule (codes "setup"))
+new_office_app =
+    with_rule (with_rule (new_app (codes "new")) (wanted_rule (codes "db")))
+    (wanted_rule (codes "setup"))
 
 -- `--csv FILE [--semicolon]`, beside what there is
 abbrev pub with_csv : App → App
@@ -104,15 +106,18 @@ office_app = with_commands (with_commands (with_subcommand bare_office_app check
 abbrev pub is_set : Text → List Row → Bool
 is_set id rows = option_map_or (bytes_eq (codes "true")) (one_of id rows) false
 
-abbrev pub sep_of : List Row → Sep
-sep_of rows = if is_set (codes "semicolon") rows then Semicolon else Comma
+abbrev pub sep_given : List Row → Sep
+sep_given rows = if is_set (codes "semicolon") rows then Semicolon else Comma
 
 -- the number that a text writes, where it is from low to high
-abbrev pub number_in : ℕ → ℕ → Text → Option ℕ
-number_in low high text = if is_unsigned_in low high text then Some (digits_value 10 (without_leading_plus text)) else None
+abbrev pub number_in_range : ℕ → ℕ → Text → Option ℕ
+number_in_range low high text =
+    if is_unsigned_in low high text
+    then Some (digits_value 10 (without_leading_plus text))
+    else None
 
-abbrev pub number_of : Text → ℕ → ℕ → List Row → Option ℕ
-number_of id low high rows = option_and_then (number_in low high) (first_of id rows)
+abbrev pub number_given : Text → ℕ → ℕ → List Row → Option ℕ
+number_given id low high rows = option_and_then (number_in_range low high) (first_of id rows)
 
 -- what is to be shown under a name: a report of a constituency, or the progress of all
 abbrev pub shown_named : Text → Option (Option Report)
@@ -139,7 +144,8 @@ pub data LineSeen : Type 0 where
 abbrev pub line_seen : Line → LineSeen
 line_seen (line.Check sep) = CheckSeen sep
 line_seen (line.New db setup) = NewSeen (string_bytes db) (string_bytes setup)
-line_seen (line.Import db con csv sep) = ImportSeen (string_bytes db) (string_bytes con) (string_bytes csv) sep
+line_seen (line.Import db con csv sep) =
+    ImportSeen (string_bytes db) (string_bytes con) (string_bytes csv) sep
 line_seen (line.Show db name con) = ShowSeen (string_bytes db) name (option_map string_bytes con)
 line_seen (line.Serve db port count) = ServeSeen (string_bytes db) port count
 
@@ -163,11 +169,12 @@ import_line rows = do
   db ← first_of (codes "db") rows
   con ← first_of (codes "con") rows
   csv ← first_of (codes "csv") rows
-  Some (ImportSeen db con csv (sep_of rows))
+  Some (ImportSeen db con csv (sep_given rows))
 
 -- a report, of the constituency that is named, where the report needs one
 abbrev pub show_seen : Text → Option Report → Option Text → Option LineSeen
-show_seen db name con = if needs_con name && not (is_some con) then None else Some (ShowSeen db name con)
+show_seen db name con =
+    if needs_con name && not (is_some con) then None else Some (ShowSeen db name con)
 
 abbrev pub show_line : List Row → Option LineSeen
 show_line rows = do
@@ -178,14 +185,14 @@ show_line rows = do
 abbrev pub serve_line : List Row → Option LineSeen
 serve_line rows = do
   db ← first_of (codes "db") rows
-  port ← number_of (codes "port") 1 most_port rows
-  count ← number_of (codes "count") 1 most_count rows
+  port ← number_given (codes "port") 1 most_port rows
+  count ← number_given (codes "count") 1 most_count rows
   Some (ServeSeen db port count)
 
 -- the line that a subcommand and the matches of its arguments are
 abbrev pub line_of_command : Text × List Row → Option LineSeen
 line_of_command p =
-    if bytes_eq p.0 (codes "check") then Some (CheckSeen (sep_of p.1))
+    if bytes_eq p.0 (codes "check") then Some (CheckSeen (sep_given p.1))
     else if bytes_eq p.0 (codes "new") then new_line p.1
     else if bytes_eq p.0 (codes "import") then import_line p.1
     else if bytes_eq p.0 (codes "show") then show_line p.1
@@ -204,10 +211,11 @@ line_of words = unless_fault (fault_of office_app words)
     (option_and_then line_of_command (subcommand_of office_app words))
 
 -- The numbers are within their limits, and there is a constituency where the report needs one.
-abbrev pub IsWithinLimits : Line → Type 0
-IsWithinLimits (line.Serve db port count) = (1 ≤ port) × (port ≤ most_port) × (1 ≤ count) × (count ≤ most_count)
-IsWithinLimits (line.Show db name con) = needs_con name ≡ true → is_some con ≡ true
-IsWithinLimits _ = Unit {0}
+abbrev pub IsLineWithinLimits : Line → Type 0
+IsLineWithinLimits (line.Serve db port count) =
+    (1 ≤ port) × (port ≤ most_port) × (1 ≤ count) × (count ≤ most_count)
+IsLineWithinLimits (line.Show db name con) = needs_con name ≡ true → is_some con ≡ true
+IsLineWithinLimits _ = Unit {0}
 
 -- ---- refusals
 
@@ -224,7 +232,9 @@ lacks_con p = bytes_eq p.0 (codes "show") && (option_map_or needs_con (report_of
 -- fault, that of a text that names no report
 abbrev pub usage_kinds : List Text → Kinds
 usage_kinds words = or_else (fault_of office_app words)
-    (if option_map_or lacks_report (subcommand_of office_app words) false then InvalidValue ∷ [] else [])
+    (if option_map_or lacks_report (subcommand_of office_app words) false
+    then InvalidValue ∷ []
+    else [])
 
 abbrev pub is_out_of_memory : ErrorKind → Bool
 is_out_of_memory OutOfMemory = true

@@ -166,7 +166,8 @@ Exit status:
                           is too long
        duplicate CODE     a code occurs twice
        unknown_profile    a constituency names a profile that is not there
-       not_empty          the database has a table of one of the office's names
+       not_empty          the database has a table, an index, a view or a
+                          trigger of one of the office's names
   2  the command line is wrong, or asks for help
   3  'failed: WORD' on standard error; after store or write the office may have
      been made:

@@ -4,8 +4,8 @@ ghost use Rattle.std.specs.Prelude.{◌≡◌, ◌≤◌, IfOk, IfErr, Some, tru
 ghost use Rattle.clap.specs.Words.{app_of, first_of, kind_of, new_app, rule_of};
 ghost use Rattle.clap.specs.declared.builder.command.Command.TheViews.{out-Command};
 ghost use Rattle.clap.specs.declared.error.ErrorKind.TheVariants.{InvalidValue};
-ghost use Rattle.tally_line.specs.Line.{GivesLine, IsRefusal, IsWithinLimits, check_app, import_app, import_line, is_set, line_of, line_of_command};
-ghost use Rattle.tally_line.specs.Line.{new_line, new_office_app, number_of, number_rule, office_app, semicolon_rule, sep_of};
+ghost use Rattle.tally_line.specs.Line.{GivesLine, IsRefusal, IsLineWithinLimits, check_app, import_app, import_line, is_set, line_of, line_of_command};
+ghost use Rattle.tally_line.specs.Line.{new_line, new_office_app, number_given, number_rule, office_app, semicolon_rule, sep_given};
 ghost use Rattle.tally_line.specs.Line.{serve_app, serve_line, show_app, show_line, shown_named, value_rule, wanted_rule, with_commands, with_csv};
 ghost use Rattle.tally_line.specs.internal.Arguments.{IsCommandFault, IsShowFault, given_rows, has, has_arguments, has_count, has_port};
 
@@ -119,7 +119,7 @@ impl From<AllocError> for LineFault {
 /// Reads a command line, the program's name first.
 pub fn read_line(alloc: Global, words: &[String]) -> Result<Line, LineFault>
     ensures line { GivesLine result (line_of (map string_bytes words.now)) }
-    ensures limits { IfOk result IsWithinLimits }
+    ensures limits { IfOk result IsLineWithinLimits }
     ensures fault { IfErr result (IsRefusal (map string_bytes words.now)) }
 {
     let matches = office_command(alloc)?.try_get_matches_from(words)?;
@@ -222,8 +222,8 @@ fn read_text(alloc: Global, arguments: &ArgMatches<'_>, id: &str) -> Result<Stri
 
 // The number of an argument that was given, from 1 to `most`.
 fn read_number(arguments: &ArgMatches<'_>, id: &str, most: u64) -> u64
-    requires { is_some (number_of id.now 1 most (given_rows arguments.now)) ≡ true }
-    ensures number { number_of id.now 1 most (given_rows arguments.now) ≡ Some result }
+    requires { is_some (number_given id.now 1 most (given_rows arguments.now)) ≡ true }
+    ensures number { number_given id.now 1 most (given_rows arguments.now) ≡ Some result }
     ensures bound { result ≤ most }
 {
     match text_of(arguments, id) {
@@ -246,7 +246,7 @@ fn read_con(alloc: Global, arguments: &ArgMatches<'_>) -> Result<Option<String>,
 }
 
 fn read_sep(arguments: &ArgMatches<'_>) -> Sep
-    ensures { result ≡ sep_of (given_rows arguments.now) }
+    ensures { result ≡ sep_given (given_rows arguments.now) }
 {
     if is_given(arguments, SEMICOLON) {
         Sep::Semicolon
@@ -315,7 +315,8 @@ fn add_new_and_import<'a>(alloc: Global, office: Command<'a>) -> Result<Command<
 }
 
 fn add_show_and_serve<'a>(alloc: Global, office: Command<'a>) -> Result<Command<'a>, AllocError>
-    ensures { IfOk result (λ c. app_of c ≡ with_commands (app_of office.entry) show_app serve_app) }
+    ensures { IfOk result (λ c.
+        app_of c ≡ with_commands (app_of office.entry) show_app serve_app) }
 {
     office
         .subcommand(show_command(alloc)?)?

@@ -160,7 +160,8 @@ fn drawn_places(
     group: &ListSet,
     order: &[Code],
 ) -> Result<Vec<u32>, Refusal>
-    requires { (l : ℕ) → length con.now.lists ≤ l → slice_index_or group.now l false ≡ false }
+    requires { (l : ℕ) → length con.now.lists ≤ l →
+        slice_index_or group.now l false ≡ false }
     ensures marks { length group.now ≡ 60 }
     ensures places { IfOk result (λ places.
         drawn_places group.now (list_places con.now order.now) ≡ Ok places.items) }

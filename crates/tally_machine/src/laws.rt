@@ -20,9 +20,9 @@ pub fn a_step_keeps_a_lawful_state()
 /// constituency has all its stations closed, exactly its seats are allotted, by the one allotment
 /// of its closed votes, and a lot is recorded wherever one is needed. The same holds in any
 /// lawful state and of each view, and there is at most one view.
-pub fn a_certificate_stands_on_closed_votes()
-    ensures of_run { law.CertificatesOfRunsStand }
-    ensures each { law.CertificatesStand }
+pub fn a_certificate_is_of_closed_votes()
+    ensures of_run { law.CertificatesOfRunsAreRight }
+    ensures each { law.CertificatesAreRight }
     ensures one { law.ViewsAreOne }
 {
     // Called for what its contract says: the laws of allotments.
@@ -60,9 +60,9 @@ pub fn each_command_has_a_step()
 /// Where the checks before it pass and some list is eligible, Certify answers that a lot is missing
 /// exactly where the votes leave a choice and no lot is recorded, with the group and the seats in
 /// question.
-pub fn a_missing_lot_is_told()
-    ensures missing { law.MissingLotsAreTold }
-    ensures told { law.MissingLotsAreToldAsNeeded }
+pub fn a_missing_lot_is_reported()
+    ensures missing { law.MissingLotsAreReported }
+    ensures needed { law.MissingLotsAreReportedAsNeeded }
 {
     // Called for what its contract says: the laws of allotments.
     laws_of_allotments();

@@ -11,15 +11,15 @@ use Rattle.std.proofs.lemmas.List.Folds.{list_any_at, list_all_at}
 use Rattle.std.proofs.lemmas.Int.Digits.{digits_value_is, number_after_append, number_after_ge}
 use Rattle.httparse.specs.declared.spans.HeaderSpan.{HeaderSpan}
 use Rattle.httparse.specs.Spans.{header_bytes}
-use Rattle.tally_message.specs.Message.{NameAndValue, is_named, values_of, single_value, is_content_length, content_length, body_limit}
+use Rattle.tally_message.specs.Message.{NameAndValue, is_field_named, values_of, single_value, is_content_length, content_length, body_limit}
 use Rattle.tally_message.specs.declared.message.MessageFault.TheVariants.{BadLength, BodyTooLong}
 
 mapped : (bytes : List ℕ) (hs : List HeaderSpan) (i : ℕ) → i < length hs → i < length (map (header_bytes bytes) hs)
 mapped bytes hs i within = let same : length (map (header_bytes bytes) hs) ≡ length hs = length-map hs (header_bytes bytes) in omega (arith, within, same)
 
-pub named_at : (name bytes : List ℕ) (hs : List HeaderSpan) (i : ℕ) (d : HeaderSpan) → i < length hs → is_named name (header_bytes bytes (get_or hs i d)) ≡ true → list_any (is_named name) (map (header_bytes bytes) hs) ≡ true
+pub named_at : (name bytes : List ℕ) (hs : List HeaderSpan) (i : ℕ) (d : HeaderSpan) → i < length hs → is_field_named name (header_bytes bytes (get_or hs i d)) ≡ true → list_any (is_field_named name) (map (header_bytes bytes) hs) ≡ true
 named_at name bytes hs i d within is =
-    list_any_at (is_named name) (map (header_bytes bytes) hs) i (header_bytes bytes d) (mapped bytes hs i within) (ap (is_named name) (get_or-map (header_bytes bytes) hs i d (header_bytes bytes d) within) ∙ is)
+    list_any_at (is_field_named name) (map (header_bytes bytes) hs) i (header_bytes bytes d) (mapped bytes hs i within) (ap (is_field_named name) (get_or-map (header_bytes bytes) hs i d (header_bytes bytes d) within) ∙ is)
 
 -- one value connected, and another field has the name
 one_more : (vs ws : List (List ℕ)) (v w : List ℕ) → single_value vs ≡ Ok (Some v) → single_value (vs ++ w ∷ ws) ≡ Err BadLength
@@ -28,23 +28,23 @@ one_more (a ∷ []) ws v w is = refl
 one_more (a ∷ b ∷ vs) ws v w is = cc
 
 values-append : (name : List ℕ) (a b : List NameAndValue) → values_of name (a ++ b) ≡ values_of name a ++ values_of name b
-values-append name a b = ap (map (λ f. f.1)) (filter-append (is_named name) a b) ∙ map-append (λ f. f.1) (filter (is_named name) a) (filter (is_named name) b)
+values-append name a b = ap (map (λ f. f.1)) (filter-append (is_field_named name) a b) ∙ map-append (λ f. f.1) (filter (is_field_named name) a) (filter (is_field_named name) b)
 
-values-first : (name : List ℕ) (f : NameAndValue) (ps : List NameAndValue) → is_named name f ≡ true → values_of name (f ∷ ps) ≡ f.1 ∷ values_of name ps
-values-first name f ps is = ap (λ b. map (λ f. f.1) (cond b (f ∷ filter (is_named name) ps) (filter (is_named name) ps))) is
+values-first : (name : List ℕ) (f : NameAndValue) (ps : List NameAndValue) → is_field_named name f ≡ true → values_of name (f ∷ ps) ≡ f.1 ∷ values_of name ps
+values-first name f ps is = ap (λ b. map (λ f. f.1) (cond b (f ∷ filter (is_field_named name) ps) (filter (is_field_named name) ps))) is
 
-twice : (name : List ℕ) (ps : List NameAndValue) (i : ℕ) (d : NameAndValue) (v : List ℕ) → i < length ps → is_named name (get_or ps i d) ≡ true → single_value (values_of name (take i ps)) ≡ Ok (Some v) → single_value (values_of name ps) ≡ Err BadLength
+twice : (name : List ℕ) (ps : List NameAndValue) (i : ℕ) (d : NameAndValue) (v : List ℕ) → i < length ps → is_field_named name (get_or ps i d) ≡ true → single_value (values_of name (take i ps)) ≡ Ok (Some v) → single_value (values_of name ps) ≡ Err BadLength
 twice name ps i d v within is one =
     let parts : ps ≡ take i ps ++ (get_or ps i d ∷ drop (suc i) ps) = sym (take-append-drop i ps) ∙ ap (λ r. take i ps ++ r) (drop-cons ps i d within) in
     let values : values_of name ps ≡ values_of name (take i ps) ++ ((get_or ps i d).1 ∷ values_of name (drop (suc i) ps)) =
     ap (values_of name) parts ∙ values-append name (take i ps) (get_or ps i d ∷ drop (suc i) ps) ∙ ap (λ r. values_of name (take i ps) ++ r) (values-first name (get_or ps i d) (drop (suc i) ps) is) in
     ap single_value values ∙ one_more (values_of name (take i ps)) (values_of name (drop (suc i) ps)) v (get_or ps i d).1 one
 
-pub twice_at : (name bytes : List ℕ) (hs : List HeaderSpan) (i : ℕ) (d : HeaderSpan) (v : List ℕ) → i < length hs → is_named name (header_bytes bytes (get_or hs i d)) ≡ true
+pub twice_at : (name bytes : List ℕ) (hs : List HeaderSpan) (i : ℕ) (d : HeaderSpan) (v : List ℕ) → i < length hs → is_field_named name (header_bytes bytes (get_or hs i d)) ≡ true
     → single_value (values_of name (map (header_bytes bytes) (take i hs))) ≡ Ok (Some v) → single_value (values_of name (map (header_bytes bytes) hs)) ≡ Err BadLength
 twice_at name bytes hs i d v within is one =
     twice name (map (header_bytes bytes) hs) i (header_bytes bytes d) v (mapped bytes hs i within)
-    (ap (is_named name) (get_or-map (header_bytes bytes) hs i d (header_bytes bytes d) within) ∙ is)
+    (ap (is_field_named name) (get_or-map (header_bytes bytes) hs i d (header_bytes bytes d) within) ∙ is)
     (ap (λ ps. single_value (values_of name ps)) (take-map (header_bytes bytes) i hs) ∙ one)
 
 -- ---- digits

@@ -14,7 +14,7 @@ use Rattle.std.specs.List.{list_any}
 use Rattle.std.specs.Str.Parse.{digits_value}
 use Rattle.tally_door.specs.Connection.{Connection}
 use Rattle.tally_message.specs.internal.Reading.{IsBodyOrFault}
-use Rattle.tally_message.specs.Message.{OnlyReads, FailsAs, is_failed_read, head_limit, field_limit, body_limit, NameAndValue, is_named, values_of, single_value, is_content_length, content_length, length_by, BeginsWithHead, Announces, IsFault, IsMessageOrFault, HasCutBody, announced_length, body_length}
+use Rattle.tally_message.specs.Message.{OnlyReadsInput, FailsAs, is_failed_read, head_limit, field_limit, body_limit, NameAndValue, is_field_named, values_of, single_value, is_content_length, content_length, length_by, BeginsWithHead, Announces, IsFault, IsMessageOrFault, HasCutBody, announced_length, body_length}
 use Rattle.tally_message.specs.internal.Start.{IsStart, IsFaultyStart}
 use Rattle.tally_message.specs.declared.start.Start.{Start}
 use Rattle.tally_message.specs.declared.message.Message.{Message}
@@ -97,7 +97,7 @@ from_fault post (v ∷ []) = number_fault v
 from_fault post (v ∷ w ∷ vs) = tt
 
 length_fault : (m : List ℕ) (fields : List NameAndValue) → Passes (announced_length m fields)
-length_fault m fields = either Passes (list_any (is_named (codes "transfer-encoding")) fields) (Err LengthRequired) (length_by (bytes_eq m (codes "POST")) (single_value (values_of (codes "content-length") fields))) tt (from_fault (bytes_eq m (codes "POST")) (values_of (codes "content-length") fields))
+length_fault m fields = either Passes (list_any (is_field_named (codes "transfer-encoding")) fields) (Err LengthRequired) (length_by (bytes_eq m (codes "POST")) (single_value (values_of (codes "content-length") fields))) tt (from_fault (bytes_eq m (codes "POST")) (values_of (codes "content-length") fields))
 
 pub faulty_start : (bytes : List ℕ) (e : MessageFault) (h : RequestHead) (rest : List ℕ) → BeginsWithHead bytes h rest → body_length h ≡ Err e → IsFaultyStart bytes e
 faulty_start bytes e h rest begins is = go e begins is (subst Passes is (length_fault h.method (map name_and_value h.fields)))
@@ -172,7 +172,7 @@ whole_message bytes left fails s m (h, rest, is) method target reads =
       },
     )
 
-pub reads_on : (a b c : Connection) → OnlyReads a b → OnlyReads b c → OnlyReads a c
+pub reads_on : (a b c : Connection) → OnlyReadsInput a b → OnlyReadsInput b c → OnlyReadsInput a c
 reads_on a b c first second = (
   first.0 ++ second.0,
   first.1 ∙ ap (λ t. first.0 ++ t) second.1 ∙ sym (append_assoc first.0 second.0 c.input),

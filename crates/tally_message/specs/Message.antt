@@ -50,11 +50,11 @@ abbrev pub NameAndValue : Type 0
 NameAndValue = List ℕ × List ℕ
 
 -- names are the same whatever the case of ASCII letters (RFC 9110, section 5.1)
-abbrev pub is_named : List ℕ → NameAndValue → Bool
-is_named name field = str_eq_ignore_ascii_case field.0 name
+abbrev pub is_field_named : List ℕ → NameAndValue → Bool
+is_field_named name field = str_eq_ignore_ascii_case field.0 name
 
 abbrev pub values_of : List ℕ → List NameAndValue → List (List ℕ)
-values_of name fields = map (λ field. field.1) (filter (is_named name) fields)
+values_of name fields = map (λ field. field.1) (filter (is_field_named name) fields)
 
 -- the value of a field that may be given once
 abbrev pub single_value : List (List ℕ) → Result (Option (List ℕ)) MessageFault
@@ -84,7 +84,7 @@ length_by is_post (Err fault) = Err fault
 -- Transfer-Encoding, such as a chunked one, is not read: its length is required.
 abbrev pub announced_length : List ℕ → List NameAndValue → Result ℕ MessageFault
 announced_length method fields =
-    if list_any (is_named (codes "transfer-encoding")) fields then Err LengthRequired
+    if list_any (is_field_named (codes "transfer-encoding")) fields then Err LengthRequired
     else length_by (bytes_eq method (codes "POST"))
     (single_value (values_of (codes "content-length") fields))
 
@@ -160,8 +160,8 @@ has_failed_read (Err fault) = is_failed_read fault
 
 -- Bytes were taken from the beginning of a connection's input, or a read of it failed, and nothing
 -- else of it changed.
-abbrev pub OnlyReads : Connection → Connection → Type 0
-OnlyReads c d =
+abbrev pub OnlyReadsInput : Connection → Connection → Type 0
+OnlyReadsInput c d =
     (taken : List ℕ) × (c.input ≡ taken ++ d.input)
     × (d ≡ record c { input = d.input; read_failed = d.read_failed })
 
@@ -182,4 +182,4 @@ TakesWithinLimits (Err fault) c d = TakesAtMost (head_limit + body_limit) c d
 -- What was answered is the message or a fault of the connection's whole input, of which some was
 -- taken.
 abbrev pub HasReadMessage : Result Message MessageFault → Connection → Connection → Type 0
-HasReadMessage answer c d = OnlyReads c d × IsMessageOrFault c.input c.fails answer
+HasReadMessage answer c d = OnlyReadsInput c d × IsMessageOrFault c.input c.fails answer

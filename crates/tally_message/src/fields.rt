@@ -5,7 +5,7 @@ ghost use Rattle.std.specs.Char.{is_ascii_digit};
 ghost use Rattle.std.specs.List.{list_all, list_any};
 ghost use Rattle.std.specs.Str.{str_eq_ignore_ascii_case};
 ghost use Rattle.httparse.specs.Spans.{IsHeaderWithin, header_bytes};
-ghost use Rattle.tally_message.specs.Message.{is_named, single_value, is_content_length, content_length, announced_length};
+ghost use Rattle.tally_message.specs.Message.{is_field_named, single_value, is_content_length, content_length, announced_length};
 ghost use Rattle.tally_message.specs.internal.Fields.{SeenAs, values_in};
 ghost use Rattle.tally_message.specs.declared.message.MessageFault.TheVariants.{BadLength};
 
@@ -25,7 +25,8 @@ fn is_same_name(found: &[u8], name: &[u8]) -> bool
 /// Whether a field has this name.
 fn has_field(bytes: &[u8], headers: &[HeaderSpan], name: &[u8]) -> bool
     requires { All (IsHeaderWithin (length bytes.now)) headers.now }
-    ensures { result ≡ list_any (is_named name.now) (map (header_bytes bytes.now) headers.now) }
+    ensures { result
+        ≡ list_any (is_field_named name.now) (map (header_bytes bytes.now) headers.now) }
 {
     for header in headers {
         if is_same_name(header.name.of(bytes), name) {
@@ -38,7 +39,8 @@ fn has_field(bytes: &[u8], headers: &[HeaderSpan], name: &[u8]) -> bool
 /// The value of a field that may be given once, where it was not given before.
 fn first_value<'b>(before: Option<&'b [u8]>, value: &'b [u8]) -> Result<&'b [u8], MessageFault>
     ensures first { IfOk result (λ first. (before.entry ≡ None) × (first.now ≡ value.now)) }
-    ensures again { IfErr result (λ fault. (is_some before.entry ≡ true) × (fault ≡ BadLength)) }
+    ensures again { IfErr result
+        (λ fault. (is_some before.entry ≡ true) × (fault ≡ BadLength)) }
 {
     match before {
         Some(_) => Err(MessageFault::BadLength),
@@ -58,10 +60,7 @@ fn value_of<'b>(
     let mut found = None;
     for header in headers {
         if is_same_name(header.name.of(bytes), name) {
-            match first_value(found, header.value.of(bytes)) {
-                Ok(value) => found = Some(value),
-                Err(fault) => return Err(fault),
-            }
+            found = Some(first_value(found, header.value.of(bytes))?);
         }
     }
     Ok(found)

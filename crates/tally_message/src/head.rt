@@ -60,10 +60,8 @@ fn head_since(
 {
     for place in before..bytes.len() {
         if lines.end_with(bytes[place]) {
-            match head_in(bytes, headers) {
-                Ok(Some(head)) => return Ok(Some(head)),
-                Ok(None) => {}
-                Err(fault) => return Err(fault),
+            if let Some(head) = head_in(bytes, headers)? {
+                return Ok(Some(head));
             }
         }
     }
@@ -98,10 +96,8 @@ pub(crate) fn read_head<D: Door>(
             Input::End => return Err(MessageFault::BadHead),
             Input::Failure => return Err(MessageFault::Read),
         }
-        match head_since(&room[..*count], before, &mut lines, headers) {
-            Ok(Some(head)) => return Ok(head),
-            Ok(None) => {}
-            Err(fault) => return Err(fault),
+        if let Some(head) = head_since(&room[..*count], before, &mut lines, headers)? {
+            return Ok(head);
         }
     }
     Err(MessageFault::HeadTooLong)

@@ -25,6 +25,8 @@ pub struct Databases;
 impl Offices for Databases {
     type Office = Office;
 
+    ghost Opens = { λ _ _ _. Unit {0} };
+
     fn open_office(&self, rt: &HostRuntime, path: &str) -> Result<Office, Trouble> {
         open_office(rt, path)
     }

@@ -8,12 +8,12 @@ use Rattle.tally_steps.specs.LawfulState.{IsLawfulState}
 use Rattle.tally_schema.specs.Cells.{setup_row}
 use Rattle.tally_schema.specs.Tables.{setup_tree}
 use Rattle.tally_tables.specs.TablesOfState.{AreTables, version}
-use Rattle.tally_judge.specs.OfficeRows.{AreLawfulRows, AreRowsOfOneState, Rows}
+use Rattle.tally_judge.specs.OfficeRows.{AreLawfulRows, AreRowsOfOneState, RowsInOrder}
 use Rattle.tally_opening.specs.internal.Opening.{AreOfOne, ShowsOffice}
 use Rattle.tally_opening.proofs.TableLemmas.{rows_of_tables, tables_of_rows}
 
 -- rows that were accepted: the tables are those of one lawful state
-pub accepted : (setup : List Constituency) (text : List ℕ) (seen : Seen) (rows : Rows) → IsSetup setup → ShowsOffice seen rows → seen.now.trees setup_tree ≡ setup_row version text ∷ [] → AreRowsOfOneState setup rows → AreOfOne setup text seen
+pub accepted : (setup : List Constituency) (text : List ℕ) (seen : Seen) (rows : RowsInOrder) → IsSetup setup → ShowsOffice seen rows → seen.now.trees setup_tree ≡ setup_row version text ∷ [] → AreRowsOfOneState setup rows → AreOfOne setup text seen.now.trees
 accepted setup text seen rows limits shown own h = record {
   state = h.state;
   lawful = h.lawful;
@@ -22,5 +22,5 @@ accepted setup text seen rows limits shown own h = record {
 }
 
 -- rows that were refused: no lawful state over the setup has these tables
-pub refused : (setup : List Constituency) (seen : Seen) (rows : Rows) → IsSetup setup → ShowsOffice seen rows → (AreLawfulRows setup rows → ⊥) → (text : List ℕ) (s : State) → IsLawfulState setup s → AreTables setup text s seen.now.trees → ⊥
+pub refused : (setup : List Constituency) (seen : Seen) (rows : RowsInOrder) → IsSetup setup → ShowsOffice seen rows → (AreLawfulRows setup rows → ⊥) → (text : List ℕ) (s : State) → IsLawfulState setup s → AreTables setup text s seen.now.trees → ⊥
 refused setup seen rows limits shown none text s lawful tables = none (s, lawful, rows_of_tables setup s limits lawful text seen rows shown tables)

@@ -1,14 +1,13 @@
 -- From what queries answered of the tables to the judgement of them.
-use Rattle.std.proofs.Common.{◌≡◌, ◌∙◌, List, ℕ, map, [], ◌∷◌, Option, None, Some, Result, Ok, Err, OnOk, inl, inr, refl, sym, ap, subst, arith}
-use Rattle.std.specs.Prelude.{◌==◌, if◌then◌else◌, OnSome}
+use Rattle.std.proofs.Common.{◌≡◌, ◌∙◌, List, ℕ, map, [], ◌∷◌, Option, None, Some, Result, Ok, Err, OnOk, refl, sym, ap, subst, arith}
+use Rattle.std.specs.Prelude.{OnSome}
+use Rattle.std.specs.BTreeMap.{BTreeMap}
 use Rattle.std.specs.List.Sorted.{IsPermutation}
 use Rattle.std.proofs.lemmas.List.Sorted.{IsPermutation-sym}
 use Rattle.sqlite_value.specs.Order.{Row}
 use Rattle.sqlite_trees.specs.declared.store.Store.{Ghosts}
-use Rattle.sqlite_trees.specs.Tree.{Trees, rowid}
-use Rattle.tally_schema.specs.Cells.{setup_row}
-use Rattle.tally_schema.specs.Tables.{setup_tree}
-use Rattle.tally_tables.specs.TablesOfState.{AreTables, version}
+use Rattle.sqlite_trees.specs.Tree.{rowid}
+use Rattle.tally_tables.specs.declared.views.Statuses.{Statuses}
 use Rattle.sqlite.specs.Effect.{Database, IsDatabase}
 use Rattle.sqlite.specs.declared.error.Error.{Error}
 use Rattle.sqlite.specs.declared.transaction.Transaction.{Transaction}
@@ -20,25 +19,23 @@ use Rattle.tally_rows.proofs.RisingRowidLemmas.{distinct_shown}
 use Rattle.tally_rows.proofs.RowidLemmas.{distinct_permuted}
 use Rattle.tally_rules.specs.Constituency.{Constituency}
 use Rattle.tally_rules.specs.Limits.{IsSetup}
-use Rattle.tally_judge.specs.Numbers.{HasNumbersOfRows, Numbers}
-use Rattle.tally_judge.specs.OfficeRows.{AreLawfulRows, AreRowsOfOneState, Rows}
+use Rattle.tally_judge.specs.Numbers.{HasNumbersOfRows, numbers_of}
+use Rattle.tally_judge.specs.OfficeRows.{AreLawfulRows, AreRowsOfOneState, RowsInOrder}
 use Rattle.tally_statements.specs.declared.table.KeyedTable.{KeyedTable}
 use Rattle.tally_statements.specs.declared.table.KeyedTable.TheVariants.{Returns, Counts, Cons, Lots, Seats, Gone, Totals, Past}
 use Rattle.tally_statements.specs.Inside.{OnlyReadsFrom}
 use Rattle.tally_statements.proofs.StaysLemmas.{stays-then}
 use Rattle.tally_statements.specs.Office.{HasTables, ShowsRowids, ShowsTable, rows_in, tree_of}
-use Rattle.tally_opening.specs.internal.Opening.{AreOfOne, AreReadOf, IsJudgedFault, IsTodayFault, AreTablesOfNone, HasDistinctRows, HasNumbersOfTables, IsJudged, IsReadOf, ShowsOffice, with_setup}
-use Rattle.tally_faults.specs.declared.fault.OpenFault.{OpenFault}
-use Rattle.tally_faults.specs.declared.fault.OpenFault.TheVariants.{BadTables, Memory, NoTables, Setup, Store}
+use Rattle.tally_opening.specs.internal.Opening.{AreReadOf, AreTablesOfNone, CountsTables, HasDistinctRows, IsJudged, IsReadOf, ShowsOffice, trees_with}
 use Rattle.tally_opening.proofs.JudgedLemmas.{accepted, refused}
 use Rattle.tally_opening.proofs.TableLemmas.{rows_of_tables}
 
 -- rowids that were answered and rise are those of the table
-pub rowids_differ : (t : KeyedTable) (seen : Seen) (answer : List Row) → ShowsRowids t seen answer → HaveDistinctRowids answer → HasDistinctRows seen t
+pub rowids_differ : (t : KeyedTable) (seen : Seen) (answer : List Row) → ShowsRowids t seen answer → HaveDistinctRowids answer → HasDistinctRows seen.now t
 rowids_differ t seen answer shown rise = distinct_shown (seen.now.trees (tree_of t)) (distinct_permuted answer (map (λ r. rowid r ∷ []) (seen.now.trees (tree_of t))) (IsPermutation-sym _ _ shown) rise)
 
-distinct_before : (t : KeyedTable) (old new : Seen) → IsUnchanged old new → HasDistinctRows new t → HasDistinctRows old t
-distinct_before t old new same h = subst (λ (d : Database). HaveDistinctRowids (d.trees (tree_of t))) same.0.now_is h
+distinct_before : (t : KeyedTable) (old new : Seen) → IsUnchanged old new → HasDistinctRows new.now t → HasDistinctRows old.now t
+distinct_before t old new same h = subst (λ d. HasDistinctRows d t) same.0.now_is h
 
 pub tables_still : (old new : Seen) → HasTables old → IsUnchanged old new → HasTables new
 tables_still old new has same = record {
@@ -47,6 +44,10 @@ tables_still old new has same = record {
   inside = same.0.mode ∙ has.inside;
 }
 
+-- the database with the one row of `setup`, of today's version and this text
+abbrev with_setup : List ℕ → Seen → Seen
+with_setup text seen = record seen { now = record seen.now { trees = trees_with text seen.now.trees } }
+
 -- what was answered of the tables is answered of them with another row of `setup`
 shows_with : (t : KeyedTable) (text : List ℕ) (seen : Seen) (answer : List Row) → rows_in t (with_setup text seen) ≡ rows_in t seen → ShowsTable t seen answer → ShowsTable t (with_setup text seen) answer
 shows_with t text seen answer is shown = record {
@@ -54,7 +55,7 @@ shows_with t text seen answer is shown = record {
   in_order = λ rows order perm. shown.in_order rows order (subst (IsPermutation rows) is perm);
 }
 
-office_with : (text : List ℕ) (seen : Seen) (rows : Rows) → ShowsOffice seen rows → ShowsOffice (with_setup text seen) rows
+office_with : (text : List ℕ) (seen : Seen) (rows : RowsInOrder) → ShowsOffice seen rows → ShowsOffice (with_setup text seen) rows
 office_with text seen rows shown = record {
   returns = shows_with Returns text seen rows.returns refl shown.returns;
   counts = shows_with Counts text seen rows.counts refl shown.counts;
@@ -86,7 +87,7 @@ all_read seen returns counts cons totals lots seats gone past r n c t l s g p = 
   distinct = each;
 }
   where
-    each : (table : KeyedTable) → HasDistinctRows seen table
+    each : (table : KeyedTable) → HasDistinctRows seen.now table
     each Returns = r.distinct
     each Counts = n.distinct
     each Cons = c.distinct
@@ -101,7 +102,7 @@ both_unchanged : {X E : Type 0} (a b c : Seen) (r : Result X E) → IsUnchanged 
 both_unchanged a b c (Ok x) first second = unchanged_then a b c first second
 both_unchanged a b c (Err e) first second = tt
 
-so_answered : {X E P : Type 0} (r : Result X E) → P → OnOk r P
+pub so_answered : {X E P : Type 0} (r : Result X E) → P → OnOk r P
 so_answered (Ok x) p = p
 so_answered (Err e) p = tt
 
@@ -122,13 +123,13 @@ look_as g a b x r one = record {
   answered_open = λ clean. so_answered r (one.answered_open clean);
 }
 
-pub judged : (setup : List Constituency) (seen : Seen) (rows : Rows) → IsSetup setup → ShowsOffice seen rows → ((t : KeyedTable) → HasDistinctRows seen t) → AreRowsOfOneState setup rows → IsJudged setup seen
+pub judged : (setup : List Constituency) (seen : Seen) (rows : RowsInOrder) → IsSetup setup → ShowsOffice seen rows → ((t : KeyedTable) → HasDistinctRows seen.now t) → AreRowsOfOneState setup rows → IsJudged setup seen.now
 judged setup seen rows limits shown distinct one = record {
   distinct = distinct;
   one = λ text. accepted setup text (with_setup text seen) rows limits (office_with text seen rows shown) refl one;
 }
 
-pub judged_none : (setup : List Constituency) (seen : Seen) (rows : Rows) → IsSetup setup → ShowsOffice seen rows → (AreLawfulRows setup rows → ⊥) → AreTablesOfNone setup seen
+pub judged_none : (setup : List Constituency) (seen : Seen) (rows : RowsInOrder) → IsSetup setup → ShowsOffice seen rows → (AreLawfulRows setup rows → ⊥) → AreTablesOfNone setup seen.now
 judged_none setup seen rows limits shown none text = refused setup (with_setup text seen) rows limits (office_with text seen rows shown) none text
 
 pub on_some : {X P Q : Type 0} (found : Option X) → (P → Q) → OnSome found P → OnSome found Q
@@ -136,46 +137,6 @@ on_some None f h = tt
 on_some (Some x) f h = f h
 
 -- numbers of rows are those of the tables that answered them
-pub numbers_judged : (setup : List Constituency) (seen : Seen) (rows : Rows) (numbers : Numbers) → IsSetup setup → ShowsOffice seen rows → HasNumbersOfRows setup rows numbers → HasNumbersOfTables setup seen numbers
-numbers_judged setup seen rows numbers limits shown told text s lawful tables =
+pub numbers_judged : (setup : List Constituency) (seen : Seen) (rows : RowsInOrder) (known : BTreeMap (List ℕ) Statuses) → IsSetup setup → ShowsOffice seen rows → HasNumbersOfRows setup rows (numbers_of known) → CountsTables known setup seen.now
+numbers_judged setup seen rows known limits shown told text s lawful tables =
     told s lawful (rows_of_tables setup s limits lawful text (with_setup text seen) rows (office_with text seen rows shown) tables)
-
-abbrev trees_with : List ℕ → Database → Trees
-trees_with text d tree = if tree == setup_tree then setup_row version text ∷ [] else d.trees tree
-
--- what was judged of a database that is as it was
-pub judged_now : (setup : List Constituency) (old new : Seen) → new.now ≡ old.now → IsJudged setup new → IsJudged setup old
-judged_now setup old new same judged = record {
-  distinct = λ t. subst (λ (d : Database). HaveDistinctRowids (d.trees (tree_of t))) same (judged.distinct t);
-  one = λ text. one_now (judged.one text);
-}
-  where
-    one_now : {text : List ℕ} → AreOfOne setup text (with_setup text new) → AreOfOne setup text (with_setup text old)
-    one_now {text} one = record {
-      state = one.state;
-      lawful = one.lawful;
-      tables = subst (λ (d : Database). AreTables setup text one.state (trees_with text d)) same one.tables;
-      alone = λ other lawful tables. one.alone other lawful (subst (λ (d : Database). AreTables setup text other (trees_with text d)) (sym same) tables);
-    }
-
-pub judged_before : (setup : List Constituency) (old new : Seen) → IsUnchanged old new → IsJudged setup new → IsJudged setup old
-judged_before setup old new same judged = judged_now setup old new same.0.now_is judged
-
-pub none_before : (setup : List Constituency) (old new : Seen) → IsUnchanged old new → AreTablesOfNone setup new → AreTablesOfNone setup old
-none_before setup old new same none text s lawful tables = none text s lawful (subst (λ (d : Database). AreTables setup text s (trees_with text d)) (sym same.0.now_is) tables)
-
-pub numbers_now : (setup : List Constituency) (old new : Seen) (numbers : Numbers) → new.now ≡ old.now → HasNumbersOfTables setup new numbers → HasNumbersOfTables setup old numbers
-numbers_now setup old new numbers same told text s lawful tables = told text s lawful (subst (λ (d : Database). AreTables setup text s (trees_with text d)) (sym same) tables)
-
--- why tables of today's version are not taken, of a database that is as it was
-pub today_fault : (old new : Seen) (fault : OpenFault) → new.now ≡ old.now → IsJudgedFault version new fault → IsTodayFault old fault
-today_fault old new NoTables same told = (told.0, subst (λ (d : Database). d.trees setup_tree ≡ setup_row version told.0 ∷ []) same told.1, told.2)
-today_fault old new BadTables same (inl none) = inl (λ text row. none text (subst (λ (d : Database). d.trees setup_tree ≡ setup_row version text ∷ []) (sym same) row))
-today_fault old new BadTables same (inr unlawful) = inr (
-  unlawful.0,
-  record { text = unlawful.1.text; reads = unlawful.1.reads; row = subst (λ (d : Database). d.trees setup_tree ≡ setup_row version unlawful.1.text ∷ []) same unlawful.1.row },
-  λ text s lawful tables. unlawful.2 text s lawful (subst (λ (d : Database). AreTables unlawful.0 text s (trees_with text d)) (sym same) tables),
-)
-today_fault old new (Setup f) same told = (told.0, subst (λ (d : Database). d.trees setup_tree ≡ setup_row version told.0 ∷ []) same told.1, told.2)
-today_fault old new Memory same told = tt
-today_fault old new Store same told = tt

@@ -1,6 +1,7 @@
 -- From what was judged of the tables to the opening of a database.
 use Rattle.std.proofs.Common.{◌≡◌, ◌∙◌, ◌⊎◌, List, [], ◌∷◌, ℕ, pos, true, false, IsTrue, Result, Ok, Err, inl, inr, refl, sym, ap, subst, arith, length, true≢false}
 use Rattle.std.specs.Prelude.{codes, IfOk, IsOk}
+use Rattle.std.specs.BTreeMap.{BTreeMap}
 use Rattle.sqlite.specs.Effect.{Database, IsDatabase}
 use Rattle.sqlite.specs.State.{State as Seen}
 use Rattle.sqlite_schema.specs.declared.schema.Schema.{Schema}
@@ -9,7 +10,7 @@ use Rattle.sqlite_value.specs.declared.value.Value.TheVariants.{Int, Null, Text}
 use Rattle.tally_rows.specs.Rows.{AreRowsOf, HaveDistinctRowids}
 use Rattle.tally_rules.specs.Constituency.{Constituency}
 use Rattle.tally_rules.specs.Reading.{setup_of_text}
-use Rattle.tally_judge.specs.Numbers.{HasNumbers, Numbers}
+use Rattle.tally_judge.specs.Numbers.{HasNumbers, numbers_of}
 use Rattle.tally_steps.specs.LawfulState.{IsLawfulState}
 use Rattle.tally_returns.specs.State.{State}
 use Rattle.tally_schema.specs.Made.{has_former_tables, has_table}
@@ -19,10 +20,12 @@ use Rattle.tally_statements.specs.declared.table.KeyedTable.TheVariants.{Returns
 use Rattle.tally_statements.specs.Office.{tree_of}
 use Rattle.tally_tables.specs.Cells.{return_rows, count_rows, con_rows, lot_rows, seat_rows, gone_rows, total_rows, past_rows}
 use Rattle.tally_tables.specs.TablesOfState.{AreTables, version}
+use Rattle.tally_tables.specs.declared.views.Statuses.{Statuses}
 use Rattle.tally_opening.specs.Create.{IsAsBefore}
-use Rattle.tally_opening.specs.Office.{IsOffice, IsSettled}
-use Rattle.tally_opening.specs.Open.{AreFormerTables, HasNumbersOfFound, HasSetup, IsOfKnownVersion, IsOpenFault, IsOpened, IsSetupOf, LacksTable, former_version, tables_taken_over}
-use Rattle.tally_opening.specs.internal.Opening.{AreFormerOfNone, AreTablesOfNone, HasNumbersOfFormer, HasNumbersOfTables, IsFormerFault, IsJudged, IsOfNoVersion, HasSetupRow, IsTodayFault, with_setup}
+use Rattle.tally_opening.specs.Office.{IsOffice}
+use Rattle.tally_opening.specs.internal.Ending.{IsSettled}
+use Rattle.tally_opening.specs.Open.{AreFormerTables, CountsFound, HasSetup, IsOfKnownVersion, IsOpenFault, IsOpened, IsSetupOf, LacksTable, former_version, tables_taken_over}
+use Rattle.tally_opening.specs.internal.Opening.{AreFormerOfNone, AreOfNoStored, CountsFormer, CountsTables, HasSetupRow, HasStoredRow, IsFormerFault, IsJudged, IsTodayFault, Lacks, trees_with}
 use Rattle.tally_faults.specs.declared.fault.OpenFault.{OpenFault}
 use Rattle.tally_faults.specs.declared.fault.OpenFault.TheVariants.{BadTables, Memory, NoTables, Setup, Store}
 
@@ -51,7 +54,7 @@ same_tables setup text s a b same tables = record {
 }
 
 -- the tables beside `setup` have no part in its row
-pub beside_setup : (text : List ℕ) (seen : Seen) (t : KeyedTable) → (with_setup text seen).now.trees (tree_of t) ≡ seen.now.trees (tree_of t)
+pub beside_setup : (text : List ℕ) (db : Trees) (t : KeyedTable) → trees_with text db (tree_of t) ≡ db (tree_of t)
 beside_setup text seen Returns = refl
 beside_setup text seen Counts = refl
 beside_setup text seen Cons = refl
@@ -81,10 +84,10 @@ is_text text words setup same reads = rw (same, reads) refl
 
 -- ---- today's version
 
-stored_same : (old : Seen) (text : List ℕ) → HasSetup version text old.now.trees → AreSame (with_setup text old).now.trees old.now.trees
-stored_same old text row = record { setup = row; tables = λ t. sym (beside_setup text old t) }
+stored_same : (db : Trees) (text : List ℕ) → HasSetup version text db → AreSame (trees_with text db) db
+stored_same db text row = record { setup = row; tables = λ t. sym (beside_setup text db t) }
 
-pub opened_today : (setup : List Constituency) (old new : Seen) → old.now.schema ≡ office_schema → HasSetupRow version setup old → IsJudged setup old → (IsTrue old.is_open → IsDatabase old.now) → IsSettled old → (IsTrue new.is_open → IsTrue old.is_open)
+pub opened_today : (setup : List Constituency) (old new : Seen) → old.now.schema ≡ office_schema → HasSetupRow version setup old.now → IsJudged setup old.now → (IsTrue old.is_open → IsDatabase old.now) → IsSettled old → (IsTrue new.is_open → IsTrue old.is_open)
     → (IsTrue new.is_open → IsAsBefore old new) → IsOpened setup old new
 opened_today setup old new schema stored judged sound settled was_open before = record {
   state = (judged.one stored.text).state;
@@ -100,8 +103,8 @@ opened_today setup old new schema stored judged sound settled was_open before = 
   };
 }
   where
-    same : AreSame (with_setup stored.text old).now.trees old.now.trees
-    same = stored_same old stored.text stored.row
+    same : AreSame (trees_with stored.text old.now.trees) old.now.trees
+    same = stored_same old.now.trees stored.text stored.row
 
     tables : AreTables setup stored.text (judged.one stored.text).state old.now.trees
     tables = same_tables setup stored.text (judged.one stored.text).state _ _ same (judged.one stored.text).tables
@@ -113,8 +116,8 @@ opened_today setup old new schema stored judged sound settled was_open before = 
     alone other lawful (inr found) = absurd (forms_differ (sym schema ∙ found.0))
 
 -- why today's tables are not opened
-pub fault_today : (old : Seen) (fault : OpenFault) → old.now.schema ≡ office_schema → has_former_tables old.now.schema ≡ true → has_table old.now.schema (codes "past") ≡ true → IsTodayFault old fault → IsOpenFault old.now fault
-fault_today old NoTables schema names past told = absurd told.2
+pub fault_today : (old : Seen) (fault : OpenFault) → old.now.schema ≡ office_schema → has_former_tables old.now.schema ≡ true → has_table old.now.schema (codes "past") ≡ true → IsTodayFault old.now fault → IsOpenFault old.now fault
+fault_today old NoTables schema names past told = absurd (told.0 refl)
 fault_today old (Setup fault) schema names past told = (told.0, inl (schema, told.1), told.2.0, told.2.1)
 fault_today old Memory schema names past told = tt
 fault_today old Store schema names past told = tt
@@ -125,22 +128,22 @@ fault_today old BadTables schema names past told = (λ setup text s lawful found
     lacks (inr missing) = true≢false (sym past ∙ missing.0)
 
     Told : Type 0
-    Told = ((text : List ℕ) → HasSetup version text old.now.trees → ⊥) ⊎ ((setup : List Constituency) × HasSetupRow version setup old × AreTablesOfNone setup old)
+    Told = (Lacks (HasStoredRow old.now) version × Lacks (HasStoredRow old.now) version) ⊎ AreOfNoStored version old.now
 
     no_state : Told → (setup : List Constituency) (text : List ℕ) (s : State) → IsLawfulState setup s → setup_of_text text ≡ Ok setup
         → ((old.now.schema ≡ office_schema) × AreTables setup text s old.now.trees) ⊎ ((old.now.schema ≡ former_schema) × AreFormerTables setup text s old.now.trees) → ⊥
     no_state told setup text s lawful reads (inr found) = forms_differ (sym schema ∙ found.0)
-    no_state (inl none) setup text s lawful reads (inl found) = none text found.1.setup_is
+    no_state (inl none) setup text s lawful reads (inl found) = none.0 text found.1.setup_is
     no_state (inr unlawful) setup text s lawful reads (inl found) =
         let stored = unlawful.1 in
         let own = (one_row version version text stored.text old.now.trees found.1.setup_is stored.row).1 in
         let is = one_setup text stored.text setup unlawful.0 own reads stored.reads in
-        let here = same_tables setup text s _ _ (same_back _ _ (stored_same old text found.1.setup_is)) found.1 in
-        unlawful.2 text s (subst (λ c. IsLawfulState c s) is lawful) (subst (λ c. AreTables c text s (with_setup text old).now.trees) is here)
+        let here = same_tables setup text s _ _ (same_back _ _ (stored_same old.now.trees text found.1.setup_is)) found.1 in
+        unlawful.2 text s (subst (λ c. IsLawfulState c s) is lawful) (subst (λ c. AreTables c text s (trees_with text old.now.trees)) is here)
 
     no_text : Told → (text : List ℕ) → IsOfKnownVersion text old.now → IsOk (setup_of_text text)
     no_text told text (inr known) = absurd (forms_differ (sym schema ∙ known.0))
-    no_text (inl none) text (inl known) = absurd (none text known.1)
+    no_text (inl none) text (inl known) = absurd (none.0 text known.1)
     no_text (inr unlawful) text (inl known) =
         let stored = unlawful.1 in
         is_text stored.text text unlawful.0 (one_row version version text stored.text old.now.trees known.1 stored.row).1 stored.reads
@@ -148,16 +151,16 @@ fault_today old BadTables schema names past told = (λ setup text s lawful found
 -- ---- version 1
 
 -- why tables of version 1 are not opened
-pub fault_former : (old : Seen) (fault : OpenFault) → old.now.schema ≡ former_schema → has_former_tables old.now.schema ≡ true → has_table old.now.schema (codes "past") ≡ false → IsFormerFault old.now.trees fault
+pub fault_former : (old : Seen) (fault : OpenFault) → old.now.schema ≡ former_schema → has_former_tables old.now.schema ≡ true → has_table old.now.schema (codes "past") ≡ false → IsFormerFault old.now fault
     → IsOpenFault old.now fault
-fault_former old NoTables schema names past told = inr (past, told.0, told.1)
+fault_former old NoTables schema names past told = inr (past, told.1, told.2)
 fault_former old (Setup fault) schema names past told = (told.0, inr (schema, told.1), told.2.0, told.2.1)
 fault_former old Memory schema names past told = tt
 fault_former old Store schema names past told = tt
 fault_former old BadTables schema names past told = (λ setup text s lawful found. no_state told setup text s lawful found.0 found.1, λ text known. no_text told text known, inr schema, λ missing. lacks told missing)
   where
     Told : Type 0
-    Told = IsOfNoVersion old.now.trees ⊎ AreFormerOfNone old.now.trees
+    Told = (Lacks (HasStoredRow old.now) former_version × Lacks (HasStoredRow old.now) version) ⊎ AreFormerOfNone old.now
 
     lacks : Told → LacksTable old.now → ⊥
     lacks told (inl missing) = true≢false (sym names ∙ missing)
@@ -195,23 +198,23 @@ setup_opened setup old new opened = (opened.text, known opened.found.found.1, op
 
 -- ---- the numbers of returns
 
-pub numbers_today : (setup : List Constituency) (old : Seen) (numbers : Numbers) → old.now.schema ≡ office_schema → HasNumbersOfTables setup old numbers → HasNumbersOfFound setup old.now numbers
-numbers_today setup old numbers schema told text s lawful found = go found.1
+pub numbers_today : (setup : List Constituency) (old : Seen) (known : BTreeMap (List ℕ) Statuses) → old.now.schema ≡ office_schema → CountsTables known setup old.now → CountsFound known setup old.now
+numbers_today setup old known schema told text s lawful found = go found.1
   where
-    go : ((old.now.schema ≡ office_schema) × AreTables setup text s old.now.trees) ⊎ ((old.now.schema ≡ former_schema) × AreFormerTables setup text s old.now.trees) → HasNumbers setup s numbers
-    go (inl is) = told text s lawful (same_tables setup text s _ _ (same_back _ _ (stored_same old text is.1.setup_is)) is.1)
+    go : ((old.now.schema ≡ office_schema) × AreTables setup text s old.now.trees) ⊎ ((old.now.schema ≡ former_schema) × AreFormerTables setup text s old.now.trees) → HasNumbers setup s (numbers_of known)
+    go (inl is) = told text s lawful (same_tables setup text s _ _ (same_back _ _ (stored_same old.now.trees text is.1.setup_is)) is.1)
     go (inr is) = absurd (forms_differ (sym schema ∙ is.0))
 
-pub numbers_former : (setup : List Constituency) (old : Seen) (numbers : Numbers) → old.now.schema ≡ former_schema → HasNumbersOfFormer setup old.now.trees numbers → HasNumbersOfFound setup old.now numbers
-numbers_former setup old numbers schema told text s lawful found = go found.1
+pub numbers_former : (setup : List Constituency) (old : Seen) (known : BTreeMap (List ℕ) Statuses) → old.now.schema ≡ former_schema → CountsFormer known setup old.now → CountsFound known setup old.now
+numbers_former setup old known schema told text s lawful found = go found.1
   where
-    go : ((old.now.schema ≡ office_schema) × AreTables setup text s old.now.trees) ⊎ ((old.now.schema ≡ former_schema) × AreFormerTables setup text s old.now.trees) → HasNumbers setup s numbers
+    go : ((old.now.schema ≡ office_schema) × AreTables setup text s old.now.trees) ⊎ ((old.now.schema ≡ former_schema) × AreFormerTables setup text s old.now.trees) → HasNumbers setup s (numbers_of known)
     go (inl is) = absurd (forms_differ (sym is.0 ∙ schema))
     go (inr is) = told text s lawful is.1
 
 -- ---- what calls answered
 
 pub today_each : (r : Result (List Constituency) OpenFault) (old new : Seen) → old.now.schema ≡ office_schema → (IsTrue old.is_open → IsDatabase old.now) → IsSettled old → (IsTrue new.is_open → IsTrue old.is_open)
-    → (IsTrue new.is_open → IsAsBefore old new) → IfOk r (λ setup. HasSetupRow version setup old) → IfOk r (λ setup. IsJudged setup old) → IfOk r (λ setup. IsOpened setup old new)
+    → (IsTrue new.is_open → IsAsBefore old new) → IfOk r (λ setup. HasSetupRow version setup old.now) → IfOk r (λ setup. IsJudged setup old.now) → IfOk r (λ setup. IsOpened setup old new)
 today_each (Ok setup) old new schema sound settled was_open before stored judged = opened_today setup old new schema stored judged sound settled was_open before
 today_each (Err fault) old new schema sound settled was_open before stored judged = tt

@@ -28,7 +28,7 @@ use Rattle.tally_ledger.proofs.SetupLemmas.{Apart, Differ, Has, cons-differ, con
 use Rattle.tally_schema.specs.Made.{HasEmptyTables}
 use Rattle.tally_statements.specs.declared.table.KeyedTable.{KeyedTable}
 use Rattle.tally_statements.specs.declared.table.KeyedTable.TheVariants.{Returns, Counts, Cons, Lots, Seats, Gone, Totals, Past}
-use Rattle.tally_statements.specs.Office.{HasSetup, rows_in, tree_of}
+use Rattle.tally_statements.specs.Office.{PutsSetup, rows_in, tree_of}
 use Rattle.tally_tables.specs.Cells.{con_rows, gone_rows, item_row, items_of, lot_rows, past_rows, record_rows, seat_rows, total_rows}
 use Rattle.tally_opening.specs.internal.Making.{AddsCons, IsMade, opening_row, opening_totals}
 use Rattle.tally_opening.proofs.EmptyLemmas.{tree_empty}
@@ -130,7 +130,7 @@ no_past con = ap (flat_map (record_rows con.code)) (no_rows _ (sym (len-entries 
 abbrev seats_none : List ℕ → List ℕ
 seats_none code = []
 
-office_made : (setup : List Constituency) (text : List ℕ) (empty_tables set made : Seen) → IsSetup setup → HasEmptyTables 9 empty_tables → HasSetup 2 text empty_tables set → AddsCons setup set made → IsMade setup text made
+office_made : (setup : List Constituency) (text : List ℕ) (empty_tables set made : Seen) → IsSetup setup → HasEmptyTables 9 empty_tables → PutsSetup 2 text empty_tables set → AddsCons setup set made → IsMade setup text made
 office_made setup text old set made limits none row added = record {
   inside = added.inside;
   whole = whole_inside setup text (opening setup) made added.inside (record {
@@ -159,6 +159,6 @@ office_made setup text old set made limits none row added = record {
     first_rows : (t : KeyedTable) (rows : List Row) → rows ++ rows_in t set ≡ rows
     first_rows t rows = ap (λ l. rows ++ cells l) (row.others t ∙ tree_empty old none t) ∙ append-nil rows
 
-pub office_last : (setup : List Constituency) (text : List ℕ) (old set made : Seen) (r : Result Unit Error) → IsSetup setup → HasEmptyTables 9 old → HasSetup 2 text old set → OnOk r (AddsCons setup set made) → OnOk r (IsMade setup text made)
+pub office_last : (setup : List Constituency) (text : List ℕ) (old set made : Seen) (r : Result Unit Error) → IsSetup setup → HasEmptyTables 9 old → PutsSetup 2 text old set → OnOk r (AddsCons setup set made) → OnOk r (IsMade setup text made)
 office_last setup text old set made (Ok done) limits none row added = office_made setup text old set made limits none row added
 office_last setup text old set made (Err e) limits none row added = tt

@@ -1,18 +1,21 @@
 -- What is shown of the table `setup`.
-use Rattle.std.proofs.Common.{◌≡◌, ◌∙◌, ◌==◌, ℕ, pos, negsuc, true, false, Bool, nat_lt, ◌^◌, List, [], ◌∷◌, Option, Some, None, map, length, refl, ap, subst, arith}
+use Rattle.std.proofs.Common.{◌≡◌, ◌∙◌, ◌==◌, ℕ, pos, negsuc, true, false, Bool, nat_lt, ◌^◌, List, [], ◌∷◌, Option, Some, None, map, length, inl, inr, refl, ap, subst, arith}
 use Rattle.std.specs.List.Sorted.{IsPermutation}
 use Rattle.std.specs.Prelude.{if◌then◌else◌, option_and_then, option_map, unwrap_or}
 use Rattle.std.proofs.lemmas.Bool.{eqb-true}
 use Rattle.sqlite.proofs.Callers.{one_permutation}
+use Rattle.sqlite.specs.Effect.{Database}
 use Rattle.sqlite.specs.State.{State as Seen}
 use Rattle.sqlite_value.specs.Order.{Row, column}
 use Rattle.sqlite_value.specs.declared.value.Value.{Value}
 use Rattle.sqlite_value.specs.declared.value.Value.TheVariants.{Blob, Int, Null, Real, Text}
 use Rattle.tally_rows.specs.Cells.{number_of, text_of}
+use Rattle.tally_rules.specs.Constituency.{Constituency}
 use Rattle.tally_schema.specs.Cells.{setup_row}
 use Rattle.tally_schema.specs.Tables.{setup_tree}
 use Rattle.tally_statements.specs.Office.{ShowsSetup, shown_setup, stored_setup}
-use Rattle.tally_opening.specs.internal.Opening.{IsSetupFault, IsTextFault, setup_shown, shown_of_row}
+use Rattle.tally_tables.specs.TablesOfState.{version}
+use Rattle.tally_opening.specs.internal.Opening.{AreOfNoStored, HasSetupRow, HasShownRow, HasStoredRow, IsJudgedFault, IsSetupFault, IsShownFault, IsShownSetup, IsTablesFault, OrFails, setup_shown, shown_of_row}
 use Rattle.tally_faults.specs.declared.fault.OpenFault.{OpenFault}
 use Rattle.tally_faults.specs.declared.fault.OpenFault.TheVariants.{BadTables, Memory, NoTables, Setup, Store}
 
@@ -86,10 +89,36 @@ row_stored number text seen answer shown is = go answer shown.stored is
         by_length true same e = absurd (omega (arith, eqb-true (length (r ∷ q ∷ rest)) 1 same))
         by_length false same e = cc
 
--- a fault of the text that is stored
-pub fault_stored : (number : ℕ) (text : List ℕ) (seen : Seen) (fault : OpenFault) → seen.now.trees setup_tree ≡ setup_row number text ∷ [] → IsTextFault text fault → IsSetupFault number seen fault
-fault_stored number text seen NoTables row told = absurd told
-fault_stored number text seen BadTables row told = absurd told
-fault_stored number text seen (Setup fault) row told = (text, row, told)
-fault_stored number text seen Memory row told = (text, row, told)
-fault_stored number text seen Store row told = absurd told
+-- the setup that is shown is the one that is stored
+pub stored_shown : (number : ℕ) (setup : List Constituency) (seen : Seen) (answer : List Row) → ShowsSetup seen answer → IsShownSetup number answer setup → HasSetupRow number setup seen.now
+stored_shown number setup seen answer shown is = record { text = is.0; reads = is.2; row = row_stored number is.0 seen answer shown is.1 }
+
+-- ---- why tables are not taken
+
+-- a fault by one way of knowing the row of `setup` is one by another way
+pub fault_as : (number : ℕ) (HasRow HasOther : ℕ → List ℕ → Type 0) (Unlawful Otherwise : Type 0) (fault : OpenFault) → ((n : ℕ) (text : List ℕ) → HasRow n text → HasOther n text)
+    → ((text : List ℕ) → HasOther number text → HasRow number text) → ((text : List ℕ) → HasOther version text → HasRow version text) → (Unlawful → Otherwise) → IsTablesFault number HasRow Unlawful fault
+    → IsTablesFault number HasOther Otherwise fault
+fault_as number HasRow HasOther Unlawful Otherwise NoTables other back today so told = (told.0, told.1, other version told.1 told.2)
+fault_as number HasRow HasOther Unlawful Otherwise BadTables other back today so (inl none) = inl (λ text row. none.0 text (back text row), λ text row. none.1 text (today text row))
+fault_as number HasRow HasOther Unlawful Otherwise BadTables other back today so (inr unlawful) = inr (so unlawful)
+fault_as number HasRow HasOther Unlawful Otherwise (Setup fault) other back today so told = (told.0, other number told.0 told.1, told.2)
+fault_as number HasRow HasOther Unlawful Otherwise Memory other back today so told = (told.0, other number told.0 told.1, told.2)
+fault_as number HasRow HasOther Unlawful Otherwise Store other back today so told = (told.0, other number told.0 told.1, told.2)
+
+-- of the rows that are shown, and of the table
+pub fault_shown : (number : ℕ) (seen : Seen) (answer : List Row) (fault : OpenFault) → nat_lt number (2 ^ 32) ≡ true → ShowsSetup seen answer → IsShownFault number answer fault → IsSetupFault number seen.now fault
+fault_shown number seen answer fault fits shown told =
+    fault_as number (HasShownRow answer) (HasStoredRow seen.now) ⊥ ⊥ fault (λ n text is. row_stored n text seen answer shown is) (λ text row. row_shown number text seen answer fits shown row)
+    (λ text row. row_shown version text seen answer refl shown row) (λ none. none) told
+
+-- of the table `setup`, and of all tables
+pub fault_stored : (number : ℕ) (db : Database) (fault : OpenFault) → IsSetupFault number db fault → IsJudgedFault number db fault
+fault_stored number db fault told = fault_as number (HasStoredRow db) (HasStoredRow db) ⊥ (AreOfNoStored number db) fault (λ n text row. row) (λ text row. row) (λ text row. row) (λ none. absurd none) told
+
+pub or_fails : (IsFault : OpenFault → Type 0) (fault : OpenFault) → IsFault fault → OrFails IsFault fault
+or_fails IsFault NoTables told = told
+or_fails IsFault BadTables told = told
+or_fails IsFault (Setup fault) told = told
+or_fails IsFault Memory told = tt
+or_fails IsFault Store told = tt

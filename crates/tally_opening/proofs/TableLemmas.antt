@@ -34,7 +34,7 @@ use Rattle.tally_statements.specs.declared.table.KeyedTable.TheVariants.{Returns
 use Rattle.tally_statements.specs.Office.{AreInOrder, ShowsTable, rows_in, tree_of}
 use Rattle.tally_tables.specs.Cells.{con_rows, count_rows, gone_rows, items_of, lot_rows, numbers_with_places, past_rows, return_rows, seat_rows, total_rows, totals_of}
 use Rattle.tally_tables.specs.TablesOfState.{AreTables, version}
-use Rattle.tally_judge.specs.OfficeRows.{AreOfficeRows, Rows}
+use Rattle.tally_judge.specs.OfficeRows.{AreOfficeRows, RowsInOrder}
 use Rattle.tally_judge.proofs.EntriesLemmas.{each_found}
 use Rattle.tally_opening.specs.internal.Opening.{ShowsOffice}
 use Rattle.tally_opening.proofs.OrderLemmas.{counted_rise, counts_items, in_order, items_in_order, lots_items, numbered_rise, seats_items, totals_items}
@@ -134,7 +134,7 @@ module _ (setup : List Constituency) (s : State) (limits : IsSetup setup) (lawfu
       (for_each _ (λ e. past_in_order e.0 (entries e.1.past) (sorted_rise nat_cmp (entries e.1.past) (entries_sorted e.1.past))) (entries s.cons))
 
   -- what whole tables answer of a lawful state are its rows, in the order of the keys
-  pub rows_of_tables : (text : List ℕ) (seen : Seen) (rows : Rows) → ShowsOffice seen rows → AreTables setup text s seen.now.trees → AreOfficeRows setup s rows
+  pub rows_of_tables : (text : List ℕ) (seen : Seen) (rows : RowsInOrder) → ShowsOffice seen rows → AreTables setup text s seen.now.trees → AreOfficeRows setup s rows
   rows_of_tables text seen rows shown tables = record {
     given = tables.given;
     allotted = tables.allotted;
@@ -152,7 +152,7 @@ shown_rows : {X : Type 0} (rows_of : List ℕ × X → List Row) (m : FinMap tex
 shown_rows rows_of m t seen answer shown is = record { each = IsPermutation-sym _ _ (subst (IsPermutation (rows_in t seen)) is shown.same) }
 
 -- the tables that answered the rows of a state are those of the state
-pub tables_of_rows : (setup : List Constituency) (text : List ℕ) (s : State) (seen : Seen) (rows : Rows) → ShowsOffice seen rows → seen.now.trees setup_tree ≡ setup_row version text ∷ [] → AreOfficeRows setup s rows → AreTables setup text s seen.now.trees
+pub tables_of_rows : (setup : List Constituency) (text : List ℕ) (s : State) (seen : Seen) (rows : RowsInOrder) → ShowsOffice seen rows → seen.now.trees setup_tree ≡ setup_row version text ∷ [] → AreOfficeRows setup s rows → AreTables setup text s seen.now.trees
 tables_of_rows setup text s seen rows shown own h = record {
   given = h.given;
   allotted = h.allotted;

@@ -1,44 +1,30 @@
 -- The tables of version 1, and what becomes of them as they are taken over.
 use Rattle.std.proofs.Common.{◌≡◌, ◌∙◌, ◌⊎◌, List, ℕ, inl, inr, refl, sym, ap, subst, Result, Ok, Err, OnOk}
 use Rattle.std.specs.Prelude.{IfErr, IfOk}
+use Rattle.std.specs.BTreeMap.{BTreeMap}
 use Rattle.sqlite.specs.declared.error.Error.{Error}
 use Rattle.sqlite.specs.Effect.{Database, IsDatabase}
 use Rattle.sqlite.specs.State.{State as Seen, IsUnchanged}
 use Rattle.sqlite_trees.specs.Tree.{Trees}
-use Rattle.sqlite_value.specs.Order.{Row}
 use Rattle.tally_rows.specs.Rows.{HaveDistinctRowids}
 use Rattle.tally_rules.specs.Constituency.{Constituency}
-use Rattle.tally_judge.specs.Numbers.{Numbers}
+use Rattle.tally_tables.specs.declared.views.Statuses.{Statuses}
 use Rattle.tally_steps.specs.LawfulState.{IsLawfulState}
 use Rattle.tally_returns.specs.State.{State}
 use Rattle.tally_schema.specs.Made.{AddsTable}
 use Rattle.tally_schema.specs.Tables.{former_schema, office_schema, past_tree, setup_tree}
 use Rattle.tally_statements.specs.declared.table.KeyedTable.{KeyedTable}
 use Rattle.tally_statements.specs.declared.table.KeyedTable.TheVariants.{Returns, Counts, Cons, Lots, Seats, Gone, Totals, Past}
-use Rattle.tally_statements.specs.Office.{HasSetup as SetsSetup, IsInside, ShowsSetup, tree_of}
+use Rattle.tally_statements.specs.Office.{PutsSetup as SetsSetup, IsInside, tree_of}
 use Rattle.tally_tables.specs.TablesOfState.{AreTables, version}
 use Rattle.tally_opening.specs.Crash.{LeavesTakenOver}
 use Rattle.tally_opening.specs.Open.{AreFormerTables, HasSetup, IsOpened, IsTakenOver, former_version, tables_taken_over}
-use Rattle.tally_opening.specs.internal.Opening.{HasNumbersOfFormer, HasNumbersOfTables, IsFormerFault, IsFormerJudgedFault, IsFormerSetupFault, IsJudged, AddsPast, IsReady, IsShownFault, IsShownSetup, HasSetupRow, IsTaken, with_setup}
+use Rattle.tally_opening.specs.internal.Opening.{AddsPast, AreFormerOfNone, AreOfNoStored, CountsFormer, CountsTables, HasSetupRow, HasStoredRow, IsFormerFault, IsJudged, IsJudgedFault, IsReady, IsTablesFault, IsTaken, trees_with}
 use Rattle.tally_faults.specs.declared.fault.OpenFault.{OpenFault}
-use Rattle.tally_faults.specs.declared.fault.OpenFault.TheVariants.{BadTables, Memory, NoTables, Setup, Store}
-use Rattle.tally_opening.proofs.JudgingLemmas.{judged_now, tables_still}
+use Rattle.tally_opening.proofs.JudgingLemmas.{tables_still}
 use Rattle.tally_opening.proofs.OpenedLemmas.{AreSame, beside_setup, forms_differ, same_back, same_tables}
-use Rattle.tally_opening.proofs.StoredLemmas.{row_shown, row_stored}
+use Rattle.tally_opening.proofs.StoredLemmas.{fault_as, or_fails}
 use Rattle.tally_opening.proofs.WholeLemmas.{whole_left}
-
--- ---- the row of `setup`
-
-pub stored_shown : (seen : Seen) (answer : List Row) (setup : List Constituency) → ShowsSetup seen answer → IsShownSetup answer setup → HasSetupRow former_version setup seen
-stored_shown seen answer setup shown is = record { text = is.0; reads = is.2; row = row_stored former_version is.0 seen answer shown is.1 }
-
-pub fault_shown : (seen : Seen) (answer : List Row) (fault : OpenFault) → ShowsSetup seen answer → IsShownFault answer fault → IsFormerSetupFault seen.now.trees fault
-fault_shown seen answer NoTables shown told = (told.0, row_stored version told.0 seen answer shown told.1)
-fault_shown seen answer BadTables shown told =
-    (λ text row. told.0 text (row_shown former_version text seen answer refl shown row), λ text row. told.1 text (row_shown version text seen answer refl shown row))
-fault_shown seen answer (Setup fault) shown told = (told.0, row_stored former_version told.0 seen answer shown told.1, told.2)
-fault_shown seen answer Memory shown told = (told.0, row_stored former_version told.0 seen answer shown told.1, told.2)
-fault_shown seen answer Store shown told = (told.0, row_stored former_version told.0 seen answer shown told.1, told.2)
 
 -- ---- the table `past`
 
@@ -68,42 +54,43 @@ past_still old mid new past same = record {
   each = λ text t. ap (λ (d : Database). d.trees (tree_of t)) same.0.now_is ∙ past.each text t;
 }
 
-pub ready : (setup : List Constituency) (old mid new : Seen) → AddsPast old mid → IsUnchanged mid new → HasSetupRow former_version setup mid → IsJudged setup mid → IsReady setup old new
+pub ready : (setup : List Constituency) (old mid new : Seen) → AddsPast old mid → IsUnchanged mid new → HasSetupRow former_version setup mid.now → IsJudged setup mid.now → IsReady setup old new
 ready setup old mid new past same stored judged = record {
   stored = record { text = stored.text; reads = stored.reads; row = sym past.setup ∙ stored.row };
-  judged = judged_now setup new mid (sym same.0.now_is) judged;
+  judged = subst (IsJudged setup) (sym same.0.now_is) judged;
   past = past_still old mid new past same;
 }
 
 -- with a row of today's version they are the tables as they are taken over
-over_same : (text : List ℕ) (old mid : Seen) → AddsPast old mid → AreSame (with_setup text mid).now.trees (tables_taken_over text old.now.trees)
-over_same text old mid past = record { setup = refl; tables = λ t. sym (beside_setup text mid t ∙ past.each text t) }
+over_same : (text : List ℕ) (old mid : Seen) → AddsPast old mid → AreSame (trees_with text mid.now.trees) (tables_taken_over text old.now.trees)
+over_same text old mid past = record { setup = refl; tables = λ t. sym (beside_setup text mid.now.trees t ∙ past.each text t) }
 
 -- the numbers of the tables with an empty `past` are those of the tables of version 1
-numbers_before : (setup : List Constituency) (old mid : Seen) (numbers : Numbers) → AddsPast old mid → HasNumbersOfTables setup mid numbers → HasNumbersOfFormer setup old.now.trees numbers
-numbers_before setup old mid numbers past told text s lawful tables =
+numbers_before : (setup : List Constituency) (old mid : Seen) (known : BTreeMap (List ℕ) Statuses) → AddsPast old mid → CountsTables known setup mid.now → CountsFormer known setup old.now
+numbers_before setup old mid known past told text s lawful tables =
     told text s lawful (same_tables setup text s _ _ (same_back _ _ (over_same text old mid past)) tables.1)
 
-pub numbers_each : (r : Result (Result (List Constituency) OpenFault) Error) (old mid : Seen) (numbers : Numbers) → AddsPast old mid → IfOk r (λ told. IfOk told (λ setup. HasNumbersOfTables setup mid numbers))
-    → IfOk r (λ told. IfOk told (λ setup. HasNumbersOfFormer setup old.now.trees numbers))
-numbers_each (Ok (Ok setup)) old mid numbers past told = numbers_before setup old mid numbers past told
-numbers_each (Ok (Err fault)) old mid numbers past told = tt
-numbers_each (Err e) old mid numbers past told = tt
+pub numbers_each : (r : Result (Result (List Constituency) OpenFault) Error) (old mid : Seen) (known : BTreeMap (List ℕ) Statuses) → AddsPast old mid → IfOk r (λ told. IfOk told (λ setup. CountsTables known setup mid.now))
+    → IfOk r (λ told. IfOk told (λ setup. CountsFormer known setup old.now))
+numbers_each (Ok (Ok setup)) old mid known past told = numbers_before setup old mid known past told
+numbers_each (Ok (Err fault)) old mid known past told = tt
+numbers_each (Err e) old mid known past told = tt
 
 -- why they are not taken over
-pub fault_judged : (old mid : Seen) (fault : OpenFault) → AddsPast old mid → IsFormerJudgedFault mid fault → IsFormerFault old.now.trees fault
-fault_judged old mid NoTables past told = (told.0, sym past.setup ∙ told.1)
-fault_judged old mid BadTables past (inl none) = inl (λ text row. none.0 text (past.setup ∙ row), λ text row. none.1 text (past.setup ∙ row))
-fault_judged old mid BadTables past (inr unlawful) = inr (record {
-  setup = unlawful.0;
-  text = unlawful.1.text;
-  reads = unlawful.1.reads;
-  row = sym past.setup ∙ unlawful.1.row;
-  none = λ s lawful tables. unlawful.2 unlawful.1.text s lawful (same_tables unlawful.0 unlawful.1.text s _ _ (same_back _ _ (over_same unlawful.1.text old mid past)) tables);
-})
-fault_judged old mid (Setup fault) past told = (told.0, sym past.setup ∙ told.1, told.2)
-fault_judged old mid Memory past told = tt
-fault_judged old mid Store past told = tt
+pub fault_judged : (old mid : Seen) (fault : OpenFault) → AddsPast old mid → IsJudgedFault former_version mid.now fault → IsFormerFault old.now fault
+fault_judged old mid fault past told =
+    or_fails (IsTablesFault former_version (HasStoredRow old.now) (AreFormerOfNone old.now)) fault
+    (fault_as former_version (HasStoredRow mid.now) (HasStoredRow old.now) (AreOfNoStored former_version mid.now) (AreFormerOfNone old.now) fault (λ n text row. sym past.setup ∙ row) (λ text row. past.setup ∙ row)
+    (λ text row. past.setup ∙ row) none told)
+  where
+    none : AreOfNoStored former_version mid.now → AreFormerOfNone old.now
+    none unlawful = record {
+      setup = unlawful.0;
+      text = unlawful.1.text;
+      reads = unlawful.1.reads;
+      row = sym past.setup ∙ unlawful.1.row;
+      none = λ s lawful tables. unlawful.2 unlawful.1.text s lawful (same_tables unlawful.0 unlawful.1.text s _ _ (same_back _ _ (over_same unlawful.1.text old mid past)) tables);
+    }
 
 -- ---- the version
 
@@ -126,7 +113,7 @@ taken setup old mid new h set = record {
   tables = same_tables setup h.stored.text (h.judged.one h.stored.text).state _ _ (record { setup = set.setup; tables = λ t. set.others t ∙ h.past.each h.stored.text t }) found;
 }
   where
-    over : AreSame (with_setup h.stored.text mid).now.trees (tables_taken_over h.stored.text old.now.trees)
+    over : AreSame (trees_with h.stored.text mid.now.trees) (tables_taken_over h.stored.text old.now.trees)
     over = over_same h.stored.text old mid h.past
 
     found : AreTables setup h.stored.text (h.judged.one h.stored.text).state (tables_taken_over h.stored.text old.now.trees)
@@ -167,13 +154,13 @@ leaves_taken setup old last db schema h is = record {
 
 -- ---- what calls answered
 
-pub ready_each : (r : Result (Result (List Constituency) OpenFault) Error) (old mid new : Seen) → AddsPast old mid → OnOk r (IsUnchanged mid new) → IfOk r (λ told. IfOk told (λ setup. HasSetupRow former_version setup mid))
-    → IfOk r (λ told. IfOk told (λ setup. IsJudged setup mid)) → IfOk r (λ told. IfOk told (λ setup. IsReady setup old new))
+pub ready_each : (r : Result (Result (List Constituency) OpenFault) Error) (old mid new : Seen) → AddsPast old mid → OnOk r (IsUnchanged mid new) → IfOk r (λ told. IfOk told (λ setup. HasSetupRow former_version setup mid.now))
+    → IfOk r (λ told. IfOk told (λ setup. IsJudged setup mid.now)) → IfOk r (λ told. IfOk told (λ setup. IsReady setup old new))
 ready_each (Ok (Ok setup)) old mid new past same stored judged = ready setup old mid new past same stored judged
 ready_each (Ok (Err fault)) old mid new past same stored judged = tt
 ready_each (Err e) old mid new past same stored judged = tt
 
-pub fault_each : (r : Result (Result (List Constituency) OpenFault) Error) (old mid : Seen) → AddsPast old mid → IfOk r (λ told. IfErr told (IsFormerJudgedFault mid)) → IfOk r (λ told. IfErr told (IsFormerFault old.now.trees))
+pub fault_each : (r : Result (Result (List Constituency) OpenFault) Error) (old mid : Seen) → AddsPast old mid → IfOk r (λ told. IfErr told (IsJudgedFault former_version mid.now)) → IfOk r (λ told. IfErr told (IsFormerFault old.now))
 fault_each (Ok (Ok setup)) old mid past told = tt
 fault_each (Ok (Err fault)) old mid past told = fault_judged old mid fault past told
 fault_each (Err e) old mid past told = tt

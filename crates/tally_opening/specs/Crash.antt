@@ -1,7 +1,9 @@
 -- What a crash may leave of an office that is made or opened, and when nothing was written.
 use Rattle.std.specs.Prelude.{◌≡◌, false, List, ℕ, Result, Ok, OnErr, IsTrue, codes}
 use Rattle.sqlite.specs.Effect.{Database}
-use Rattle.sqlite.specs.State.{State as Seen, HasCleanDisk, Survives}
+use Rattle.sqlite.specs.Held.{Held, state}
+use Rattle.sqlite.specs.State.{State as Seen, HasCleanDisk, KeepsCounts, Survives}
+use Rattle.sqlite_trees.specs.declared.store.Store.{Ghosts}
 use Rattle.sqlite_trees.specs.Tree.{Trees}
 use Rattle.tally_rules.specs.Constituency.{Constituency}
 use Rattle.tally_rules.specs.Reading.{setup_of_text}
@@ -34,10 +36,17 @@ pub record LeavesTakenOver (found : Database) (db : Trees) : Type 0 where
 -- A call was carried out in a transaction of its own, whole or not at all: no transaction is open
 -- after it; with an error the tables are as they were, while the connection is open; and a crash
 -- leaves what it could leave before, or such a database.
-pub record IsWholeOrNothing (Leaves : Trees → Type 0) {X E : Type 0} (result : Result X E) (old new : Seen) : Type 0 where
+pub record IsWholeOrNothing (Leaves : Trees → Type 0) {X E : Type 0} (result : Result X E)
+    (old new : Seen) : Type 0 where
   pub ended : new.in_transaction ≡ false
   pub same : HasCleanDisk new → IsTrue new.is_open → OnErr result (IsAsBefore old new)
   pub crash : Survives old new Leaves
+
+-- the same of a call on a connection, by what was found there
+abbrev pub EndsWhole : {S X E : Type 0} (g : Ghosts S) → (Database → Trees → Type 0)
+    → Held S → Held S → Result X E → Type 0
+EndsWhole g Leaves old new result =
+    IsWholeOrNothing (Leaves (state g old).now) result (state g old) (state g new)
 
 -- there is a table `past`, so there is nothing to take over
 abbrev pub HasPast : Database → Type 0
@@ -51,3 +60,11 @@ pub record IsUnwritten (old new : Seen) : Type 0 where
   pub crash : HasCleanDisk new → IsTrue old.is_open → (db : Trees) → new.may_leave db
       → db ≡ old.now.trees
   pub same : HasCleanDisk new → IsTrue new.is_open → IsAsBefore old new
+
+-- where there was a table `past`, nothing was written
+abbrev pub IsUnwrittenToday : Seen → Seen → Type 0
+IsUnwrittenToday old new = HasPast old.now → IsUnwritten old new
+
+-- and no change was counted
+abbrev pub CountsNothing : Seen → Seen → Type 0
+CountsNothing old new = HasPast old.now → HasCleanDisk new → KeepsCounts old new

@@ -3,6 +3,8 @@
 use Rattle.std.specs.Prelude.{◌≡◌, ◌≢◌, List, ℕ, IsOk, IsTrue, false}
 use Rattle.sqlite.specs.State.{State as Seen}
 use Rattle.sqlite_schema.specs.declared.schema.Schema.{Schema}
+use Rattle.tally_returns.specs.State.{opening}
+use Rattle.tally_rules.specs.Constituency.{Constituency}
 use Rattle.tally_rules.specs.Fault.{IsFaultIn}
 use Rattle.tally_rules.specs.Reading.{setup_of_text}
 use Rattle.tally_rules.specs.declared.fault.SetupFault.TheVariants as setup_fault
@@ -10,6 +12,7 @@ use Rattle.tally_schema.specs.Made.{takes_office_name}
 use Rattle.tally_schema.specs.Tables.{schema_with}
 use Rattle.tally_faults.specs.declared.fault.CreateFault.{CreateFault}
 use Rattle.tally_faults.specs.declared.fault.CreateFault.TheVariants.{Setup, NotEmpty, Memory, Store}
+use Rattle.tally_opening.specs.Office.{HasState}
 
 -- no table, no index and no view
 abbrev pub no_schema : Schema
@@ -29,3 +32,7 @@ IsCreateFault text schema Store = IsOk (setup_of_text text) × (takes_office_nam
 pub record IsAsBefore (old new : Seen) : Type 0 where
   pub now : new.now ≡ old.now
   pub committed : new.committed ≡ old.committed
+
+-- What the making of an office leaves: the database is that of the opening state.
+abbrev pub MakesOffice : List ℕ → List Constituency → Seen → Seen → Type 0
+MakesOffice text setup old new = HasState setup text (opening setup) new

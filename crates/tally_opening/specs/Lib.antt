@@ -1,4 +1,5 @@
 pub mod internal
+pub mod Calls
 pub mod Office
 pub mod Create
 pub mod Open

@@ -1,5 +1,5 @@
 -- Whether the database of an office is that of a state, between transactions.
-use Rattle.std.specs.Prelude.{◌≡◌, List, ℕ, IsTrue, Ok}
+use Rattle.std.specs.Prelude.{◌≡◌, List, ℕ, Ok}
 use Rattle.sqlite.specs.Effect.{IsDatabase}
 use Rattle.sqlite.specs.State.{State as Seen}
 use Rattle.sqlite_trees.specs.Tree.{Trees}
@@ -17,14 +17,16 @@ abbrev pub HasOfficeSchema : Trees → Type 0
 HasOfficeSchema db = IsDatabase (record { schema = office_schema; trees = db })
 
 -- Stored are the tables of a state, over a setup that has this text, and no others.
-pub record IsWholeOffice (setup : List Constituency) (text : List ℕ) (s : State) (db : Trees) : Type 0 where
+pub record IsWholeOffice (setup : List Constituency) (text : List ℕ) (s : State) (db : Trees)
+    : Type 0 where
   pub tables : AreTables setup text s db
   pub schema : HasOfficeSchema db
 
 -- Between transactions the database is that of a state, over a setup that has this text. Its tables
 -- are those of the state. It has no others, in its catalogue either, and all of it was committed.
 -- The rowids of a table differ, of which a state says nothing.
-pub record HasState (setup : List Constituency) (text : List ℕ) (s : State) (seen : Seen) : Type 0 where
+pub record HasState (setup : List Constituency) (text : List ℕ) (s : State) (seen : Seen)
+    : Type 0 where
   pub tables : AreTables setup text s seen.now.trees
   pub schema : seen.now.schema ≡ office_schema
   pub sound : IsDatabase seen.now
@@ -36,7 +38,3 @@ pub record IsOffice (setup : List Constituency) (s : State) (seen : Seen) : Type
   pub text : List ℕ
   pub reads : setup_of_text text ≡ Ok setup
   pub has : HasState setup text s seen
-
--- all that is there was committed
-abbrev pub IsSettled : Seen → Type 0
-IsSettled s = IsTrue s.is_open → s.now ≡ s.committed

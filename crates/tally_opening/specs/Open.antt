@@ -1,5 +1,6 @@
 -- The opening of a database: which tables are those of an office, and why a database is not opened.
 use Rattle.std.specs.Prelude.{◌≡◌, ◌≢◌, ◌⊎◌, ◌==◌, if◌then◌else◌, ℕ, List, [], ◌∷◌, Ok, IsOk, IsTrue, false, codes}
+use Rattle.std.specs.BTreeMap.{BTreeMap}
 use Rattle.sqlite_trees.specs.Tree.{Trees}
 use Rattle.sqlite.specs.Effect.{Database}
 use Rattle.sqlite.specs.State.{State as Seen}
@@ -7,13 +8,14 @@ use Rattle.tally_rules.specs.Constituency.{Constituency}
 use Rattle.tally_rules.specs.Fault.{IsFaultIn}
 use Rattle.tally_rules.specs.Reading.{setup_of_text}
 use Rattle.tally_rules.specs.declared.fault.SetupFault.TheVariants as setup_fault
-use Rattle.tally_judge.specs.Numbers.{HasNumbers, Numbers}
+use Rattle.tally_judge.specs.Numbers.{HasNumbers, numbers_of}
 use Rattle.tally_steps.specs.LawfulState.{IsLawfulState}
 use Rattle.tally_returns.specs.State.{State}
 use Rattle.tally_schema.specs.Cells.{setup_row}
 use Rattle.tally_schema.specs.Made.{has_former_tables, has_table}
 use Rattle.tally_schema.specs.Tables.{former_schema, office_schema, past_tree, setup_tree}
 use Rattle.tally_tables.specs.TablesOfState.{AreTables, version}
+use Rattle.tally_tables.specs.declared.views.Statuses.{Statuses}
 use Rattle.tally_statements.specs.declared.table.KeyedTable.{KeyedTable}
 use Rattle.tally_statements.specs.Office.{tree_of}
 use Rattle.tally_opening.specs.Office.{HasState}
@@ -55,7 +57,8 @@ AreFound setup text s db =
 
 -- The tables that were found are those of a lawful state over this setup with this text, and of no
 -- other one.
-pub record AreOfOneState (setup : List Constituency) (text : List ℕ) (s : State) (db : Database) : Type 0 where
+pub record AreOfOneState (setup : List Constituency) (text : List ℕ) (s : State) (db : Database)
+    : Type 0 where
   pub lawful : IsLawfulState setup s
   pub found : AreFound setup text s db
   pub alone : (other : State) → IsLawfulState setup other → AreFound setup text other db → other ≡ s
@@ -105,10 +108,10 @@ IsOpenFault db Memory = Unit {0}
 IsOpenFault db Store = Unit {0}
 
 -- the numbers of every lawful state over this setup whose tables were found
-abbrev pub HasNumbersOfFound : List Constituency → Database → Numbers → Type 0
-HasNumbersOfFound setup db numbers =
+abbrev pub CountsFound : BTreeMap (List ℕ) Statuses → List Constituency → Database → Type 0
+CountsFound known setup db =
     (text : List ℕ) (s : State) → IsLawfulState setup s → AreFound setup text s db
-    → HasNumbers setup s numbers
+    → HasNumbers setup s (numbers_of known)
 
 -- the tables hold what was found, in the version of today
 abbrev pub AreLeft : List ℕ → Database → Trees → Type 0

@@ -1,15 +1,17 @@
-//! Making an office in a database, of the text of its setup.
+//! Making an office in a database, of the text of its setup. Errors are matched and returned, and
+//! not passed on by `?`, since the `?` of an enum that holds a text (`CreateFault`) has no proof
+//! yet.
 
-ghost use Rattle.std.specs.Prelude.{◌≡◌, ◌⊎◌, ℕ, false, IfErr, IfOk, IsOk, IsTrue, List, Ok, OnOk};
-ghost use Rattle.sqlite.specs.State.{HasCleanDisk};
+ghost use Rattle.std.specs.Prelude.{◌≡◌, ◌⊎◌, false, IfErr, IfOk, IsTrue, Ok, OnOk};
 ghost use Rattle.sqlite.specs.Held.{state};
 ghost use Rattle.sqlite_schema.specs.declared.schema.Schema.{Schema};
 ghost use Rattle.tally_rules.specs.Limits.{IsSetup};
 ghost use Rattle.tally_rules.specs.Reading.{setup_of_text};
-ghost use Rattle.tally_returns.specs.State.{opening};
-ghost use Rattle.tally_opening.specs.Crash.{IsWholeOrNothing, LeavesOpening};
-ghost use Rattle.tally_opening.specs.Create.{IsCreateFault, no_schema};
-ghost use Rattle.tally_opening.specs.Office.{HasState, IsSettled};
+ghost use Rattle.tally_opening.specs.Calls.{OnDisk, Yields};
+ghost use Rattle.tally_opening.specs.Crash.{EndsWhole, LeavesOpening};
+ghost use Rattle.tally_opening.specs.Create.{IsCreateFault, MakesOffice, no_schema};
+ghost use Rattle.tally_opening.specs.internal.Ending.{IsSettled};
+ghost use Rattle.tally_opening.specs.internal.Making.{IsFaultOfEachSetup};
 
 use crate::making::make_in;
 use sqlite::{Alter, Connection, Error};
@@ -65,8 +67,7 @@ fn check_unset<S: Alter>(conn: &Connection<S>) -> Result<(), CreateFault>
     requires autocommit { conn.now.in_transaction ≡ false }
     ensures unset { OnOk result ((state S.Store conn.now).now.schema ≡ no_schema) }
     ensures settled { OnOk result (IsSettled (state S.Store conn.now)) }
-    ensures fault { IfErr result (λ fault. (text : List ℕ) → IsOk (setup_of_text text)
-        → IsCreateFault text (state S.Store conn.now).now.schema fault) }
+    ensures fault { IfErr result (IsFaultOfEachSetup (state S.Store conn.now).now.schema) }
 {
     if takes_office_name(conn.schema()) {
         return Err(CreateFault::NotEmpty);
@@ -89,15 +90,12 @@ pub fn create_in<S: Alter>(
     text: &[u8],
 ) -> Result<Setup, CreateFault>
     requires autocommit { conn.old.in_transaction ≡ false }
-    ensures ends { IsWholeOrNothing (LeavesOpening text.now) result
-        (state S.Store conn.old) (state S.Store conn.new) }
+    ensures ends { EndsWhole S.Store (λ _. LeavesOpening text.now) conn.old conn.new result }
     ensures setup { IfOk result (λ setup. setup_of_text text.now ≡ Ok setup) }
     ensures limits { IfOk result IsSetup }
     ensures unset { OnOk result ((state S.Store conn.old).now.schema ≡ no_schema) }
-    ensures made { HasCleanDisk (state S.Store conn.new) →
-        IfOk result (λ setup. HasState setup text.now (opening setup) (state S.Store conn.new)) }
-    ensures open { HasCleanDisk (state S.Store conn.new) →
-        OnOk result (IsTrue (state S.Store conn.new).is_open) }
+    ensures made { OnDisk S.Store (Yields (MakesOffice text.now)) conn.old conn.new result }
+    ensures open { OnDisk S.Store (Yields (λ _ _ s. IsTrue s.is_open)) conn.old conn.new result }
     ensures fault { IfErr result (IsCreateFault text.now (state S.Store conn.old).now.schema) }
 {
     let (setup, text) = match setup_in(alloc, text) {

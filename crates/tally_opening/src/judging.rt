@@ -1,11 +1,13 @@
 //! Whether the tables of an office are those of a lawful state.
 
-ghost use Rattle.std.specs.Prelude.{◌≡◌, None, IfOk, IfSome, IsSome, OnSome};
+ghost use Rattle.std.specs.Prelude.{◌≡◌, IfOk, IfSome, IsSome, OnSome};
 ghost use Rattle.tally_judge.specs.Numbers.{HasNumbersOfRows, numbers_of};
 ghost use Rattle.tally_judge.specs.OfficeRows.{AreLawfulRows, AreRowsOfOneState};
 ghost use Rattle.tally_statements.specs.Inside.{OnlyReadsFrom};
 ghost use Rattle.tally_statements.specs.Office.{HasTables};
-ghost use Rattle.tally_opening.specs.internal.Opening.{AreReadOf, AreTablesOfNone, HasDistinctRows, HasNumbersOfTables, IsJudged, IsReadOf, Sees, rows_found};
+ghost use Rattle.tally_opening.specs.internal.Opening.{AreReadOf, AreTablesOfNone, CountsTables};
+ghost use Rattle.tally_opening.specs.internal.Opening.{HasDistinctRows, IsJudged, IsReadOf, Sees};
+ghost use Rattle.tally_opening.specs.internal.Opening.{WhereNone, WhereSome, rows_found};
 
 use sqlite::{Alter, Error, ErrorCode, Row, Transaction};
 use std::alloc::Global;
@@ -32,7 +34,7 @@ pub(crate) struct FoundRows {
 /// Checks that no two rows of a table have the same rowid. They never do.
 fn check_rowids<S: Alter>(tx: &mut Transaction<'_, S>, table: KeyedTable) -> Result<(), Error>
     ensures reads { OnlyReadsFrom HasTables S.Store tx.old tx.new result }
-    ensures distinct { Sees S.Store (λ seen _. HasDistinctRows seen table) tx.old tx.new result }
+    ensures distinct { Sees S.Store (λ s _ _. HasDistinctRows s.now table) tx.old tx.new result }
 {
     let ids = rowids(tx, table)?;
     if !rowids_rise(&ids) {
@@ -44,8 +46,7 @@ fn check_rowids<S: Alter>(tx: &mut Transaction<'_, S>, table: KeyedTable) -> Res
 /// All rows of a table, whose rowids differ.
 fn read_table<S: Alter>(tx: &mut Transaction<'_, S>, table: KeyedTable) -> Result<Vec<Row>, Error>
     ensures reads { OnlyReadsFrom HasTables S.Store tx.old tx.new result }
-    ensures shown { Sees S.Store (λ seen rows. IsReadOf table seen rows.items)
-        tx.old tx.new result }
+    ensures shown { Sees S.Store (λ s _ rows. IsReadOf table s rows.items) tx.old tx.new result }
 {
     check_rowids(tx, table)?;
     all_rows(tx, table)
@@ -58,9 +59,8 @@ fn read_two<S: Alter>(
     second: KeyedTable,
 ) -> Result<(Vec<Row>, Vec<Row>), Error>
     ensures reads { OnlyReadsFrom HasTables S.Store tx.old tx.new result }
-    ensures first { Sees S.Store (λ seen rows. IsReadOf first seen rows.0.items)
-        tx.old tx.new result }
-    ensures second { Sees S.Store (λ seen rows. IsReadOf second seen rows.1.items)
+    ensures first { Sees S.Store (λ s _ rows. IsReadOf first s rows.0.items) tx.old tx.new result }
+    ensures second { Sees S.Store (λ s _ rows. IsReadOf second s rows.1.items)
         tx.old tx.new result }
 {
     let rows = read_table(tx, first)?;
@@ -70,8 +70,7 @@ fn read_two<S: Alter>(
 /// All rows of all tables but `setup`.
 fn read_rows<S: Alter>(tx: &mut Transaction<'_, S>) -> Result<FoundRows, Error>
     ensures reads { OnlyReadsFrom HasTables S.Store tx.old tx.new result }
-    ensures shown { Sees S.Store (λ seen rows. AreReadOf seen (rows_found rows))
-        tx.old tx.new result }
+    ensures shown { Sees S.Store (λ s _ rows. AreReadOf s (rows_found rows)) tx.old tx.new result }
 {
     let (returns, counts) = read_two(tx, KeyedTable::Returns, KeyedTable::Counts)?;
     let (cons, totals) = read_two(tx, KeyedTable::Cons, KeyedTable::Totals)?;
@@ -132,13 +131,10 @@ pub(crate) fn judge_office<S: Alter>(
     known: &mut BTreeMap<Code, Statuses>,
 ) -> Result<Option<Setup>, Error>
     ensures reads { OnlyReadsFrom HasTables S.Store tx.old tx.new result }
-    ensures accepted { Sees S.Store (λ seen found. OnSome found (IsJudged setup seen))
-        tx.old tx.new result }
-    ensures refused { Sees S.Store (λ seen found. found ≡ None → AreTablesOfNone setup seen)
-        tx.old tx.new result }
+    ensures accepted { Sees S.Store (WhereSome (IsJudged setup)) tx.old tx.new result }
+    ensures refused { Sees S.Store (WhereNone (AreTablesOfNone setup)) tx.old tx.new result }
     ensures setup { IfOk result (λ found. IfSome found (λ again. again ≡ setup)) }
-    ensures numbers { Sees S.Store (λ seen found.
-        OnSome found (HasNumbersOfTables setup seen (numbers_of known.new))) tx.old tx.new result }
+    ensures numbers { Sees S.Store (WhereSome (CountsTables known.new setup)) tx.old tx.new result }
 {
     let rows = read_rows(tx)?;
     accept(alloc, setup, &rows, known)

@@ -1,15 +1,15 @@
 //! Making the tables of an office that opens.
 
 ghost use Rattle.std.specs.Prelude.{◌≡◌, ◌∷◌, [], false, IsTrue, OnOk};
-ghost use Rattle.sqlite.specs.State.{HasCleanDisk};
 ghost use Rattle.sqlite.specs.Held.{state};
 ghost use Rattle.tally_rules.specs.Limits.{IsSetup};
-ghost use Rattle.tally_returns.specs.State.{opening};
 ghost use Rattle.tally_schema.specs.Tables.{schema_with};
-ghost use Rattle.tally_statements.specs.Inside.{Stays};
-ghost use Rattle.tally_opening.specs.Crash.{IsWholeOrNothing};
-ghost use Rattle.tally_opening.specs.internal.Making.{no_list_rows, no_vote_rows, Totalled, Opened, Made};
-ghost use Rattle.tally_opening.specs.Office.{HasState, IsSettled, IsWholeOffice};
+ghost use Rattle.tally_statements.specs.Inside.{Acts, Stays};
+ghost use Rattle.tally_opening.specs.Calls.{OnDisk, Yields};
+ghost use Rattle.tally_opening.specs.Crash.{EndsWhole};
+ghost use Rattle.tally_opening.specs.internal.Ending.{IsSettled};
+ghost use Rattle.tally_opening.specs.internal.Making.{no_list_rows, no_vote_rows};
+ghost use Rattle.tally_opening.specs.internal.Making.{IsNew, Made, MakesNew, Opened, Totalled};
 
 use sqlite::{Alter, Connection, Error, Transaction};
 use tally_rules::{Constituency, Setup};
@@ -27,8 +27,7 @@ fn insert_list_totals<S: Alter>(
     lists: u32,
 ) -> Result<(), Error>
     ensures stays { Stays S.Store tx.old tx.new }
-    ensures added { Totalled (no_list_rows con.now lists)
-        (state S.Store tx.old.conn.now) (state S.Store tx.new.conn.now) result }
+    ensures added { Acts S.Store (Totalled (no_list_rows con.now lists)) tx.old tx.new result }
 {
     for list in 0..lists {
         insert_total(tx, con, list + 1, 0)?;
@@ -39,8 +38,7 @@ fn insert_list_totals<S: Alter>(
 /// Adds the sums of a constituency without returns.
 fn insert_totals<S: Alter>(tx: &mut Transaction<'_, S>, con: &str, lists: u32) -> Result<(), Error>
     ensures stays { Stays S.Store tx.old tx.new }
-    ensures added { Totalled (no_vote_rows con.now lists)
-        (state S.Store tx.old.conn.now) (state S.Store tx.new.conn.now) result }
+    ensures added { Acts S.Store (Totalled (no_vote_rows con.now lists)) tx.old tx.new result }
 {
     insert_total(tx, con, 0, 0)?;
     insert_list_totals(tx, con, lists)?;
@@ -50,8 +48,7 @@ fn insert_totals<S: Alter>(tx: &mut Transaction<'_, S>, con: &str, lists: u32) -
 /// Adds the rows of a constituency that opens.
 fn insert_opening<S: Alter>(tx: &mut Transaction<'_, S>, con: &Constituency) -> Result<(), Error>
     ensures stays { Stays S.Store tx.old tx.new }
-    ensures opened { Opened (con.now ∷ [])
-        (state S.Store tx.old.conn.now) (state S.Store tx.new.conn.now) result }
+    ensures opened { Acts S.Store (Opened (con.now ∷ [])) tx.old tx.new result }
 {
     insert_con(tx, con.code.as_str(), 1, false, "")?;
     insert_totals(tx, con.code.as_str(), con.lists.len() as u32)
@@ -63,8 +60,7 @@ fn insert_openings<S: Alter>(
     cons: &[Constituency],
 ) -> Result<(), Error>
     ensures stays { Stays S.Store tx.old tx.new }
-    ensures opened { Opened cons.now
-        (state S.Store tx.old.conn.now) (state S.Store tx.new.conn.now) result }
+    ensures opened { Acts S.Store (Opened cons.now) tx.old tx.new result }
 {
     for con in cons {
         insert_opening(tx, con)?;
@@ -79,8 +75,7 @@ fn make_office<S: Alter>(
     text: &str,
 ) -> Result<(), Error>
     ensures stays { Stays S.Store tx.old tx.new }
-    ensures made { Made setup.now text.now
-        (state S.Store tx.old.conn.now) (state S.Store tx.new.conn.now) result }
+    ensures made { Acts S.Store (Made setup.now text.now) tx.old tx.new result }
     ensures limits { OnOk result (IsSetup setup.now) }
 {
     create_tables(tx)?;
@@ -98,13 +93,10 @@ pub(crate) fn make_in<S: Alter>(
     requires autocommit { conn.old.in_transaction ≡ false }
     requires unset { (state S.Store conn.old).now.schema ≡ schema_with 0 }
     requires settled { IsSettled (state S.Store conn.old) }
-    ensures ends { IsWholeOrNothing (IsWholeOffice setup.now text.now (opening setup.now)) result
-        (state S.Store conn.old) (state S.Store conn.new) }
-    ensures made { HasCleanDisk (state S.Store conn.new) →
-        OnOk result (HasState setup.now text.now (opening setup.now) (state S.Store conn.new)) }
+    ensures ends { EndsWhole S.Store (λ _. IsNew setup.now text.now) conn.old conn.new result }
+    ensures made { OnDisk S.Store (MakesNew setup.now text.now) conn.old conn.new result }
     ensures limits { OnOk result (IsSetup setup.now) }
-    ensures open { HasCleanDisk (state S.Store conn.new) →
-        OnOk result (IsTrue (state S.Store conn.new).is_open) }
+    ensures open { OnDisk S.Store (Yields (λ _ _ s. IsTrue s.is_open)) conn.old conn.new result }
 {
     let mut tx = conn.transaction();
     match make_office(&mut tx, setup, text) {

@@ -1,12 +1,13 @@
 //! Opening a database, of today's version or of version 1.
 
 ghost use Rattle.std.specs.Prelude.{◌≡◌, false, IfErr, IfOk, IsTrue, OnOk};
-ghost use Rattle.sqlite.specs.State.{HasCleanDisk, KeepsCounts};
 ghost use Rattle.sqlite.specs.Held.{state};
-ghost use Rattle.tally_opening.specs.Crash.{HasPast, IsUnwritten, IsWholeOrNothing, LeavesTakenOver};
-ghost use Rattle.tally_judge.specs.Numbers.{numbers_of};
-ghost use Rattle.tally_opening.specs.Open.{HasNumbersOfFound, IsOpenFault, IsOpened};
-ghost use Rattle.tally_opening.specs.internal.Opening.{IsFormerSchema, IsSchemaFault, IsTodaySchema};
+ghost use Rattle.tally_opening.specs.Calls.{Accepts, OnDisk, Rejects, Yields};
+ghost use Rattle.tally_opening.specs.Crash.{CountsNothing, EndsWhole, IsUnwrittenToday};
+ghost use Rattle.tally_opening.specs.Crash.{LeavesTakenOver};
+ghost use Rattle.tally_opening.specs.Open.{CountsFound, IsOpenFault, IsOpened};
+ghost use Rattle.tally_opening.specs.internal.Opening.{IsFormerSchema, IsSchemaFault};
+ghost use Rattle.tally_opening.specs.internal.Opening.{IsTodaySchema};
 
 use crate::former::open_former;
 use crate::opening::{open_fault_of, open_today};
@@ -50,19 +51,12 @@ pub fn open_in<S: Alter>(
     known: &mut BTreeMap<Code, Statuses>,
 ) -> Result<Setup, OpenFault>
     requires autocommit { conn.old.in_transaction ≡ false }
-    ensures ends { IsWholeOrNothing (LeavesTakenOver (state S.Store conn.old).now) result
-        (state S.Store conn.old) (state S.Store conn.new) }
-    ensures opened { HasCleanDisk (state S.Store conn.new) →
-        IfOk result (λ setup. IsOpened setup (state S.Store conn.old) (state S.Store conn.new)) }
-    ensures fault { HasCleanDisk (state S.Store conn.new) →
-        IfErr result (IsOpenFault (state S.Store conn.old).now) }
-    ensures unwritten { HasPast (state S.Store conn.old).now →
-        IsUnwritten (state S.Store conn.old) (state S.Store conn.new) }
-    ensures counts { HasPast (state S.Store conn.old).now → HasCleanDisk (state S.Store conn.new) →
-        OnOk result (KeepsCounts (state S.Store conn.old) (state S.Store conn.new)) }
-    ensures numbers { HasCleanDisk (state S.Store conn.new) →
-        IfOk result (λ setup.
-        HasNumbersOfFound setup (state S.Store conn.old).now (numbers_of known.new)) }
+    ensures ends { EndsWhole S.Store LeavesTakenOver conn.old conn.new result }
+    ensures opened { OnDisk S.Store (Yields IsOpened) conn.old conn.new result }
+    ensures fault { OnDisk S.Store (Rejects IsOpenFault) conn.old conn.new result }
+    ensures unwritten { IsUnwrittenToday (state S.Store conn.old) (state S.Store conn.new) }
+    ensures counts { OnOk result (CountsNothing (state S.Store conn.old) (state S.Store conn.new)) }
+    ensures numbers { OnDisk S.Store (Accepts (CountsFound known.new)) conn.old conn.new result }
 {
     // Called for what its contract says: all that is there was committed. Autocommit is required.
     if !conn.is_autocommit() {

@@ -1,18 +1,20 @@
 //! Opening a database.
 
-ghost use Rattle.std.specs.Prelude.{◌≡◌, ◌⊎◌, false, IfErr, IfOk, IsTrue, Ok, OnOk, option_map};
-ghost use Rattle.sqlite.specs.State.{HasCleanDisk, KeepsCounts, Survives};
+ghost use Rattle.std.specs.Prelude.{◌≡◌, ◌⊎◌, false, IfErr, IfOk, IsTrue, Ok, option_map};
+ghost use Rattle.sqlite.specs.State.{KeepsCounts};
 ghost use Rattle.sqlite.specs.Held.{state};
 ghost use Rattle.tally_rules.specs.Reading.{setup_of_text};
-ghost use Rattle.tally_judge.specs.Numbers.{numbers_of};
 ghost use Rattle.tally_statements.specs.Inside.{OnlyReadsFrom};
 ghost use Rattle.tally_statements.specs.Office.{HasTables};
 ghost use Rattle.sqlite.specs.Effect.{IsDatabase};
 ghost use Rattle.tally_schema.specs.Tables.{office_schema};
 ghost use Rattle.tally_tables.specs.TablesOfState.{version};
-ghost use Rattle.tally_opening.specs.Create.{IsAsBefore};
-ghost use Rattle.tally_opening.specs.Office.{IsSettled};
-ghost use Rattle.tally_opening.specs.internal.Opening.{HasNumbersOfTables, IsJudged, IsJudgedFault, IsTodayFault, IsSetupFault, HasSetupRow, IsTextFault, Sees, setup_shown, shown_of_row};
+ghost use Rattle.tally_opening.specs.Calls.{Accepts, OnDisk, Rejects, Yields};
+ghost use Rattle.tally_opening.specs.internal.Ending.{EndsUnchanged, IsSettled};
+ghost use Rattle.tally_opening.specs.internal.Opening.{CountsTables, HasSetupRow, IsJudged, Sees};
+ghost use Rattle.tally_opening.specs.internal.Opening.{IsJudgedFault, IsSetupFault, IsTodayFault};
+ghost use Rattle.tally_opening.specs.internal.Opening.{IsShownFault, IsShownSetup, IsTextFault};
+ghost use Rattle.tally_opening.specs.internal.Opening.{setup_shown, shown_of_row};
 
 use crate::judging::judge_office;
 use crate::making::VERSION;
@@ -37,7 +39,7 @@ fn shown_of_row(row: &Row) -> Option<(u32, &[u8])>
 }
 
 /// The version of the tables and the text of the setup, where `setup` has its one row.
-pub(crate) fn setup_shown(rows: &[Row]) -> Option<(u32, &[u8])>
+fn setup_shown(rows: &[Row]) -> Option<(u32, &[u8])>
     ensures { option_map (λ found. (found.0, found.1.now)) result ≡ setup_shown rows.now }
 {
     if rows.len() != 1 {
@@ -47,7 +49,7 @@ pub(crate) fn setup_shown(rows: &[Row]) -> Option<(u32, &[u8])>
 }
 
 /// The setup that a stored text is.
-pub(crate) fn stored_setup(alloc: Global, text: &[u8]) -> Result<Setup, OpenFault>
+fn stored_setup(alloc: Global, text: &[u8]) -> Result<Setup, OpenFault>
     ensures setup { IfOk result (λ setup. setup_of_text text.now ≡ Ok setup) }
     ensures fault { IfErr result (IsTextFault text.now) }
 {
@@ -58,6 +60,24 @@ pub(crate) fn stored_setup(alloc: Global, text: &[u8]) -> Result<Setup, OpenFaul
     }
 }
 
+/// The setup of this version that is shown of the table `setup`. Where today's version is shown in
+/// place of it, the table `past` is missing.
+fn setup_of_version(alloc: Global, rows: &[Row], number: u32) -> Result<Setup, OpenFault>
+    ensures setup { IfOk result (IsShownSetup number rows.now) }
+    ensures fault { IfErr result (IsShownFault number rows.now) }
+{
+    let Some((found, text)) = setup_shown(rows) else {
+        return Err(OpenFault::BadTables);
+    };
+    if found == number {
+        return stored_setup(alloc, text);
+    }
+    if found == VERSION {
+        return Err(OpenFault::NoTables);
+    }
+    Err(OpenFault::BadTables)
+}
+
 /// The setup whose text `setup` has, where it has its one row, of this version.
 fn read_stored<S: Alter>(
     alloc: Global,
@@ -65,23 +85,15 @@ fn read_stored<S: Alter>(
     number: u32,
 ) -> Result<Result<Setup, OpenFault>, Error>
     ensures reads { OnlyReadsFrom HasTables S.Store tx.old tx.new result }
-    ensures stored { Sees S.Store (λ seen r. IfOk r (λ setup. HasSetupRow number setup seen))
-        tx.old tx.new result }
-    ensures fault { Sees S.Store (λ seen r. IfErr r (IsSetupFault number seen))
-        tx.old tx.new result }
+    ensures stored { Sees S.Store (Accepts (HasSetupRow number)) tx.old tx.new result }
+    ensures fault { Sees S.Store (Rejects (IsSetupFault number)) tx.old tx.new result }
 {
     let rows = all_setup(tx)?;
-    let Some((found, text)) = setup_shown(&rows) else {
-        return Ok(Err(OpenFault::BadTables));
-    };
-    if found != number {
-        return Ok(Err(OpenFault::BadTables));
-    }
-    Ok(stored_setup(alloc, text))
+    Ok(setup_of_version(alloc, &rows, number))
 }
 
-/// The setup of an office whose tables are those of a lawful state. The numbers of its returns are
-/// put into a tree.
+/// The setup of this version, where the tables in today's form are those of a lawful state over it.
+/// The numbers of its returns are put into a tree.
 pub(crate) fn judge_stored<S: Alter>(
     alloc: Global,
     tx: &mut Transaction<'_, S>,
@@ -89,15 +101,10 @@ pub(crate) fn judge_stored<S: Alter>(
     known: &mut BTreeMap<Code, Statuses>,
 ) -> Result<Result<Setup, OpenFault>, Error>
     ensures reads { OnlyReadsFrom HasTables S.Store tx.old tx.new result }
-    ensures stored { Sees S.Store (λ seen r. IfOk r (λ setup. HasSetupRow number setup seen))
-        tx.old tx.new result }
-    ensures judged { Sees S.Store (λ seen r. IfOk r (λ setup. IsJudged setup seen))
-        tx.old tx.new result }
-    ensures fault { Sees S.Store (λ seen r. IfErr r (IsJudgedFault number seen))
-        tx.old tx.new result }
-    ensures numbers { Sees S.Store (λ seen r.
-        IfOk r (λ setup. HasNumbersOfTables setup seen (numbers_of known.new)))
-        tx.old tx.new result }
+    ensures stored { Sees S.Store (Accepts (HasSetupRow number)) tx.old tx.new result }
+    ensures judged { Sees S.Store (Accepts IsJudged) tx.old tx.new result }
+    ensures fault { Sees S.Store (Rejects (IsJudgedFault number)) tx.old tx.new result }
+    ensures numbers { Sees S.Store (Accepts (CountsTables known.new)) tx.old tx.new result }
 {
     let setup = match read_stored(alloc, tx, number)? {
         Ok(setup) => setup,
@@ -131,24 +138,12 @@ pub(crate) fn open_today<S: Alter>(
     requires sound { IsTrue (state S.Store conn.old).is_open →
         IsDatabase (state S.Store conn.old).now }
     requires settled { IsSettled (state S.Store conn.old) }
-    ensures ended { conn.new.in_transaction ≡ false }
-    ensures stored { HasCleanDisk (state S.Store conn.new) →
-        IfOk result (λ setup. HasSetupRow version setup (state S.Store conn.old)) }
-    ensures judged { HasCleanDisk (state S.Store conn.new) →
-        IfOk result (λ setup. IsJudged setup (state S.Store conn.old)) }
-    ensures fault { HasCleanDisk (state S.Store conn.new) →
-        IfErr result (IsTodayFault (state S.Store conn.old)) }
-    ensures same { HasCleanDisk (state S.Store conn.new) → IsTrue (state S.Store conn.new).is_open →
-        IsAsBefore (state S.Store conn.old) (state S.Store conn.new) }
-    ensures was_open { HasCleanDisk (state S.Store conn.new) →
-        IsTrue (state S.Store conn.new).is_open →
-        IsTrue (state S.Store conn.old).is_open }
-    ensures counts { HasCleanDisk (state S.Store conn.new) →
-        OnOk result (KeepsCounts (state S.Store conn.old) (state S.Store conn.new)) }
-    ensures unwritten { Survives (state S.Store conn.old) (state S.Store conn.new) (λ _. ⊥) }
-    ensures numbers { HasCleanDisk (state S.Store conn.new) →
-        IfOk result (λ setup.
-        HasNumbersOfTables setup (state S.Store conn.old) (numbers_of known.new)) }
+    ensures ends { EndsUnchanged (state S.Store conn.old) (state S.Store conn.new) }
+    ensures stored { OnDisk S.Store (Accepts (HasSetupRow version)) conn.old conn.new result }
+    ensures judged { OnDisk S.Store (Accepts IsJudged) conn.old conn.new result }
+    ensures fault { OnDisk S.Store (Rejects IsTodayFault) conn.old conn.new result }
+    ensures counts { OnDisk S.Store (Yields (λ _. KeepsCounts)) conn.old conn.new result }
+    ensures numbers { OnDisk S.Store (Accepts (CountsTables known.new)) conn.old conn.new result }
 {
     let mut tx = conn.transaction();
     let judged = judge_stored(alloc, &mut tx, VERSION, known);

@@ -1,6 +1,6 @@
 -- A command line that is not carried out.
 use Rattle.std.proofs.Common.{◌≡◌, ℕ, List, Option, Some, None, Result, Err, IfErr, refl, sym, subst, inl, inr, codes}
-use Rattle.tally_commands.specs.Told.{Told}
+use Rattle.tally_commands.specs.Reported.{IsReported}
 use Rattle.tally_commands.specs.Imported.{IsCountText}
 use Rattle.tally_commands.specs.Made.{IsMadeText}
 use Rattle.tally_commands.specs.Served.{IsServedText}
@@ -10,18 +10,19 @@ use Rattle.tally_line.specs.Line.{CheckSeen, ImportSeen, IsRefusal, LineSeen, Ne
 use Rattle.tally_line.specs.declared.line.LineFault.{LineFault}
 use Rattle.tally_line.specs.declared.line.LineFault.TheVariants.{Usage, NoCon, Memory}
 use Rattle.tally_line.proofs.CommandLemmas.{lacks_con_alone}
-use Rattle.tally_program.specs.Commands.{Bytes, IsAnyText, IsCommandTold, IsWritten, SaysWhere, command_status}
-use Rattle.tally_program.specs.Perform.{Performs, PerformsLine, fault_status}
+use Rattle.tally_program.specs.Commands.{Bytes, IsAnyText, IsOutcomeReported, IsWritten, NotListening, Opening, TakesCourse, command_status}
+use Rattle.tally_program.specs.Perform.{Performs, PerformsLine}
+use Rattle.tally_program.specs.internal.Fault.{fault_status}
 use Rattle.tally_program.specs.Troubles.{IsTroubleOfServe}
 use Rattle.tally_program.proofs.WrittenLemmas.{any, counted, made, served, unwritten}
 
 -- out of memory, whatever the words ask for
-pub without-memory : {R W E : Type 0} (left : Bytes R) (held : Bytes W) (told : Bytes E) (words : List (List ℕ)) (line : Option LineSeen)
-    (i : R) (o : W) (before after : E) → Told (told before) (told after) (codes "failed: memory\n")
-    → PerformsLine left held told words line (record { input = i; output = o; errors = before }) (record { input = i; output = o; errors = after }) 3
-without-memory left held told words (Some (CheckSeen sep)) i o before after so =
-    inr (record { input = refl; output = refl }, record { told_so = so; gives = refl })
-without-memory left held told words (Some (NewSeen db setup)) i o before after so = record {
+pub without-memory : {R W E : Type 0} (Opens : List ℕ → Opening) (left : Bytes R) (held : Bytes W) (reported : Bytes E) (words : List (List ℕ)) (line : Option LineSeen)
+    (i : R) (o : W) (before after : E) → IsReported (reported before) (reported after) (codes "failed: memory\n")
+    → PerformsLine Opens left held reported words line (record { input = i; output = o; errors = before }) (record { input = i; output = o; errors = after }) 3
+without-memory Opens left held reported words (Some (CheckSeen sep)) i o before after so =
+    inr (record { input = refl; output = refl }, record { report = so; gives = refl })
+without-memory Opens left held reported words (Some (NewSeen db setup)) i o before after so = record {
   outcome = Err trouble.Memory;
   named = inl (inl (inl refl));
   written = unwritten held IsMadeText made o trouble.Memory;
@@ -29,7 +30,7 @@ without-memory left held told words (Some (NewSeen db setup)) i o before after s
   gives = refl;
   unread = refl;
 }
-without-memory left held told words (Some (ImportSeen db con csv sep)) i o before after so = record {
+without-memory Opens left held reported words (Some (ImportSeen db con csv sep)) i o before after so = record {
   outcome = Err trouble.Memory;
   named = inr (inl (inl (inl refl)));
   written = unwritten held IsCountText counted o trouble.Memory;
@@ -37,7 +38,7 @@ without-memory left held told words (Some (ImportSeen db con csv sep)) i o befor
   gives = refl;
   unread = refl;
 }
-without-memory left held told words (Some (ShowSeen db name con)) i o before after so = record {
+without-memory Opens left held reported words (Some (ShowSeen db name con)) i o before after so = record {
   outcome = Err trouble.Memory;
   named = inl (inr (inr (inr (inl refl))));
   written = unwritten held IsAnyText any o trouble.Memory;
@@ -45,40 +46,40 @@ without-memory left held told words (Some (ShowSeen db name con)) i o before aft
   gives = refl;
   unread = refl;
 }
-without-memory left held told words (Some (ServeSeen db port count)) i o before after so = record {
+without-memory Opens left held reported words (Some (ServeSeen db port count)) i o before after so = record {
   outcome = Err trouble.Memory;
   named = inr (inl (inl refl));
   written = unwritten held (IsServedText count) (served count) o trouble.Memory;
   said = before;
-  says = inr (inr (inl refl), refl);
+  takes = record { course = NotListening trouble.Memory; is = refl; named = inr (inl refl); says = refl };
   errors = so;
   gives = refl;
   unread = refl;
 }
-without-memory left held told words None i o before after so = record {
+without-memory Opens left held reported words None i o before after so = record {
   untouched = record { input = refl; output = refl };
-  refused = inr (record { told_so = so; gives = refl });
-  no_con = λ lacks. inr (record { told_so = so; gives = refl });
+  refused = inr (record { report = so; gives = refl });
+  no_con = λ lacks. inr (record { report = so; gives = refl });
 }
 
 -- words for which there is no line, and what is told of them
-pub refused : {R W E : Type 0} (left : Bytes R) (held : Bytes W) (told : Bytes E) (words : List (List ℕ)) (fault : LineFault)
+pub refused : {R W E : Type 0} (Opens : List ℕ → Opening) (left : Bytes R) (held : Bytes W) (reported : Bytes E) (words : List (List ℕ)) (fault : LineFault)
     (i : R) (o : W) (before after : E) (status : ℕ) → IsRefusal words fault → status ≡ fault_status fault
-    → (status ≡ 3 → Told (told before) (told after) (codes "failed: memory\n"))
-    → (fault ≡ NoCon → Told (told before) (told after) (codes "missing --con\n"))
-    → Performs left held told words (record { input = i; output = o; errors = before }) (record { input = i; output = o; errors = after }) status
-refused left held told words Memory i o before after status is gives memory con =
-    subst (λ (n : ℕ). PerformsLine left held told words (line_of words) (record { input = i; output = o; errors = before }) (record { input = i; output = o; errors = after }) n)
-    (sym gives) (without-memory left held told words (line_of words) i o before after (memory gives))
-refused left held told words NoCon i o before after status is gives memory con =
-    subst (λ (l : Option LineSeen). PerformsLine left held told words l (record { input = i; output = o; errors = before }) (record { input = i; output = o; errors = after }) status)
+    → (status ≡ 3 → IsReported (reported before) (reported after) (codes "failed: memory\n"))
+    → (fault ≡ NoCon → IsReported (reported before) (reported after) (codes "missing --con\n"))
+    → Performs Opens left held reported words (record { input = i; output = o; errors = before }) (record { input = i; output = o; errors = after }) status
+refused Opens left held reported words Memory i o before after status is gives memory con =
+    subst (λ (n : ℕ). PerformsLine Opens left held reported words (line_of words) (record { input = i; output = o; errors = before }) (record { input = i; output = o; errors = after }) n)
+    (sym gives) (without-memory Opens left held reported words (line_of words) i o before after (memory gives))
+refused Opens left held reported words NoCon i o before after status is gives memory con =
+    subst (λ (l : Option LineSeen). PerformsLine Opens left held reported words l (record { input = i; output = o; errors = before }) (record { input = i; output = o; errors = after }) status)
     (sym is.0) (record {
       untouched = record { input = refl; output = refl };
       refused = inl gives;
-      no_con = λ lacks. inl (record { told_so = con refl; gives = gives });
+      no_con = λ lacks. inl (record { report = con refl; gives = gives });
     })
-refused left held told words (Usage e) i o before after status is gives memory con =
-    subst (λ (l : Option LineSeen). PerformsLine left held told words l (record { input = i; output = o; errors = before }) (record { input = i; output = o; errors = after }) status)
+refused Opens left held reported words (Usage e) i o before after status is gives memory con =
+    subst (λ (l : Option LineSeen). PerformsLine Opens left held reported words l (record { input = i; output = o; errors = before }) (record { input = i; output = o; errors = after }) status)
     (sym is.0) (record {
       untouched = record { input = refl; output = refl };
       refused = inl gives;
@@ -89,11 +90,11 @@ refused left held told words (Usage e) i o before after status is gives memory c
     })
 
 -- words that ask for a server, and what it said, wrote and reported
-pub serves : {R W E : Type 0} (left : Bytes R) (held : Bytes W) (told : Bytes E) (words : List (List ℕ)) (db : List ℕ) (port count : ℕ)
+pub serves : {R W E : Type 0} (Opens : List ℕ → Opening) (left : Bytes R) (held : Bytes W) (reported : Bytes E) (words : List (List ℕ)) (db : List ℕ) (port count : ℕ)
     (i : R) (o written : W) (before said after : E) (outcome : Result (Unit {0}) Trouble) (status : ℕ) → line_of words ≡ Some (ServeSeen db port count)
-    → IfErr outcome IsTroubleOfServe → IsWritten held (IsServedText count) o written outcome → SaysWhere told port count before said outcome
-    → IsCommandTold told said after outcome → status ≡ command_status outcome
-    → Performs left held told words (record { input = i; output = o; errors = before }) (record { input = i; output = written; errors = after }) status
-serves left held told words db port count i o written before said after outcome status is named writes says reports gives =
-    subst (λ (l : Option LineSeen). PerformsLine left held told words l (record { input = i; output = o; errors = before }) (record { input = i; output = written; errors = after }) status)
-    (sym is) (record { outcome = outcome; named = named; written = writes; said = said; says = says; errors = reports; gives = gives; unread = refl })
+    → IfErr outcome IsTroubleOfServe → IsWritten held (IsServedText count) o written outcome → TakesCourse (Opens db) reported port count before said outcome
+    → IsOutcomeReported reported said after outcome → status ≡ command_status outcome
+    → Performs Opens left held reported words (record { input = i; output = o; errors = before }) (record { input = i; output = written; errors = after }) status
+serves Opens left held reported words db port count i o written before said after outcome status is named writes takes reports gives =
+    subst (λ (l : Option LineSeen). PerformsLine Opens left held reported words l (record { input = i; output = o; errors = before }) (record { input = i; output = written; errors = after }) status)
+    (sym is) (record { outcome = outcome; named = named; written = writes; said = said; takes = takes; errors = reports; gives = gives; unread = refl })

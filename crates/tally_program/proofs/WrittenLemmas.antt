@@ -1,15 +1,15 @@
 -- What a command writes: nothing where it had a trouble before, and a text of a kind where it wrote one that is of the kind.
-use Rattle.std.proofs.Common.{◌≡◌, ℕ, List, [], Option, Some, None, Result, Ok, Err, IfOk, IfErr, OnOk, OnErr, refl, sym, subst, append-nil, arith, inl, inr}
+use Rattle.std.proofs.Common.{◌≡◌, ℕ, List, [], Option, Some, None, Result, Ok, Err, IfOk, IfErr, OnOk, OnErr, refl, sym, subst, append-nil, arith, inr}
 use Rattle.std.specs.Io.KnownBytes.{Appends}
 use Rattle.tally_keeper.specs.declared.import.ImportCount.{ImportCount}
 use Rattle.tally_import.specs.Check.{count_text}
 use Rattle.tally_commands.specs.Imported.{IsCountText}
 use Rattle.tally_commands.specs.Made.{IsMadeText, constituencies_text}
 use Rattle.tally_commands.specs.Served.{IsServedText, listening_line, served_line}
-use Rattle.tally_commands.specs.Told.{Told}
+use Rattle.tally_commands.specs.Reported.{IsReported}
 use Rattle.tally_commands.specs.declared.trouble.Trouble.{Trouble}
 use Rattle.tally_commands.specs.declared.trouble.Trouble.TheVariants as trouble
-use Rattle.tally_program.specs.Commands.{Bytes, IsAnyText, IsWritten, SaysWhere}
+use Rattle.tally_program.specs.Commands.{Bytes, IsAnyText, IsWritten, Listened, NotListening, Opening, TakesCourse}
 use Rattle.tally_program.specs.Troubles.{IsTroubleOfEnding, IsTroubleOfServing}
 
 appends-nothing : (held : Option (List ℕ)) → Appends held held []
@@ -102,11 +102,11 @@ ended-named Same Own Whole own ending (Ok text) r named ends fails = named-weake
 ended-named Same Own Whole own ending (Err t) r named ends fails =
     subst (λ (r : Result (Unit {0}) Trouble). IfErr r Whole) (sym fails.0) (own t named)
 
--- what a server said before its outcome is reported, by what serving came to, and then its ending
-pub said-by : {E S : Type 0} (told : Bytes E) (port count : ℕ) (Same : Type 0) (old new : E) (outcome : Result S Trouble) (r : Result (Unit {0}) Trouble)
-    → OnOk outcome (Told (told old) (told new) (listening_line port count)) → OnErr outcome (new ≡ old) → IfErr outcome IsTroubleOfServing
-    → OnOk outcome (IfErr r IsTroubleOfEnding) → IfErr outcome (λ t. (r ≡ Err t) × Same) → SaysWhere told port count old new r
-said-by told port count Same old new (Ok text) (Ok done) said silent serving ends fails = said
-said-by told port count Same old new (Ok text) (Err t) said silent serving ends fails = inl (ends, said)
-said-by told port count Same old new (Err t) r said silent serving ends fails =
-    subst (λ (r : Result (Unit {0}) Trouble). SaysWhere told port count old new r) (sym fails.0) (inr (inr serving, silent))
+-- the course of a server whose office was opened, by what serving came to, and then its ending
+pub takes : {E S : Type 0} (Opens : Opening) (reported : Bytes E) (port count : ℕ) (Same : Type 0) (old new : E) (outcome : Result S Trouble) (r : Result (Unit {0}) Trouble)
+    → Opens (Ok tt) → OnOk outcome (IsReported (reported old) (reported new) (listening_line port count)) → OnErr outcome (new ≡ old) → IfErr outcome IsTroubleOfServing
+    → OnOk outcome (IfErr r IsTroubleOfEnding) → IfErr outcome (λ t. (r ≡ Err t) × Same) → TakesCourse Opens reported port count old new r
+takes Opens reported port count Same old new (Ok text) r opened said silent serving ends fails =
+    record { course = Listened r; is = refl; named = (opened, ends); says = said }
+takes Opens reported port count Same old new (Err t) r opened said silent serving ends fails =
+    record { course = NotListening t; is = fails.0; named = inr serving; says = silent }

@@ -3,11 +3,11 @@
 use Rattle.std.specs.Prelude.{◌≡◌, ◌⊎◌, ℕ, List, Option, Some, None, Result, Ok, Err, IfErr, take}
 use Rattle.std.specs.Io.KnownBytes.{Appends}
 use Rattle.tally_commands.specs.Served.{IsServedText, listening_line}
-use Rattle.tally_commands.specs.Told.{Told}
-use Rattle.tally_commands.specs.Trouble.{trouble_line, trouble_status}
+use Rattle.tally_commands.specs.Reported.{IsReported}
+use Rattle.tally_commands.specs.Trouble.{IsTroubleOfOpening, trouble_line, trouble_status}
 use Rattle.tally_commands.specs.declared.trouble.Trouble.{Trouble}
 use Rattle.tally_commands.specs.declared.trouble.Trouble.TheVariants.{Write}
-use Rattle.tally_program.specs.Troubles.{IsTroubleOfEnding, IsTroubleOfListening, IsTroubleOfServe}
+use Rattle.tally_program.specs.Troubles.{IsTroubleOfEnding, IsTroubleOfServe, IsTroubleOfServing}
 
 -- any text, where it takes the office to say more
 abbrev pub IsAnyText : List ℕ → Type 0
@@ -30,7 +30,7 @@ streams input output errors = record { input = input; output = output; errors = 
 
 -- ---- how a command ends
 
--- Where it is done, one text of a kind was written whole; where a write failed, a prefix of one;
+-- Where it is done, one text of a kind was written whole; with the trouble `write`, a prefix of one;
 -- with any other trouble the output is as it was.
 abbrev pub IsWritten : {W : Type 0} → Bytes W → (List ℕ → Type 0) → W → W
     → Result (Unit {0}) Trouble → Type 0
@@ -41,18 +41,10 @@ IsWritten held IsText old new (Err Write) =
 IsWritten held IsText old new (Err other) = new ≡ old
 
 -- Nothing is reported where it is done, and the line of its trouble where it has one.
-abbrev pub IsCommandTold : {E : Type 0} → Bytes E → E → E → Result (Unit {0}) Trouble → Type 0
-IsCommandTold told old new (Ok done) = new ≡ old
-IsCommandTold told old new (Err trouble) = Told (told old) (told new) (trouble_line trouble)
-
--- What a server says before it reports how it ended: where it listens, once it does. So one that is
--- done has said it, or a prefix of it where a write failed; and one with a trouble has said it, if
--- the trouble is of its ending, or it said nothing, if it did not listen yet.
-abbrev pub SaysWhere : {E : Type 0} → Bytes E → ℕ → ℕ → E → E → Result (Unit {0}) Trouble → Type 0
-SaysWhere told port count old new (Ok done) = Told (told old) (told new) (listening_line port count)
-SaysWhere told port count old new (Err t) =
-    (IsTroubleOfEnding t × Told (told old) (told new) (listening_line port count))
-    ⊎ (IsTroubleOfListening t × (new ≡ old))
+abbrev pub IsOutcomeReported : {E : Type 0} → Bytes E → E → E → Result (Unit {0}) Trouble → Type 0
+IsOutcomeReported reported old new (Ok done) = new ≡ old
+IsOutcomeReported reported old new (Err trouble) =
+    IsReported (reported old) (reported new) (trouble_line trouble)
 
 abbrev pub command_status : Result (Unit {0}) Trouble → ℕ
 command_status (Ok done) = 0
@@ -60,25 +52,68 @@ command_status (Err trouble) = trouble_status trouble
 
 -- A command came to an outcome: a text of its kind, or one of its troubles. What is written,
 -- reported and answered is that of the outcome, and the input is not read.
-pub record EndsCommand {R W E : Type 0} (held : Bytes W) (told : Bytes E)
+pub record EndsCommand {R W E : Type 0} (held : Bytes W) (reported : Bytes E)
     (IsText : List ℕ → Type 0) (IsTrouble : Trouble → Type 0)
     (old new : Streams R W E) (status : ℕ) : Type 0 where
   pub outcome : Result (Unit {0}) Trouble
   pub named : IfErr outcome IsTrouble
   pub written : IsWritten held IsText old.output new.output outcome
-  pub errors : IsCommandTold told old.errors new.errors outcome
+  pub errors : IsOutcomeReported reported old.errors new.errors outcome
   pub gives : status ≡ command_status outcome
   pub unread : new.input ≡ old.input
 
--- The same of a server of so many connections at a port, which says where it listens before it
--- reports how it ended.
-pub record EndsServer {R W E : Type 0} (held : Bytes W) (told : Bytes E) (port count : ℕ)
-    (old new : Streams R W E) (status : ℕ) : Type 0 where
+-- ---- how a server ends
+
+-- How far a server came: it does not listen yet, for this trouble; or it listened, and then came to
+-- this outcome.
+pub data Course : Type 0 where
+  NotListening : Trouble → Course
+  Listened : Result (Unit {0}) Trouble → Course
+
+-- the outcome of the command
+abbrev pub outcome_of : Course → Result (Unit {0}) Trouble
+outcome_of (NotListening t) = Err t
+outcome_of (Listened outcome) = outcome
+
+-- what opening an office came to: it is open, or it is not, for this trouble
+abbrev pub Opening : Type 1
+Opening = Result (Unit {0}) Trouble → Type 0
+
+abbrev pub opening_of : {Office : Type 0} → Result Office Trouble → Result (Unit {0}) Trouble
+opening_of (Ok office) = Ok tt
+opening_of (Err t) = Err t
+
+-- The trouble of a server that does not listen yet is the one for which its office was not opened,
+-- or one of serving. One that listened has opened its office, and its trouble is of its ending.
+abbrev pub IsCourse : Opening → Course → Type 0
+IsCourse Opens (NotListening t) = (IsTroubleOfOpening t × Opens (Err t)) ⊎ IsTroubleOfServing t
+IsCourse Opens (Listened outcome) = Opens (Ok tt) × IfErr outcome IsTroubleOfEnding
+
+-- What a server says before it reports how it ended: where it listens, once it does, or a prefix of
+-- it; and nothing where it does not listen yet.
+abbrev pub SaysWhere : {E : Type 0} → Bytes E → ℕ → ℕ → E → E → Course → Type 0
+SaysWhere reported port count old new (NotListening t) = new ≡ old
+SaysWhere reported port count old new (Listened outcome) =
+    IsReported (reported old) (reported new) (listening_line port count)
+
+-- A server took a course, and this is its outcome.
+pub record TakesCourse {E : Type 0} (Opens : Opening) (reported : Bytes E) (port count : ℕ)
+    (old new : E)
+    (outcome : Result (Unit {0}) Trouble) : Type 0 where
+  pub course : Course
+  pub is : outcome ≡ outcome_of course
+  pub named : IsCourse Opens course
+  pub says : SaysWhere reported port count old new course
+
+-- The same as of a command, of a server of so many connections at a port, which says where it
+-- listens before it reports how it ended.
+pub record EndsServer {R W E : Type 0} (Opens : Opening) (held : Bytes W) (reported : Bytes E)
+    (port count : ℕ) (old new : Streams R W E) (status : ℕ) : Type 0 where
   pub outcome : Result (Unit {0}) Trouble
   pub named : IfErr outcome IsTroubleOfServe
   pub written : IsWritten held (IsServedText count) old.output new.output outcome
   pub said : E
-  pub says : SaysWhere told port count old.errors said outcome
-  pub errors : IsCommandTold told said new.errors outcome
+  pub takes : TakesCourse Opens reported port count old.errors said outcome
+  pub errors : IsOutcomeReported reported said new.errors outcome
   pub gives : status ≡ command_status outcome
   pub unread : new.input ≡ old.input

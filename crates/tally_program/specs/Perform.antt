@@ -5,13 +5,11 @@ use Rattle.tally_records.specs.declared.separator.Sep.{Sep}
 use Rattle.tally_import.specs.declared.CheckFault.{CheckFault}
 use Rattle.tally_commands.specs.Imported.{IsCountText}
 use Rattle.tally_commands.specs.Made.{IsMadeText}
-use Rattle.tally_commands.specs.Told.{Told}
+use Rattle.tally_commands.specs.Reported.{IsReported}
 use Rattle.tally_commands.specs.Trouble.{check_trouble}
 use Rattle.tally_commands.specs.declared.trouble.Trouble.{Trouble}
 use Rattle.tally_line.specs.Line.{CheckSeen, ImportSeen, LacksCon, LineSeen, NewSeen, ServeSeen, ShowSeen, line_of}
-use Rattle.tally_line.specs.declared.line.LineFault.{LineFault}
-use Rattle.tally_line.specs.declared.line.LineFault.TheVariants.{Usage, NoCon, Memory}
-use Rattle.tally_program.specs.Commands.{Bytes, EndsCommand, EndsServer, IsAnyText, IsCommandTold, Streams, command_status}
+use Rattle.tally_program.specs.Commands.{Bytes, EndsCommand, EndsServer, IsAnyText, IsOutcomeReported, Opening, Streams, command_status}
 use Rattle.tally_program.specs.Troubles.{IsTroubleOfImport, IsTroubleOfNew, IsTroubleOfShow}
 
 -- ---- checks
@@ -24,13 +22,14 @@ check_outcome (Err fault) = Err (check_trouble fault)
 -- One check takes the input from its bytes to the rest, and the output from what it held to what it
 -- holds. What is reported and answered is that of its outcome. Nothing is said of an input that is
 -- not known.
-pub record EndsCheck {R W E : Type 0} (left : Bytes R) (held : Bytes W) (told : Bytes E) (sep : Sep)
+pub record EndsCheck {R W E : Type 0} (left : Bytes R) (held : Bytes W) (reported : Bytes E)
+    (sep : Sep)
     (old new : Streams R W E) (status : ℕ) : Type 0 where
   pub outcome : Result (Unit {0}) CheckFault
   pub checks : IfSome (left old.input) (λ text.
       Checks sep text (left new.input) (held old.output) (held new.output) outcome)
   pub silent : IsSilent (held old.output) (held new.output) outcome
-  pub errors : IsCommandTold told old.errors new.errors (check_outcome outcome)
+  pub errors : IsOutcomeReported reported old.errors new.errors (check_outcome outcome)
   pub gives : status ≡ command_status (check_outcome outcome)
 
 -- ---- command lines that are not carried out
@@ -41,33 +40,27 @@ pub record IsUntouched {R W E : Type 0} (old new : Streams R W E) : Type 0 where
   pub output : new.output ≡ old.output
 
 -- it was out of memory, and wrote the line that says so, or a prefix of it
-pub record IsOutOfMemory {R W E : Type 0} (told : Bytes E)
+pub record IsOutOfMemory {R W E : Type 0} (reported : Bytes E)
     (old new : Streams R W E) (status : ℕ) : Type 0 where
-  pub told_so : Told (told old.errors) (told new.errors) (codes "failed: memory\n")
+  pub report : IsReported (reported old.errors) (reported new.errors) (codes "failed: memory\n")
   pub gives : status ≡ 3
 
 -- The constituency that a report needs is not named, and it wrote the line that says so, or a
 -- prefix of it.
-pub record IsWithoutCon {R W E : Type 0} (told : Bytes E)
+pub record IsWithoutCon {R W E : Type 0} (reported : Bytes E)
     (old new : Streams R W E) (status : ℕ) : Type 0 where
-  pub told_so : Told (told old.errors) (told new.errors) (codes "missing --con\n")
+  pub report : IsReported (reported old.errors) (reported new.errors) (codes "missing --con\n")
   pub gives : status ≡ 2
 
 -- The words ask for nothing that can be done: status 2, or 3 where the program is out of memory.
 -- Where a constituency is missing, its line is written. Nothing is said of other words on standard
 -- error.
-pub record RefusesLine {R W E : Type 0} (told : Bytes E) (words : List (List ℕ))
+pub record RefusesLine {R W E : Type 0} (reported : Bytes E) (words : List (List ℕ))
     (old new : Streams R W E) (status : ℕ) : Type 0 where
   pub untouched : IsUntouched old new
-  pub refused : (status ≡ 2) ⊎ IsOutOfMemory told old new status
-  pub no_con : LacksCon words → IsWithoutCon told old new status ⊎ IsOutOfMemory told old new status
-
--- the exit status where there is no line: 2 for a wrong command line and one that asks for help, 3
--- where it is out of memory
-abbrev pub fault_status : LineFault → ℕ
-fault_status (Usage error) = 2
-fault_status NoCon = 2
-fault_status Memory = 3
+  pub refused : (status ≡ 2) ⊎ IsOutOfMemory reported old new status
+  pub no_con : LacksCon words → IsWithoutCon reported old new status
+      ⊎ IsOutOfMemory reported old new status
 
 -- the line where the arguments of the program are not all text
 abbrev pub not_text_line : List ℕ
@@ -75,23 +68,26 @@ not_text_line = codes "error: the arguments are not all UTF-8 text\n"
 
 -- ---- command lines
 
--- What becomes of what the words ask for. A check may be out of memory before it begins.
-abbrev pub PerformsLine : {R W E : Type 0} → Bytes R → Bytes W → Bytes E → List (List ℕ) → Option LineSeen
-    → Streams R W E → Streams R W E → ℕ → Type 0
-PerformsLine left held told words (Some (CheckSeen sep)) old new status =
-    EndsCheck left held told sep old new status
-    ⊎ (IsUntouched old new × IsOutOfMemory told old new status)
-PerformsLine left held told words (Some (NewSeen db setup)) old new status =
-    EndsCommand held told IsMadeText IsTroubleOfNew old new status
-PerformsLine left held told words (Some (ImportSeen db con csv sep)) old new status =
-    EndsCommand held told IsCountText IsTroubleOfImport old new status
-PerformsLine left held told words (Some (ShowSeen db name con)) old new status =
-    EndsCommand held told IsAnyText IsTroubleOfShow old new status
-PerformsLine left held told words (Some (ServeSeen db port count)) old new status =
-    EndsServer held told port count old new status
-PerformsLine left held told words None old new status = RefusesLine told words old new status
+-- What becomes of what the words ask for, where opening the office at a path came to what `Opens`
+-- says. A check may be out of memory before it begins.
+abbrev pub PerformsLine : {R W E : Type 0} → (List ℕ → Opening) → Bytes R → Bytes W → Bytes E
+    → List (List ℕ) → Option LineSeen → Streams R W E → Streams R W E → ℕ → Type 0
+PerformsLine Opens left held reported words (Some (CheckSeen sep)) old new status =
+    EndsCheck left held reported sep old new status
+    ⊎ (IsUntouched old new × IsOutOfMemory reported old new status)
+PerformsLine Opens left held reported words (Some (NewSeen db setup)) old new status =
+    EndsCommand held reported IsMadeText IsTroubleOfNew old new status
+PerformsLine Opens left held reported words (Some (ImportSeen db con csv sep)) old new status =
+    EndsCommand held reported IsCountText IsTroubleOfImport old new status
+PerformsLine Opens left held reported words (Some (ShowSeen db name con)) old new status =
+    EndsCommand held reported IsAnyText IsTroubleOfShow old new status
+PerformsLine Opens left held reported words (Some (ServeSeen db port count)) old new status =
+    EndsServer (Opens db) held reported port count old new status
+PerformsLine Opens left held reported words None old new status =
+    RefusesLine reported words old new status
 
 -- What the program does for these words, its name first.
-abbrev pub Performs : {R W E : Type 0} → Bytes R → Bytes W → Bytes E → List (List ℕ)
-    → Streams R W E → Streams R W E → ℕ → Type 0
-Performs left held told words = PerformsLine left held told words (line_of words)
+abbrev pub Performs : {R W E : Type 0} → (List ℕ → Opening) → Bytes R → Bytes W → Bytes E
+    → List (List ℕ) → Streams R W E → Streams R W E → ℕ → Type 0
+Performs Opens left held reported words =
+    PerformsLine Opens left held reported words (line_of words)

@@ -22,10 +22,6 @@ IsTroubleOfImporting t = IsTroubleOfFile t ⊎ IsTroubleOfText t
 abbrev pub IsTroubleOfServing : Trouble → Type 0
 IsTroubleOfServing t = (t ≡ Memory) ⊎ (t ≡ Port)
 
--- of a server that does not listen yet
-abbrev pub IsTroubleOfListening : Trouble → Type 0
-IsTroubleOfListening t = IsTroubleOfOpening t ⊎ IsTroubleOfServing t
-
 -- of closing an office and writing what a command came to: never out of memory
 abbrev pub IsTroubleOfEnding : Trouble → Type 0
 IsTroubleOfEnding t = (t ≡ Store) ⊎ (t ≡ Write)

@@ -3,26 +3,29 @@
 
 ghost use Rattle.std.specs.Prelude.{◌≡◌, ◌≤◌, [], IfErr, IfOk, OnErr, OnOk, Err, false, true, is_some, option_map};
 ghost use Rattle.std.specs.Prelude.{string_bytes, string_capacity, string_len};
+ghost use Rattle.tally_keeper.specs.StaysKeeper.{StaysKeeper};
+ghost use Rattle.tally_records.specs.Watch.{NotesNothing, has_failed};
 ghost use Rattle.tally_desk.specs.Respond.{office};
 ghost use Rattle.tally_commands.specs.Imported.{IsCountText};
 ghost use Rattle.tally_commands.specs.Made.{IsMadeText, constituencies_text};
 ghost use Rattle.tally_commands.specs.Served.{IsServedText, listening_line};
-ghost use Rattle.tally_commands.specs.Told.{Told};
-ghost use Rattle.tally_program.specs.Commands.{IsAnyText, IsWritten, SaysWhere};
+ghost use Rattle.tally_commands.specs.Reported.{IsReported};
+ghost use Rattle.tally_program.specs.Commands.{IsAnyText, IsWritten, TakesCourse};
 ghost use Rattle.tally_program.specs.internal.Served.{IsToldOfServing};
 ghost use Rattle.tally_program.specs.Troubles.{IsTroubleOfEnding, IsTroubleOfImport, IsTroubleOfImporting, IsTroubleOfNew};
 ghost use Rattle.tally_program.specs.Troubles.{IsTroubleOfServe, IsTroubleOfServing, IsTroubleOfShow};
 ghost use Rattle.tally_commands.specs.Trouble.{IsTroubleOfReport};
 ghost use Rattle.tally_program.specs.internal.Worked.{IsFileImported, IsFileTrouble, IsShown, IsShowTrouble};
 
-use crate::files::{open_file, read_setup};
+use crate::files::{open_file, read_setup_text};
 use crate::offices::Offices;
 use std::alloc::Global;
+use std::fs::File;
 use std::io::Write;
 use std::net::{Ipv4Addr, TcpListener};
 use tally_commands::{
     CONSTITUENCIES_ROOM, LISTENING_ROOM, Report, SERVED_ROOM, Sep, Trouble, Watch,
-    constituencies_text, has_con, import_text, listening_text, served_text, show_progress,
+    constituencies_text, has_con, import_returns, listening_text, served_text, show_progress,
     show_report, tell,
 };
 use tally_desk::{Door, TcpDoor, serve};
@@ -30,7 +33,7 @@ use tally_import::write_text;
 use tally_keeper::Keeper;
 
 /// Closes the office of a command, and then writes what it came to, unless that is a trouble.
-fn end<O: Offices, W: Write>(
+fn close_and_print<O: Offices, W: Write>(
     rt: &HostRuntime,
     offices: &O,
     db: &str,
@@ -45,15 +48,16 @@ fn end<O: Offices, W: Write>(
 {
     let is_closed = offices.close_office(rt, db, office);
     match outcome {
-        Ok(text) => finish(is_closed, &text, output),
+        Ok(text) => print_if_closed(is_closed, &text, output),
         Err(trouble) => Err(trouble),
     }
 }
 
 /// Writes what a command came to, once its office is closed: what it did remains done also where
 /// the output takes nothing.
-fn finish<W: Write>(is_closed: bool, text: &str, output: &mut W) -> Result<(), Trouble>
-    ensures closed { is_closed ≡ false → (result ≡ Err Trouble.Store) × (output.new ≡ output.old) }
+fn print_if_closed<W: Write>(is_closed: bool, text: &str, output: &mut W) -> Result<(), Trouble>
+    ensures closed { is_closed ≡ false →
+        (result ≡ Err Trouble.Store) × (output.new ≡ output.old) }
     ensures written { IsWritten W.contents (λ t. t ≡ text.now) output.old output.new result }
     ensures named { IfErr result IsTroubleOfEnding }
 {
@@ -90,7 +94,7 @@ pub fn make<O: Offices, W: Write>(
     ensures written { IsWritten W.contents IsMadeText output.old output.new result }
     ensures named { IfErr result IsTroubleOfNew }
 {
-    let text = match read_setup(rt, setup) {
+    let text = match read_setup_text(rt, setup) {
         Ok(text) => text,
         Err(trouble) => return Err(trouble),
     };
@@ -103,7 +107,7 @@ pub fn make<O: Offices, W: Write>(
         Err(trouble) => return Err(trouble),
     };
     let text = made_text(line, &office);
-    end(rt, offices, db, office, Ok(text), output)
+    close_and_print(rt, offices, db, office, Ok(text), output)
 }
 
 /// The number of the constituencies, in a line that is empty and has the room: it takes no memory.
@@ -136,23 +140,27 @@ pub fn import<O: Offices, W: Write>(
         Ok(office) => office,
         Err(trouble) => return Err(trouble),
     };
-    let outcome = import_file(rt, &mut office, con, csv, sep);
-    end(rt, offices, db, office, outcome, output)
+    let outcome = import_file(rt, &mut office, con, csv, sep, &mut Watch::new());
+    close_and_print(rt, offices, db, office, outcome, output)
 }
 
 /// The counts of the rows of a file that were imported. The constituency is looked up before the
-/// file is opened.
+/// file is opened. A failed read is answered only where one was noted on the watch; where the rows
+/// were imported, none was.
 fn import_file<K: Keeper>(
     rt: &HostRuntime,
     keeper: &mut K,
     con: &str,
     csv: &str,
     sep: Sep,
+    watch: &mut Watch<File>,
 ) -> Result<String, Trouble>
-    ensures setup { K.constituencies keeper.new ≡ K.constituencies keeper.old }
-    ensures trusted { K.IsTrusted keeper.new → K.IsTrusted keeper.old }
+    ensures stays { StaysKeeper K.Keeper keeper.old keeper.new }
     ensures text { IfOk result (λ text. IsCountText (string_bytes text)) }
     ensures named { IfErr result IsTroubleOfImporting }
+    ensures read { K.IsTrusted keeper.new →
+        result ≡ Err Trouble.Read → has_failed watch.new ≡ true }
+    ensures all_read { K.IsTrusted keeper.new → OnOk result (NotesNothing watch.old watch.new) }
     ensures imported { K.IsTrusted keeper.new → IfOk result (λ text.
         IsFileImported con.now sep (K.constituencies keeper.old) (K.content keeper.old)
         (string_bytes text) (K.content keeper.new)) }
@@ -164,7 +172,7 @@ fn import_file<K: Keeper>(
         return Err(Trouble::NoConstituency);
     }
     match open_file(rt, csv) {
-        Ok(file) => import_text(rt.alloc(), keeper, con, sep, file, &mut Watch::new()),
+        Ok(file) => import_returns(rt.alloc(), keeper, con, sep, file, watch),
         Err(trouble) => Err(trouble),
     }
 }
@@ -187,7 +195,7 @@ pub fn show<O: Offices, W: Write>(
         Err(trouble) => return Err(trouble),
     };
     let outcome = show_in(rt, &mut office, report, con);
-    end(rt, offices, db, office, outcome, output)
+    close_and_print(rt, offices, db, office, outcome, output)
 }
 
 /// The text of a report, or of the progress where there is none.
@@ -198,8 +206,7 @@ fn show_in<K: Keeper>(
     con: Option<&str>,
 ) -> Result<String, Trouble>
     requires { is_some report ≡ true → is_some con ≡ true }
-    ensures setup { K.constituencies keeper.new ≡ K.constituencies keeper.old }
-    ensures trusted { K.IsTrusted keeper.new → K.IsTrusted keeper.old }
+    ensures stays { StaysKeeper K.Keeper keeper.old keeper.new }
     ensures named { IfErr result IsTroubleOfReport }
     ensures shown { K.IsTrusted keeper.new → IfOk result (λ text.
         IsShown (K.constituencies keeper.old) (K.content keeper.old) report
@@ -229,14 +236,15 @@ pub fn serve_office<O: Offices, W: Write, E: Write>(
 ) -> Result<(), Trouble>
     ensures written { IsWritten W.contents (IsServedText count) output.old output.new result }
     ensures named { IfErr result IsTroubleOfServe }
-    ensures says { SaysWhere E.contents port count errors.old errors.new result }
+    ensures takes { TakesCourse (O.Opens offices.now db.now) E.contents port count
+        errors.old errors.new result }
 {
     let mut office = match offices.open_office(rt, db) {
         Ok(office) => office,
-        Err(trouble) => return Err(trouble),
+        Err(unopened) => return Err(unopened),
     };
     let outcome = serve_on(rt, &mut office, port, count, errors);
-    end(rt, offices, db, office, outcome, output)
+    close_and_print(rt, offices, db, office, outcome, output)
 }
 
 /// Listens, says so, serves, and answers how many connections were answered and how many failed.
@@ -252,7 +260,7 @@ fn serve_on<K: Keeper, E: Write>(
     ensures text { IfOk result (λ text. IsServedText count (string_bytes text)) }
     ensures named { IfErr result IsTroubleOfServing }
     ensures unserved { IfErr result (λ trouble. keeper.new ≡ keeper.old) }
-    ensures said { OnOk result (Told (E.contents errors.old) (E.contents errors.new)
+    ensures said { OnOk result (IsReported (E.contents errors.old) (E.contents errors.new)
         (listening_line port count)) }
     ensures silent { OnErr result (errors.new ≡ errors.old) }
 {

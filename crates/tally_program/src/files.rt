@@ -31,7 +31,7 @@ pub fn open_file(rt: &HostRuntime, path: &str) -> Result<File, Trouble>
 }
 
 /// The text of a setup, up to one byte past its limit where it is longer.
-pub fn read_setup(rt: &HostRuntime, path: &str) -> Result<Vec<u8>, Trouble>
+pub fn read_setup_text(rt: &HostRuntime, path: &str) -> Result<Vec<u8>, Trouble>
     ensures named { IfErr result IsTroubleOfReading }
 {
     let file = match open_file(rt, path) {

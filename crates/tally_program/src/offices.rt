@@ -1,7 +1,8 @@
 //! Where the offices are that commands work on.
 
-ghost use Rattle.std.specs.Prelude.{IfErr};
+ghost use Rattle.std.specs.Prelude.{IfErr, List, ℕ};
 ghost use Rattle.tally_commands.specs.Trouble.{IsTroubleOfMaking, IsTroubleOfOpening};
+ghost use Rattle.tally_program.specs.Commands.{Opening, opening_of};
 
 use tally_commands::Trouble;
 use tally_keeper::Keeper;
@@ -11,8 +12,13 @@ pub trait Offices {
     /// An office that is open.
     type Office: Keeper + Drop;
 
+    /// What opening the office at a path came to: it is open, or it is not, for a trouble. All that
+    /// is known of it comes of `open_office`.
+    ghost Opens: { Self → List ℕ → Opening };
+
     /// Opens the office at a path. Where there is none, none is made.
     fn open_office(&self, rt: &HostRuntime, path: &str) -> Result<Self::Office, Trouble>
+        ensures opens { Opens self.now path.now (opening_of result) }
         ensures named { IfErr result IsTroubleOfOpening };
 
     /// Makes an office of the text of a setup at a path where there is none yet, and opens it.

@@ -2,9 +2,10 @@
 
 ghost use Rattle.std.specs.Prelude.{◌≡◌, ◌≢◌, codes, map, string_bytes};
 ghost use Rattle.std.specs.IoError.{error_kind};
-ghost use Rattle.tally_commands.specs.Told.{Told};
-ghost use Rattle.tally_program.specs.Commands.{IsCommandTold, command_status, streams};
-ghost use Rattle.tally_program.specs.Perform.{Performs, check_outcome, fault_status, not_text_line};
+ghost use Rattle.tally_commands.specs.Reported.{IsReported};
+ghost use Rattle.tally_program.specs.Commands.{IsOutcomeReported, command_status, streams};
+ghost use Rattle.tally_program.specs.Perform.{Performs, check_outcome, not_text_line};
+ghost use Rattle.tally_program.specs.internal.Fault.{fault_status};
 
 use crate::commands::{import, make, serve_office, show};
 use crate::offices::Offices;
@@ -30,8 +31,9 @@ pub fn perform<O: Offices, R: Read, W: Write, E: Write>(
     output: &mut W,
     errors: &mut E,
 ) -> u8
-    ensures { Performs R.remaining W.contents E.contents (map string_bytes words.now)
-        (streams input.old output.old errors.old) (streams input.new output.new errors.new) result }
+    ensures { Performs (O.Opens offices.now) R.remaining W.contents E.contents
+        (map string_bytes words.now) (streams input.old output.old errors.old)
+        (streams input.new output.new errors.new) result }
 {
     match read_line(rt.alloc(), words) {
         Ok(Line::Check { sep }) => {
@@ -60,7 +62,7 @@ pub fn perform<O: Offices, R: Read, W: Write, E: Write>(
 
 fn report_command<E: Write>(outcome: &Result<(), Trouble>, errors: &mut E) -> u8
     ensures status { result ≡ command_status outcome.now }
-    ensures told { IsCommandTold E.contents errors.old errors.new outcome.now }
+    ensures reported { IsOutcomeReported E.contents errors.old errors.new outcome.now }
 {
     match outcome {
         Ok(()) => DONE,
@@ -70,7 +72,7 @@ fn report_command<E: Write>(outcome: &Result<(), Trouble>, errors: &mut E) -> u8
 
 fn report_check<E: Write>(outcome: Result<(), CheckFault>, errors: &mut E) -> u8
     ensures status { result ≡ command_status (check_outcome outcome) }
-    ensures told { IsCommandTold E.contents errors.old errors.new (check_outcome outcome) }
+    ensures reported { IsOutcomeReported E.contents errors.old errors.new (check_outcome outcome) }
 {
     match outcome {
         Ok(()) => DONE,
@@ -80,10 +82,10 @@ fn report_check<E: Write>(outcome: Result<(), CheckFault>, errors: &mut E) -> u8
 
 fn report_fault<E: Write>(fault: LineFault, errors: &mut E) -> u8
     ensures status { result ≡ fault_status fault }
-    ensures told { result ≡ FAILED
-        → Told (E.contents errors.old) (E.contents errors.new) (codes "failed: memory\n") }
+    ensures reported { result ≡ FAILED
+        → IsReported (E.contents errors.old) (E.contents errors.new) (codes "failed: memory\n") }
     ensures no_con { fault ≡ LineFault.NoCon
-        → Told (E.contents errors.old) (E.contents errors.new) (codes "missing --con\n") }
+        → IsReported (E.contents errors.old) (E.contents errors.new) (codes "missing --con\n") }
 {
     match fault {
         LineFault::Usage(error) => {
@@ -105,9 +107,9 @@ fn report_fault<E: Write>(fault: LineFault, errors: &mut E) -> u8
 /// memory.
 pub fn report_start<E: Write>(error: &io::Error, errors: &mut E) -> u8
     ensures memory { error_kind error.now ≡ ErrorKind.OutOfMemory → (result ≡ FAILED)
-        × Told (E.contents errors.old) (E.contents errors.new) (codes "failed: memory\n") }
+        × IsReported (E.contents errors.old) (E.contents errors.new) (codes "failed: memory\n") }
     ensures other { error_kind error.now ≢ ErrorKind.OutOfMemory → (result ≡ USAGE)
-        × Told (E.contents errors.old) (E.contents errors.new) not_text_line }
+        × IsReported (E.contents errors.old) (E.contents errors.new) not_text_line }
 {
     match error.kind() {
         ErrorKind::OutOfMemory => {

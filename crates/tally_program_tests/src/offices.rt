@@ -18,6 +18,8 @@ pub(crate) struct InMemory;
 impl Offices for InMemory {
     type Office = Book;
 
+    ghost Opens = { λ _ _ _. Unit {0} };
+
     fn open_office(&self, rt: &HostRuntime, path: &str) -> Result<Book, Trouble> {
         match path {
             "nowhere" => Err(Trouble::NoTables),

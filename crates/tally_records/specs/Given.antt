@@ -10,7 +10,8 @@ use Rattle.tally_records.specs.declared.separator.Sep.{Sep}
 
 -- These bytes came of a text, as many as were counted; where it ended, they are what it gave.
 abbrev pub Came : Option (List ℕ) → Option (List ℕ) → List ℕ → ℕ → Option End → Type 0
-Came text left bytes count None = Consumes text left bytes × (count ≡ length bytes) × (count ≤ size_limit)
+Came text left bytes count None =
+    Consumes text left bytes × (count ≡ length bytes) × (count ≤ size_limit)
 Came text left bytes count (Some end) = IfSome text (λ t. Gave t left bytes end.stop)
 
 -- what may still come
@@ -25,18 +26,20 @@ records_to_come r more stop = drop r.given (complete_records r.sep (r.bytes ++ m
 -- These are the records of this text that were given so far.
 abbrev pub HasGiven : Option (List ℕ) → Option (List ℕ) → List (List (List ℕ)) → Records → Type 0
 HasGiven text left given r = (bytes : List ℕ) × Came text left bytes r.taken r.end
-    × ((more : List ℕ) (stop : Option Stop) → MayCome r.end more stop → complete_records r.sep (bytes ++ more) stop ≡ given ++ records_to_come r more stop)
+    × ((more : List ℕ) (stop : Option Stop) → MayCome r.end more stop
+    → complete_records r.sep (bytes ++ more) stop ≡ given ++ records_to_come r more stop)
 
 -- One more record was given: with it after them, the records of a text that were given before are
 -- those given now. `old_left` and `left` are what the reader had left before and after.
-abbrev pub GivesRecord : Option (List ℕ) → Option (List ℕ) → List (List ℕ) → Records → Records → Type 0
+abbrev pub GivesRecord : Option (List ℕ) → Option (List ℕ) → List (List ℕ) → Records → Records
+    → Type 0
 GivesRecord old_left left fields old new = (text : Option (List ℕ)) (given : List (List (List ℕ)))
     → HasGiven text old_left given old → HasGiven text left (given ++ fields ∷ []) new
 
 -- Where the input ended, or was stopped so: the records of a text that were given before are all
 -- that are complete in what came of it.
-abbrev pub GaveAll : Option (List ℕ) → Option (List ℕ) → Records → Option Stop → Type 0
-GaveAll old_left left old stop = (text : Option (List ℕ)) (given : List (List (List ℕ)))
+abbrev pub GaveAllRecords : Option (List ℕ) → Option (List ℕ) → Records → Option Stop → Type 0
+GaveAllRecords old_left left old stop = (text : Option (List ℕ)) (given : List (List (List ℕ)))
     → HasGiven text old_left given old → AreAll old.sep text left given stop
 
 -- What holds where a call did not come to the end of an input.

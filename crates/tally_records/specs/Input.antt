@@ -28,11 +28,15 @@ without_last (x ∷ y ∷ rest) = x ∷ without_last (y ∷ rest)
 -- have ended: with one more field begun after the bytes, it is the one that this field belongs to.
 abbrev pub complete_records : Sep → List ℕ → Option Stop → List (List (List ℕ))
 complete_records sep bytes None = records (config sep) (strip_bom bytes)
-complete_records sep bytes (Some stop) = without_last (records (config sep) (strip_bom (bytes ++ separator sep ∷ [])))
+complete_records sep bytes (Some stop) =
+    without_last (records (config sep) (strip_bom (bytes ++ separator sep ∷ [])))
 
 -- These are the complete records of what came of a text.
-abbrev pub AreAll : Sep → Option (List ℕ) → Option (List ℕ) → List (List (List ℕ)) → Option Stop → Type 0
-AreAll sep text left given stop = IfSome text (λ t. (bytes : List ℕ) × Gave t left bytes stop × (complete_records sep bytes stop ≡ given))
+abbrev pub AreAll : Sep → Option (List ℕ) → Option (List ℕ) → List (List (List ℕ)) → Option Stop
+    → Type 0
+AreAll sep text left given stop =
+    IfSome text
+    (λ t. (bytes : List ℕ) × Gave t left bytes stop × (complete_records sep bytes stop ≡ given))
 
 -- a list of records begins with another
 abbrev pub BeginsWith : List (List (List ℕ)) → List (List (List ℕ)) → Type 0

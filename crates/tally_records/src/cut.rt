@@ -73,8 +73,10 @@ pub(crate) fn given_size(
     requires piece { ends_line piece.now ≡ true }
     requires last { drop given (piece_rows sep None piece.now) ≡ fields_of last.now ∷ [] }
     ensures within { IfOk result (λ size. size ≤ length piece.now) }
-    ensures whole { fields_of last.now ≡ nothing → IfOk result (λ size. size ≡ length piece.now) }
-    ensures given { IfOk result (λ size. 0 < size → IsGivenPiece sep given (take size piece.now)) }
+    ensures whole { fields_of last.now ≡ nothing
+        → IfOk result (λ size. size ≡ length piece.now) }
+    ensures given { IfOk result (λ size. 0 < size
+        → IsGivenPiece sep given (take size piece.now)) }
 {
     if is_nothing(last) {
         return Ok(piece.len());
@@ -109,7 +111,8 @@ pub(crate) fn last_text(
     sep: Sep,
     is_whole: bool,
 ) -> Result<Text, AllocError>
-    ensures { IfOk result (λ last. bytes_left last ≡ text_of_piece is_whole sep (bytes_left text)) }
+    ensures { IfOk result (λ last.
+        bytes_left last ≡ text_of_piece is_whole sep (bytes_left text)) }
 {
     if !is_whole {
         text.push(alloc, sep.byte())?;

@@ -152,7 +152,8 @@ impl Held {
     pub(crate) fn drop_front(&mut self, alloc: Global, count: usize) -> Result<(), AllocError>
         requires some { 0 < count }
         requires within { count ≤ length self.old.bytes.items }
-        ensures bytes { OnOk result (self.new.bytes.items ≡ 10 ∷ drop count self.old.bytes.items) }
+        ensures bytes { OnOk result
+            (self.new.bytes.items ≡ 10 ∷ drop count self.old.bytes.items) }
         ensures taken { OnOk result (self.new.taken ≡ self.old.taken) }
     {
         let mut bytes = Vec::with_capacity(alloc, ROOM)?;

@@ -28,7 +28,8 @@ impl Drop for TextReader {
 /// empty, since a reader that has none yet keeps copies of the first record.
 pub(crate) fn records_in(alloc: Global, text: Text, sep: Sep) -> Result<TextReader, AllocError>
     ensures reading { IfOk result (λ it. IsReading it.reader.value) }
-    ensures rows { IfOk result (λ it. rows_left it.reader.value ≡ text_rows sep (bytes_left text)) }
+    ensures rows { IfOk result (λ it.
+        rows_left it.reader.value ≡ text_rows sep (bytes_left text)) }
 {
     let mut it = TextReader {
         reader: Box::new(

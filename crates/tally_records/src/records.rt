@@ -34,7 +34,7 @@ impl Model for Records {
 }
 
 impl Records {
-    ghost use Rattle.tally_records.specs.Given.{GaveAll, GivesRecord, HasGiven, IfEnded, IfNotEnded, IsReadingOn, TellsTrue, sep_of};
+    ghost use Rattle.tally_records.specs.Given.{GaveAllRecords, GivesRecord, HasGiven, IfEnded, IfNotEnded, IsReadingOn, TellsTrue, sep_of};
     ghost use Rattle.tally_records.specs.Watch.{TellsEnd, has_failed};
 
     /// The records of an input, whose first piece is read.
@@ -71,7 +71,7 @@ impl Records {
         ensures reading { IfNotEnded result (IsReadingOn self.new) }
         ensures record { IfNotEnded result (GivesRecord (R.remaining input.old)
             (R.remaining input.new) (fields_of into.new) self.old self.new) }
-        ensures all { IfEnded result (λ end. GaveAll
+        ensures all { IfEnded result (λ end. GaveAllRecords
             (R.remaining input.old) (R.remaining input.new) self.old end.stop) }
         ensures failed { (before : Bool) → TellsTrue before self.old (has_failed watch.old)
             → IfOk result (λ end. TellsEnd before end (has_failed watch.new)) }

@@ -12,7 +12,7 @@ use std::io::{Cursor, Read};
 
 /// A text in parts, from the place up to which it is read. A part that is read is given back once
 /// the next one is begun. The parts after it are on the heap: with them inside, a reader of `csv`,
-/// which has some 16 KiB, was moved onto the stack to be dropped.
+/// which has some 16 KiB, would be moved onto the stack to be dropped.
 #[derive(Drop)]
 pub(crate) struct Text {
     front: Cursor<Vec<u8>>,

@@ -42,10 +42,10 @@ pub(crate) struct Work {
 }
 
 impl Work {
-    ghost use Rattle.tally_records.specs.internal.Pieces.{Begun, GaveAllAt, GivesOfPiece, GivesRecordAt, HasGivenAt, HoldsAllThatCame, IsBegunIn, IsWorking, IsSpent, KeepsGiven, TakesUp, bytes_of, left_size};
+    ghost use Rattle.tally_records.specs.internal.Pieces.{Begun, GaveAllAt, GivesOfPiece, GivesRecordAt, HasGivenAt, HoldsAllThatCame, IsBegunIn, IsWorking, IsSpent, KeepsGiven, TakesUp, TellsTrueAt, bytes_of, left_size};
     ghost use Rattle.tally_records.specs.internal.Text.{bytes_of_parts};
     ghost use Rattle.tally_records.specs.Given.{IfEnded, IfNotEnded};
-    ghost use Rattle.tally_records.specs.Watch.{NotesEnd, TellsEnd, flag_after_end, has_failed};
+    ghost use Rattle.tally_records.specs.Watch.{NotesEnd, TellsEnd, has_failed};
 
     /// The records of an input, whose first piece is read.
     pub(crate) fn new<R: Read>(
@@ -175,10 +175,10 @@ impl Work {
             (R.remaining input.new) (fields_of into.new) self.old self.new) }
         ensures all { IfEnded result (λ end. GaveAllAt
             (R.remaining input.old) (R.remaining input.new) self.old end.stop) }
-        ensures failed { (before : Bool) → has_failed watch.old ≡ flag_after_end self.old.end before
+        ensures failed { (before : Bool) → TellsTrueAt before self.old (has_failed watch.old)
             → IfOk result (λ end. TellsEnd before end (has_failed watch.new)) }
-        ensures tells { (before : Bool) → has_failed watch.old ≡ flag_after_end self.old.end before
-            → OnOk result (has_failed watch.new ≡ flag_after_end self.new.end before) }
+        ensures tells { (before : Bool) → TellsTrueAt before self.old (has_failed watch.old)
+            → OnOk result (TellsTrueAt before self.new (has_failed watch.new)) }
     {
         'pieces: while !self.next_in_piece(into)? {
             if let Some(end) = self.end {

@@ -1,8 +1,9 @@
 -- The awards of a lawful view, and of lists of its constituency.
-use Rattle.std.proofs.Common.{◌≡◌, ◌≢◌, ◌≤◌, ◌<◌, ◌⊎◌, ◌∙◌, ℕ, zero, suc, ◌+◌, List, [], Bool, true, false, length, get_or, refl, sym, ap, subst, inl, inr, arith}
+use Rattle.std.proofs.Common.{◌≡◌, ◌≢◌, ◌≤◌, ◌<◌, ◌⊎◌, ◌∙◌, ℕ, zero, suc, ◌+◌, List, [], Bool, true, false, Option, Some, None, length, get_or, refl, sym, ap, subst, inl, inr, arith}
 use Rattle.std.proofs.lemmas.Bool.{cases_lt, false≢true}
 use Rattle.std.proofs.lemmas.List.{get_or_past, length-map}
-use Rattle.tally_frac.specs.internal.DivisorLaws.{modified-positive}
+use Rattle.tally_frac.specs.declared.divisors.DivisorRule.{DivisorRule}
+use Rattle.tally_frac.specs.internal.DivisorLaws.{divisors-positive}
 use Rattle.tally_allot.specs.AllotFault.{IsFaultOf}
 use Rattle.tally_allot.specs.Awards.{AreAwardsBy}
 use Rattle.tally_law.specs.LawStatements.{GroupsAreOfOneNumberOfVotes, NoLotIsNeededWhereVotesDecide}
@@ -13,14 +14,12 @@ use Rattle.tally_rules.specs.ListSet.{has_place}
 use Rattle.tally_law.specs.Lot.{IsOrderOf}
 use Rattle.tally_law.specs.LotNeed.{IsLotNeeded, IsLotTaken, IsLotWrong, IsNeed}
 use Rattle.tally_law.specs.Poll.{IsEligible}
-use Rattle.tally_law.specs.Rules.{rule_by}
+use Rattle.tally_law.specs.Rules.{rule_with}
 use Rattle.tally_steps.specs.Outcome.{HasSeats, IsLawfulView, poll_in, rule_in}
 use Rattle.tally_returns.specs.View.{View}
 use Rattle.tally_rules.specs.Constituency.{Constituency}
 use Rattle.tally_rules.specs.Threshold.{base_of, is_eligible}
 use Rattle.tally_rules.specs.declared.profile.LotRule.{LotRule}
-use Rattle.tally_rules.specs.declared.profile.Method.{Method}
-use Rattle.tally_rules.specs.declared.profile.Method.TheVariants.{DHondt, SainteLague, ModifiedSainteLague, Hare}
 use Rattle.tally_report.specs.internal.Awards.{IsAwardIn}
 
 -- what is said of the parts that awards are made of, said of equal ones
@@ -95,16 +94,10 @@ listed con view l e = by_cases (cases_lt l (length view.votes))
     by_cases (inr ge) = absurd (false≢true (sym (get_or_past (poll_in con view).eligible l false (omega (arith, ge, length-map view.votes test))) ∙ e))
 
 -- awards are of lists of the constituency
-pub each-in : (method : Method) (lot_rule : LotRule) (con : Constituency) (view : View) (awards : List Award) → AreAwardsBy (rule_by method lot_rule) (poll_in con view) view.lot con.seats awards → length view.votes ≡ length con.lists
+pub each-in : (found : Option DivisorRule) (lot_rule : LotRule) (con : Constituency) (view : View) (awards : List Award) → AreAwardsBy (rule_with found lot_rule) (poll_in con view) view.lot con.seats awards → length view.votes ≡ length con.lists
     → (i : ℕ) (d : Award) → i < length awards → IsAwardIn con (get_or awards i d)
-each-in DHondt lot_rule con view awards are lists i d lt =
-    let e = are.2.each i d lt in
-    record { from_one = omega (arith, e.1.list_is); listed = omega (arith, e.1.list_is, lists, listed con view e.0 e.1.eligible); divisor = omega (arith, e.1.den_is, e.1.from_one) }
-each-in SainteLague lot_rule con view awards are lists i d lt =
-    let e = are.2.each i d lt in
-    record { from_one = omega (arith, e.1.list_is); listed = omega (arith, e.1.list_is, lists, listed con view e.0 e.1.eligible); divisor = omega (arith, e.1.den_is, e.1.from_one) }
-each-in ModifiedSainteLague lot_rule con view awards are lists i d lt =
+each-in (Some rule) lot_rule con view awards are lists i d lt =
     let e = are.2.each i d lt in
     let award = get_or awards i d in
-    record { from_one = omega (arith, e.1.list_is); listed = omega (arith, e.1.list_is, lists, listed con view e.0 e.1.eligible); divisor = omega (arith, e.1.den_is, modified-positive award.k e.1.from_one) }
-each-in Hare lot_rule con view awards are lists i d lt = absurd are
+    record { from_one = omega (arith, e.1.list_is); listed = omega (arith, e.1.list_is, lists, listed con view e.0 e.1.eligible); divisor = omega (arith, e.1.den_is, divisors-positive rule award.k e.1.from_one) }
+each-in None lot_rule con view awards are lists i d lt = absurd are

@@ -11,18 +11,18 @@ use Rattle.tally_allot.specs.Awards.{AreAwardsBy}
 use Rattle.tally_allot.specs.declared.award.Award.{Award}
 use Rattle.tally_returns.specs.View.{View}
 use Rattle.tally_steps.specs.Outcome.{poll_in, rule_in}
-use Rattle.tally_report.specs.Columns.{heading, left_cell, line_end, lines_from, number}
+use Rattle.tally_report.specs.Columns.{code_width, heading, left_cell, line_end, lines_from, number}
 
 -- the code of the list at a place, from 0
-abbrev pub code_at : Constituency → ℕ → List ℕ
-code_at con place = slice_index_or (list_codes con.lists) place []
+abbrev pub code_at_index : Constituency → ℕ → List ℕ
+code_at_index con place = slice_index_or (list_codes con.lists) place []
 
 -- the line of the n-th award
 abbrev pub award_line : Constituency → ℕ → Award → List ℕ
 award_line con n award =
     number 4 n
     ++ codes " "
-    ++ left_cell 16 (code_at con (award.list - 1))
+    ++ left_cell code_width (code_at_index con (award.list - 1))
     ++ number 4 award.k
     ++ number 14 award.num
     ++ number 6 award.den

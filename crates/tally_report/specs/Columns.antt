@@ -19,6 +19,10 @@ left_cell width value = value ++ spaces (width - length value)
 abbrev pub right_cell : ℕ → List ℕ → List ℕ
 right_cell width value = spaces (width - length value) ++ value
 
+-- the places of the column of codes
+abbrev pub code_width : ℕ
+code_width = 16
+
 -- a number at the right of a column
 abbrev pub number : ℕ → ℕ → List ℕ
 number width n = right_cell width (decimal n)

@@ -11,16 +11,18 @@ use Rattle.tally_rules.specs.Constituency.{Constituency, ListEntry}
 use Rattle.tally_returns.specs.View.{View}
 use Rattle.tally_steps.specs.Certification.{gone_of}
 use Rattle.tally_steps.specs.Holders.{holders}
-use Rattle.tally_report.specs.Columns.{heading, left_cell, line_end, list_lines, number, right_cell}
+use Rattle.tally_report.specs.Columns.{code_width, heading, left_cell, line_end, list_lines, number, right_cell}
 
 -- the line of a candidate, at this place of the list from 1
 abbrev pub holder_line : ListEntry → ℕ → List ℕ
 holder_line list place =
-    left_cell 16 list.code ++ number 5 place ++ codes " "
+    left_cell code_width list.code ++ number 5 place ++ codes " "
     ++ slice_index_or list.candidates (place - 1) [] ++ line_end
 
 abbrev pub empty_line : ListEntry → List ℕ
-empty_line list = left_cell 16 list.code ++ right_cell 5 (codes "-") ++ codes " " ++ codes "empty" ++ line_end
+empty_line list =
+    left_cell code_width list.code ++ right_cell 5 (codes "-") ++ codes " " ++ codes "empty"
+    ++ line_end
 
 -- the lines of a list of so many seats that these hold
 abbrev pub seat_lines : ListEntry → ℕ → List ℕ → List ℕ

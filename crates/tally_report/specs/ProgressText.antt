@@ -5,11 +5,11 @@
 use Rattle.std.specs.Prelude.{ℕ, ◌+◌, ◌-◌, ◌++◌, List, if◌then◌else◌, codes}
 use Rattle.std.specs.List.{flat_map}
 use Rattle.tally_returns.specs.declared.progress.ProgressRow.{ProgressRow}
-use Rattle.tally_report.specs.Columns.{left_cell, line_end, number}
+use Rattle.tally_report.specs.Columns.{code_width, left_cell, line_end, number}
 
 abbrev pub progress_line : ProgressRow → List ℕ
 progress_line row =
-    left_cell 16 row.con
+    left_cell code_width row.con
     ++ number 7 row.stations
     ++ number 7 (row.stations - (row.received + row.queried + row.corrected + row.closed))
     ++ number 7 row.received

@@ -12,12 +12,12 @@ use Rattle.tally_law.specs.HareAllotment.{whole_quotas, remainder}
 use Rattle.tally_law.specs.Poll.{Poll, eligible_votes, votes_of}
 use Rattle.tally_returns.specs.View.{View}
 use Rattle.tally_steps.specs.Outcome.{poll_in}
-use Rattle.tally_report.specs.Columns.{heading, left_cell, line_end, list_lines, number}
+use Rattle.tally_report.specs.Columns.{code_width, heading, left_cell, line_end, list_lines, number}
 
 -- the line of the list at a place, which holds so many seats
 abbrev pub quota_columns : Poll → ℕ → ℕ → ListEntry → ℕ → List ℕ
 quota_columns poll seats place list held =
-    left_cell 16 list.code
+    left_cell code_width list.code
     ++ number 12 (votes_of poll place)
     ++ number 5 (whole_quotas poll seats place)
     ++ number 16 (remainder poll seats place)

@@ -10,7 +10,7 @@ use Rattle.tally_rules.specs.Constituency.{Constituency, ListEntry}
 use Rattle.tally_law.specs.Allotment.{Rule, divisors, hare}
 use Rattle.tally_returns.specs.View.{View}
 use Rattle.tally_steps.specs.Outcome.{rule_in}
-use Rattle.tally_report.specs.Columns.{heading, is_eligible_at, left_cell, line_end, list_lines, number}
+use Rattle.tally_report.specs.Columns.{code_width, heading, is_eligible_at, left_cell, line_end, list_lines, number}
 
 -- the greatest of these numbers
 abbrev pub most : List ℕ → ℕ
@@ -28,8 +28,9 @@ abbrev pub quotients_line : (ℕ → ℕ) → ℕ → ℕ → Constituency → V
 quotients_line nth unit last con view place list =
     if is_eligible_at con view place
     then
-    left_cell 16 list.code
-    ++ flat_map (quotient_column nth unit (slice_index view.votes place) (slice_index view.seats place))
+    left_cell code_width list.code
+    ++ flat_map
+    (quotient_column nth unit (slice_index view.votes place) (slice_index view.seats place))
     (range_with_len 1 last)
     ++ line_end
     else []

@@ -9,12 +9,13 @@ use Rattle.std.specs.Prelude.{ℕ, ◌++◌, List, slice_index, codes}
 use Rattle.std.specs.Fmt.{decimal}
 use Rattle.tally_rules.specs.Constituency.{Constituency, ListEntry}
 use Rattle.tally_returns.specs.View.{View}
-use Rattle.tally_report.specs.Columns.{heading, left_cell, line_end, list_lines, number}
+use Rattle.tally_report.specs.Columns.{code_width, heading, left_cell, line_end, list_lines, number}
 
 -- the line of a list, by the seats of all
 abbrev pub seats_line : List ℕ → ℕ → ListEntry → List ℕ
 seats_line seats place list =
-    left_cell 16 list.code ++ number 5 (slice_index seats place) ++ codes " " ++ list.name ++ line_end
+    left_cell code_width list.code ++ number 5 (slice_index seats place) ++ codes " " ++ list.name
+    ++ line_end
 
 -- the lines of a certificate: its edition, and the seats that it gives each list
 abbrev pub certificate_lines : Constituency → ℕ → List ℕ → List ℕ
@@ -25,4 +26,4 @@ abbrev pub seats_text : Constituency → View → List ℕ
 seats_text con view =
     heading (codes "SEATS") con
     ++ certificate_lines con view.edition view.seats
-    ++ left_cell 16 (codes "total") ++ number 5 con.seats ++ line_end
+    ++ left_cell code_width (codes "total") ++ number 5 con.seats ++ line_end

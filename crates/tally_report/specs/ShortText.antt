@@ -9,7 +9,7 @@ use Rattle.tally_rules.specs.Constituency.{Constituency, ListEntry}
 use Rattle.tally_allot.specs.VotesShort.{AreVotesShort}
 use Rattle.tally_steps.specs.Outcome.{poll_in, rule_in}
 use Rattle.tally_returns.specs.View.{View}
-use Rattle.tally_report.specs.Columns.{heading, is_eligible_at, left_cell, line_end, list_lines, number, right_cell}
+use Rattle.tally_report.specs.Columns.{code_width, heading, is_eligible_at, left_cell, line_end, list_lines, number, right_cell}
 
 -- a number of votes, and a dash where there is none
 abbrev pub votes_column : Option ℕ → List ℕ
@@ -19,7 +19,7 @@ votes_column (Some votes) = number 12 votes
 -- the line of a list, from its seats and its number
 abbrev pub short_columns : ListEntry → ℕ → Option ℕ → List ℕ
 short_columns list seats short =
-    left_cell 16 list.code ++ number 5 seats ++ votes_column short ++ line_end
+    left_cell code_width list.code ++ number 5 seats ++ votes_column short ++ line_end
 
 -- the line of an eligible list; another list has none
 abbrev pub short_line : Constituency → View → List (Option ℕ) → ℕ → ListEntry → List ℕ

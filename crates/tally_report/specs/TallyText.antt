@@ -8,10 +8,11 @@
 --     B                        100   50.00 in  Beta
 use Rattle.std.specs.Prelude.{ℕ, ◌+◌, ◌*◌, ◌/◌, ◌%◌, ◌++◌, ◌==◌, Bool, true, false, List, slice_index, sum, if◌then◌else◌, codes}
 use Rattle.std.specs.Fmt.{decimal}
+use Rattle.tally_frac.specs.Limits.{whole_base}
 use Rattle.tally_rules.specs.Constituency.{Constituency, ListEntry}
 use Rattle.tally_rules.specs.Threshold.{base_of}
 use Rattle.tally_returns.specs.View.{View}
-use Rattle.tally_report.specs.Columns.{heading, is_eligible_at, left_cell, line_end, list_lines, number, right_cell}
+use Rattle.tally_report.specs.Columns.{code_width, heading, is_eligible_at, left_cell, line_end, list_lines, number, right_cell}
 
 -- the line of the valid votes, which are those of the lists and the blank ones (LOREG article 96.5)
 abbrev pub valid_line : View → List ℕ
@@ -22,7 +23,7 @@ valid_line view =
 -- the votes' share in the base of the threshold, in hundredths of a per cent, rounded down; 0 where
 -- there is no base
 abbrev pub share : ℕ → ℕ → ℕ
-share base votes = if base == 0 then 0 else (votes * 10000) / base
+share base votes = if base == 0 then 0 else (votes * whole_base) / base
 
 -- hundredths as a number with two places after a point
 abbrev pub hundredths : ℕ → List ℕ
@@ -36,7 +37,7 @@ in_or_out false = codes "out"
 -- the line of a list, from its votes, the base and whether it is eligible
 abbrev pub tally_columns : ListEntry → ℕ → ℕ → Bool → List ℕ
 tally_columns list votes base eligible =
-    left_cell 16 list.code
+    left_cell code_width list.code
     ++ number 12 votes
     ++ right_cell 8 (hundredths (share base votes))
     ++ codes " "

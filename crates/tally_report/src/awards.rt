@@ -12,13 +12,13 @@ ghost use Rattle.tally_report.specs.AwardsText.{IsAwardsText, award_line};
 ghost use Rattle.tally_report.specs.internal.Awards.{IsAwardIn};
 ghost use Rattle.tally_report.specs.declared.fault.ReportFault.TheVariants.{Memory};
 
-use crate::column::{push_heading, push_left, push_number};
+use crate::column::{CODE_WIDTH, push_heading, push_left, push_number};
 use crate::fault::ReportFault;
 use crate::lots::laws_of_lots;
 use std::alloc::{AllocError, Global};
 use tally_allot::{AllotFault, Award, awards};
 use tally_returns::ConView;
-use tally_rules::{Constituency, Method};
+use tally_rules::Constituency;
 
 /// The seats of a certified constituency in the order of their award, each with its quotient, under
 /// a divisor rule (LOREG article 163.1 c)).
@@ -31,9 +31,9 @@ pub fn awards_text(alloc: Global, con: &Constituency, view: &ConView) -> Result<
     if !view.certified {
         return Err(ReportFault::NotCertified);
     }
-    if let Method::Hare = con.profile.method {
+    let Some(_rule) = con.profile.method.divisor_rule() else {
         return Err(ReportFault::OtherMethod);
-    }
+    };
     let awards = awards_in(alloc, con, view)?;
     let mut text = String::new(alloc);
     push_heading(&mut text, "AWARDS", con)?;
@@ -93,7 +93,11 @@ fn push_award(
 {
     push_number(text, n, 4)?;
     text.push_str(" ")?;
-    push_left(text, con.lists[award.list as usize - 1].code.as_str(), 16)?;
+    push_left(
+        text,
+        con.lists[award.list as usize - 1].code.as_str(),
+        CODE_WIDTH,
+    )?;
     push_number(text, u64::from(award.k), 4)?;
     push_number(text, award.num, 14)?;
     push_number(text, award.den, 6)?;

@@ -6,6 +6,9 @@ ghost use Rattle.tally_report.specs.Columns.{heading, left_cell, number, spaces}
 use std::alloc::AllocError;
 use tally_rules::Constituency;
 
+/// The places of a column of codes: as many as the longest code has bytes.
+pub(crate) const CODE_WIDTH: usize = 16;
+
 /// The first line of a report of a constituency.
 pub(crate) fn push_heading(
     text: &mut String,

@@ -1,7 +1,7 @@
 //! Why a report is not given.
 
 ghost use Rattle.std.specs.Prelude.{◌≡◌};
-ghost use Rattle.tally_report.specs.Fault.{fault_number};
+ghost use Rattle.tally_report.specs.Fault.{report_fault_number};
 ghost use Rattle.tally_report.specs.declared.fault.ReportFault.TheVariants.{Memory};
 
 use std::alloc::AllocError;
@@ -28,7 +28,7 @@ impl From<AllocError> for ReportFault {
 impl ReportFault {
     /// The fault's number.
     pub fn number(&self) -> u32
-        ensures { result ≡ fault_number self.now }
+        ensures { result ≡ report_fault_number self.now }
     {
         match self {
             ReportFault::NotCertified => 1,

@@ -9,7 +9,7 @@ ghost use Rattle.tally_report.specs.Columns.{list_lines};
 ghost use Rattle.tally_report.specs.internal.GoneByList.{AreByList, IsOneMore};
 ghost use Rattle.tally_report.specs.HoldersText.{empty_line, holder_line, holder_lines, holders_text, seat_lines};
 
-use crate::column::{push_heading, push_left, push_number};
+use crate::column::{CODE_WIDTH, push_heading, push_left, push_number};
 use crate::fault::ReportFault;
 use std::alloc::{AllocError, Global};
 use tally_machine::holders;
@@ -105,7 +105,8 @@ fn gone_by_list(alloc: Global, view: &ConView, lists: usize) -> Result<Vec<Vec<u
 /// No place for each of so many lists.
 #[tactic(auto, using(crate::proofs::GoneLemmas::one_more_none))]
 fn nobody(alloc: Global, lists: usize) -> Result<Vec<Vec<u32>>, AllocError>
-    ensures { IfOk result (λ gone. map (λ places. places.items) gone.items ≡ replicate lists []) }
+    ensures { IfOk result (λ gone.
+        map (λ places. places.items) gone.items ≡ replicate lists []) }
 {
     let mut gone = Vec::with_capacity(alloc, lists)?;
     for _ in 0..lists {
@@ -156,7 +157,7 @@ fn push_holder(text: &mut String, list: &ListEntry, place: u32) -> Result<(), Al
     ensures { OnOk result (string_bytes text.new
         ≡ string_bytes text.old ++ holder_line list.now place) }
 {
-    push_left(text, list.code.as_str(), 16)?;
+    push_left(text, list.code.as_str(), CODE_WIDTH)?;
     push_number(text, u64::from(place), 5)?;
     let name = list.candidates[place as usize - 1].as_str();
     writeln!(text, " {name}")
@@ -176,6 +177,6 @@ fn push_empty(text: &mut String, list: &ListEntry, seats: usize) -> Result<(), A
 fn push_empty_seat(text: &mut String, list: &ListEntry) -> Result<(), AllocError>
     ensures { OnOk result (string_bytes text.new ≡ string_bytes text.old ++ empty_line list.now) }
 {
-    push_left(text, list.code.as_str(), 16)?;
+    push_left(text, list.code.as_str(), CODE_WIDTH)?;
     text.push_str("    - empty\n")
 }

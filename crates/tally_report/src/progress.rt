@@ -4,7 +4,7 @@ ghost use Rattle.std.specs.Prelude.{◌≡◌, ◌++◌, IfOk, IfErr, OnOk, stri
 ghost use Rattle.tally_report.specs.ProgressText.{progress_line, progress_text};
 ghost use Rattle.tally_report.specs.declared.fault.ReportFault.TheVariants.{Memory};
 
-use crate::column::{push_left, push_number};
+use crate::column::{CODE_WIDTH, push_left, push_number};
 use crate::fault::ReportFault;
 use std::alloc::{AllocError, Global};
 use tally_returns::ProgressRow;
@@ -23,7 +23,8 @@ pub fn progress_text(alloc: Global, rows: &[ProgressRow]) -> Result<String, Repo
 }
 
 fn push_row(text: &mut String, row: &ProgressRow) -> Result<(), AllocError>
-    ensures { OnOk result (string_bytes text.new ≡ string_bytes text.old ++ progress_line row.now) }
+    ensures { OnOk result (string_bytes text.new
+        ≡ string_bytes text.old ++ progress_line row.now) }
 {
     let stations = u64::from(row.stations);
     let received = u64::from(row.received);
@@ -31,7 +32,7 @@ fn push_row(text: &mut String, row: &ProgressRow) -> Result<(), AllocError>
     let corrected = u64::from(row.corrected);
     let closed = u64::from(row.closed);
     let returns = received + queried + corrected + closed;
-    push_left(text, row.con.as_str(), 16)?;
+    push_left(text, row.con.as_str(), CODE_WIDTH)?;
     push_number(text, stations, 7)?;
     push_number(text, stations.saturating_sub(returns), 7)?;
     push_number(text, received, 7)?;

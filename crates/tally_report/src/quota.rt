@@ -8,12 +8,12 @@ ghost use Rattle.tally_report.specs.Fault.{IsRefused, quotas_fault};
 ghost use Rattle.tally_report.specs.Columns.{list_lines};
 ghost use Rattle.tally_report.specs.QuotaText.{quota_columns, quota_line, quota_text};
 
-use crate::column::{push_heading, push_left, push_number};
+use crate::column::{CODE_WIDTH, push_heading, push_left, push_number};
 use crate::fault::ReportFault;
 use std::alloc::{AllocError, Global};
 use tally_contest::{HareContest, Poll};
 use tally_returns::ConView;
-use tally_rules::{Constituency, ListEntry, Method};
+use tally_rules::{Constituency, ListEntry};
 
 /// The eligible votes and the seats of a certified constituency, and the whole quotas, remainder
 /// and seats of each eligible list, under Hare's rule.
@@ -25,9 +25,9 @@ pub fn quota_text(alloc: Global, con: &Constituency, view: &ConView) -> Result<S
     if !view.certified {
         return Err(ReportFault::NotCertified);
     }
-    let Method::Hare = con.profile.method else {
+    if let Some(_rule) = con.profile.method.divisor_rule() {
         return Err(ReportFault::OtherMethod);
-    };
+    }
     let poll = Poll::new(&con.profile, &view.votes, view.blank);
     let contest = HareContest::new(&poll, &[], con.seats);
     let mut text = String::new(alloc);
@@ -88,7 +88,7 @@ fn push_columns(
         ≡ string_bytes text.old
         ++ quota_columns (kept_poll contest.now.poll) contest.now.seats place list.now seats) }
 {
-    push_left(text, list.code.as_str(), 16)?;
+    push_left(text, list.code.as_str(), CODE_WIDTH)?;
     push_number(text, contest.poll.votes_of(place), 12)?;
     push_number(text, u64::from(contest.whole_quotas(place)), 5)?;
     push_number(text, contest.remainder(place), 16)?;

@@ -11,12 +11,12 @@ ghost use Rattle.tally_report.specs.QuotientsText.{most, quotient_column, quotie
 ghost use Rattle.tally_report.specs.declared.fault.ReportFault.TheVariants.{Memory};
 ghost use Rattle.tally_rules.specs.Threshold.{eligible_lists};
 
-use crate::column::{push_heading, push_left, push_number};
+use crate::column::{CODE_WIDTH, push_heading, push_left, push_number};
 use crate::fault::ReportFault;
 use std::alloc::{AllocError, Global};
-use tally_frac::{DHondt, Divisors, MOST_SEATS, ModifiedSainteLague, SainteLague};
+use tally_frac::{Divisors, MOST_SEATS};
 use tally_returns::ConView;
-use tally_rules::{Constituency, ListEntry, Method, eligible};
+use tally_rules::{Constituency, ListEntry, eligible};
 
 /// The quotients of the eligible lists of a certified constituency under a divisor rule, rounded
 /// down, up to one more than the most seats that a list has. A star is put before each that won a
@@ -34,11 +34,9 @@ pub fn quotients_text(
     if !view.certified {
         return Err(ReportFault::NotCertified);
     }
-    match con.profile.method {
-        Method::DHondt => text_by(alloc, &DHondt, con, view),
-        Method::SainteLague => text_by(alloc, &SainteLague, con, view),
-        Method::ModifiedSainteLague => text_by(alloc, &ModifiedSainteLague, con, view),
-        Method::Hare => Err(ReportFault::OtherMethod),
+    match con.profile.method.divisor_rule() {
+        Some(rule) => text_by(alloc, &rule, con, view),
+        None => Err(ReportFault::OtherMethod),
     }
 }
 
@@ -99,7 +97,7 @@ fn push_lists<D: Divisors>(
 {
     for (place, list) in con.lists.iter().enumerate() {
         if marks[place] {
-            push_left(text, list.code.as_str(), 16)?;
+            push_left(text, list.code.as_str(), CODE_WIDTH)?;
             push_quotients(text, divisors, view.votes[place], view.seats[place], last)?;
             text.push_str("\n")?;
         }

@@ -6,7 +6,7 @@ ghost use Rattle.tally_report.specs.Fault.{IsRefused, seats_fault};
 ghost use Rattle.tally_report.specs.Columns.{list_lines};
 ghost use Rattle.tally_report.specs.SeatsText.{certificate_lines, seats_line, seats_text};
 
-use crate::column::{push_heading, push_left, push_number};
+use crate::column::{CODE_WIDTH, push_heading, push_left, push_number};
 use crate::fault::ReportFault;
 use std::alloc::{AllocError, Global};
 use tally_returns::ConView;
@@ -24,7 +24,7 @@ pub fn seats_text(alloc: Global, con: &Constituency, view: &ConView) -> Result<S
     let mut text = String::new(alloc);
     push_heading(&mut text, "SEATS", con)?;
     push_certificate(&mut text, con, view.edition, &view.seats)?;
-    push_left(&mut text, "total", 16)?;
+    push_left(&mut text, "total", CODE_WIDTH)?;
     push_number(&mut text, u64::from(con.seats), 5)?;
     text.push_str("\n")?;
     Ok(text)
@@ -66,7 +66,7 @@ fn push_list(
     ensures { OnOk result (string_bytes text.new
         ≡ string_bytes text.old ++ seats_line seats.now place list.now) }
 {
-    push_left(text, list.code.as_str(), 16)?;
+    push_left(text, list.code.as_str(), CODE_WIDTH)?;
     push_number(text, u64::from(seats[place]), 5)?;
     let name = list.name.as_str();
     writeln!(text, " {name}")

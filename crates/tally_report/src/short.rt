@@ -10,13 +10,13 @@ ghost use Rattle.tally_report.specs.Columns.{list_lines};
 ghost use Rattle.tally_report.specs.ShortText.{AreVotesShortIn, IsShortText, short_columns, short_line, votes_column};
 ghost use Rattle.tally_report.specs.declared.fault.ReportFault.TheVariants.{Memory};
 
-use crate::column::{push_heading, push_left, push_number};
+use crate::column::{CODE_WIDTH, push_heading, push_left, push_number};
 use crate::fault::ReportFault;
 use crate::lots::laws_of_lots;
 use std::alloc::{AllocError, Global};
 use tally_allot::{AllotFault, votes_short};
 use tally_returns::ConView;
-use tally_rules::{Constituency, ListEntry, Method, eligible};
+use tally_rules::{Constituency, ListEntry, eligible};
 
 /// The seats of each eligible list of a certified constituency under a divisor rule, and how many
 /// more votes it needs for one more; a dash where it has all seats.
@@ -29,9 +29,9 @@ pub fn short_text(alloc: Global, con: &Constituency, view: &ConView) -> Result<S
     if !view.certified {
         return Err(ReportFault::NotCertified);
     }
-    if let Method::Hare = con.profile.method {
+    let Some(_rule) = con.profile.method.divisor_rule() else {
         return Err(ReportFault::OtherMethod);
-    }
+    };
     let numbers = numbers_in(alloc, con, view)?;
     let marks = eligible(alloc, &con.profile, &view.votes, view.blank)?;
     let mut text = String::new(alloc);
@@ -109,7 +109,7 @@ fn push_list(
     ensures { OnOk result (string_bytes text.new
         ≡ string_bytes text.old ++ short_columns list.now seats number) }
 {
-    push_left(text, list.code.as_str(), 16)?;
+    push_left(text, list.code.as_str(), CODE_WIDTH)?;
     push_number(text, u64::from(seats), 5)?;
     push_votes(text, number)?;
     text.push_str("\n")

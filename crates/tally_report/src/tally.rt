@@ -8,9 +8,10 @@ ghost use Rattle.tally_report.specs.Columns.{list_lines, right_cell};
 ghost use Rattle.tally_report.specs.TallyText.{hundredths, share, tally_columns, tally_line, tally_text, valid_line};
 ghost use Rattle.tally_report.specs.declared.fault.ReportFault.TheVariants.{Memory};
 
-use crate::column::{push_heading, push_left, push_number};
+use crate::column::{CODE_WIDTH, push_heading, push_left, push_number};
 use crate::fault::ReportFault;
 use std::alloc::{AllocError, Global};
+use tally_frac::WHOLE_BASE;
 use tally_returns::ConView;
 use tally_rules::{Base, Constituency, ListEntry, eligible};
 
@@ -70,7 +71,7 @@ fn push_list(
     ensures { OnOk result (string_bytes text.new
         ≡ string_bytes text.old ++ tally_columns list.now votes base eligible) }
 {
-    push_left(text, list.code.as_str(), 16)?;
+    push_left(text, list.code.as_str(), CODE_WIDTH)?;
     push_number(text, votes, 12)?;
     push_hundredths(text, share(base, votes))?;
     text.push_str(" ")?;
@@ -84,7 +85,11 @@ fn share(base: u64, votes: u64) -> u64
     requires { votes ≤ most_votes }
     ensures { result ≡ share base votes }
 {
-    if base == 0 { 0 } else { votes * 10_000 / base }
+    if base == 0 {
+        0
+    } else {
+        votes * u64::from(WHOLE_BASE) / base
+    }
 }
 
 /// A number of hundredths, at the right of a column of eight places.

@@ -4,7 +4,7 @@ ghost use Rattle.std.specs.Prelude.{◌≡◌, ◌≢◌};
 ghost use Rattle.tally_law.specs.Conditions.{AreLimitsKept};
 ghost use Rattle.tally_rules.specs.declared.profile.Method.TheVariants.{Hare};
 
-use crate::polls::{Poll, is_within_limits, numbers, poll_of};
+use crate::polls::{Poll, are_limits_kept, numbers, poll_of};
 use std::alloc::{AllocError, Global};
 use tally_allot::{
     AllotFault, ListSet, allot, awards, is_allotment, lot_need, quotas, votes_short,
@@ -31,7 +31,7 @@ fn fault_text(alloc: Global, fault: AllotFault) -> Result<String, AllocError> {
 }
 
 fn seats_text(alloc: Global, poll: &Poll) -> Result<String, AllocError>
-    requires { AreLimitsKept poll.now.profile poll.now.seats poll.now.votes.items poll.now.blank }
+    requires { let p = poll.now in AreLimitsKept p.profile p.seats p.votes.items p.blank }
 {
     let (profile, votes, lot) = (&poll.profile, &poll.votes, &poll.lot);
     match allot(alloc, profile, poll.seats, votes, poll.blank, lot) {
@@ -41,7 +41,7 @@ fn seats_text(alloc: Global, poll: &Poll) -> Result<String, AllocError>
 }
 
 fn need_text(alloc: Global, poll: &Poll) -> Result<String, AllocError>
-    requires { AreLimitsKept poll.now.profile poll.now.seats poll.now.votes.items poll.now.blank }
+    requires { let p = poll.now in AreLimitsKept p.profile p.seats p.votes.items p.blank }
 {
     match lot_need(alloc, &poll.profile, poll.seats, &poll.votes, poll.blank) {
         Ok(Some(need)) => lot_text(alloc, &need.group, need.seats),
@@ -51,7 +51,7 @@ fn need_text(alloc: Global, poll: &Poll) -> Result<String, AllocError>
 }
 
 fn quotas_text(alloc: Global, poll: &Poll) -> Result<String, AllocError>
-    requires limits { AreLimitsKept poll.now.profile poll.now.seats poll.now.votes.items poll.now.blank }
+    requires limits { let p = poll.now in AreLimitsKept p.profile p.seats p.votes.items p.blank }
     requires hare { poll.now.profile.method ≡ Hare }
 {
     let (profile, votes, lot) = (&poll.profile, &poll.votes, &poll.lot);
@@ -62,7 +62,7 @@ fn quotas_text(alloc: Global, poll: &Poll) -> Result<String, AllocError>
 }
 
 fn awards_text(alloc: Global, poll: &Poll) -> Result<String, AllocError>
-    requires limits { AreLimitsKept poll.now.profile poll.now.seats poll.now.votes.items poll.now.blank }
+    requires limits { let p = poll.now in AreLimitsKept p.profile p.seats p.votes.items p.blank }
     requires divisors { poll.now.profile.method ≢ Hare }
 {
     let (profile, votes, lot) = (&poll.profile, &poll.votes, &poll.lot);
@@ -73,7 +73,7 @@ fn awards_text(alloc: Global, poll: &Poll) -> Result<String, AllocError>
 }
 
 fn short_text(alloc: Global, poll: &Poll) -> Result<String, AllocError>
-    requires limits { AreLimitsKept poll.now.profile poll.now.seats poll.now.votes.items poll.now.blank }
+    requires limits { let p = poll.now in AreLimitsKept p.profile p.seats p.votes.items p.blank }
     requires divisors { poll.now.profile.method ≢ Hare }
 {
     let (profile, votes, lot) = (&poll.profile, &poll.votes, &poll.lot);
@@ -85,7 +85,7 @@ fn short_text(alloc: Global, poll: &Poll) -> Result<String, AllocError>
 
 /// What a call answers for a poll.
 fn answer(alloc: Global, call: &str, poll: &Poll) -> Result<String, AllocError> {
-    if !is_within_limits(poll) {
+    if !are_limits_kept(&poll.profile, poll.seats, &poll.votes, poll.blank) {
         return String::from_str(alloc, "no poll");
     }
     if call == "allot" {
@@ -106,7 +106,8 @@ fn answer(alloc: Global, call: &str, poll: &Poll) -> Result<String, AllocError> 
 /// Whether these seats are the allotment of a poll.
 fn is_right(poll: &Poll, seats: &[u32]) -> bool {
     let (profile, votes, lot) = (&poll.profile, &poll.votes, &poll.lot);
-    is_within_limits(poll) && is_allotment(profile, poll.seats, votes, poll.blank, lot, seats)
+    are_limits_kept(profile, poll.seats, votes, poll.blank)
+        && is_allotment(profile, poll.seats, votes, poll.blank, lot, seats)
 }
 
 /// Whether a line such as `CALL POLL = ANSWER` holds. The calls are `allot`, `need`, `awards`,

@@ -1,7 +1,9 @@
 //! Fractions, ranks, divisors and the threshold, on numbers.
 
 use std::cmp::Ordering;
-use tally_frac::{DHondt, Divisors, ModifiedSainteLague, RankKey, SainteLague, Share, is_at_least};
+use tally_frac::{
+    DHondt, DivisorRule, Divisors, ModifiedSainteLague, RankKey, SainteLague, Share, is_at_least,
+};
 
 /// How the values of two shares compare.
 fn compared(left: (u64, u64), right: (u64, u64)) -> Option<Ordering> {
@@ -56,6 +58,9 @@ fn seventeen_and_a_half_is_more_than_seventeen_and_a_third(rt: HostRuntime) {
 
 #[test]
 fn the_rules_have_their_divisors_and_three_per_cent_is_reached_exactly(rt: HostRuntime) {
+    assert!(rt; divisors(&DivisorRule::DHondt) == [1, 2, 3, 501, 1]);
+    assert!(rt; divisors(&DivisorRule::SainteLague) == [1, 3, 5, 1001, 1]);
+    assert!(rt; divisors(&DivisorRule::ModifiedSainteLague) == [7, 15, 25, 5005, 5]);
     assert!(rt; divisors(&DHondt) == [1, 2, 3, 501, 1]);
     assert!(rt; divisors(&SainteLague) == [1, 3, 5, 1001, 1]);
     assert!(rt; divisors(&ModifiedSainteLague) == [7, 15, 25, 5005, 5]);

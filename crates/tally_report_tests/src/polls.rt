@@ -112,13 +112,13 @@ fn are_few(votes: &[u64], blank: u64) -> bool
     true
 }
 
-/// Whether a poll keeps the limits of every allotment.
-pub(crate) fn is_within_limits(poll: &Poll) -> bool
-    ensures { IsTrue result → AreLimitsKept poll.now.profile poll.now.seats poll.now.votes.items poll.now.blank }
+/// Whether these keep the limits of every allotment.
+pub(crate) fn are_limits_kept(profile: &Profile, seats: u32, votes: &[u64], blank: u64) -> bool
+    ensures { IsTrue result → AreLimitsKept profile.now seats votes.now blank }
 {
-    let lists = poll.votes.len();
-    if lists < 1 || lists > 60 || poll.seats < 1 || poll.seats > 500 {
+    let lists = votes.len();
+    if lists < 1 || lists > 60 || seats < 1 || seats > 500 {
         return false;
     }
-    poll.profile.threshold <= 10_000 && are_few(&poll.votes, poll.blank)
+    profile.threshold <= 10_000 && are_few(votes, blank)
 }

@@ -39,7 +39,9 @@ use Rattle.tally_steps.proofs.DecisionLemmas.{decisions-steps, unknown-constitue
 use Rattle.tally_steps.proofs.ViewLemmas.{view-lawful}
 use Rattle.tally_keeper.proofs.StepLemmas.{memory-or}
 use Rattle.tally_tables.specs.TablesOfState.{AreTables}
-use Rattle.tally_requests.specs.Requests.{CarriesOut, CarriesOutKnown, IsCarriedOut, IsChangeCarriedOut, IsInState, KeepsKnown}
+use Rattle.tally_requests.specs.Requests.{CarriesOutKnown, IsCarriedOut, IsInState, KeepsKnown}
+use Rattle.tally_requests.specs.internal.Found.{CarriesOut}
+use Rattle.tally_requests.specs.internal.Changes.{IsChangeCarriedOut}
 use Rattle.tally_tables.specs.Views.{statuses_of}
 use Rattle.tally_tables.specs.declared.views.Statuses.{Statuses}
 use Rattle.tally_entries.specs.Constituencies.{AreCons, FindsProgressRow, FindsView, IsKnown, IsViewWith, with_past_of}

@@ -43,7 +43,7 @@ use Rattle.tally_entries.specs.Constituencies.{ChangesOnly, HasGone, MovesRows, 
 use Rattle.tally_entries.specs.Entries.{stored_in}
 use Rattle.tally_entries.proofs.ReturnLemmas.{items_keyed}
 use Rattle.tally_requests.specs.internal.Changes.{CarriesDecided, HasWrittenLot, HasWrittenRecord, HasWrittenSeats, HoldsCon}
-use Rattle.tally_requests.specs.Requests.{CarriesChange, IsChangeCarriedOut}
+use Rattle.tally_requests.specs.internal.Changes.{CarriesChange, IsChangeCarriedOut}
 use Rattle.tally_requests.proofs.DecidedLemmas.{certifying, drawing, reopening}
 use Rattle.tally_requests.proofs.WriteLemmas.{apart}
 

@@ -48,7 +48,8 @@ use Rattle.tally_tables.specs.declared.views.Statuses.{Statuses}
 use Rattle.tally_entries.specs.Constituencies.{IsKnown}
 use Rattle.tally_entries.specs.Statuses.{statuses_in}
 use Rattle.tally_requests.specs.internal.Found.{MovesTo}
-use Rattle.tally_requests.specs.Known.{AreKnown, ForgetsNone, Known, after_command, after_lodge, after_lodge_in, after_move, after_row, after_status, has_status, known_of, one_less_if, one_more_if, status_after, with_changed, with_known, with_move}
+use Rattle.tally_requests.specs.Known.{AreKnown, ForgetsNone, Known, known_of}
+use Rattle.tally_requests.specs.internal.Counting.{after_command, known_after_lodge, known_after_lodge_in, known_after_move, known_after_row, after_status, has_status, one_less_if, one_more_if, status_after, with_changed, with_known, with_move}
 use Rattle.tally_requests.proofs.FoundLemmas.{IsFound, IsPut, found-decided, put-decided}
 use Rattle.tally_requests.proofs.LodgedLemmas.{shown-stays}
 use Rattle.tally_requests.proofs.TotalLemmas.{total-replaced}
@@ -101,24 +102,24 @@ forgets-moved known k f q had = subst IsSome (sym (get-with_known known k f q)) 
 pub forgets-then : (a b c : Known) → ForgetsNone a b → ForgetsNone b c → ForgetsNone a c
 forgets-then a b c one two code had = two code (one code had)
 
-forgets-after_lodge : (setup : List Constituency) (station : List ℕ) (r : Result LodgeReply Refusal) (known : Known) → ForgetsNone known (after_lodge setup station r known)
+forgets-after_lodge : (setup : List Constituency) (station : List ℕ) (r : Result LodgeReply Refusal) (known : Known) → ForgetsNone known (known_after_lodge setup station r known)
 forgets-after_lodge setup station (Ok (lodge.Lodged rev)) known = go (con_of_station setup station)
   where
-    go : (con : Option (List ℕ)) → ForgetsNone known (after_lodge_in con known)
+    go : (con : Option (List ℕ)) → ForgetsNone known (known_after_lodge_in con known)
     go None = λ code had. had
     go (Some con) = forgets-moved known con (with_move None Received)
 forgets-after_lodge setup station (Ok (lodge.Same rev)) known = λ code had. had
 forgets-after_lodge setup station (Err e) known = λ code had. had
 
-pub forgets-lodged : (setup : List Constituency) (station : List ℕ) (r : Result LodgeReply Refusal) (known after : Known) → after ≡ after_lodge setup station r known → ForgetsNone known after
+pub forgets-lodged : (setup : List Constituency) (station : List ℕ) (r : Result LodgeReply Refusal) (known after : Known) → after ≡ known_after_lodge setup station r known → ForgetsNone known after
 forgets-lodged setup station r known after is = subst (ForgetsNone known) (sym is) (forgets-after_lodge setup station r known)
 
-forgets-after_row : (setup : List Constituency) (r : Row) (answer : RowAnswer) (known : Known) → ForgetsNone known (after_row setup r answer known)
+forgets-after_row : (setup : List Constituency) (r : Row) (answer : RowAnswer) (known : Known) → ForgetsNone known (known_after_row setup r answer known)
 forgets-after_row setup r None known = λ code had. had
 forgets-after_row setup (row.Lodge (Lodge station slip counts)) (Some answer) known = forgets-after_lodge setup station answer known
 forgets-after_row setup other (Some answer) known = λ code had. had
 
-pub forgets-row : (setup : List Constituency) (r : Row) (answer : RowAnswer) (known after : Known) → after ≡ after_row setup r answer known → ForgetsNone known after
+pub forgets-row : (setup : List Constituency) (r : Row) (answer : RowAnswer) (known after : Known) → after ≡ known_after_row setup r answer known → ForgetsNone known after
 forgets-row setup r answer known after is = subst (ForgetsNone known) (sym is) (forgets-after_row setup r answer known)
 
 pub forgets-commanded : (con : List ℕ) (command : Ask) (before : Option Status) (accepted : Bool) (known after : Known) → after ≡ after_command con command before accepted known → ForgetsNone known after
@@ -211,7 +212,7 @@ module _ (setup : List Constituency) (returns : Returns) (station : List ℕ) (c
       }
 
   -- what was known is known of the returns with this one
-  pub known-moved : (known : Known) → AreKnown setup returns known → AreKnown setup (insert returns station standing) (after_move con.code before standing.status known)
+  pub known-moved : (known : Known) → AreKnown setup returns known → AreKnown setup (insert returns station standing) (known_after_move con.code before standing.status known)
   known-moved known held other here =
       subst (IsKnown other (insert returns station standing)) (sym (get-with_known known con.code (with_move before standing.status) other.code)) (go (eq_by_cmp code_cmp other.code con.code) refl)
     where
@@ -233,36 +234,36 @@ module _ (setup : List Constituency) (returns : Returns) (station : List ℕ) (c
 -- ---- a Lodge
 
 pub known-lodged : (setup : List Constituency) (returns : Returns) (station slip : List ℕ) (counts : VoteCounts) (r : Result LodgeReply Refusal) (known : Known) → IsSetup setup
-    → r ≡ lodge_answer (stations_of setup) returns station slip counts → AreKnown setup returns known → AreKnown setup (returns_after_lodge returns station slip counts r) (after_lodge setup station r known)
+    → r ≡ lodge_answer (stations_of setup) returns station slip counts → AreKnown setup returns known → AreKnown setup (returns_after_lodge returns station slip counts r) (known_after_lodge setup station r known)
 known-lodged setup returns station slip counts (Ok (lodge.Lodged rev)) known limits is held = go (station_with station setup) refl is
   where
     none : get returns station ≡ None
     none = lodged-none (stations_of setup) returns station slip counts rev (sym is)
 
     go : (found : Option (Constituency × Station)) → station_with station setup ≡ found → Ok (lodge.Lodged rev) ≡ reply_at_code (option_map (λ (p : Constituency × Station). limits_of p.0 p.1) found) (get returns station) slip counts
-        → AreKnown setup (insert returns station (first_return slip counts)) (after_lodge_in (con_of_station setup station) known)
+        → AreKnown setup (insert returns station (first_return slip counts)) (known_after_lodge_in (con_of_station setup station) known)
     go None there bad = let e : ◌≡◌ {A = Result LodgeReply Refusal} (Ok (lodge.Lodged rev)) (Err NoStation) = bad in cc
     go (Some found) there good =
-        subst (λ code. AreKnown setup (insert returns station (first_return slip counts)) (after_lodge_in code known)) (sym (ap (option_map (λ (p : Constituency × Station). p.0.code)) there))
+        subst (λ code. AreKnown setup (insert returns station (first_return slip counts)) (known_after_lodge_in code known)) (sym (ap (option_map (λ (p : Constituency × Station). p.0.code)) there))
         (known-moved setup returns station found.0 found.1 (first_return slip counts) None limits there (sym (ap (option_map (λ (r : StationReturn). r.status)) none)) known held)
 known-lodged setup returns station slip counts (Ok (lodge.Same rev)) known limits is held = held
 known-lodged setup returns station slip counts (Err e) known limits is held = held
 
 -- where a return was lodged in this constituency
 pub lodge-counted : (setup : List Constituency) (station code : List ℕ) (con : Constituency) (place : Station) (reply : LodgeReply) (rev : ℕ) (known after : Known) → station_with station setup ≡ Some (con, place) → code ≡ con.code
-    → reply ≡ lodge.Lodged rev → after ≡ after_move code None Received known → after ≡ after_lodge setup station (Ok reply) known
+    → reply ≡ lodge.Lodged rev → after ≡ known_after_move code None Received known → after ≡ known_after_lodge setup station (Ok reply) known
 lodge-counted setup station code con place reply rev known after at own is put =
-    put ∙ ap (λ k. after_move k None Received known) own
-    ∙ sym (ap (λ k. after_lodge_in k known) (ap (option_map (λ (p : Constituency × Station). p.0.code)) at))
-    ∙ sym (ap (λ r. after_lodge setup station (Ok r) known) is)
+    put ∙ ap (λ k. known_after_move k None Received known) own
+    ∙ sym (ap (λ k. known_after_lodge_in k known) (ap (option_map (λ (p : Constituency × Station). p.0.code)) at))
+    ∙ sym (ap (λ r. known_after_lodge setup station (Ok r) known) is)
 
 -- a row
 pub known-row : (setup : List Constituency) (returns : Returns) (r : Row) (answer : RowAnswer) (known : Known) → IsSetup setup → row_answer (stations_of setup) returns r ≡ answer → AreKnown setup returns known
-    → AreKnown setup (returns_after_row (stations_of setup) returns r) (after_row setup r answer known)
+    → AreKnown setup (returns_after_row (stations_of setup) returns r) (known_after_row setup r answer known)
 known-row setup returns (row.Lodge (Lodge station slip counts)) answer known limits is held =
-    subst (λ a. AreKnown setup (returns_after_row (stations_of setup) returns (row.Lodge (Lodge station slip counts))) (after_row setup (row.Lodge (Lodge station slip counts)) a known)) is
+    subst (λ a. AreKnown setup (returns_after_row (stations_of setup) returns (row.Lodge (Lodge station slip counts))) (known_after_row setup (row.Lodge (Lodge station slip counts)) a known)) is
     (known-lodged setup returns station slip counts (lodge_answer (stations_of setup) returns station slip counts) known limits refl held)
-known-row setup returns other answer known limits is held = subst (λ a. AreKnown setup returns (after_row setup other a known)) is held
+known-row setup returns other answer known limits is held = subst (λ a. AreKnown setup returns (known_after_row setup other a known)) is held
 
 -- a request that was not accepted was refused
 not-accepted : (r : Result Reply Refusal) → IsNotAccepted r → (e : Refusal) × (r ≡ Err e)
@@ -270,7 +271,7 @@ not-accepted r (inl is) = (_, is)
 not-accepted r (inr is) = (_, is)
 
 pub lodged-known : (setup : List Constituency) (s t : State) (station slip : List ℕ) (counts : VoteCounts) (r : Result LodgeReply Refusal) (a : Result Reply Refusal) (known after : Known) → IsSetup setup
-    → r ≡ lodge_answer (stations_of setup) s.returns station slip counts → reply_seen a ≡ lodge_reply r → after ≡ after_lodge setup station r known → AreKnown setup s.returns known
+    → r ≡ lodge_answer (stations_of setup) s.returns station slip counts → reply_seen a ≡ lodge_reply r → after ≡ known_after_lodge setup station r known → AreKnown setup s.returns known
     → IsAnswered setup s (Lodge station slip counts) a t → AreKnown setup t.returns after
 lodged-known setup s t station slip counts r a known after limits is shown put held (inl step) =
     let next : t.returns ≡ returns_after_lodge s.returns station slip counts r =
@@ -279,7 +280,7 @@ lodged-known setup s t station slip counts r a known after limits is shown put h
 lodged-known setup s t station slip counts r a known after limits is shown put held (inr not) =
     subst (λ (x : State). AreKnown setup x.returns after) (sym not.1) (go r (ap reply_seen (sym (not-accepted a not.0).1) ∙ shown) put)
   where
-    go : (r : Result LodgeReply Refusal) → reply_seen (Err (not-accepted a not.0).0) ≡ lodge_reply r → after ≡ after_lodge setup station r known → AreKnown setup s.returns after
+    go : (r : Result LodgeReply Refusal) → reply_seen (Err (not-accepted a not.0).0) ≡ lodge_reply r → after ≡ known_after_lodge setup station r known → AreKnown setup s.returns after
     go (Ok (lodge.Lodged rev)) bad put = cc
     go (Ok (lodge.Same rev)) bad put = cc
     go (Err e) good put = subst (AreKnown setup s.returns) (sym put) held
@@ -343,7 +344,7 @@ command-known setup s t ask station code con place found before r known next lim
         ap (λ (x : State). x.returns) (to ∙ ap (state_after setup s ask) is)
         ∙ ap (λ n. (with_return (after_put setup s ask) n standing).returns) named
         ∙ ap (λ (m : Returns). insert m station standing) (put-returns setup s ask) in
-        let counted : next ≡ after_move con.code before standing.status known = put ∙ ap (λ o. after_status code before o known) status ∙ ap (λ k. after_move k before standing.status known) own in
+        let counted : next ≡ known_after_move con.code before standing.status known = put ∙ ap (λ o. after_status code before o known) status ∙ ap (λ k. known_after_move k before standing.status known) own in
         subst (λ (m : Returns). AreKnown setup m next) (sym returns)
         (subst (AreKnown setup (insert s.returns station standing)) (sym counted)
         (known-moved setup s.returns station con place standing before limits at (was ∙ ap (option_map (λ (x : StationReturn). x.status)) found_is) known held))

@@ -8,6 +8,7 @@ pub mod LodgedLemmas
 pub mod MovedLemmas
 pub mod RecordLemmas
 pub mod RowLemmas
+pub mod ShownLemmas
 pub mod TotalLemmas
 pub mod UnwrittenLemmas
 pub mod WriteLemmas

@@ -44,7 +44,8 @@ use Rattle.tally_entries.specs.Entries.{AddsReturn, FindsReturn, PutsReturn}
 use Rattle.tally_entries.proofs.FindLemmas.{inside_still}
 use Rattle.tally_keeper.proofs.LodgeLemmas.{lodged-none}
 use Rattle.tally_requests.specs.internal.Lodging.{IsLodgeAnswer}
-use Rattle.tally_requests.specs.Requests.{IsCarriedOut, IsInState, IsLodged}
+use Rattle.tally_requests.specs.Requests.{IsCarriedOut, IsInState}
+use Rattle.tally_requests.specs.internal.Lodging.{IsLodged}
 
 -- ---- closed counts where a return is put whose counts are closed as those before it were
 

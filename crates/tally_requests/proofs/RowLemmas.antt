@@ -11,7 +11,7 @@ use Rattle.tally_returns.specs.State.{State, stations_of}
 use Rattle.tally_steps.specs.LawfulState.{IsLawfulState}
 use Rattle.tally_ledger.specs.Kept.{Kept}
 use Rattle.tally_keeper.specs.Import.{IsBelow, IsCodedRow, RowAnswer, after_row, count_of, count_with_row, row_answer}
-use Rattle.tally_keeper.specs.Keeper.{IsFault, IsOwnFault}
+use Rattle.tally_keeper.specs.Keeper.{IsImportFault, IsOwnFault}
 use Rattle.tally_keeper.specs.Source.{GaveAll, IsWithin, SourceAt, row_limit}
 use Rattle.tally_keeper.specs.declared.import.ImportCount.{ImportCount}
 use Rattle.tally_keeper.specs.declared.import.Row.{Row}
@@ -19,8 +19,10 @@ use Rattle.tally_keeper.specs.declared.source.ImportFault.{ImportFault}
 use Rattle.tally_keeper.specs.declared.source.ImportFault.TheVariants.{TooLong}
 use Rattle.tally_keeper.proofs.ImportLemmas.{count_of-below, push_is}
 use Rattle.tally_keeper.proofs.TakenLemmas.{GivesAt, SoFar, SoFar-end, SoFar-fault, SoFar-many, SoFar-next, SoFar-own, SoFar-start, all-given}
-use Rattle.tally_requests.specs.Known.{AreKnown, Known, after_row as after_row_known}
-use Rattle.tally_requests.specs.Requests.{IsImportedKnown, IsInState, IsRowTaken}
+use Rattle.tally_requests.specs.Known.{AreKnown, Known}
+use Rattle.tally_requests.specs.internal.Counting.{known_after_row as after_row_known}
+use Rattle.tally_requests.specs.Requests.{IsImportedKnown, IsInState}
+use Rattle.tally_requests.specs.internal.Lodging.{IsRowTaken}
 use Rattle.tally_requests.proofs.KnownLemmas.{known-row}
 use Rattle.tally_requests.proofs.LodgeLemmas.{row-lawful}
 
@@ -48,13 +50,13 @@ came-end all left next many was few given =
     let h = was.2 in
     (h.rows, all-given all left next h.rows h.given h.taken (omega (arith, few, h.many_are)) given)
 
-pub came-fault : (all left next : SourceAt) (many : ℕ) (fault : ImportFault) → Came all left many → GivesAt left (Err fault) next → IsFault (record { start = all; finish = next }) fault
+pub came-fault : (all left next : SourceAt) (many : ℕ) (fault : ImportFault) → Came all left many → GivesAt left (Err fault) next → IsImportFault (record { start = all; finish = next }) fault
 came-fault all left next many fault was given = SoFar-fault no_stations empty was.1 all left next was.0 many fault was.2 given
 
-pub came-own : (all left next : SourceAt) (many : ℕ) (r : Row) (fault : ImportFault) → Came all left many → GivesAt left (Ok (Some r)) next → IsOwnFault fault → IsFault (record { start = all; finish = next }) fault
+pub came-own : (all left next : SourceAt) (many : ℕ) (r : Row) (fault : ImportFault) → Came all left many → GivesAt left (Ok (Some r)) next → IsOwnFault fault → IsImportFault (record { start = all; finish = next }) fault
 came-own all left next many r fault was given own = SoFar-own no_stations empty was.1 all left next was.0 many r fault was.2 given own
 
-pub came-many : (all left : SourceAt) (many : ℕ) → Came all left many → many ≡ row_limit + 1 → IfSome all.coming IsWithin → IsFault (record { start = all; finish = left }) TooLong
+pub came-many : (all left : SourceAt) (many : ℕ) → Came all left many → many ≡ row_limit + 1 → IfSome all.coming IsWithin → IsImportFault (record { start = all; finish = left }) TooLong
 came-many all left many was over within = SoFar-many no_stations empty was.1 all left was.0 many was.2 over within
 
 -- so many answers were counted

@@ -13,7 +13,7 @@ use Rattle.tally_statements.specs.declared.table.KeyedTable.{KeyedTable}
 use Rattle.tally_statements.specs.declared.table.KeyedTable.TheVariants.{Cons, Lots, Seats, Past}
 use Rattle.tally_statements.specs.Office.{tree_of}
 use Rattle.tally_tables.specs.Cells.{con_rows, lot_rows, past_rows, seat_rows}
-use Rattle.tally_entries.specs.Constituencies.{ChangesOnly, HasLot, HasRecord, IsAt, MovesRows, MovesSeats}
+use Rattle.tally_entries.specs.Constituencies.{ChangesOnly, HasLot, HasRecord, HasEdition, MovesRows, MovesSeats}
 use Rattle.tally_entries.specs.Entries.{stored_in}
 use Rattle.tally_requests.specs.internal.Changes.{ChangesAmong, HasWrittenLot, HoldsCon, HasWrittenRecord, HasWrittenSeats}
 
@@ -29,8 +29,8 @@ HasMovedSeats code seats old new = ChangesOnly Seats old new × MovesSeats code 
 
 -- where `cons` had a constituency, a change of its row is a move of any rows like these
 pub con_moved : (code : List ℕ) (edition : ℕ) (certified : Bool) (note : List ℕ) (old new : Seen) → HoldsCon code old
-    → ((cons : FinMap code_cmp ConState) (before standing : ConState) → get cons code ≡ Some before → IsAt edition certified note before standing → AreRowsOf con_rows cons (stored_in Cons old)
-    → ChangesOnly Cons old new × AreRowsOf con_rows (insert cons code standing) (stored_in Cons new)) → HasMoved Cons con_rows code (IsAt edition certified note) old new
+    → ((cons : FinMap code_cmp ConState) (before standing : ConState) → get cons code ≡ Some before → HasEdition edition certified note before standing → AreRowsOf con_rows cons (stored_in Cons old)
+    → ChangesOnly Cons old new × AreRowsOf con_rows (insert cons code standing) (stored_in Cons new)) → HasMoved Cons con_rows code (HasEdition edition certified note) old new
 con_moved code edition certified note old new holds changed = (
   (changed holds.cons holds.before (record holds.before { edition = edition; certified = certified; note = note }) holds.is (refl, refl, refl) holds.rows).0,
   λ cons before standing is becomes held. (changed cons before standing is becomes held).1,
@@ -54,19 +54,19 @@ moved_after : (t : KeyedTable) (rows_of : List ℕ × ConState → List Row) (co
 moved_after t rows_of code Becomes old between new stays moved cons before standing is becomes held =
     moved cons before standing is becomes (subst (AreRowsOf rows_of cons) (sym stays) held)
 
-pub lot_written : (code : List ℕ) (edition : ℕ) (certified : Bool) (note lot : List ℕ) (old between new : Seen) → HasMoved Cons con_rows code (IsAt edition certified note) old between
+pub lot_written : (code : List ℕ) (edition : ℕ) (certified : Bool) (note lot : List ℕ) (old between new : Seen) → HasMoved Cons con_rows code (HasEdition edition certified note) old between
     → HasMoved Lots lot_rows code (HasLot lot) between new → HasWrittenLot code edition certified note lot old new
 lot_written code edition certified note lot old between new first second = record {
   only = only_two Cons Lots old between new first.0 second.0;
-  cons = moved_before Cons con_rows code (IsAt edition certified note) old between new (second.0.others Cons (apart Cons Lots refl)) first.1;
+  cons = moved_before Cons con_rows code (HasEdition edition certified note) old between new (second.0.others Cons (apart Cons Lots refl)) first.1;
   lots = moved_after Lots lot_rows code (HasLot lot) old between new (first.0.others Lots (apart Lots Cons refl)) second.1;
 }
 
-pub seats_written : (code : List ℕ) (edition : ℕ) (certified : Bool) (note seats : List ℕ) (old between new : Seen) → HasMoved Cons con_rows code (IsAt edition certified note) old between
+pub seats_written : (code : List ℕ) (edition : ℕ) (certified : Bool) (note seats : List ℕ) (old between new : Seen) → HasMoved Cons con_rows code (HasEdition edition certified note) old between
     → HasMovedSeats code seats between new → HasWrittenSeats code edition certified note seats old new
 seats_written code edition certified note seats old between new first second = record {
   only = only_two Cons Seats old between new first.0 second.0;
-  cons = moved_before Cons con_rows code (IsAt edition certified note) old between new (second.0.others Cons (apart Cons Seats refl)) first.1;
+  cons = moved_before Cons con_rows code (HasEdition edition certified note) old between new (second.0.others Cons (apart Cons Seats refl)) first.1;
   seats = λ cons before standing known own others held.
       second.1 cons before standing known own others (subst (AreRowsOf (seat_rows before) cons) (sym (first.0.others Seats (apart Seats Cons refl))) held);
 }
@@ -79,7 +79,7 @@ record_written code edition note standing old between new first second = record 
     others = λ u differ. second.0.others u differ.1.1.0 ∙ first.only.others u (differ.0, (differ.1.0, tt));
     setup_is = second.0.setup_is ∙ first.only.setup_is;
   };
-  cons = moved_before Cons con_rows code (IsAt edition false note) old between new (second.0.others Cons (apart Cons Past refl)) first.cons;
+  cons = moved_before Cons con_rows code (HasEdition edition false note) old between new (second.0.others Cons (apart Cons Past refl)) first.cons;
   seats = λ cons before after known own others held.
       subst (AreRowsOf (seat_rows after) cons) (sym (second.0.others Seats (apart Seats Past refl))) (first.seats cons before after known own others held);
   past = moved_after Past past_rows code (HasRecord standing) old between new (first.only.others Past (apart Past Cons refl, (apart Past Seats refl, tt))) second.1;

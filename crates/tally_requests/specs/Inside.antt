@@ -19,5 +19,6 @@ pub record IsLawfulInside (setup : List Constituency) (seen : Seen) : Type 0 whe
   pub tables : AreTables setup text office seen.now.trees
 
 -- what a call keeps in a transaction in which they are those of a lawful state
-abbrev pub StaysInState : List Constituency → {S : Type 0} (g : Ghosts S) → Transaction S → Transaction S → Type 0
+abbrev pub StaysInState : List Constituency → {S : Type 0} (g : Ghosts S) → Transaction S
+    → Transaction S → Type 0
 StaysInState setup g old new = StaysFrom (IsLawfulInside setup) g old new

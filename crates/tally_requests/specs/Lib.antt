@@ -1,4 +1,5 @@
 pub mod internal
 pub mod Known
 pub mod Requests
+pub mod Shown
 pub mod Inside

@@ -5,3 +5,4 @@ pub mod Found
 pub mod Changes
 pub mod Moves
 pub mod Sums
+pub mod Counting

@@ -1,13 +1,10 @@
 //! A request, answered and carried out.
 
-ghost use Rattle.std.specs.Prelude.{IfOk, OnOk};
-ghost use Rattle.tally_steps.specs.Kinds.{IsReplyTo};
 ghost use Rattle.tally_returns.specs.declared.ask.Ask.TheVariants.{Lodge};
-ghost use Rattle.tally_statements.specs.Inside.{Acts, StaysInside};
-ghost use Rattle.tally_requests.specs.Known.{ForgetsNone, known_of};
-ghost use Rattle.tally_requests.specs.Requests.{CarriesOutKnown, KeepsKnown, WritesOnlyActs};
+ghost use Rattle.tally_statements.specs.Inside.{StaysInside};
+ghost use Rattle.tally_requests.specs.Requests.{AnswersIn};
 
-use crate::constituencies::{answer_on, show_progress};
+use crate::constituencies::{answer_on_con, show_progress};
 use crate::returns::{lodge, move_on, show_return};
 use sqlite::{Alter, Error, Transaction};
 use std::alloc::Global;
@@ -26,16 +23,10 @@ pub fn answer_in<S: Alter>(
     ask: &Ask,
 ) -> Result<Result<Reply, Refusal>, Error>
     ensures stays { StaysInside S.Store tx.old tx.new }
-    ensures kind { IfOk result (λ r. IfOk r (IsReplyTo setup.now ask.now)) }
-    ensures step { Acts S.Store (CarriesOutKnown setup.now (known_of known.old) ask.now)
-        tx.old tx.new result }
-    ensures known { Acts S.Store (KeepsKnown setup.now (known_of known.old) (known_of known.new)
-        ask.now) tx.old tx.new result }
-    ensures forgets { OnOk result (ForgetsNone (known_of known.old) (known_of known.new)) }
-    ensures unwritten { Acts S.Store WritesOnlyActs tx.old tx.new result }
+    ensures answers { AnswersIn S.Store setup.now ask.now known.old known.new tx.old tx.new result }
 {
     if let Some(con) = ask.con() {
-        return answer_on(alloc, tx, setup, known, con, ask);
+        return answer_on_con(alloc, tx, setup, known, con, ask);
     }
     match ask {
         Ask::Lodge {
@@ -63,13 +54,8 @@ fn lodge_at<S: Alter>(
     counts: &Counts,
 ) -> Result<Result<Reply, Refusal>, Error>
     ensures stays { StaysInside S.Store tx.old tx.new }
-    ensures kind { IfOk result (λ r. IfOk r (IsReplyTo setup.now (Lodge station slip counts.now))) }
-    ensures step { Acts S.Store (CarriesOutKnown setup.now (known_of known.old)
-        (Lodge station slip counts.now)) tx.old tx.new result }
-    ensures known { Acts S.Store (KeepsKnown setup.now (known_of known.old) (known_of known.new)
-        (Lodge station slip counts.now)) tx.old tx.new result }
-    ensures forgets { OnOk result (ForgetsNone (known_of known.old) (known_of known.new)) }
-    ensures unwritten { Acts S.Store WritesOnlyActs tx.old tx.new result }
+    ensures answers { AnswersIn S.Store setup.now (Lodge station slip counts.now)
+        known.old known.new tx.old tx.new result }
 {
     match lodge(alloc, tx, setup, known, station, slip, counts)? {
         Ok(reply) => Ok(Ok(Reply::from(reply))),

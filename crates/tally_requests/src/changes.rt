@@ -11,7 +11,7 @@ ghost use Rattle.tally_returns.specs.declared.change.Change.TheVariants.{Same};
 ghost use Rattle.tally_rules.specs.Setup.{constituency_with};
 ghost use Rattle.tally_requests.specs.internal.Changes.{CarriesDecided, HasWrittenLot, HasWrittenRecord, HasWrittenSeats, WritesSo};
 ghost use Rattle.tally_statements.specs.Inside.{Acts, Stays, StaysInside};
-ghost use Rattle.tally_requests.specs.Requests.{CarriesChange};
+ghost use Rattle.tally_requests.specs.internal.Changes.{CarriesChange};
 
 use sqlite::{Alter, Error, Transaction};
 use tally_entries::{put_con, put_gone, put_lot, put_record, put_seats};

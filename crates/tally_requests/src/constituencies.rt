@@ -13,21 +13,21 @@ ghost use Rattle.tally_entries.specs.Entries.{Finds};
 ghost use Rattle.tally_entries.specs.internal.Found.{ChangesNothing};
 ghost use Rattle.tally_statements.specs.Inside.{Acts, StaysInside};
 ghost use Rattle.tally_requests.specs.Known.{ForgetsNone, known_of};
-ghost use Rattle.tally_requests.specs.Requests.{CarriesOutKnown, KeepsKnown, WritesOnlyActs};
+ghost use Rattle.tally_requests.specs.Requests.{AnswersIn, WritesOnlyActs};
 ghost use Rattle.tally_requests.specs.internal.Seen.{CarriesOutSeen, FindsKnown, FindsProgress, LooksUp, shows_con};
 
 use crate::changes::carry_out;
-use crate::known::{known_at, remember, statuses_of, statuses_of_row};
+use crate::known::{known_at, remember, statuses_of_row};
 use sqlite::{Alter, Error, Transaction};
 use std::alloc::Global;
 use std::collections::BTreeMap;
 use tally_entries::{find_progress_row, find_view, rows_of_cons};
 use tally_machine::{Ask, Change, ConView, ProgressRow, Refusal, Reply, decide_con};
 use tally_rules::{Code, Constituency, Setup};
-use tally_tables::Statuses;
+use tally_tables::{Statuses, statuses_of};
 
 /// Answers a request on the constituency of a code, and carries it out.
-pub(crate) fn answer_on<S: Alter>(
+pub(crate) fn answer_on_con<S: Alter>(
     alloc: Global,
     tx: &mut Transaction<'_, S>,
     setup: &Setup,
@@ -37,13 +37,7 @@ pub(crate) fn answer_on<S: Alter>(
 ) -> Result<Result<Reply, Refusal>, Error>
     requires named { con_named ask.now ≡ Some code }
     ensures stays { StaysInside S.Store tx.old tx.new }
-    ensures kind { IfOk result (λ r. IfOk r (IsReplyTo setup.now ask.now)) }
-    ensures step { Acts S.Store (CarriesOutKnown setup.now (known_of known.old) ask.now)
-        tx.old tx.new result }
-    ensures known { Acts S.Store (KeepsKnown setup.now (known_of known.old) (known_of known.new)
-        ask.now) tx.old tx.new result }
-    ensures forgets { OnOk result (ForgetsNone (known_of known.old) (known_of known.new)) }
-    ensures unwritten { Acts S.Store WritesOnlyActs tx.old tx.new result }
+    ensures answers { AnswersIn S.Store setup.now ask.now known.old known.new tx.old tx.new result }
 {
     let Some(con) = setup.con(code) else {
         return Ok(Err(Refusal::NoConstituency));
@@ -130,13 +124,8 @@ pub(crate) fn show_progress<S: Alter>(
     known: &mut BTreeMap<Code, Statuses>,
 ) -> Result<Result<Reply, Refusal>, Error>
     ensures stays { StaysInside S.Store tx.old tx.new }
-    ensures kind { IfOk result (λ r. IfOk r (IsReplyTo setup.now ShowProgress)) }
-    ensures step { Acts S.Store (CarriesOutKnown setup.now (known_of known.old) ShowProgress)
-        tx.old tx.new result }
-    ensures known { Acts S.Store (KeepsKnown setup.now (known_of known.old) (known_of known.new)
-        ShowProgress) tx.old tx.new result }
-    ensures forgets { OnOk result (ForgetsNone (known_of known.old) (known_of known.new)) }
-    ensures unwritten { Acts S.Store WritesOnlyActs tx.old tx.new result }
+    ensures answers { AnswersIn S.Store setup.now ShowProgress
+        known.old known.new tx.old tx.new result }
 {
     let rows = find_progress(alloc, tx, setup, known)?;
     Ok(Ok(Reply::Progress(rows)))

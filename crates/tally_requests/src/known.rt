@@ -4,12 +4,12 @@
 ghost use Rattle.std.specs.Prelude.{◌≡◌, OnOk, option_map};
 ghost use Rattle.std.specs.FinMap.{get, insert};
 ghost use Rattle.tally_returns.specs.Return.{StationReturn};
-ghost use Rattle.tally_requests.specs.Known.{after_command, after_move, known_of, statuses_of_row, with_move, with_one, without_one};
-ghost use Rattle.tally_tables.specs.Views.{statuses_of};
+ghost use Rattle.tally_requests.specs.Known.{known_of};
+ghost use Rattle.tally_requests.specs.internal.Counting.{after_command, known_after_move, statuses_of_row, with_move, with_one, without_one};
 
 use std::alloc::AllocError;
 use std::collections::BTreeMap;
-use tally_returns::{Ask, ConView, ProgressRow, Return, Status};
+use tally_returns::{Ask, ProgressRow, Return, Status};
 use tally_rules::Code;
 use tally_tables::Statuses;
 
@@ -32,20 +32,7 @@ pub(crate) fn remember(
     Ok(())
 }
 
-/// How many returns are in each status, of what is seen of a constituency.
-pub(crate) fn statuses_of(view: &ConView) -> Statuses
-    ensures { result ≡ statuses_of view.now }
-{
-    Statuses {
-        stations: view.stations,
-        received: view.received,
-        queried: view.queried,
-        corrected: view.corrected,
-        closed: view.closed,
-    }
-}
-
-/// The same of the row that shows how far it has come.
+/// How many returns are in each status, of the row that shows how far a constituency has come.
 pub(crate) fn statuses_of_row(row: &ProgressRow) -> Statuses
     ensures { result ≡ statuses_of_row row.now }
 {
@@ -108,7 +95,7 @@ pub(crate) fn count_move(
     before: Option<Status>,
     standing: Status,
 )
-    ensures { known_of known.new ≡ after_move con before standing (known_of known.old) }
+    ensures { known_of known.new ≡ known_after_move con before standing (known_of known.old) }
 {
     if let Some(statuses) = known.get_mut(&con) {
         move_one(statuses, before, standing);

@@ -9,7 +9,9 @@ mod known;
 mod moves;
 mod returns;
 mod rows;
+mod shown;
 mod sums;
 
 pub use answer::answer_in;
 pub use rows::{import_fault_of, take_rows};
+pub use shown::{see_open, show_con_in};

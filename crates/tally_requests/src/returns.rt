@@ -15,8 +15,10 @@ ghost use Rattle.tally_requests.specs.internal.Found.{CarriesOutFound, IsLawfulI
 ghost use Rattle.tally_statements.specs.Inside.{Acts, OnlyReads, Stays, StaysInside};
 ghost use Rattle.tally_requests.specs.internal.Lodging.{DecidesLodge, IsFewIfLodged, WritesOnlyLodged};
 ghost use Rattle.tally_requests.specs.internal.Moves.{PutsMoved};
-ghost use Rattle.tally_requests.specs.Known.{CountsLodge, ForgetsNone, known_of};
-ghost use Rattle.tally_requests.specs.Requests.{CarriesOut, CarriesOutKnown, KeepsKnown, Lodges, WritesOnlyActs};
+ghost use Rattle.tally_requests.specs.internal.Counting.{CountsLodge};
+ghost use Rattle.tally_requests.specs.Requests.{AnswersIn, WritesOnlyActs};
+ghost use Rattle.tally_requests.specs.internal.Found.{CarriesOut};
+ghost use Rattle.tally_requests.specs.internal.Lodging.{Lodges};
 
 use crate::known::{count_command, count_move, status_found};
 use crate::moves::{put_closed, put_corrected, put_queried};
@@ -115,13 +117,7 @@ pub(crate) fn move_on<S: Alter>(
     requires named { station_named ask.now ≡ Some station }
     requires moves { moves_return ask.now ≡ true }
     ensures stays { StaysInside S.Store tx.old tx.new }
-    ensures kind { IfOk result (λ r. IfOk r (IsReplyTo setup.now ask.now)) }
-    ensures step { Acts S.Store (CarriesOutKnown setup.now (known_of known.old) ask.now)
-        tx.old tx.new result }
-    ensures known { Acts S.Store (KeepsKnown setup.now (known_of known.old) (known_of known.new)
-        ask.now) tx.old tx.new result }
-    ensures forgets { OnOk result (ForgetsNone (known_of known.old) (known_of known.new)) }
-    ensures unwritten { Acts S.Store WritesOnlyActs tx.old tx.new result }
+    ensures answers { AnswersIn S.Store setup.now ask.now known.old known.new tx.old tx.new result }
 {
     let Some((con, place)) = setup.station(station) else {
         return Ok(Err(Refusal::NoStation));

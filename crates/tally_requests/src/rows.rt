@@ -4,14 +4,16 @@ ghost use Rattle.std.specs.Prelude.{◌≡◌, ◌↔◌, Some, IfErr, OnOk, tru
 ghost use Rattle.sqlite.specs.Held.{state};
 ghost use Rattle.tally_keeper.specs.Delivery.{delivery};
 ghost use Rattle.tally_keeper.specs.Import.{IsCodedRow};
-ghost use Rattle.tally_keeper.specs.Keeper.{IsFault, IsOwnFault};
+ghost use Rattle.tally_keeper.specs.Keeper.{IsImportFault, IsOwnFault};
 ghost use Rattle.tally_keeper.specs.Source.{GaveAll};
 ghost use Rattle.tally_keeper.specs.declared.import.Row.{Row};
 ghost use Rattle.tally_rules.specs.Code.{is_code};
 ghost use Rattle.tally_statements.specs.Inside.{StaysInside};
 ghost use Rattle.tally_requests.specs.Inside.{StaysInState};
-ghost use Rattle.tally_requests.specs.Known.{CountsLodge, CountsRow, ForgetsNone, known_of};
-ghost use Rattle.tally_requests.specs.Requests.{ImportsRows, Lodges, TakesRow};
+ghost use Rattle.tally_requests.specs.Known.{ForgetsNone, known_of};
+ghost use Rattle.tally_requests.specs.internal.Counting.{CountsLodge, CountsRow};
+ghost use Rattle.tally_requests.specs.Requests.{ImportsRows};
+ghost use Rattle.tally_requests.specs.internal.Lodging.{Lodges, TakesRow};
 
 use crate::returns::lodge;
 use sqlite::{Alter, Error, ErrorCode, Transaction};
@@ -38,7 +40,7 @@ pub fn take_rows<S: Alter, R: RowSource>(
         (known_of known.old) (known_of known.new)
         (state S.Store tx.old.conn.now) (state S.Store tx.new.conn.now) result }
     ensures gave { OnOk result (GaveAll (delivery R.RowSource source.old source.new)) }
-    ensures fault { IfErr result (IsFault (delivery R.RowSource source.old source.new)) }
+    ensures fault { IfErr result (IsImportFault (delivery R.RowSource source.old source.new)) }
     ensures forgets { OnOk result (ForgetsNone (known_of known.old) (known_of known.new)) }
 {
     // Called for what its contract says: the setup is within its limits.

@@ -15,7 +15,7 @@ use Rattle.tally_returns.specs.Counts.{VoteCounts, are_counts, all_votes, same_c
 use Rattle.tally_returns.specs.Return.{StationReturn, first_return}
 use Rattle.tally_returns.specs.Lodge.{StationLimits, counts_checks, reply_after_checks}
 use Rattle.tally_returns.specs.Moves.{last_revision, may_query, may_correct, may_close, move_checks, counts_checks_at, query_checks, correct_checks, close_checks, queried_return, corrected_return, closed_return}
-use Rattle.tally_returns.specs.Lawful.{IsLawful, PutsLawful, is_kept_note, may_stand}
+use Rattle.tally_returns.specs.Lawful.{IsLawful, PutsLawful, is_kept_note, is_note_or_empty}
 use Rattle.tally_returns.specs.Decide.{IsUnlessMemory, return_change, limits_named, limits_of, lodge_change, move_change, put_next, station_in}
 use Rattle.tally_returns.specs.Named.{BringsCode, station_named}
 use Rattle.tally_returns.specs.declared.returns.Status.{Status}
@@ -84,7 +84,7 @@ abbrev pub plainly_stands : List ℕ → Bool
 plainly_stands [] = true
 plainly_stands (byte ∷ note) = is_note (byte ∷ note)
 
-pub plainly-stands : (note : List ℕ) → IsUtf8 note → plainly_stands note ≡ may_stand note
+pub plainly-stands : (note : List ℕ) → IsUtf8 note → plainly_stands note ≡ is_note_or_empty note
 plainly-stands [] text = refl
 plainly-stands (byte ∷ note) text = go (is_note (byte ∷ note)) (is_utf8 (byte ∷ note)) (is_utf8-from_IsUtf8 (byte ∷ note) text)
   where
@@ -92,9 +92,9 @@ plainly-stands (byte ∷ note) text = go (is_note (byte ∷ note)) (is_utf8 (byt
     go true b is = sym is
     go false b is = refl
 
-pub may_stand-kept : (note : List ℕ) → is_kept_note note ≡ true → may_stand note ≡ true
-may_stand-kept [] is = refl
-may_stand-kept (byte ∷ note) is = is
+pub is_note_or_empty-kept : (note : List ℕ) → is_kept_note note ≡ true → is_note_or_empty note ≡ true
+is_note_or_empty-kept [] is = refl
+is_note_or_empty-kept (byte ∷ note) is = is
 
 -- a decision to move a return, by what its checks say
 moved-lawful : (station : StationLimits) (checks : List (Option Refusal)) (found : Option StationReturn) (next : StationReturn → StationReturn) (change : Change)
@@ -147,7 +147,7 @@ decided-lawful station certified found (Query code rev note) change brings lawfu
       first = omega arith;
       last = omega arith;
       slip = old.slip;
-      note = may_stand-kept (string_bytes note) (kept-note note (passed-first (is_note (string_bytes note)) BadNote (move_checks certified found rev may_query) none));
+      note = is_note_or_empty-kept (string_bytes note) (kept-note note (passed-first (is_note (string_bytes note)) BadNote (move_checks certified found rev may_query) none));
       counts = old.counts;
       votes = old.votes;
     })

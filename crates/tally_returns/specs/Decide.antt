@@ -73,7 +73,8 @@ return_change station certified found (Query code rev note) =
     move_change (query_checks station certified found rev (string_bytes note)) found
     (queried_return (string_bytes note))
 return_change station certified found (Correct code rev slip counts) =
-    move_change (correct_checks station certified found rev counts) found (corrected_return slip counts)
+    move_change (correct_checks station certified found rev counts) found
+    (corrected_return slip counts)
 return_change station certified found (Close code rev) =
     move_change (close_checks station certified found rev) found closed_return
 return_change station certified found (ShowReturn code) =

@@ -21,16 +21,16 @@ abbrev pub is_kept_note : List ℕ → Bool
 is_kept_note note = is_note note && is_utf8 note
 
 -- empty, or such a note
-abbrev pub may_stand : List ℕ → Bool
-may_stand [] = true
-may_stand (byte ∷ note) = is_kept_note (byte ∷ note)
+abbrev pub is_note_or_empty : List ℕ → Bool
+is_note_or_empty [] = true
+is_note_or_empty (byte ∷ note) = is_kept_note (byte ∷ note)
 
 -- A lawful return of a station.
 pub record IsLawful (station : StationLimits) (standing : StationReturn) : Type 0 where
   pub first : 1 ≤ standing.rev
   pub last : standing.rev ≤ last_revision
   pub slip : is_code standing.slip ≡ true
-  pub note : may_stand standing.note ≡ true
+  pub note : is_note_or_empty standing.note ≡ true
   pub counts : are_counts station.lists standing.counts ≡ true
   pub votes : all_votes standing.counts ≤ station.electors
 

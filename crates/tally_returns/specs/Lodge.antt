@@ -37,7 +37,8 @@ reply_where_recorded standing slip counts =
     else Err (Differs standing.rev)
 
 -- what is answered where the counts pass their checks, by the recorded return
-abbrev pub reply_after_checks : Option StationReturn → List ℕ → VoteCounts → Result LodgeReply Refusal
+abbrev pub reply_after_checks : Option StationReturn → List ℕ → VoteCounts
+    → Result LodgeReply Refusal
 reply_after_checks None slip counts = Ok (Lodged 1)
 reply_after_checks (Some standing) slip counts = reply_where_recorded standing slip counts
 

@@ -72,7 +72,11 @@ close_checks station certified found rev =
 
 -- the note replaces the old one
 abbrev pub queried_return : List ℕ → StationReturn → StationReturn
-queried_return note standing = record standing { rev = standing.rev + 1; status = Queried; note = note }
+queried_return note standing = record standing {
+  rev = standing.rev + 1;
+  status = Queried;
+  note = note;
+}
 
 -- slip and counts are replaced, the note is kept
 abbrev pub corrected_return : List ℕ → VoteCounts → StationReturn → StationReturn

@@ -4,27 +4,27 @@ use Rattle.tally_returns.specs.declared.refusal.Refusal.{Refusal}
 use Rattle.tally_returns.specs.declared.refusal.Refusal.TheVariants.{NoStation, NoConstituency, NoCandidate, BadCounts, BadNote, TooManyVotes, Differs, NoReturn, Certified, NotCertified, Stale, Exhausted, WrongStatus, NotAllClosed, NoEligible, LotStands, LotNotNeeded, LotWrongGroup, LotMissing, AlreadyGone, NotHolder, Memory, Store}
 
 -- the number of a refusal
-abbrev pub number : Refusal → ℕ
-number NoStation = 1
-number NoConstituency = 2
-number NoCandidate = 3
-number BadCounts = 4
-number BadNote = 5
-number TooManyVotes = 6
-number (Differs rev) = 7
-number NoReturn = 8
-number Certified = 9
-number NotCertified = 10
-number (Stale now) = 11
-number Exhausted = 12
-number (WrongStatus status) = 13
-number (NotAllClosed left) = 14
-number NoEligible = 15
-number LotStands = 16
-number LotNotNeeded = 17
-number (LotWrongGroup group) = 18
-number (LotMissing group seats) = 19
-number AlreadyGone = 20
-number NotHolder = 21
-number Memory = 22
-number Store = 23
+abbrev pub refusal_number : Refusal → ℕ
+refusal_number NoStation = 1
+refusal_number NoConstituency = 2
+refusal_number NoCandidate = 3
+refusal_number BadCounts = 4
+refusal_number BadNote = 5
+refusal_number TooManyVotes = 6
+refusal_number (Differs rev) = 7
+refusal_number NoReturn = 8
+refusal_number Certified = 9
+refusal_number NotCertified = 10
+refusal_number (Stale now) = 11
+refusal_number Exhausted = 12
+refusal_number (WrongStatus status) = 13
+refusal_number (NotAllClosed left) = 14
+refusal_number NoEligible = 15
+refusal_number LotStands = 16
+refusal_number LotNotNeeded = 17
+refusal_number (LotWrongGroup group) = 18
+refusal_number (LotMissing group seats) = 19
+refusal_number AlreadyGone = 20
+refusal_number NotHolder = 21
+refusal_number Memory = 22
+refusal_number Store = 23

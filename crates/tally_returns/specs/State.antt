@@ -18,8 +18,8 @@ GoneCandidates = FinMap (slice_cmp nat_cmp) (List ℕ)
 
 -- the seats of each list of each certificate that was reopened, by the edition at which it was in
 -- force
-abbrev pub Records : Type 0
-Records = FinMap nat_cmp (List ℕ)
+abbrev pub PastRecords : Type 0
+PastRecords = FinMap nat_cmp (List ℕ)
 
 -- what a constituency has come to: its edition, whether it is certified, the note of its last
 -- reopening, its lot (the places of lists, none where no lot is recorded), the candidates who are
@@ -30,7 +30,7 @@ pub record ConState : Type 0 where
   pub note : List ℕ
   pub lot : List ℕ
   pub gone : GoneCandidates
-  pub past : Records
+  pub past : PastRecords
 
 pub record State : Type 0 where
   pub returns : Returns

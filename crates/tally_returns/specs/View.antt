@@ -1,6 +1,6 @@
 -- What is seen of a constituency: what it has come to, how many of its returns are in each status,
 -- and its closed votes.
-use Rattle.std.specs.Prelude.{◌≡◌, ◌≤◌, ◌++◌, ℕ, All, Bool, true, List, [], ◌∷◌, length, map, sum_by, slice_index, Option, Some, None, if◌then◌else◌}
+use Rattle.std.specs.Prelude.{◌≡◌, ◌≤◌, ◌++◌, ◌||◌, ◌==◌, ◌&&◌, nat_lt, ℕ, All, Bool, true, List, [], ◌∷◌, length, map, sum_by, slice_index, Option, Some, None, if◌then◌else◌}
 use Rattle.std.specs.List.{range_with_len}
 use Rattle.std.specs.FinMap.{get, entries}
 use Rattle.tally_rules.specs.Constituency.{Constituency}
@@ -10,7 +10,7 @@ use Rattle.tally_returns.specs.GoneCandidate.{GoneCandidate}
 use Rattle.tally_returns.specs.PastSeats.{PastSeats}
 use Rattle.tally_returns.specs.Counts.{VoteCounts}
 use Rattle.tally_returns.specs.Return.{StationReturn, Returns}
-use Rattle.tally_returns.specs.State.{State, ConState, GoneCandidates, Records, con_state, last_edition}
+use Rattle.tally_returns.specs.State.{State, ConState, GoneCandidates, PastRecords, con_state, last_edition}
 use Rattle.tally_returns.specs.Progress.{is_received, is_queried, is_corrected, is_closed, count_with_status}
 
 -- how many stations there are and how many of their returns are in each status; votes, blank and
@@ -47,6 +47,10 @@ pub record FitsView (con : Constituency) (view : View) : Type 0 where
   pub stations : view.closed ≤ view.stations
   pub seats : view.certified ≡ true → length view.seats ≡ length con.lists
   pub past : All (HasEachList con) view.past
+
+-- Whether a candidate who is gone comes before another: in order of list and then of candidate.
+abbrev pub is_before : GoneCandidate → GoneCandidate → Bool
+is_before g h = nat_lt g.list h.list || ((g.list == h.list) && nat_lt g.place h.place)
 
 -- ---- closed votes
 
@@ -88,7 +92,7 @@ gone_candidates gone = map gone_candidate (entries gone)
 abbrev pub past_record : ℕ × List ℕ → PastSeats
 past_record entry = record { edition = entry.0; seats = entry.1 }
 
-abbrev pub past_records : Records → List PastSeats
+abbrev pub past_records : PastRecords → List PastSeats
 past_records past = map past_record (entries past)
 
 abbrev pub view_with : Constituency → ConState → Returns → List ℕ → View

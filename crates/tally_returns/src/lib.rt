@@ -22,6 +22,6 @@ pub use lodge::decide_lodge;
 pub use progress::ProgressRow;
 pub use refusal::Refusal;
 pub use reply::{LodgeReply, Reply};
-pub use returns::{Return, Status};
+pub use returns::{Return, Status, is_note_or_empty};
 pub use tally_rules::ListSet;
 pub use view::{ConView, Gone, LAST_EDITION, Past};

@@ -61,11 +61,11 @@ pub enum Refusal {
 }
 
 impl Refusal {
-    ghost use Rattle.tally_returns.specs.Refusals.{number};
+    ghost use Rattle.tally_returns.specs.Refusals.{refusal_number};
 
     /// The refusal's number, by which the office's answers and texts name it.
     pub fn number(&self) -> u32
-        ensures { result ≡ number self.now }
+        ensures { result ≡ refusal_number self.now }
     {
         match self {
             Refusal::NoStation => 1,

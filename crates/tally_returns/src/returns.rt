@@ -2,7 +2,7 @@
 
 ghost use Rattle.std.specs.Prelude.{◌≡◌, ◌≤◌, IfOk, IsTrue};
 ghost use Rattle.tally_frac.specs.Limits.{most_lists};
-ghost use Rattle.tally_returns.specs.Lawful.{IsLawful, may_stand};
+ghost use Rattle.tally_returns.specs.Lawful.{IsLawful, is_note_or_empty};
 ghost use Rattle.tally_returns.specs.Lodge.{limits_for};
 ghost use Rattle.tally_returns.specs.Return.{first_return};
 
@@ -94,13 +94,14 @@ impl Return {
         let _slip = self.slip.as_bytes();
         self.rev >= 1
             && self.rev <= LAST_REVISION
-            && may_stand(self.note.as_str())
+            && is_note_or_empty(self.note.as_str())
             && self.counts.all_votes() <= u64::from(electors)
     }
 }
 
-fn may_stand(note: &str) -> bool
-    ensures { result ≡ may_stand note.now }
+/// Whether a text is empty or may be a note: 1 to 200 bytes, none of them 00 to 1F or 7F.
+pub fn is_note_or_empty(note: &str) -> bool
+    ensures { result ≡ is_note_or_empty note.now }
 {
     note.is_empty() || good_note(note)
 }

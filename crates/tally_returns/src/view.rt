@@ -1,7 +1,7 @@
 //! What is seen of a constituency.
 
 ghost use Rattle.std.specs.Prelude.{◌≡◌, All, IfOk, IsTrue};
-ghost use Rattle.tally_returns.specs.View.{FitsView, HasEachList};
+ghost use Rattle.tally_returns.specs.View.{FitsView, HasEachList, is_before};
 ghost use Rattle.tally_rules.specs.Threshold.{IsWithinVotes};
 
 use std::alloc::{AllocError, Global};
@@ -35,6 +35,13 @@ impl Model for Gone {
 }
 
 impl Gone {
+    /// Whether this candidate comes before another, in order of list and then of candidate.
+    pub fn is_before(&self, other: &Gone) -> bool
+        ensures { result ≡ is_before self.now other.now }
+    {
+        self.list < other.list || self.list == other.list && self.place < other.place
+    }
+
     /// A copy with the same content.
     pub fn try_copy(&self, alloc: Global) -> Result<Gone, AllocError>
         ensures { IfOk result (λ copy. copy ≡ self.now) }

@@ -25,7 +25,7 @@ use Rattle.sqlite.specs.Effect.{Database, value_rows}
 use Rattle.sqlite.specs.Rows.{Written, stamped, Edited, Outcome, count_of}
 use Rattle.sqlite.specs.Does.{Tally, Does}
 use Rattle.sqlite.proofs.Callers.{one_step}
-use Rattle.tally_rows.specs.Rows.{cells, IsAdded, HaveDistinctRowids}
+use Rattle.tally_rows.specs.Rows.{cells, HaveDistinctRowids}
 use Rattle.tally_rows.proofs.StatementLemmas.{cast_null, succeeded, same_value, put_adds}
 
 -- a table that counts no rowids, reads no clock and is in no foreign key
@@ -37,7 +37,7 @@ pub record IsOrdinary (schema : Schema) (at : ℕ) (table : Table) : Type 0 wher
 
 -- the row is one more in its table, and every other table is as it was
 pub record Adds (schema : Schema) (table : Table) (row : Row) (old new : Trees) : Type 0 where
-  pub added : IsAdded row (cells (old table.tree)) (cells (new table.tree))
+  pub added : IsPermutation (row ∷ cells (old table.tree)) (cells (new table.tree))
   pub keyed : HaveDistinctRowids (old table.tree) → HaveDistinctRowids (new table.tree)
   pub others : (t : ℕ) → t ≢ table.tree → IsNoIndex schema t → new t ≡ old t
 

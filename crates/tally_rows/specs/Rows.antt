@@ -21,17 +21,15 @@ cells rows = map (drop 1) rows
 
 -- the rows of a table are those of a map: for each entry the rows that it has, and no others, in
 -- any order
-pub record AreRowsOf {X : Type 0} (rows_of : List ℕ × X → List Row) (m : FinMap text_cmp X) (rows : List Row) : Type 0 where
+pub record AreRowsOf {X : Type 0} (rows_of : List ℕ × X → List Row) (m : FinMap text_cmp X)
+    (rows : List Row) : Type 0 where
   pub each : IsPermutation (flat_map rows_of (entries m)) (cells rows)
 
 -- each row has an integer for its rowid, and no two rows have the same one
 abbrev pub HaveDistinctRowids : List Row → Type 0
 HaveDistinctRowids [] = Unit {0}
-HaveDistinctRowids (r ∷ rows) = IsTrue (is_int (rowid r)) × (is_taken rows r ≡ false) × HaveDistinctRowids rows
-
--- the new rows are the old ones and this one, in any order
-abbrev pub IsAdded : Row → List Row → List Row → Type 0
-IsAdded row old new = IsPermutation (row ∷ old) new
+HaveDistinctRowids (r ∷ rows) =
+    IsTrue (is_int (rowid r)) × (is_taken rows r ≡ false) × HaveDistinctRowids rows
 
 -- the first column holds this key
 abbrev pub has_key : List ℕ → Row → Bool

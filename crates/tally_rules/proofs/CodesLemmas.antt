@@ -10,7 +10,7 @@ use Rattle.std.proofs.lemmas.Slice.Eq.{bytes_eq-Decides}
 use Rattle.std.proofs.lemmas.Map.Text.{is_eq-slice_cmp}
 use Rattle.std.proofs.lemmas.List.Quantifiers.{all_pairs_push}
 use Rattle.tally_rules.specs.Code.{code_cmp}
-use Rattle.tally_rules.specs.Codes.{is_among, AreDistinct}
+use Rattle.tally_rules.specs.Codes.{is_among_codes, AreDistinct}
 use Rattle.tally_rules.specs.internal.Index.{index_of, IsIndex}
 
 -- a code added at the end is at the place behind the others, unless it was there
@@ -29,11 +29,11 @@ index_of-push q code (first ∷ others) = ap (λ o. cond (bytes_eq q first) (Som
     by_case false (Some i) same = refl
 
 -- a code has a place where it is one of them
-pub is_some-index_of : (q : List ℕ) (codes : List (List ℕ)) → is_some (index_of q codes) ≡ is_among q codes
+pub is_some-index_of : (q : List ℕ) (codes : List (List ℕ)) → is_some (index_of q codes) ≡ is_among_codes q codes
 is_some-index_of q [] = refl
 is_some-index_of q (first ∷ others) = by_case (bytes_eq q first) (index_of q others) (is_some-index_of q others)
   where
-    by_case : (b : Bool) (o : Option ℕ) → is_some o ≡ is_among q others → is_some (cond b (Some 0) (option_map suc o)) ≡ (b || is_among q others)
+    by_case : (b : Bool) (o : Option ℕ) → is_some o ≡ is_among_codes q others → is_some (cond b (Some 0) (option_map suc o)) ≡ (b || is_among_codes q others)
     by_case true o e = refl
     by_case false None e = e
     by_case false (Some i) e = e
@@ -49,25 +49,25 @@ find-index_of code q (x ∷ xs) = by_case (bytes_eq q (code x)) (index_of q (map
     by_case false (Some i) e = e
 
 -- a code that is none of them differs from each
-pub differs : (q : List ℕ) (codes : List (List ℕ)) → is_among q codes ≡ false → (k : ℕ) (d : List ℕ) → k < length codes → get_or codes k d ≢ q
+pub differs : (q : List ℕ) (codes : List (List ℕ)) → is_among_codes q codes ≡ false → (k : ℕ) (d : List ℕ) → k < length codes → get_or codes k d ≢ q
 differs q [] e k d l = λ _. omega arith
 differs q (first ∷ others) e k d l = by_place (bytes_eq q first) e (bytes_eq-Decides q first) (differs q others) k l
   where
-    by_place : (b : Bool) → (b || is_among q others) ≡ false → (b ≡ true → q ≡ first) × (q ≡ first → b ≡ true) → (is_among q others ≡ false → (k : ℕ) (d : List ℕ) → k < length others → get_or others k d ≢ q) → (k : ℕ) → k < length (first ∷ others) → get_or (first ∷ others) k d ≢ q
+    by_place : (b : Bool) → (b || is_among_codes q others) ≡ false → (b ≡ true → q ≡ first) × (q ≡ first → b ≡ true) → (is_among_codes q others ≡ false → (k : ℕ) (d : List ℕ) → k < length others → get_or others k d ≢ q) → (k : ℕ) → k < length (first ∷ others) → get_or (first ∷ others) k d ≢ q
     by_place true e same rest k l = λ _. cc
     by_place false e same rest zero l = λ h. let t : false ≡ true = same.1 (sym h) in cc
     by_place false e same rest (suc k) l = rest e k d (omega arith)
 
 -- codes that differ, and one more that is none of them
-pub AreDistinct-push : (code : List ℕ) (codes : List (List ℕ)) → is_among code codes ≡ false → AreDistinct codes → AreDistinct (codes ++ code ∷ [])
+pub AreDistinct-push : (code : List ℕ) (codes : List (List ℕ)) → is_among_codes code codes ≡ false → AreDistinct codes → AreDistinct (codes ++ code ∷ [])
 AreDistinct-push code codes new distinct = all_pairs_push (λ a b. a ≢ b) codes code distinct (differs code codes new)
 
 -- the map has the codes
-pub is_some-index : (code : List ℕ) (codes : List (List ℕ)) (places : BTreeMap (List ℕ) ℕ) → IsIndex codes places → is_some (get code_cmp places code) ≡ is_among code codes
+pub is_some-index : (code : List ℕ) (codes : List (List ℕ)) (places : BTreeMap (List ℕ) ℕ) → IsIndex codes places → is_some (get code_cmp places code) ≡ is_among_codes code codes
 is_some-index code codes places index = ap is_some (index.found code) ∙ is_some-index_of code codes
 
 -- the map with the place of one more code
-pub IsIndex-push : (code : List ℕ) (codes : List (List ℕ)) (old new : BTreeMap (List ℕ) ℕ) → IsIndex codes old → is_among code codes ≡ false → Updates code_cmp old new code (Some (length codes)) → IsIndex (codes ++ code ∷ []) new
+pub IsIndex-push : (code : List ℕ) (codes : List (List ℕ)) (old new : BTreeMap (List ℕ) ℕ) → IsIndex codes old → is_among_codes code codes ≡ false → Updates code_cmp old new code (Some (length codes)) → IsIndex (codes ++ code ∷ []) new
 IsIndex-push code codes old new index absent updates = record {
   distinct = AreDistinct-push code codes absent index.distinct;
   found = λ q. updates.0 q ∙ at q (bytes_eq-Decides code q) (bytes_eq-Decides q code);
@@ -81,11 +81,11 @@ IsIndex-push code codes old new index absent updates = record {
     none_of None e = refl
     none_of (Some i) e = cc
 
-    none : (q : List ℕ) → is_among q codes ≡ false → index_of q codes ≡ None
+    none : (q : List ℕ) → is_among_codes q codes ≡ false → index_of q codes ≡ None
     none q e = none_of (index_of q codes) (is_some-index_of q codes ∙ e)
 
     by_case : (q : List ℕ) (s t : Bool) → (s ≡ true → code ≡ q) × (code ≡ q → s ≡ true) → (t ≡ true → q ≡ code) × (q ≡ code → t ≡ true) → cond s (Some (length codes)) (index_of q codes) ≡ option_or (index_of q codes) (cond t (Some (length codes)) None)
-    by_case q true true e f = let h : index_of q codes ≡ None = none q (ap (λ x. is_among x codes) (f.0 refl) ∙ absent) in rw h
+    by_case q true true e f = let h : index_of q codes ≡ None = none q (ap (λ x. is_among_codes x codes) (f.0 refl) ∙ absent) in rw h
     by_case q true false e f = let h : false ≡ true = f.1 (sym (e.0 refl)) in cc
     by_case q false true e f = let h : false ≡ true = e.1 (sym (f.0 refl)) in cc
     by_case q false false e f = or_none (index_of q codes)

@@ -11,7 +11,7 @@ use Rattle.toml.specs.View.{view, items_view}
 use Rattle.toml.specs.declared.value.Value.{Value}
 use Rattle.tally_rules.specs.Fault.{Fault, missing, bad_value, over_limit}
 use Rattle.tally_rules.specs.internal.Found.{IsFoundIn}
-use Rattle.tally_rules.specs.Reading.{◌>>=◌, list_of, value_at, array_at, in_turn}
+use Rattle.tally_rules.specs.Reading.{◌>>=◌, list_of, read_value, read_array, in_turn}
 use Rattle.tally_rules.specs.declared.read.fault.KeyFault.{KeyFault as Found}
 use Rattle.tally_rules.specs.declared.read.fault.KeyFault.TheVariants as found
 
@@ -44,9 +44,9 @@ checked_array is_wanted key limit values =
     else if nat_lt limit (length values) then Err (over_limit key)
     else Ok (map view values)
 
-pub array_at-checked : (is_wanted : Data → Bool) (key : List ℕ) (limit : ℕ) (entry value : Data) (values : List Value) → value_at key entry ≡ Ok value → Some (items_view values) ≡ as_array value → array_at is_wanted key limit entry ≡ checked_array is_wanted key limit values
-unfolding array_at
-array_at-checked is_wanted key limit entry value values found array =
+pub read_array-checked : (is_wanted : Data → Bool) (key : List ℕ) (limit : ℕ) (entry value : Data) (values : List Value) → read_value key entry ≡ Ok value → Some (items_view values) ≡ as_array value → read_array is_wanted key limit entry ≡ checked_array is_wanted key limit values
+unfolding read_array
+read_array-checked is_wanted key limit entry value values found array =
     rw (found, ← array, list_of-items_view values, length-map_view values, list_all-map is_wanted view values)
 
 -- How far the entries are read: those so far, beside what is left, come to what they all come to.

@@ -75,17 +75,17 @@ slice_get-lookup xs i (Some x) item = slice_get_read xs (length xs) i x.now refl
 pub constituency_with-place : (cons : List Constituency) (codes stations : List (List ℕ)) (places : List StationPlace) → IsIndexed cons codes stations places → (q : List ℕ) → constituency_with q cons ≡ option_and_then (slice_get cons) (index_of q codes)
 constituency_with-place cons codes stations places index q = find-index_of (λ (con : Constituency). con.code) q cons ∙ ap (λ c. option_and_then (slice_get cons) (index_of q c)) (sym index.codes_are)
 
-abbrev pub place_at : List Constituency → List StationPlace → ℕ → Option (Constituency × Station)
-place_at cons places i = option_and_then (station_at cons) (slice_get places i)
+abbrev pub station_at_index : List Constituency → List StationPlace → ℕ → Option (Constituency × Station)
+station_at_index cons places i = option_and_then (station_at cons) (slice_get places i)
 
 -- the station of a code is the one whose place stands at the code's place
-pub station_with-place : (cons : List Constituency) (codes stations : List (List ℕ)) (places : List StationPlace) → IsIndexed cons codes stations places → (q : List ℕ) → station_with q cons ≡ option_and_then (place_at cons places) (index_of q stations)
+pub station_with-place : (cons : List Constituency) (codes stations : List (List ℕ)) (places : List StationPlace) → IsIndexed cons codes stations places → (q : List ℕ) → station_with q cons ≡ option_and_then (station_at_index cons places) (index_of q stations)
 station_with-place cons codes stations places index q =
     find-index_of (λ (p : Constituency × Station). p.1.code) q (all_stations cons)
     ∙ ap (λ c. option_and_then (slice_get (all_stations cons)) (index_of q c)) (sym index.stations_are)
     ∙ each (index_of q stations)
   where
-    each : (o : Option ℕ) → option_and_then (slice_get (all_stations cons)) o ≡ option_and_then (place_at cons places) o
+    each : (o : Option ℕ) → option_and_then (slice_get (all_stations cons)) o ≡ option_and_then (station_at_index cons places) o
     each None = refl
     each (Some i) = slice_get-mapped (station_at cons) places (all_stations cons) index.places_are i
 

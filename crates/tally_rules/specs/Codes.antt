@@ -8,5 +8,5 @@ abbrev pub AreDistinct : List (List ℕ) → Type 0
 AreDistinct codes = AllPairs (λ a b. a ≢ b) codes
 
 -- the code is one of these
-abbrev pub is_among : List ℕ → List (List ℕ) → Bool
-is_among code codes = list_any (bytes_eq code) codes
+abbrev pub is_among_codes : List ℕ → List (List ℕ) → Bool
+is_among_codes code codes = list_any (bytes_eq code) codes

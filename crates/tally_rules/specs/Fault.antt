@@ -24,11 +24,11 @@ IsFaultIn reading answer.UnknownProfile = reading ≡ Err unknown_profile
 IsFaultIn reading answer.Memory = ⊤
 
 -- the number of a fault
-abbrev pub number_of : SetupFault → ℕ
-number_of answer.NotToml = 1
-number_of (answer.Missing key) = 2
-number_of (answer.BadValue key) = 3
-number_of (answer.OverLimit key) = 4
-number_of (answer.Duplicate code) = 5
-number_of answer.UnknownProfile = 6
-number_of answer.Memory = 7
+abbrev pub setup_fault_number : SetupFault → ℕ
+setup_fault_number answer.NotToml = 1
+setup_fault_number (answer.Missing key) = 2
+setup_fault_number (answer.BadValue key) = 3
+setup_fault_number (answer.OverLimit key) = 4
+setup_fault_number (answer.Duplicate code) = 5
+setup_fault_number answer.UnknownProfile = 6
+setup_fault_number answer.Memory = 7

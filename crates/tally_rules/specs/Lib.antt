@@ -2,6 +2,7 @@ pub mod internal
 pub mod Code
 pub mod Codes
 pub mod Constituency
+pub mod DivisorRule
 pub mod Fault
 pub mod Limits
 pub mod ListSet

@@ -1,6 +1,6 @@
 -- The limits that a setup keeps.
-use Rattle.std.specs.Prelude.{◌≡◌, ◌≤◌, true, List, length, All}
-use Rattle.tally_frac.specs.Limits.{most_lists, most_seats}
+use Rattle.std.specs.Prelude.{◌≡◌, ◌≤◌, ℕ, true, List, length, All}
+use Rattle.tally_frac.specs.Limits.{most_lists, most_seats, whole_base}
 use Rattle.tally_rules.specs.Code.{is_code}
 use Rattle.tally_rules.specs.Codes.{AreDistinct}
 use Rattle.tally_rules.specs.Constituency.{Constituency, ListEntry, list_codes}
@@ -9,23 +9,43 @@ use Rattle.tally_rules.specs.Text.{IsName}
 use Rattle.tally_rules.specs.declared.constituency.Station.{Station}
 use Rattle.tally_rules.specs.declared.profile.Profile.{Profile}
 
+-- the constituencies of a setup
+abbrev pub most_constituencies : ℕ
+most_constituencies = 200
+
+-- the profiles of a setup
+abbrev pub most_profiles : ℕ
+most_profiles = 200
+
+-- the stations of a constituency
+abbrev pub most_stations : ℕ
+most_stations = 5000
+
+-- the candidates of a list
+abbrev pub most_candidates : ℕ
+most_candidates = 1000
+
+-- the electors of a station
+abbrev pub most_electors : ℕ
+most_electors = 1000000
+
 -- the threshold is at most the whole base
 abbrev pub IsProfile : Profile → Type 0
-IsProfile profile = profile.threshold ≤ 10000
+IsProfile profile = profile.threshold ≤ whole_base
 
 -- The limits of a list.
 pub record IsListEntry (list : ListEntry) : Type 0 where
   pub code : is_code list.code ≡ true
   pub name : IsName list.name
   pub some_candidate : 1 ≤ length list.candidates
-  pub candidates : length list.candidates ≤ 1000
+  pub candidates : length list.candidates ≤ most_candidates
   pub candidate_names : All IsName list.candidates
 
 -- The limits of a station.
 pub record IsStation (station : Station) : Type 0 where
   pub code : is_code station.code ≡ true
   pub some_elector : 1 ≤ station.electors
-  pub electors : station.electors ≤ 1000000
+  pub electors : station.electors ≤ most_electors
 
 -- The limits of a constituency, and that no two of its lists have one code.
 pub record IsConstituency (con : Constituency) : Type 0 where
@@ -40,14 +60,14 @@ pub record IsConstituency (con : Constituency) : Type 0 where
   pub each_list : All IsListEntry con.lists
   pub codes : AreDistinct (list_codes con.lists)
   pub some_station : 1 ≤ length con.stations
-  pub stations : length con.stations ≤ 5000
+  pub stations : length con.stations ≤ most_stations
   pub each_station : All IsStation con.stations
 
 -- The limits of a setup, and that no two of its constituencies have one code, and no two of its
 -- stations.
 pub record IsSetup (cons : List Constituency) : Type 0 where
   pub some_constituency : 1 ≤ length cons
-  pub constituencies : length cons ≤ 200
+  pub constituencies : length cons ≤ most_constituencies
   pub each_constituency : All IsConstituency cons
   pub codes : AreDistinct (constituency_codes cons)
   pub station_codes : AreDistinct (all_station_codes cons)

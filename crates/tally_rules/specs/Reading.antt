@@ -10,12 +10,14 @@ use Rattle.std.specs.Str.{is_utf8, bytes_eq}
 use Rattle.toml.specs.Data.{Data, Items, no_items, item, table, get, as_str, as_integer, as_array}
 use Rattle.toml.specs.Data.{as_table}
 use Rattle.toml.specs.Parse.{parse_document}
-use Rattle.tally_frac.specs.Limits.{most_lists, most_seats}
+use Rattle.tally_frac.specs.Limits.{most_lists, most_seats, whole_base}
 use Rattle.tally_rules.specs.Code.{code_of}
-use Rattle.tally_rules.specs.Codes.{is_among}
+use Rattle.tally_rules.specs.Codes.{is_among_codes}
 use Rattle.tally_rules.specs.Constituency.{Constituency, ListEntry, list_codes, station_codes}
 use Rattle.tally_rules.specs.Fault.{Fault, not_toml, missing, bad_value, over_limit, duplicate}
 use Rattle.tally_rules.specs.Fault.{unknown_profile}
+use Rattle.tally_rules.specs.Limits.{most_candidates, most_constituencies, most_electors}
+use Rattle.tally_rules.specs.Limits.{most_profiles, most_stations}
 use Rattle.tally_rules.specs.Setup.{constituency_codes, all_station_codes}
 use Rattle.tally_rules.specs.Text.{is_name}
 use Rattle.tally_rules.specs.declared.constituency.Station.{Station}
@@ -37,13 +39,13 @@ Err fault >>= step = Err fault
 -- ---- the keys of an entry
 
 -- the value of a key
-unfoldable pub value_at : List ℕ → Data → Result Data Fault
-value_at key entry = ok_or (get key entry) (missing key)
+unfoldable pub read_value : List ℕ → Data → Result Data Fault
+read_value key entry = ok_or (get key entry) (missing key)
 
 -- the text of a key
-unfoldable pub text_at : List ℕ → Data → Result (List ℕ) Fault
-text_at key entry = do
-  value ← value_at key entry
+unfoldable pub read_text : List ℕ → Data → Result (List ℕ) Fault
+read_text key entry = do
+  value ← read_value key entry
   ok_or (as_str value) (bad_value key)
 
 -- a whole number from low to high
@@ -52,22 +54,22 @@ number_in low high (pos n) = if nat_le low n && nat_le n high then Some n else N
 number_in low high (negsuc n) = None
 
 -- the number of a key, from low to high
-unfoldable pub number_at : List ℕ → ℕ → ℕ → Data → Result ℕ Fault
-number_at key low high entry = do
-  value ← value_at key entry
+unfoldable pub read_number : List ℕ → ℕ → ℕ → Data → Result ℕ Fault
+read_number key low high entry = do
+  value ← read_value key entry
   ok_or (option_and_then (number_in low high) (as_integer value)) (bad_value key)
 
 -- the code of a key
-unfoldable pub code_at : List ℕ → Data → Result (List ℕ) Fault
-code_at key entry = do
-  text ← text_at key entry
+unfoldable pub read_code : List ℕ → Data → Result (List ℕ) Fault
+read_code key entry = do
+  text ← read_text key entry
   ok_or (code_of text) (bad_value key)
 
 -- `code`, which differs from those taken
 unfoldable pub new_code : List (List ℕ) → Data → Result (List ℕ) Fault
 new_code taken entry = do
-  code ← code_at (codes "code") entry
-  if is_among code taken then Err (duplicate code) else Ok code
+  code ← read_code (codes "code") entry
+  if is_among_codes code taken then Err (duplicate code) else Ok code
 
 -- a name, the value of a key or one of the items of its array
 unfoldable pub name_from : List ℕ → Data → Result (List ℕ) Fault
@@ -76,9 +78,9 @@ name_from key value = do
   if is_name text then Ok text else Err (bad_value key)
 
 -- `name`
-unfoldable pub name_of : Data → Result (List ℕ) Fault
-name_of entry = do
-  value ← value_at (codes "name") entry
+unfoldable pub read_name : Data → Result (List ℕ) Fault
+read_name entry = do
+  value ← read_value (codes "name") entry
   name_from (codes "name") value
 
 -- `method`
@@ -90,9 +92,9 @@ method_named word =
     else if bytes_eq word (codes "hare") then Some Hare
     else None
 
-unfoldable pub method_of : Data → Result Method Fault
-method_of entry = do
-  word ← text_at (codes "method") entry
+unfoldable pub read_method : Data → Result Method Fault
+read_method entry = do
+  word ← read_text (codes "method") entry
   ok_or (method_named word) (bad_value (codes "method"))
 
 -- `base`
@@ -102,9 +104,9 @@ base_named word =
     else if bytes_eq word (codes "lists") then Some Lists
     else None
 
-unfoldable pub base_of : Data → Result Base Fault
-base_of entry = do
-  word ← text_at (codes "base") entry
+unfoldable pub read_base : Data → Result Base Fault
+read_base entry = do
+  word ← read_text (codes "base") entry
   ok_or (base_named word) (bad_value (codes "base"))
 
 -- `lot`, which may be absent: lots are fixed then
@@ -114,10 +116,10 @@ lot_rule_named word =
     else if bytes_eq word (codes "alternating") then Some Alternating
     else None
 
-unfoldable pub lot_rule_of : Data → Result LotRule Fault
-lot_rule_of entry =
+unfoldable pub read_lot_rule : Data → Result LotRule Fault
+read_lot_rule entry =
     if is_some (get (codes "lot") entry)
-    then (text_at (codes "lot") entry >>=
+    then (read_text (codes "lot") entry >>=
     (λ word. ok_or (lot_rule_named word) (bad_value (codes "lot"))))
     else Ok Fixed
 
@@ -130,9 +132,9 @@ list_of (item d ds) = d ∷ list_of ds
 
 -- the array of a key: there is an item, each is of the kind that is wanted, and there are at most
 -- so many
-unfoldable pub array_at : (Data → Bool) → List ℕ → ℕ → Data → Result (List Data) Fault
-array_at is_wanted key limit entry = do
-  value ← value_at key entry
+unfoldable pub read_array : (Data → Bool) → List ℕ → ℕ → Data → Result (List Data) Fault
+read_array is_wanted key limit entry = do
+  value ← read_value key entry
   items ← ok_or (option_map list_of (as_array value)) (bad_value key)
   if length items == 0 then Err (missing key)
       else if not (list_all is_wanted items) then Err (bad_value key)
@@ -162,43 +164,43 @@ profile_codes profiles = map (λ (p : List ℕ × Profile). p.0) profiles
 unfoldable pub profile_entry : List (List ℕ) → Data → Result (List ℕ × Profile) Fault
 profile_entry taken entry = do
   code ← new_code taken entry
-  method ← method_of entry
-  threshold ← number_at (codes "threshold") 0 10000 entry
-  base ← base_of entry
-  lot ← lot_rule_of entry
+  method ← read_method entry
+  threshold ← read_number (codes "threshold") 0 whole_base entry
+  base ← read_base entry
+  lot ← read_lot_rule entry
   Ok (code, record { method = method; threshold = threshold; base = base; lot = lot })
 
 -- `candidates`
-unfoldable pub candidates_of : Data → Result (List (List ℕ)) Fault
-candidates_of entry = do
-  names ← array_at is_text (codes "candidates") 1000 entry
+unfoldable pub read_candidates : Data → Result (List (List ℕ)) Fault
+read_candidates entry = do
+  names ← read_array is_text (codes "candidates") most_candidates entry
   in_turn (λ _. name_from (codes "candidates")) [] names
 
 -- an entry of `list`
 unfoldable pub list_entry : List (List ℕ) → Data → Result ListEntry Fault
 list_entry taken entry = do
   code ← new_code taken entry
-  name ← name_of entry
-  candidates ← candidates_of entry
+  name ← read_name entry
+  candidates ← read_candidates entry
   Ok (record { code = code; name = name; candidates = candidates })
 
 -- `list`
-unfoldable pub lists_of : Data → Result (List ListEntry) Fault
-lists_of entry = do
-  entries ← array_at is_table (codes "list") most_lists entry
+unfoldable pub read_lists : Data → Result (List ListEntry) Fault
+read_lists entry = do
+  entries ← read_array is_table (codes "list") most_lists entry
   in_turn (λ before. list_entry (list_codes before)) [] entries
 
 -- an entry of `station`
 unfoldable pub station_entry : List (List ℕ) → Data → Result Station Fault
 station_entry taken entry = do
   code ← new_code taken entry
-  electors ← number_at (codes "electors") 1 1000000 entry
+  electors ← read_number (codes "electors") 1 most_electors entry
   Ok (record { code = code; electors = electors })
 
 -- `station`, beside the codes of the stations of other constituencies
-unfoldable pub stations_of : List (List ℕ) → Data → Result (List Station) Fault
-stations_of taken entry = do
-  entries ← array_at is_table (codes "station") 5000 entry
+unfoldable pub read_stations : List (List ℕ) → Data → Result (List Station) Fault
+read_stations taken entry = do
+  entries ← read_array is_table (codes "station") most_stations entry
   in_turn (λ before. station_entry (taken ++ station_codes before)) [] entries
 
 -- the profile of a code
@@ -211,12 +213,12 @@ unfoldable pub constituency_entry : List (List ℕ × Profile) → List (List �
     Result Constituency Fault
 constituency_entry profiles taken stations_taken entry = do
   code ← new_code taken entry
-  name ← name_of entry
-  seats ← number_at (codes "seats") 1 most_seats entry
-  profile_code ← code_at (codes "profile") entry
+  name ← read_name entry
+  seats ← read_number (codes "seats") 1 most_seats entry
+  profile_code ← read_code (codes "profile") entry
   profile ← ok_or (profile_with profile_code profiles) unknown_profile
-  lists ← lists_of entry
-  stations ← stations_of stations_taken entry
+  lists ← read_lists entry
+  stations ← read_stations stations_taken entry
   Ok (record {
     code = code;
     name = name;
@@ -228,15 +230,16 @@ constituency_entry profiles taken stations_taken entry = do
   })
 
 -- `profile` of the document
-unfoldable pub profiles_of : Data → Result (List (List ℕ × Profile)) Fault
-profiles_of document = do
-  entries ← array_at is_table (codes "profile") 200 document
+unfoldable pub read_profiles : Data → Result (List (List ℕ × Profile)) Fault
+read_profiles document = do
+  entries ← read_array is_table (codes "profile") most_profiles document
   in_turn (λ before. profile_entry (profile_codes before)) [] entries
 
 -- `constituency` of the document
-unfoldable pub constituencies_of : List (List ℕ × Profile) → Data → Result (List Constituency) Fault
-constituencies_of profiles document = do
-  entries ← array_at is_table (codes "constituency") 200 document
+unfoldable pub read_constituencies : List (List ℕ × Profile) → Data
+    → Result (List Constituency) Fault
+read_constituencies profiles document = do
+  entries ← read_array is_table (codes "constituency") most_constituencies document
   in_turn
       (λ before. constituency_entry profiles (constituency_codes before) (all_station_codes before))
       [] entries
@@ -256,8 +259,8 @@ Reading = Result (List Constituency) Fault
 -- the setup of a document: its profiles, and then its constituencies
 unfoldable pub setup_of : Data → Result (List Constituency) Fault
 setup_of document = do
-  profiles ← profiles_of document
-  constituencies_of profiles document
+  profiles ← read_profiles document
+  read_constituencies profiles document
 
 -- the setup of a text, which has at most 8,388,608 bytes
 unfoldable pub setup_of_text : List ℕ → Result (List Constituency) Fault

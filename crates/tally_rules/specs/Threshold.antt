@@ -1,7 +1,7 @@
 -- Which lists take part in the allotment: LOREG article 163.1 a), with article 96.5 for the valid
 -- votes.
 use Rattle.std.specs.Prelude.{ℕ, ◌+◌, ◌*◌, ◌≤◌, Bool, ◌&&◌, nat_lt, nat_le, List, map, sum}
-use Rattle.tally_frac.specs.Limits.{most_votes}
+use Rattle.tally_frac.specs.Limits.{most_votes, whole_base}
 use Rattle.tally_rules.specs.declared.profile.Base.{Base}
 use Rattle.tally_rules.specs.declared.profile.Base.TheVariants.{Valid, Lists}
 use Rattle.tally_rules.specs.declared.profile.Profile.{Profile}
@@ -15,7 +15,7 @@ base_of Lists votes blank = sum votes
 -- a list of so many votes: it has one, and its votes are at least so many ten-thousandths of the
 -- base
 abbrev pub is_eligible : ℕ → ℕ → ℕ → Bool
-is_eligible threshold base votes = nat_lt 0 votes && nat_le (threshold * base) (votes * 10000)
+is_eligible threshold base votes = nat_lt 0 votes && nat_le (threshold * base) (votes * whole_base)
 
 -- of each list of a constituency, from the votes of each and the blank votes, whether it is
 -- eligible

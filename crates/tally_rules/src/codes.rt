@@ -1,7 +1,7 @@
 //! Codes that differ, in order.
 
 ghost use Rattle.std.specs.Prelude.{◌≡◌, [], ◌∷◌, ◌++◌, not, IfOk, if◌then◌else◌};
-ghost use Rattle.tally_rules.specs.Codes.{is_among, AreDistinct};
+ghost use Rattle.tally_rules.specs.Codes.{is_among_codes, AreDistinct};
 ghost use Rattle.tally_rules.specs.internal.Index.{index_of};
 
 use crate::code::Code;
@@ -40,7 +40,7 @@ impl Codes {
 
     /// Adds a code at the end, unless it is there already, and says whether it did.
     pub fn insert(&mut self, code: Code) -> Result<bool, AllocError>
-        ensures added { IfOk result (λ added. added ≡ not (is_among code self.old)) }
+        ensures added { IfOk result (λ added. added ≡ not (is_among_codes code self.old)) }
         ensures codes { IfOk result (λ added.
             self.new ≡ (if added then self.old ++ code ∷ [] else self.old)) }
         ensures distinct { AreDistinct self.new }

@@ -1,7 +1,7 @@
 //! Why a text is not a setup.
 
 ghost use Rattle.std.specs.Prelude.{◌≡◌};
-ghost use Rattle.tally_rules.specs.Fault.{number_of};
+ghost use Rattle.tally_rules.specs.Fault.{setup_fault_number};
 
 use crate::code::Code;
 use thiserror::Error;
@@ -15,7 +15,8 @@ pub enum SetupFault {
     /// 2: a key is absent, or its array is empty.
     #[error("`{0}` is missing")]
     Missing(&'static str),
-    /// 3: a value is of another kind, or outside its limits.
+    /// 3: a value is of another type than its key takes, or none that it may have: a number outside
+    /// its limits, a code or a name that is not one, a word that the key does not know.
     #[error("`{0}` has a wrong value")]
     BadValue(&'static str),
     /// 4: the text or an array is longer than its limit.
@@ -35,7 +36,7 @@ pub enum SetupFault {
 impl SetupFault {
     /// The fault's number.
     pub fn number(&self) -> u32
-        ensures { result ≡ number_of self.now }
+        ensures { result ≡ setup_fault_number self.now }
     {
         match self {
             SetupFault::NotToml => 1,

@@ -1,5 +1,11 @@
 //! Profiles: how the seats of a constituency are allotted.
 
+ghost use Rattle.std.specs.Prelude.{◌≡◌, ◌↔◌, None};
+ghost use Rattle.tally_rules.specs.DivisorRule.{divisor_rule_of};
+ghost use Rattle.tally_rules.specs.declared.profile.Method.TheVariants.{Hare as by_hare};
+
+use tally_frac::DivisorRule;
+
 /// How votes become seats.
 #[derive(Clone, Copy, Debug, PartialEq, Eq)]
 pub enum Method {
@@ -11,6 +17,21 @@ pub enum Method {
     ModifiedSainteLague,
     /// Whole quotas and then the greatest remainders, also Hamilton's method.
     Hare,
+}
+
+impl Method {
+    /// The divisor rule, and `None` for Hare's method, which has no divisors.
+    pub fn divisor_rule(&self) -> Option<DivisorRule>
+        ensures rule { result ≡ divisor_rule_of self.now }
+        ensures none { (result ≡ None) ↔ (self.now ≡ by_hare) }
+    {
+        match self {
+            Method::DHondt => Some(DivisorRule::DHondt),
+            Method::SainteLague => Some(DivisorRule::SainteLague),
+            Method::ModifiedSainteLague => Some(DivisorRule::ModifiedSainteLague),
+            Method::Hare => None,
+        }
+    }
 }
 
 /// The votes that a threshold is a part of.

@@ -4,7 +4,7 @@ ghost use Rattle.std.specs.Prelude.{◌≡◌, Ok, IfOk, IfErr};
 ghost use Rattle.toml.specs.View.{view};
 ghost use Rattle.tally_rules.specs.Fault.{IsFaultIn};
 ghost use Rattle.tally_rules.specs.internal.Found.{IsFoundIn};
-ghost use Rattle.tally_rules.specs.Reading.{constituencies_of, document_of, setup_of};
+ghost use Rattle.tally_rules.specs.Reading.{read_constituencies, document_of, setup_of};
 ghost use Rattle.tally_rules.specs.Reading.{setup_of_text};
 
 mod entry;
@@ -15,11 +15,12 @@ mod profile;
 use crate::codes::Codes;
 use crate::fault::SetupFault;
 use crate::setup::Setup;
-use entry::{Kind, array_at, constituency_entry};
+use entry::{Kind, constituency_entry, read_array};
 use fault::{Key, KeyFault};
-use profile::{Profiles, profiles_of};
+use profile::{Profiles, read_profiles};
 use std::alloc::Global;
 use std::str;
+use tally_frac::MOST_CONSTITUENCIES;
 use toml::Value;
 
 /// The most bytes that a setup's text has, 8 MiB.
@@ -71,22 +72,24 @@ fn setup_of(alloc: Global, document: &Value) -> Result<Setup, KeyFault>
     ensures setup { IfOk result (λ setup. setup_of (view document.now) ≡ Ok setup) }
     ensures fault { IfErr result (IsFoundIn (setup_of (view document.now))) }
 {
-    let profiles = profiles_of(alloc, document)?;
-    constituencies_of(alloc, document, &profiles)
+    let profiles = read_profiles(alloc, document)?;
+    read_constituencies(alloc, document, &profiles)
 }
 
 /// The constituencies of a setup's text.
-#[tactic(auto, unfolding(crate::specs::Reading::constituencies_of))]
-fn constituencies_of(
+#[tactic(auto, unfolding(crate::specs::Reading::read_constituencies))]
+fn read_constituencies(
     alloc: Global,
     document: &Value,
     profiles: &Profiles,
 ) -> Result<Setup, KeyFault>
     ensures setup { IfOk result (λ setup.
-        constituencies_of profiles.now (view document.now) ≡ Ok setup) }
-    ensures fault { IfErr result (IsFoundIn (constituencies_of profiles.now (view document.now))) }
+        read_constituencies profiles.now (view document.now) ≡ Ok setup) }
+    ensures fault { IfErr result
+        (IsFoundIn (read_constituencies profiles.now (view document.now))) }
 {
-    let entries = array_at(document, Key::Constituency, Kind::Table, 200)?;
+    let limit = MOST_CONSTITUENCIES;
+    let entries = read_array(document, Key::Constituency, Kind::Table, limit)?;
     let mut codes = Codes::new(alloc);
     let mut stations = Codes::new(alloc);
     let mut cons = Vec::with_capacity(alloc, entries.len())?;

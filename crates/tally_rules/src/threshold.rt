@@ -1,7 +1,7 @@
 //! The threshold.
 
 ghost use Rattle.std.specs.Prelude.{◌≡◌, ◌≤◌, IfOk};
-ghost use Rattle.tally_frac.specs.Limits.{most_votes};
+ghost use Rattle.tally_frac.specs.Limits.{most_votes, whole_base};
 ghost use Rattle.tally_rules.specs.Threshold.{base_of, eligible_lists, is_eligible, IsWithinVotes};
 
 use crate::profile::{Base, Profile};
@@ -18,7 +18,7 @@ pub fn eligible(
     blank: u64,
 ) -> Result<Vec<bool>, AllocError>
     requires votes { IsWithinVotes votes.now blank }
-    requires threshold { profile.now.threshold ≤ 10000 }
+    requires threshold { profile.now.threshold ≤ whole_base }
     ensures { IfOk result (λ lists. lists.items ≡ eligible_lists profile.now votes.now blank) }
 {
     let base = base_of(profile.base, votes, blank);
@@ -32,7 +32,7 @@ pub fn eligible(
 /// Whether a list of so many votes takes part: it has a vote, and its votes are at least
 /// `threshold` ten-thousandths of the base. Votes and base are up to 5,000,000,000.
 pub fn is_eligible(threshold: u32, base: u64, votes: u64) -> bool
-    requires threshold { threshold ≤ 10000 }
+    requires threshold { threshold ≤ whole_base }
     requires few_in_base { base ≤ most_votes }
     requires few_votes { votes ≤ most_votes }
     ensures { result ≡ is_eligible threshold base votes }

@@ -1,3 +1,4 @@
+pub mod internal
 pub mod Tables
 pub mod Made
 pub mod Cells

@@ -27,7 +27,8 @@ pub record HasEmptyTables (n : ℕ) (s : Seen) : Type 0 where
 pub record AddsTable (n : ℕ) (tree : ℕ) (old new : Seen) : Type 0 where
   pub tables : HasFirstTables (n + 1) new
   pub empty : new.now.trees tree ≡ []
-  pub others : AllByRecursion (λ (t : Table). new.now.trees t.tree ≡ old.now.trees t.tree) (schema_with n).tables
+  pub others : AllByRecursion (λ (t : Table). new.now.trees t.tree ≡ old.now.trees t.tree)
+      (schema_with n).tables
   pub sound : IsDatabase new.now
 
 -- the text was run as a statement of a transaction, without parameters
@@ -36,25 +37,31 @@ HasRun sql old new = (count : ℕ) × ExecutesInside 0 sql [] old new (Ok count)
 
 -- ---- what a call says, where the disk returned what was written
 
-abbrev pub Runs : List ℕ → Seen → Seen → Result Unit Error → Type 0
-Runs sql old new result = HasCleanDisk new → IsTrue old.in_transaction → OnOk result (HasRun sql old new)
+abbrev pub RunsStatement : List ℕ → Seen → Seen → Result Unit Error → Type 0
+RunsStatement sql old new result =
+    HasCleanDisk new → IsTrue old.in_transaction → OnOk result (HasRun sql old new)
 
 -- from the first `n` tables without rows to the first `m` without rows
 abbrev pub Makes : ℕ → ℕ → Seen → Seen → Result Unit Error → Type 0
-Makes n m old new result = HasCleanDisk new → HasEmptyTables n old → OnOk result (HasEmptyTables m new)
+Makes n m old new result =
+    HasCleanDisk new → HasEmptyTables n old → OnOk result (HasEmptyTables m new)
 
 -- from the tables of version 1, whatever their rows are, to those and an empty `past`
 abbrev pub MakesPast : Seen → Seen → Result Unit Error → Type 0
-MakesPast old new result = HasCleanDisk new → HasFirstTables 8 old → OnOk result (AddsTable 8 past_tree old new)
+MakesPast old new result =
+    HasCleanDisk new → HasFirstTables 8 old → OnOk result (AddsTable 8 past_tree old new)
 
 -- what was made of a database without tables is in order under its schema
 abbrev pub MakesDatabase : Seen → Seen → Result Unit Error → Type 0
-MakesDatabase old new result = HasCleanDisk new → HasEmptyTables 0 old → OnOk result (IsDatabase new.now)
+MakesDatabase old new result =
+    HasCleanDisk new → HasEmptyTables 0 old → OnOk result (IsDatabase new.now)
 
 -- ---- names
 
 abbrev pub former_names : List (List ℕ)
-former_names = codes "setup" ∷ codes "returns" ∷ codes "counts" ∷ codes "cons" ∷ codes "lots" ∷ codes "seats" ∷ codes "gone" ∷ codes "totals" ∷ []
+former_names =
+    codes "setup" ∷ codes "returns" ∷ codes "counts" ∷ codes "cons" ∷ codes "lots" ∷ codes "seats"
+    ∷ codes "gone" ∷ codes "totals" ∷ []
 
 abbrev pub office_names : List (List ℕ)
 office_names = codes "past" ∷ former_names
@@ -62,15 +69,18 @@ office_names = codes "past" ∷ former_names
 -- A table of the name that SQL cannot reach, such as one with a trigger. `sqlite` keeps it among
 -- the views, as an entry that belongs to a table of its own name.
 abbrev pub is_table_aside : List ℕ → View → Bool
-is_table_aside name view = unwrap_or (option_map (same_name name) view.foreign) false && same_name view.name name
+is_table_aside name view =
+    unwrap_or (option_map (same_name name) view.foreign) false && same_name view.name name
 
 -- a table of the name, in any letter case
 abbrev pub has_table : Schema → List ℕ → Bool
-has_table schema name = is_some (table_named schema name) || list_any (is_table_aside name) schema.views
+has_table schema name =
+    is_some (table_named schema name) || list_any (is_table_aside name) schema.views
 
 -- a table, an index, a view or a trigger of the name, in any letter case
 abbrev pub has_name : Schema → List ℕ → Bool
-has_name schema name = has_table schema name || is_some (index_named schema name) || is_some (view_named schema name)
+has_name schema name =
+    has_table schema name || is_some (index_named schema name) || is_some (view_named schema name)
 
 -- each table of version 1 is there, with whatever columns
 abbrev pub has_former_tables : Schema → Bool

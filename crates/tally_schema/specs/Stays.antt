@@ -9,10 +9,13 @@ use Rattle.sqlite.specs.State.{State as Seen, HasCleanDisk, KeepsCommit, Survive
 -- The transaction is on the same connection. If that is open, it was open before. Where the
 -- transaction was as it has to be, nothing was committed. A crash leaves what it could have left
 -- before.
-pub record StaysFrom (starts : Seen → Type 0) {S : Type 0} (g : Ghosts S) (old new : Transaction S) : Type 0 where
+pub record StaysFrom (starts : Seen → Type 0) {S : Type 0} (g : Ghosts S) (old new : Transaction S)
+    : Type 0 where
   pub same_reference : new.conn.ghost_name ≡ old.conn.ghost_name
-  pub was_open : HasCleanDisk (state g new.conn.now) → IsTrue (state g new.conn.now).is_open → IsTrue (state g old.conn.now).is_open
-  pub kept : HasCleanDisk (state g new.conn.now) → starts (state g old.conn.now) → KeepsCommit (state g old.conn.now) (state g new.conn.now)
+  pub was_open : HasCleanDisk (state g new.conn.now) → IsTrue (state g new.conn.now).is_open
+      → IsTrue (state g old.conn.now).is_open
+  pub kept : HasCleanDisk (state g new.conn.now) → starts (state g old.conn.now)
+      → KeepsCommit (state g old.conn.now) (state g new.conn.now)
   pub survives : Survives (state g old.conn.now) (state g new.conn.now) (λ _. ⊥)
 
 -- what a call keeps in any transaction

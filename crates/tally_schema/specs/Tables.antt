@@ -1,4 +1,4 @@
--- The tables of the office: the texts that make them, and what they define.
+-- The tables of the office.
 use Rattle.std.specs.Prelude.{true, false, [], ◌∷◌, None, Some, codes, List, ℕ, ◌-◌, pos, take}
 use Rattle.sqlite_value.specs.declared.value.Value.TheVariants.{Null, Int}
 use Rattle.sqlite_value.specs.declared.keys.Collation.TheVariants.{Binary}
@@ -12,39 +12,15 @@ use Rattle.sqlite_schema.specs.declared.schema.Schema.{Schema}
 use Rattle.sqlite_schema.specs.declared.schema.Kind.{Kind}
 use Rattle.sqlite_schema.specs.declared.schema.Kind.TheVariants.{Integer, Text}
 
--- ---- the texts
-
-abbrev pub create_setup_text : List ℕ
-create_setup_text = codes "CREATE TABLE setup (id INTEGER NOT NULL PRIMARY KEY, version INTEGER NOT NULL, text TEXT NOT NULL) STRICT"
-
-abbrev pub create_returns_text : List ℕ
-create_returns_text = codes "CREATE TABLE returns (station TEXT NOT NULL PRIMARY KEY, con TEXT NOT NULL, rev INTEGER NOT NULL, slip TEXT NOT NULL, status INTEGER NOT NULL CHECK (status >= 1 AND status <= 4), note TEXT NOT NULL) STRICT"
-
-abbrev pub create_counts_text : List ℕ
-create_counts_text = codes "CREATE TABLE counts (station TEXT NOT NULL, item INTEGER NOT NULL, n INTEGER NOT NULL CHECK (n >= 0), PRIMARY KEY (station, item)) STRICT"
-
-abbrev pub create_cons_text : List ℕ
-create_cons_text = codes "CREATE TABLE cons (con TEXT NOT NULL PRIMARY KEY, edition INTEGER NOT NULL, certified INTEGER NOT NULL, note TEXT NOT NULL) STRICT"
-
-abbrev pub create_lots_text : List ℕ
-create_lots_text = codes "CREATE TABLE lots (con TEXT NOT NULL, place INTEGER NOT NULL, list INTEGER NOT NULL, PRIMARY KEY (con, place)) STRICT"
-
-abbrev pub create_seats_text : List ℕ
-create_seats_text = codes "CREATE TABLE seats (con TEXT NOT NULL, list INTEGER NOT NULL, n INTEGER NOT NULL, PRIMARY KEY (con, list)) STRICT"
-
-abbrev pub create_gone_text : List ℕ
-create_gone_text = codes "CREATE TABLE gone (con TEXT NOT NULL, list INTEGER NOT NULL, place INTEGER NOT NULL, note TEXT NOT NULL, PRIMARY KEY (con, list, place)) STRICT"
-
-abbrev pub create_totals_text : List ℕ
-create_totals_text = codes "CREATE TABLE totals (con TEXT NOT NULL, item INTEGER NOT NULL, n INTEGER NOT NULL CHECK (n >= 0), PRIMARY KEY (con, item)) STRICT"
-
-abbrev pub create_past_text : List ℕ
-create_past_text = codes "CREATE TABLE past (con TEXT NOT NULL, edition INTEGER NOT NULL, list INTEGER NOT NULL, n INTEGER NOT NULL, PRIMARY KEY (con, edition, list)) STRICT"
-
--- ---- what they define
-
 abbrev pub column_of : Kind → List ℕ → Column
-column_of kind name = record { name = name; kind = kind; is_strict = true; not_null = true; default = Null; collation = Binary }
+column_of kind name = record {
+  name = name;
+  kind = kind;
+  is_strict = true;
+  not_null = true;
+  default = Null;
+  collation = Binary;
+}
 
 abbrev pub integer : List ℕ → Column
 integer = column_of Integer
@@ -53,8 +29,8 @@ abbrev pub text : List ℕ → Column
 text = column_of Text
 
 -- a STRICT table whose PRIMARY KEY has these places and an index of its own, in the order of bytes
-abbrev pub keyed_table : List ℕ → List Column → List ℕ → List Term → ℕ → Table
-keyed_table name columns places checks tree = record {
+abbrev pub table_with_key : List ℕ → List Column → List ℕ → List Term → ℕ → Table
+table_with_key name columns places checks tree = record {
   name = name;
   tree = tree;
   columns = columns;
@@ -94,32 +70,61 @@ abbrev pub at_most : ℕ → ℕ → Term
 at_most place n = op2 (Compare Le Binary) (col 1 place) (lit (Int (pos n)))
 
 abbrev pub returns_table : ℕ → Table
-returns_table = keyed_table (codes "returns") (text (codes "station") ∷ text (codes "con") ∷ integer (codes "rev") ∷ text (codes "slip") ∷ integer (codes "status") ∷ text (codes "note") ∷ []) (1 ∷ [])
+returns_table =
+    table_with_key (codes "returns")
+    (text (codes "station") ∷ text (codes "con") ∷ integer (codes "rev") ∷ text (codes "slip")
+    ∷ integer (codes "status") ∷ text (codes "note") ∷ []) (1 ∷ [])
     (op2 And (at_least 5 1) (at_most 5 4) ∷ [])
 
 abbrev pub counts_table : ℕ → Table
-counts_table = keyed_table (codes "counts") (text (codes "station") ∷ integer (codes "item") ∷ integer (codes "n") ∷ []) (1 ∷ 2 ∷ []) (at_least 3 0 ∷ [])
+counts_table =
+    table_with_key (codes "counts")
+    (text (codes "station") ∷ integer (codes "item") ∷ integer (codes "n") ∷ []) (1 ∷ 2 ∷ [])
+    (at_least 3 0 ∷ [])
 
 abbrev pub cons_table : ℕ → Table
-cons_table = keyed_table (codes "cons") (text (codes "con") ∷ integer (codes "edition") ∷ integer (codes "certified") ∷ text (codes "note") ∷ []) (1 ∷ []) []
+cons_table =
+    table_with_key (codes "cons")
+    (text (codes "con") ∷ integer (codes "edition") ∷ integer (codes "certified")
+    ∷ text (codes "note") ∷ []) (1 ∷ []) []
 
 abbrev pub lots_table : ℕ → Table
-lots_table = keyed_table (codes "lots") (text (codes "con") ∷ integer (codes "place") ∷ integer (codes "list") ∷ []) (1 ∷ 2 ∷ []) []
+lots_table =
+    table_with_key (codes "lots")
+    (text (codes "con") ∷ integer (codes "place") ∷ integer (codes "list") ∷ []) (1 ∷ 2 ∷ []) []
 
 abbrev pub seats_table : ℕ → Table
-seats_table = keyed_table (codes "seats") (text (codes "con") ∷ integer (codes "list") ∷ integer (codes "n") ∷ []) (1 ∷ 2 ∷ []) []
+seats_table =
+    table_with_key (codes "seats")
+    (text (codes "con") ∷ integer (codes "list") ∷ integer (codes "n") ∷ []) (1 ∷ 2 ∷ []) []
 
 abbrev pub gone_table : ℕ → Table
-gone_table = keyed_table (codes "gone") (text (codes "con") ∷ integer (codes "list") ∷ integer (codes "place") ∷ text (codes "note") ∷ []) (1 ∷ 2 ∷ 3 ∷ []) []
+gone_table =
+    table_with_key (codes "gone")
+    (text (codes "con") ∷ integer (codes "list") ∷ integer (codes "place") ∷ text (codes "note")
+    ∷ []) (1 ∷ 2 ∷ 3 ∷ []) []
 
 abbrev pub totals_table : ℕ → Table
-totals_table = keyed_table (codes "totals") (text (codes "con") ∷ integer (codes "item") ∷ integer (codes "n") ∷ []) (1 ∷ 2 ∷ []) (at_least 3 0 ∷ [])
+totals_table =
+    table_with_key (codes "totals")
+    (text (codes "con") ∷ integer (codes "item") ∷ integer (codes "n") ∷ []) (1 ∷ 2 ∷ [])
+    (at_least 3 0 ∷ [])
 
 abbrev pub past_table : ℕ → Table
-past_table = keyed_table (codes "past") (text (codes "con") ∷ integer (codes "edition") ∷ integer (codes "list") ∷ integer (codes "n") ∷ []) (1 ∷ 2 ∷ 3 ∷ []) []
+past_table =
+    table_with_key (codes "past")
+    (text (codes "con") ∷ integer (codes "edition") ∷ integer (codes "list") ∷ integer (codes "n")
+    ∷ []) (1 ∷ 2 ∷ 3 ∷ []) []
 
 abbrev pub key_index : List ℕ → ℕ → ℕ → List ℕ → Index
-key_index name table tree places = record { name = name; tree = tree; table = table; columns = places; order = record { digits = 0 }; is_unique = true }
+key_index name table tree places = record {
+  name = name;
+  tree = tree;
+  table = table;
+  columns = places;
+  order = record { digits = 0 };
+  is_unique = true;
+}
 
 -- ---- the schema
 
@@ -154,18 +159,29 @@ past_tree = 15
 
 -- in the order in which they are made
 abbrev pub office_tables : List Table
-office_tables = setup_table setup_tree ∷ returns_table returns_tree ∷ counts_table counts_tree ∷ cons_table cons_tree ∷ lots_table lots_tree ∷ seats_table seats_tree ∷ gone_table gone_tree ∷ totals_table totals_tree ∷ past_table past_tree ∷ []
+office_tables =
+    setup_table setup_tree ∷ returns_table returns_tree ∷ counts_table counts_tree
+    ∷ cons_table cons_tree ∷ lots_table lots_tree ∷ seats_table seats_tree ∷ gone_table gone_tree
+    ∷ totals_table totals_tree ∷ past_table past_tree ∷ []
 
 abbrev pub office_indexes : List Index
 office_indexes =
-    key_index (codes "sqlite_autoindex_returns_1") returns_tree 2 (1 ∷ []) ∷ key_index (codes "sqlite_autoindex_counts_1") counts_tree 4 (1 ∷ 2 ∷ [])
-    ∷ key_index (codes "sqlite_autoindex_cons_1") cons_tree 6 (1 ∷ []) ∷ key_index (codes "sqlite_autoindex_lots_1") lots_tree 8 (1 ∷ 2 ∷ [])
-    ∷ key_index (codes "sqlite_autoindex_seats_1") seats_tree 10 (1 ∷ 2 ∷ []) ∷ key_index (codes "sqlite_autoindex_gone_1") gone_tree 12 (1 ∷ 2 ∷ 3 ∷ [])
-    ∷ key_index (codes "sqlite_autoindex_totals_1") totals_tree 14 (1 ∷ 2 ∷ []) ∷ key_index (codes "sqlite_autoindex_past_1") past_tree 16 (1 ∷ 2 ∷ 3 ∷ []) ∷ []
+    key_index (codes "sqlite_autoindex_returns_1") returns_tree 2 (1 ∷ [])
+    ∷ key_index (codes "sqlite_autoindex_counts_1") counts_tree 4 (1 ∷ 2 ∷ [])
+    ∷ key_index (codes "sqlite_autoindex_cons_1") cons_tree 6 (1 ∷ [])
+    ∷ key_index (codes "sqlite_autoindex_lots_1") lots_tree 8 (1 ∷ 2 ∷ [])
+    ∷ key_index (codes "sqlite_autoindex_seats_1") seats_tree 10 (1 ∷ 2 ∷ [])
+    ∷ key_index (codes "sqlite_autoindex_gone_1") gone_tree 12 (1 ∷ 2 ∷ 3 ∷ [])
+    ∷ key_index (codes "sqlite_autoindex_totals_1") totals_tree 14 (1 ∷ 2 ∷ [])
+    ∷ key_index (codes "sqlite_autoindex_past_1") past_tree 16 (1 ∷ 2 ∷ 3 ∷ []) ∷ []
 
 -- the schema of the first so many tables: `setup` has no index, each other table has one
 abbrev pub schema_with : ℕ → Schema
-schema_with n = record { tables = take n office_tables; indexes = take (n - 1) office_indexes; views = [] }
+schema_with n = record {
+  tables = take n office_tables;
+  indexes = take (n - 1) office_indexes;
+  views = [];
+}
 
 -- of an office of version 2
 abbrev pub office_schema : Schema

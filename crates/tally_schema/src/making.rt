@@ -1,16 +1,16 @@
 //! CREATE TABLE of each table of the office, in a transaction.
 
 ghost use Rattle.std.specs.Prelude.{◌≡◌};
-ghost use Rattle.tally_schema.specs.Made.{Runs, Makes, MakesDatabase, MakesPast};
+ghost use Rattle.tally_schema.specs.Made.{RunsStatement, Makes, MakesDatabase, MakesPast};
 ghost use Rattle.tally_schema.specs.Stays.{Acts, Stays};
-ghost use Rattle.tally_schema.specs.Tables.{create_returns_text};
+ghost use Rattle.tally_schema.specs.internal.Texts.{create_returns_text};
 
 use sqlite::{Alter, Error, Transaction};
 
 /// Runs a text that has no parameters.
 fn run<S: Alter>(tx: &mut Transaction<'_, S>, sql: &str) -> Result<(), Error>
     ensures stays { Stays S.Store tx.old tx.new }
-    ensures ran { Acts S.Store (Runs sql.now) tx.old tx.new result }
+    ensures ran { Acts S.Store (RunsStatement sql.now) tx.old tx.new result }
 {
     tx.execute(sql, &[])?;
     Ok(())

@@ -1,9 +1,9 @@
 //! Answers as text.
 
-use crate::commands::command;
+use crate::commands::{command, commands};
 use std::alloc::Global;
 use std::test::Fail;
-use tally_keeper::{ConView, Keeper, ListSet, ProgressRow, Refusal, Reply, Return, run};
+use tally_keeper::{Ask, ConView, Keeper, ListSet, ProgressRow, Refusal, Reply, Return, run};
 
 /// What is answered, as text: a word for it, and its numbers.
 pub fn told(alloc: Global, answer: &Result<Reply, Refusal>) -> Result<String, Fail> {
@@ -41,20 +41,32 @@ fn told_return(alloc: Global, standing: &Return) -> Result<String, Fail> {
     Ok(text)
 }
 
-/// Whether it is certified, the edition, how many of the stations are closed, the votes, the lot,
-/// the seats; the note of the last reopening; who is gone, in the order of lists and places; and
-/// the edition and the seats of each certificate that was reopened.
-fn told_view(alloc: Global, view: &ConView) -> Result<String, Fail> {
+/// Whether it is certified, the edition, how many returns are received, queried, corrected, and
+/// closed, of how many stations; the votes, the blank and the spoiled ones, the lot, the seats; the
+/// note of the last reopening; and who is gone, in the order of lists and places.
+fn told_now(alloc: Global, view: &ConView) -> Result<String, Fail> {
     let certified = if view.certified { "certified" } else { "open" };
     let mut text = format!(in alloc; "{certified} {}", view.edition)?;
-    write!(text, " {}/{}", view.closed, view.stations)?;
-    write!(text, " {:?} {:?} {:?}", view.votes, view.lot, view.seats)?;
+    write!(text, " {} {}", view.received, view.queried)?;
+    write!(
+        text,
+        " {} {}/{}",
+        view.corrected, view.closed, view.stations
+    )?;
+    write!(text, " {:?} {} {}", view.votes, view.blank, view.spoiled)?;
+    write!(text, " {:?} {:?}", view.lot, view.seats)?;
     if !view.note.is_empty() {
         write!(text, " {}", view.note)?;
     }
     for gone in &view.gone {
         write!(text, " {}.{} {}", gone.list, gone.place, gone.note)?;
     }
+    Ok(text)
+}
+
+/// The same, and the edition and the seats of each certificate that was reopened.
+fn told_view(alloc: Global, view: &ConView) -> Result<String, Fail> {
+    let mut text = told_now(alloc, view)?;
     for past in &view.past {
         write!(text, " past {} {:?}", past.edition, past.seats)?;
     }
@@ -107,10 +119,34 @@ fn told_group(alloc: Global, front: &str, group: &ListSet) -> Result<String, Fai
     Ok(text)
 }
 
-/// What a keeper answers to the command of a line, as text.
+/// What a keeper answers to the command of a line, as text. A constituency is then shown once more,
+/// without its certificates on record, and has to be shown alike.
 fn answered<K: Keeper>(alloc: Global, keeper: &mut K, line: &str) -> Result<String, Fail> {
-    let answer = keeper.answer(&command(alloc, line)?);
+    let ask = command(alloc, line)?;
+    let answer = keeper.answer(&ask);
+    if let Ask::ShowCon { con } = ask {
+        let shown = keeper.show_con(con);
+        if without_past(alloc, &answer)?.as_str() != told_shown(alloc, &shown)?.as_str() {
+            return Err(Fail::from("shown otherwise without certificates on record"));
+        }
+    }
     told(alloc, &answer)
+}
+
+/// What a ShowCon was answered, without the certificates on record.
+fn without_past(alloc: Global, answer: &Result<Reply, Refusal>) -> Result<String, Fail> {
+    match answer {
+        Ok(Reply::Con(view)) => told_now(alloc, view),
+        _ => told(alloc, answer),
+    }
+}
+
+/// What was shown of a constituency, with whatever certificates on record it has.
+fn told_shown(alloc: Global, shown: &Result<ConView, Refusal>) -> Result<String, Fail> {
+    match shown {
+        Ok(view) => told_view(alloc, view),
+        Err(refusal) => told_refusal(alloc, refusal),
+    }
 }
 
 /// The first of these lines, `COMMAND = ANSWER`, whose answer is another, with that answer.
@@ -125,17 +161,24 @@ pub fn first_wrong<K: Keeper>(alloc: Global, keeper: &mut K, script: &str) -> Re
     Ok(String::new(alloc))
 }
 
-/// The same where all commands of the script are one run.
+/// What a keeper answers to the commands of these lines in one run, a line each.
+pub fn all_told<K: Keeper>(alloc: Global, keeper: &mut K, lines: &str) -> Result<String, Fail> {
+    let asks = commands(alloc, lines)?;
+    let mut text = String::new(alloc);
+    for answer in &run(alloc, keeper, &asks)? {
+        text.push_str(told(alloc, answer)?.as_str())?;
+        text.push_str("\n")?;
+    }
+    Ok(text)
+}
+
+/// The first wrong line where all commands of the script are one run.
 pub fn first_wrong_of_run<K: Keeper>(
     alloc: Global,
     keeper: &mut K,
     script: &str,
 ) -> Result<String, Fail> {
-    let mut asks = Vec::new(alloc);
-    for line in script.lines() {
-        let (ask, _wanted) = line.split_once(" = ").ok_or("no answer")?;
-        asks.push(command(alloc, ask)?)?;
-    }
+    let asks = commands(alloc, script)?;
     first_other(alloc, script, &run(alloc, keeper, &asks)?)
 }
 

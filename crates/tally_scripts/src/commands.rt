@@ -22,8 +22,11 @@ pub fn counts(alloc: Global, text: &str) -> Result<Counts, Fail> {
     })
 }
 
-/// `lodge STATION SLIP COUNTS`, or another command.
+/// `lodge STATION SLIP COUNTS`, `progress`, or another command.
 pub fn command(alloc: Global, line: &str) -> Result<Ask, Fail> {
+    if line == "progress" {
+        return Ok(Ask::ShowProgress);
+    }
     let (verb, rest) = line.split_once(" ").ok_or("no name")?;
     let (named, rest) = rest.split_once(" ").unwrap_or((rest, ""));
     let named = code(named)?;
@@ -36,6 +39,16 @@ pub fn command(alloc: Global, line: &str) -> Result<Ask, Fail> {
         slip: code(slip)?,
         counts: counts(alloc, votes)?,
     })
+}
+
+/// The commands of these lines, each of them alone or with its answer.
+pub fn commands(alloc: Global, lines: &str) -> Result<Vec<Ask>, Fail> {
+    let mut asks = Vec::new(alloc);
+    for line in lines.lines() {
+        let (ask, _answer) = line.split_once(" = ").unwrap_or((line, ""));
+        asks.push(command(alloc, ask)?)?;
+    }
+    Ok(asks)
 }
 
 fn other_command(alloc: Global, verb: &str, named: Code, rest: &str) -> Result<Ask, Fail> {

@@ -7,8 +7,8 @@ mod readers;
 mod scripts;
 mod setups;
 
-pub use answers::{first_wrong, first_wrong_of_run, told, told_refusal};
+pub use answers::{all_told, first_wrong, first_wrong_of_run, told, told_refusal};
 pub use commands::{command, counts};
 pub use readers::Failing;
-pub use scripts::{ALTERNATING, HARE, LIFE, RECOUNT, RIVERS, VACANCIES};
+pub use scripts::{ALTERNATING, HARE, LIFE, RECOUNT, RIVERS, TWICE, VACANCIES};
 pub use setups::{TWIN_TOWN, code, number, setup, twin_town, with};

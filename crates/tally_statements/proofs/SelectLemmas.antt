@@ -24,7 +24,7 @@ use Rattle.tally_schema.specs.Tables.{office_schema}
 use Rattle.tally_statements.specs.declared.table.KeyedTable.{KeyedTable}
 use Rattle.tally_statements.specs.declared.table.KeyedTable.TheVariants.{Returns, Counts, Cons, Lots, Seats, Gone, Totals, Past}
 use Rattle.tally_statements.specs.Office.{tree_of, rows_in, IsInside, key_cells, all_cells, IsFound}
-use Rattle.tally_statements.specs.Texts.{rows_of_text}
+use Rattle.tally_statements.specs.internal.Texts.{rows_of_text}
 use Rattle.tally_statements.proofs.WriteLemmas.{Means}
 
 -- the columns that are shown

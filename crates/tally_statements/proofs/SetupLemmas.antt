@@ -36,8 +36,8 @@ use Rattle.tally_rows.proofs.UpdateLemmas.{IsOnly, updates_one}
 use Rattle.tally_schema.specs.Cells.{setup_row}
 use Rattle.tally_schema.specs.Tables.{office_schema, setup_tree, setup_table}
 use Rattle.tally_statements.specs.declared.table.KeyedTable.{KeyedTable}
-use Rattle.tally_statements.specs.Office.{tree_of, IsInside, HasTables, Runs, HasSetup, InsertsSetup, SetsVersion, ShowsSetup, shown_setup, stored_setup}
-use Rattle.tally_statements.specs.Texts.{insert_setup_text, update_version_text, all_setup_text}
+use Rattle.tally_statements.specs.Office.{tree_of, IsInside, HasTables, RunsWithValues, PutsSetup, InsertsSetup, SetsVersion, ShowsSetup, shown_setup, stored_setup}
+use Rattle.tally_statements.specs.internal.Texts.{insert_setup_text, update_version_text, all_setup_text}
 use Rattle.tally_statements.proofs.TableLemmas.{no_index, not_setup, setup_ordinary}
 use Rattle.tally_statements.proofs.TextLemmas.{on_ok}
 use Rattle.tally_statements.proofs.WholeLemmas.{typed, present, all_shown}
@@ -49,7 +49,7 @@ not_keyed : (t : KeyedTable) → tree_of t ≢ setup_tree
 not_keyed t e = not_setup t (sym e)
 
 changed_setup : (version : ℕ) (text : List ℕ) (old new : State) → IsInside old → new.now.schema ≡ office_schema → IsDatabase new.now → new.now.trees setup_tree ≡ setup_row version text ∷ []
-    → ((t : KeyedTable) → new.now.trees (tree_of t) ≡ old.now.trees (tree_of t)) → new.in_transaction ≡ true → HasSetup version text old new
+    → ((t : KeyedTable) → new.now.trees (tree_of t) ≡ old.now.trees (tree_of t)) → new.in_transaction ≡ true → PutsSetup version text old new
 changed_setup version text old new inside schema sound is others mode = record {
   inside = record { schema = schema; sound = sound; distinct = λ t. subst HaveDistinctRowids (sym (others t)) (inside.distinct t); inside = mode };
   setup = is;
@@ -65,7 +65,7 @@ insert_setup_is : Means insert_setup_text (Insert 0 (Values given_id 4))
 unfolding understood everything
 insert_setup_is = record { command = refl; plain = (refl, refl) }
 
-inserts_setup : (version : ℕ) (text : List ℕ) (old new : State) (count : ℕ) → IsInside old → ExecutesInside 0 insert_setup_text (Int (pos version) ∷ Text text ∷ []) old new (Ok count) → old.now.trees setup_tree ≡ [] → HasSetup version text old new
+inserts_setup : (version : ℕ) (text : List ℕ) (old new : State) (count : ℕ) → IsInside old → ExecutesInside 0 insert_setup_text (Int (pos version) ∷ Text text ∷ []) old new (Ok count) → old.now.trees setup_tree ≡ [] → PutsSetup version text old new
 inserts_setup version text old new count inside ran none =
     let params : Row = Int (pos version) ∷ Text text ∷ [] in
     let w = runs_as insert_setup_text params old new office_schema inside.schema (Insert 0 (Values given_id 4)) insert_setup_is.command insert_setup_is.plain count ran.0 in
@@ -73,7 +73,7 @@ inserts_setup version text old new count inside ran none =
     (statement_of insert_setup_text (understood office_schema insert_setup_text)) old.now.trees w.tally new.now (does insert_setup_text params (Insert 0 (Values given_id 4)) old new count inside.schema w) in
     changed_setup version text old new inside made.0 w.sound (made.1.stored ∙ ap (put_row (setup_row version text)) none) (λ t. made.1.others (tree_of t) (not_keyed t) (no_index t)) ran.1.mode
 
-pub insert_setup_does : (version : ℕ) (text : List ℕ) (old new : State) (r : Result Unit Error) → Runs insert_setup_text (Int (pos version) ∷ Text text ∷ []) old new r → InsertsSetup version text old new r
+pub insert_setup_does : (version : ℕ) (text : List ℕ) (old new : State) (r : Result Unit Error) → RunsWithValues insert_setup_text (Int (pos version) ∷ Text text ∷ []) old new r → InsertsSetup version text old new r
 insert_setup_does version text old new r ran clean inside none = on_ok r (λ it. inserts_setup version text old new it.0 inside it.1 none) (ran clean inside.inside)
 
 -- ---- UPDATE
@@ -89,7 +89,7 @@ none_left : (version : ℕ) (text : List ℕ) → without_rowid (pos 1) (setup_r
 none_left version text = ap (λ o. cond (not (is_eq o)) (setup_row version text ∷ []) []) (tied_itself value_cmp_total (Int (pos 1)))
 
 sets_version : (version before : ℕ) (text : List ℕ) (old new : State) (count : ℕ) → IsInside old → ExecutesInside 0 update_version_text (Int (pos version) ∷ []) old new (Ok count) → old.now.trees setup_tree ≡ setup_row before text ∷ []
-    → HasSetup version text old new
+    → PutsSetup version text old new
 sets_version version before text old new count inside ran one =
     let params : Row = Int (pos version) ∷ [] in
     let before_row : Row = setup_row before text in
@@ -101,7 +101,7 @@ sets_version version before text old new count inside ran one =
     (statement_of update_version_text (understood office_schema update_version_text)) old.now.trees w.tally new.now refl distinct only (does update_version_text params (Update 0 (record { lets = []; body = from_table setup_tree [] version_set [] })) old new count inside.schema w) in
     changed_setup version text old new inside made.0 w.sound (made.1.stored ∙ ap (λ l. put_row (Int (pos 1) ∷ row) (without_rowid (pos 1) l)) one ∙ ap (put_row (Int (pos 1) ∷ row)) (none_left before text)) (λ t. made.1.others (tree_of t) (not_keyed t) (no_index t)) ran.1.mode
 
-pub update_version_does : (version : ℕ) (old new : State) (r : Result Unit Error) → Runs update_version_text (Int (pos version) ∷ []) old new r → SetsVersion version old new r
+pub update_version_does : (version : ℕ) (old new : State) (r : Result Unit Error) → RunsWithValues update_version_text (Int (pos version) ∷ []) old new r → SetsVersion version old new r
 update_version_does version old new r ran clean inside before text one = on_ok r (λ it. sets_version version before text old new it.0 inside it.1 one) (ran clean inside.inside)
 
 -- ---- SELECT

@@ -9,7 +9,18 @@ use Rattle.tally_rows.proofs.InsertLemmas.{IsOrdinary}
 use Rattle.tally_schema.specs.Tables.{office_schema, setup_tree, setup_table}
 use Rattle.tally_statements.specs.declared.table.KeyedTable.{KeyedTable}
 use Rattle.tally_statements.specs.declared.table.KeyedTable.TheVariants.{Returns, Counts, Cons, Lots, Seats, Gone, Totals, Past}
-use Rattle.tally_statements.specs.Office.{table_of, table_number, tree_of, IsInside}
+use Rattle.tally_statements.specs.Office.{table_of, tree_of, IsInside}
+
+-- the place of a table among the tables of the office, counted from 0
+abbrev pub table_number : KeyedTable → ℕ
+table_number Returns = 1
+table_number Counts = 2
+table_number Cons = 3
+table_number Lots = 4
+table_number Seats = 5
+table_number Gone = 6
+table_number Totals = 7
+table_number Past = 8
 
 pub ordinary : (t : KeyedTable) → IsOrdinary office_schema (table_number t) (table_of t)
 ordinary Returns = record { found = refl; uncounted = refl; unstamped = append-nil; alone = λ keys olds news. refl }

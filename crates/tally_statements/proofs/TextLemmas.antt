@@ -15,8 +15,9 @@ use Rattle.tally_rows.proofs.StatementLemmas.{cast_int}
 use Rattle.tally_rows.proofs.UpdateLemmas.{by_text}
 use Rattle.tally_schema.specs.Cells.{flag}
 use Rattle.tally_statements.specs.declared.table.KeyedTable.TheVariants.{Returns, Counts, Cons, Lots, Seats, Gone, Totals, Past}
-use Rattle.tally_statements.specs.Office.{table_number, tree_of, Runs, Inserts, Replaces, SetsItem, Deletes, item_cells}
-use Rattle.tally_statements.specs.Texts.{insert_return_text, insert_count_text, insert_con_text, insert_lot_text, insert_seats_text, insert_gone_text, insert_total_text, insert_past_text, update_return_text, update_count_text, update_con_text, update_total_text, delete_lot_text, delete_seats_text}
+use Rattle.tally_statements.specs.Office.{tree_of, RunsWithValues, Inserts, Replaces, SetsItem, Deletes, item_cells}
+use Rattle.tally_statements.specs.internal.Texts.{insert_return_text, insert_count_text, insert_con_text, insert_lot_text, insert_seats_text, insert_gone_text, insert_total_text, insert_past_text, update_return_text, update_count_text, update_con_text, update_total_text, delete_lot_text, delete_seats_text}
+use Rattle.tally_statements.proofs.TableLemmas.{table_number}
 use Rattle.tally_statements.proofs.WriteLemmas.{Means, inserts, replaces, sets_item, deletes, by_item, item_set}
 
 pub on_ok : {A B : Type 0} (r : Result Unit Error) → (A → B) → OnOk r A → OnOk r B
@@ -36,7 +37,7 @@ insert_return_is : Means insert_return_text (Insert (table_number Returns) (Valu
 unfolding understood everything
 insert_return_is = record { command = refl; plain = (refl, refl) }
 
-pub insert_return_does : (station con : List ℕ) (rev : ℕ) (slip : List ℕ) (status : ℕ) (note : List ℕ) (old new : State) (r : Result Unit Error) → Runs insert_return_text (Text station ∷ Text con ∷ Int (pos rev) ∷ Text slip ∷ Int (pos status) ∷ Text note ∷ []) old new r → Inserts Returns (Text station ∷ Text con ∷ Int (pos rev) ∷ Text slip ∷ Int (pos status) ∷ Text note ∷ []) old new r
+pub insert_return_does : (station con : List ℕ) (rev : ℕ) (slip : List ℕ) (status : ℕ) (note : List ℕ) (old new : State) (r : Result Unit Error) → RunsWithValues insert_return_text (Text station ∷ Text con ∷ Int (pos rev) ∷ Text slip ∷ Int (pos status) ∷ Text note ∷ []) old new r → Inserts Returns (Text station ∷ Text con ∷ Int (pos rev) ∷ Text slip ∷ Int (pos status) ∷ Text note ∷ []) old new r
 insert_return_does station con rev slip status note old new r ran clean inside =
     on_ok r (λ it. inserts Returns insert_return_text (Text station ∷ Text con ∷ Int (pos rev) ∷ Text slip ∷ Int (pos status) ∷ Text note ∷ []) (Text station ∷ Text con ∷ Int (pos rev) ∷ Text slip ∷ Int (pos status) ∷ Text note ∷ []) six 7 insert_return_is refl (rw (cast_int (pos rev), cast_int (pos status))) old new it.0 inside it.1) (ran clean inside.inside)
 
@@ -44,7 +45,7 @@ insert_count_is : Means insert_count_text (Insert (table_number Counts) (Values 
 unfolding understood everything
 insert_count_is = record { command = refl; plain = (refl, refl) }
 
-pub insert_count_does : (key : List ℕ) (item n : ℕ) (old new : State) (r : Result Unit Error) → Runs insert_count_text (item_cells key item n) old new r → Inserts Counts (item_cells key item n) old new r
+pub insert_count_does : (key : List ℕ) (item n : ℕ) (old new : State) (r : Result Unit Error) → RunsWithValues insert_count_text (item_cells key item n) old new r → Inserts Counts (item_cells key item n) old new r
 insert_count_does key item n old new r ran clean inside =
     on_ok r (λ it. inserts Counts insert_count_text (item_cells key item n) (item_cells key item n) three 4 insert_count_is refl (rw (cast_int (pos item), cast_int (pos n))) old new it.0 inside it.1) (ran clean inside.inside)
 
@@ -57,7 +58,7 @@ insert_con_is : Means insert_con_text (Insert (table_number Cons) (Values four 5
 unfolding understood everything
 insert_con_is = record { command = refl; plain = (refl, refl) }
 
-pub insert_con_does : (con : List ℕ) (edition : ℕ) (certified : Bool) (note : List ℕ) (old new : State) (r : Result Unit Error) → Runs insert_con_text (Text con ∷ Int (pos edition) ∷ Int (if certified then pos 1 else pos 0) ∷ Text note ∷ []) old new r → Inserts Cons (Text con ∷ Int (pos edition) ∷ Int (pos (flag certified)) ∷ Text note ∷ []) old new r
+pub insert_con_does : (con : List ℕ) (edition : ℕ) (certified : Bool) (note : List ℕ) (old new : State) (r : Result Unit Error) → RunsWithValues insert_con_text (Text con ∷ Int (pos edition) ∷ Int (if certified then pos 1 else pos 0) ∷ Text note ∷ []) old new r → Inserts Cons (Text con ∷ Int (pos edition) ∷ Int (pos (flag certified)) ∷ Text note ∷ []) old new r
 insert_con_does con edition certified note old new r ran clean inside =
     on_ok r (λ it. inserts Cons insert_con_text (Text con ∷ Int (pos edition) ∷ Int (pos (flag certified)) ∷ Text note ∷ []) (Text con ∷ Int (pos edition) ∷ Int (pos (flag certified)) ∷ Text note ∷ []) four 5 insert_con_is refl (rw (cast_int (pos edition), cast_int (pos (flag certified)))) old new it.0 inside it.1) (rw (flag_is certified) at (ran clean inside.inside))
 
@@ -65,7 +66,7 @@ insert_lot_is : Means insert_lot_text (Insert (table_number Lots) (Values three 
 unfolding understood everything
 insert_lot_is = record { command = refl; plain = (refl, refl) }
 
-pub insert_lot_does : (key : List ℕ) (item n : ℕ) (old new : State) (r : Result Unit Error) → Runs insert_lot_text (item_cells key item n) old new r → Inserts Lots (item_cells key item n) old new r
+pub insert_lot_does : (key : List ℕ) (item n : ℕ) (old new : State) (r : Result Unit Error) → RunsWithValues insert_lot_text (item_cells key item n) old new r → Inserts Lots (item_cells key item n) old new r
 insert_lot_does key item n old new r ran clean inside =
     on_ok r (λ it. inserts Lots insert_lot_text (item_cells key item n) (item_cells key item n) three 4 insert_lot_is refl (rw (cast_int (pos item), cast_int (pos n))) old new it.0 inside it.1) (ran clean inside.inside)
 
@@ -73,7 +74,7 @@ insert_seats_is : Means insert_seats_text (Insert (table_number Seats) (Values t
 unfolding understood everything
 insert_seats_is = record { command = refl; plain = (refl, refl) }
 
-pub insert_seats_does : (key : List ℕ) (item n : ℕ) (old new : State) (r : Result Unit Error) → Runs insert_seats_text (item_cells key item n) old new r → Inserts Seats (item_cells key item n) old new r
+pub insert_seats_does : (key : List ℕ) (item n : ℕ) (old new : State) (r : Result Unit Error) → RunsWithValues insert_seats_text (item_cells key item n) old new r → Inserts Seats (item_cells key item n) old new r
 insert_seats_does key item n old new r ran clean inside =
     on_ok r (λ it. inserts Seats insert_seats_text (item_cells key item n) (item_cells key item n) three 4 insert_seats_is refl (rw (cast_int (pos item), cast_int (pos n))) old new it.0 inside it.1) (ran clean inside.inside)
 
@@ -81,7 +82,7 @@ insert_gone_is : Means insert_gone_text (Insert (table_number Gone) (Values four
 unfolding understood everything
 insert_gone_is = record { command = refl; plain = (refl, refl) }
 
-pub insert_gone_does : (con : List ℕ) (list place : ℕ) (note : List ℕ) (old new : State) (r : Result Unit Error) → Runs insert_gone_text (Text con ∷ Int (pos list) ∷ Int (pos place) ∷ Text note ∷ []) old new r → Inserts Gone (Text con ∷ Int (pos list) ∷ Int (pos place) ∷ Text note ∷ []) old new r
+pub insert_gone_does : (con : List ℕ) (list place : ℕ) (note : List ℕ) (old new : State) (r : Result Unit Error) → RunsWithValues insert_gone_text (Text con ∷ Int (pos list) ∷ Int (pos place) ∷ Text note ∷ []) old new r → Inserts Gone (Text con ∷ Int (pos list) ∷ Int (pos place) ∷ Text note ∷ []) old new r
 insert_gone_does con list place note old new r ran clean inside =
     on_ok r (λ it. inserts Gone insert_gone_text (Text con ∷ Int (pos list) ∷ Int (pos place) ∷ Text note ∷ []) (Text con ∷ Int (pos list) ∷ Int (pos place) ∷ Text note ∷ []) four 5 insert_gone_is refl (rw (cast_int (pos list), cast_int (pos place))) old new it.0 inside it.1) (ran clean inside.inside)
 
@@ -89,7 +90,7 @@ insert_total_is : Means insert_total_text (Insert (table_number Totals) (Values 
 unfolding understood everything
 insert_total_is = record { command = refl; plain = (refl, refl) }
 
-pub insert_total_does : (key : List ℕ) (item n : ℕ) (old new : State) (r : Result Unit Error) → Runs insert_total_text (item_cells key item n) old new r → Inserts Totals (item_cells key item n) old new r
+pub insert_total_does : (key : List ℕ) (item n : ℕ) (old new : State) (r : Result Unit Error) → RunsWithValues insert_total_text (item_cells key item n) old new r → Inserts Totals (item_cells key item n) old new r
 insert_total_does key item n old new r ran clean inside =
     on_ok r (λ it. inserts Totals insert_total_text (item_cells key item n) (item_cells key item n) three 4 insert_total_is refl (rw (cast_int (pos item), cast_int (pos n))) old new it.0 inside it.1) (ran clean inside.inside)
 
@@ -97,7 +98,7 @@ insert_past_is : Means insert_past_text (Insert (table_number Past) (Values four
 unfolding understood everything
 insert_past_is = record { command = refl; plain = (refl, refl) }
 
-pub insert_past_does : (con : List ℕ) (edition list n : ℕ) (old new : State) (r : Result Unit Error) → Runs insert_past_text (Text con ∷ Int (pos edition) ∷ Int (pos list) ∷ Int (pos n) ∷ []) old new r → Inserts Past (Text con ∷ Int (pos edition) ∷ Int (pos list) ∷ Int (pos n) ∷ []) old new r
+pub insert_past_does : (con : List ℕ) (edition list n : ℕ) (old new : State) (r : Result Unit Error) → RunsWithValues insert_past_text (Text con ∷ Int (pos edition) ∷ Int (pos list) ∷ Int (pos n) ∷ []) old new r → Inserts Past (Text con ∷ Int (pos edition) ∷ Int (pos list) ∷ Int (pos n) ∷ []) old new r
 insert_past_does con edition list n old new r ran clean inside =
     on_ok r (λ it. inserts Past insert_past_text (Text con ∷ Int (pos edition) ∷ Int (pos list) ∷ Int (pos n) ∷ []) (Text con ∷ Int (pos edition) ∷ Int (pos list) ∷ Int (pos n) ∷ []) four 5 insert_past_is refl (rw (cast_int (pos edition), cast_int (pos list), cast_int (pos n))) old new it.0 inside it.1) (ran clean inside.inside)
 
@@ -109,7 +110,7 @@ unfolding understood everything
 update_return_is = record { command = refl; plain = (refl, refl) }
 
 pub update_return_does : (station : List ℕ) (rev : ℕ) (slip : List ℕ) (status : ℕ) (note : List ℕ) (con : List ℕ) (a b c d : Value) (old new : State) (r : Result Unit Error)
-    → Runs update_return_text (Text station ∷ Int (pos rev) ∷ Text slip ∷ Int (pos status) ∷ Text note ∷ []) old new r
+    → RunsWithValues update_return_text (Text station ∷ Int (pos rev) ∷ Text slip ∷ Int (pos status) ∷ Text note ∷ []) old new r
     → Replaces Returns station (Text station ∷ Text con ∷ a ∷ b ∷ c ∷ d ∷ []) (Text station ∷ Text con ∷ Int (pos rev) ∷ Text slip ∷ Int (pos status) ∷ Text note ∷ []) old new r
 update_return_does station rev slip status note con a b c d old new r ran clean inside one =
     on_ok r
@@ -125,7 +126,7 @@ unfolding understood everything
 update_con_is = record { command = refl; plain = (refl, refl) }
 
 pub update_con_does : (con : List ℕ) (edition : ℕ) (certified : Bool) (note : List ℕ) (a b c : Value) (old new : State) (r : Result Unit Error)
-    → Runs update_con_text (Text con ∷ Int (pos edition) ∷ Int (if certified then pos 1 else pos 0) ∷ Text note ∷ []) old new r
+    → RunsWithValues update_con_text (Text con ∷ Int (pos edition) ∷ Int (if certified then pos 1 else pos 0) ∷ Text note ∷ []) old new r
     → Replaces Cons con (Text con ∷ a ∷ b ∷ c ∷ []) (Text con ∷ Int (pos edition) ∷ Int (pos (flag certified)) ∷ Text note ∷ []) old new r
 update_con_does con edition certified note a b c old new r ran clean inside one =
     on_ok r
@@ -137,7 +138,7 @@ update_count_is : Means update_count_text (Update (table_number Counts) (record 
 unfolding understood everything
 update_count_is = record { command = refl; plain = (refl, refl) }
 
-pub update_count_does : (key : List ℕ) (item n : ℕ) (old new : State) (r : Result Unit Error) → Runs update_count_text (item_cells key item n) old new r → SetsItem Counts key item n old new r
+pub update_count_does : (key : List ℕ) (item n : ℕ) (old new : State) (r : Result Unit Error) → RunsWithValues update_count_text (item_cells key item n) old new r → SetsItem Counts key item n old new r
 update_count_does key item n old new r ran clean inside before rest none held =
     on_ok r (λ it. sets_item Counts update_count_text key item n update_count_is (rw (cast_int (pos item), cast_int (pos n))) (λ trees. refl) old new it.0 inside it.1 before rest none held) (ran clean inside.inside)
 
@@ -145,7 +146,7 @@ update_total_is : Means update_total_text (Update (table_number Totals) (record 
 unfolding understood everything
 update_total_is = record { command = refl; plain = (refl, refl) }
 
-pub update_total_does : (key : List ℕ) (item n : ℕ) (old new : State) (r : Result Unit Error) → Runs update_total_text (item_cells key item n) old new r → SetsItem Totals key item n old new r
+pub update_total_does : (key : List ℕ) (item n : ℕ) (old new : State) (r : Result Unit Error) → RunsWithValues update_total_text (item_cells key item n) old new r → SetsItem Totals key item n old new r
 update_total_does key item n old new r ran clean inside before rest none held =
     on_ok r (λ it. sets_item Totals update_total_text key item n update_total_is (rw (cast_int (pos item), cast_int (pos n))) (λ trees. refl) old new it.0 inside it.1 before rest none held) (ran clean inside.inside)
 
@@ -153,12 +154,12 @@ delete_lot_is : Means delete_lot_text (Delete (table_number Lots) (record { lets
 unfolding understood everything
 delete_lot_is = record { command = refl; plain = (refl, refl) }
 
-pub delete_lot_does : (key : List ℕ) (old new : State) (r : Result Unit Error) → Runs delete_lot_text (Text key ∷ []) old new r → Deletes Lots key old new r
+pub delete_lot_does : (key : List ℕ) (old new : State) (r : Result Unit Error) → RunsWithValues delete_lot_text (Text key ∷ []) old new r → Deletes Lots key old new r
 delete_lot_does key old new r ran clean inside = on_ok r (λ it. deletes Lots delete_lot_text key delete_lot_is (λ trees. refl) old new it.0 inside it.1) (ran clean inside.inside)
 
 delete_seats_is : Means delete_seats_text (Delete (table_number Seats) (record { lets = []; body = from_table (tree_of Seats) by_text (col 1 0 ∷ []) [] }))
 unfolding understood everything
 delete_seats_is = record { command = refl; plain = (refl, refl) }
 
-pub delete_seats_does : (key : List ℕ) (old new : State) (r : Result Unit Error) → Runs delete_seats_text (Text key ∷ []) old new r → Deletes Seats key old new r
+pub delete_seats_does : (key : List ℕ) (old new : State) (r : Result Unit Error) → RunsWithValues delete_seats_text (Text key ∷ []) old new r → Deletes Seats key old new r
 delete_seats_does key old new r ran clean inside = on_ok r (λ it. deletes Seats delete_seats_text key delete_seats_is (λ trees. refl) old new it.0 inside it.1) (ran clean inside.inside)

@@ -32,7 +32,7 @@ use Rattle.tally_schema.specs.Tables.{office_schema}
 use Rattle.tally_statements.specs.declared.table.KeyedTable.{KeyedTable}
 use Rattle.tally_statements.specs.declared.table.KeyedTable.TheVariants.{Returns, Counts, Cons, Lots, Seats, Gone, Totals, Past}
 use Rattle.tally_statements.specs.Office.{table_of, tree_of, HasTables, ShowsTable, ShowsRowids}
-use Rattle.tally_statements.specs.Texts.{all_rows_text, rowids_text}
+use Rattle.tally_statements.specs.internal.Texts.{all_rows_text, rowids_text}
 use Rattle.tally_statements.proofs.WriteLemmas.{Means}
 use Rattle.tally_statements.proofs.SelectLemmas.{columns_of, order_of, names_of, plain, out_of, outputs_at, compared_at, shown_whole}
 

@@ -31,8 +31,8 @@ use Rattle.tally_rows.proofs.UpdateLemmas.{by_text, by_text_is, equals_text, equ
 use Rattle.tally_rows.proofs.DeleteLemmas.{deletes_all}
 use Rattle.tally_schema.specs.Tables.{office_schema, setup_tree}
 use Rattle.tally_statements.specs.declared.table.KeyedTable.{KeyedTable}
-use Rattle.tally_statements.specs.Office.{table_of, table_number, tree_of, rows_in, IsInside, HasRows, item_cells, is_item}
-use Rattle.tally_statements.proofs.TableLemmas.{ordinary, no_index, no_index_setup, not_setup, still_inside}
+use Rattle.tally_statements.specs.Office.{table_of, tree_of, rows_in, IsInside, HasRows, item_cells, is_item}
+use Rattle.tally_statements.proofs.TableLemmas.{table_number, ordinary, no_index, no_index_setup, not_setup, still_inside}
 
 -- the text means this command
 pub record Means (sql : List ℕ) (meant : Command) : Type 0 where

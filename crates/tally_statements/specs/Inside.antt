@@ -18,11 +18,15 @@ IsOpenInside s = IsInside s × IsTrue s.is_open
 
 -- What a call keeps that only reads. Where it answered, the connection was open and nothing
 -- changed.
-pub record OnlyReadsFrom (starts : Seen → Type 0) {S X : Type 0} (g : Ghosts S) (old new : Transaction S) (result : Result X Error) : Type 0 where
+pub record OnlyReadsFrom (starts : Seen → Type 0) {S X : Type 0} (g : Ghosts S)
+    (old new : Transaction S) (result : Result X Error) : Type 0 where
   pub stays : StaysFrom starts g old new
-  pub same : HasCleanDisk (state g new.conn.now) → starts (state g old.conn.now) → OnOk result (IsUnchanged (state g old.conn.now) (state g new.conn.now))
-  pub answered_open : HasCleanDisk (state g new.conn.now) → OnOk result (IsTrue (state g old.conn.now).is_open)
+  pub same : HasCleanDisk (state g new.conn.now) → starts (state g old.conn.now)
+      → OnOk result (IsUnchanged (state g old.conn.now) (state g new.conn.now))
+  pub answered_open : HasCleanDisk (state g new.conn.now)
+      → OnOk result (IsTrue (state g old.conn.now).is_open)
 
 -- the same where the office's tables are open
-abbrev pub OnlyReads : {S X : Type 0} (g : Ghosts S) → Transaction S → Transaction S → Result X Error → Type 0
+abbrev pub OnlyReads : {S X : Type 0} (g : Ghosts S) → Transaction S → Transaction S
+    → Result X Error → Type 0
 OnlyReads g old new result = OnlyReadsFrom IsInside g old new result

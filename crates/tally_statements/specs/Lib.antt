@@ -1,3 +1,3 @@
-pub mod Texts
+pub mod internal
 pub mod Office
 pub mod Inside

@@ -30,17 +30,6 @@ table_of Gone = gone_table gone_tree
 table_of Totals = totals_table totals_tree
 table_of Past = past_table past_tree
 
--- its place among the tables of the office, counted from 0
-abbrev pub table_number : KeyedTable → ℕ
-table_number Returns = 1
-table_number Counts = 2
-table_number Cons = 3
-table_number Lots = 4
-table_number Seats = 5
-table_number Gone = 6
-table_number Totals = 7
-table_number Past = 8
-
 -- the tree that holds its rows
 abbrev pub tree_of : KeyedTable → ℕ
 tree_of t = (table_of t).tree
@@ -63,7 +52,8 @@ pub record IsInside (s : Seen) : Type 0 where
 pub record HasRows (t : KeyedTable) (now : List Row) (old new : Seen) : Type 0 where
   pub inside : IsInside new
   pub rows : IsPermutation now (rows_in t new)
-  pub others : (u : KeyedTable) → tree_of u ≢ tree_of t → new.now.trees (tree_of u) ≡ old.now.trees (tree_of u)
+  pub others : (u : KeyedTable) → tree_of u ≢ tree_of t
+      → new.now.trees (tree_of u) ≡ old.now.trees (tree_of u)
   pub setup : new.now.trees setup_tree ≡ old.now.trees setup_tree
 
 -- a row of `returns`
@@ -95,17 +85,21 @@ is_item key item row = has_key key row && is_eq (value_cmp (column row 1) (Int (
 -- ---- what a call says, where the disk returned what was written
 
 -- the text was run with these values
-abbrev pub Runs : List ℕ → Row → Seen → Seen → Result Unit Error → Type 0
-Runs sql params old new result = HasCleanDisk new → IsTrue old.in_transaction → OnOk result ((count : ℕ) × ExecutesInside 0 sql params old new (Ok count))
+abbrev pub RunsWithValues : List ℕ → Row → Seen → Seen → Result Unit Error → Type 0
+RunsWithValues sql params old new result =
+    HasCleanDisk new → IsTrue old.in_transaction
+    → OnOk result ((count : ℕ) × ExecutesInside 0 sql params old new (Ok count))
 
 -- the table has this row in addition
 abbrev pub Inserts : KeyedTable → Row → Seen → Seen → Result Unit Error → Type 0
-Inserts t row old new result = HasCleanDisk new → IsInside old → OnOk result (HasRows t (row ∷ rows_in t old) old new)
+Inserts t row old new result =
+    HasCleanDisk new → IsInside old → OnOk result (HasRows t (row ∷ rows_in t old) old new)
 
 -- the row takes the place of the one row of a key, whose columns were these
 abbrev pub Replaces : KeyedTable → List ℕ → Row → Row → Seen → Seen → Result Unit Error → Type 0
 Replaces t key before row old new result =
-    HasCleanDisk new → IsInside old → filter (has_key key) (rows_in t old) ≡ before ∷ [] → OnOk result (HasRows t (row ∷ others key (rows_in t old)) old new)
+    HasCleanDisk new → IsInside old → filter (has_key key) (rows_in t old) ≡ before ∷ []
+    → OnOk result (HasRows t (row ∷ others key (rows_in t old)) old new)
 
 -- The row of a return has this revision, slip, status and note, whatever it had. Its constituency
 -- is as it was.
@@ -125,12 +119,15 @@ UpdatesCon con edition certified note old new result =
 -- the item of a key has another number, where the table had a row for it beside these
 abbrev pub SetsItem : KeyedTable → List ℕ → ℕ → ℕ → Seen → Seen → Result Unit Error → Type 0
 SetsItem t key item n old new result =
-    HasCleanDisk new → IsInside old → (before : ℕ) (rest : List Row) → filter (is_item key item) rest ≡ [] → IsPermutation (item_cells key item before ∷ rest) (rows_in t old)
+    HasCleanDisk new → IsInside old → (before : ℕ) (rest : List Row)
+    → filter (is_item key item) rest ≡ []
+    → IsPermutation (item_cells key item before ∷ rest) (rows_in t old)
     → OnOk result (HasRows t (item_cells key item n ∷ rest) old new)
 
 -- the rows of a key are gone
 abbrev pub Deletes : KeyedTable → List ℕ → Seen → Seen → Result Unit Error → Type 0
-Deletes t key old new result = HasCleanDisk new → IsInside old → OnOk result (HasRows t (others key (rows_in t old)) old new)
+Deletes t key old new result =
+    HasCleanDisk new → IsInside old → OnOk result (HasRows t (others key (rows_in t old)) old new)
 
 -- ---- what a SELECT answers
 
@@ -147,7 +144,8 @@ key_cells Past r = column r 0 ∷ column r 1 ∷ column r 2 ∷ []
 
 -- all of its columns
 abbrev pub all_cells : KeyedTable → Row → Row
-all_cells Returns r = column r 0 ∷ column r 1 ∷ column r 2 ∷ column r 3 ∷ column r 4 ∷ column r 5 ∷ []
+all_cells Returns r =
+    column r 0 ∷ column r 1 ∷ column r 2 ∷ column r 3 ∷ column r 4 ∷ column r 5 ∷ []
 all_cells Counts r = column r 0 ∷ column r 1 ∷ column r 2 ∷ []
 all_cells Cons r = column r 0 ∷ column r 1 ∷ column r 2 ∷ column r 3 ∷ []
 all_cells Lots r = column r 0 ∷ column r 1 ∷ column r 2 ∷ []
@@ -164,11 +162,13 @@ pub record AreInOrder (t : KeyedTable) (rows : List Row) : Type 0 where
 
 -- Where these are the rows of a key, in order, they are what was answered.
 abbrev pub IsFound : KeyedTable → List ℕ → Seen → List Row → Type 0
-IsFound t key s answer = (rows : List Row) → AreInOrder t rows → IsPermutation rows (filter (has_key key) (rows_in t s)) → answer ≡ rows
+IsFound t key s answer =
+    (rows : List Row) → AreInOrder t rows → IsPermutation rows (filter (has_key key) (rows_in t s))
+    → answer ≡ rows
 
 -- the rows of a key were answered, where the disk returned what was written
-abbrev pub Finds : KeyedTable → List ℕ → Seen → Seen → Result (Vec Row Global) Error → Type 0
-Finds t key old new result =
+abbrev pub FindsRows : KeyedTable → List ℕ → Seen → Seen → Result (Vec Row Global) Error → Type 0
+FindsRows t key old new result =
     HasCleanDisk new → IsInside old → IfOk result (λ rows. IsFound t key old rows.items)
 
 -- ---- whole tables
@@ -183,7 +183,8 @@ pub record HasTables (s : Seen) : Type 0 where
 -- they are the answer.
 pub record ShowsTable (t : KeyedTable) (s : Seen) (answer : List Row) : Type 0 where
   pub same : IsPermutation (rows_in t s) answer
-  pub in_order : (rows : List Row) → AreInOrder t rows → IsPermutation rows (rows_in t s) → answer ≡ rows
+  pub in_order : (rows : List Row) → AreInOrder t rows → IsPermutation rows (rows_in t s)
+      → answer ≡ rows
 
 -- the answer has the rowids of a table
 abbrev pub ShowsRowids : KeyedTable → Seen → List Row → Type 0
@@ -202,19 +203,23 @@ ShowsAllRowids t old new result =
 -- ---- the table `setup`
 
 -- `setup` has one row, of this version and text, and every other table is as it was.
-pub record HasSetup (version : ℕ) (text : List ℕ) (old new : Seen) : Type 0 where
+pub record PutsSetup (version : ℕ) (text : List ℕ) (old new : Seen) : Type 0 where
   pub inside : IsInside new
   pub setup : new.now.trees setup_tree ≡ setup_row version text ∷ []
   pub others : (t : KeyedTable) → new.now.trees (tree_of t) ≡ old.now.trees (tree_of t)
 
 -- the row is in the table, which was empty
 abbrev pub InsertsSetup : ℕ → List ℕ → Seen → Seen → Result Unit Error → Type 0
-InsertsSetup version text old new result = HasCleanDisk new → IsInside old → old.now.trees setup_tree ≡ [] → OnOk result (HasSetup version text old new)
+InsertsSetup version text old new result =
+    HasCleanDisk new → IsInside old → old.now.trees setup_tree ≡ []
+    → OnOk result (PutsSetup version text old new)
 
 -- the one row has another version
 abbrev pub SetsVersion : ℕ → Seen → Seen → Result Unit Error → Type 0
 SetsVersion version old new result =
-    HasCleanDisk new → IsInside old → (before : ℕ) (text : List ℕ) → old.now.trees setup_tree ≡ setup_row before text ∷ [] → OnOk result (HasSetup version text old new)
+    HasCleanDisk new → IsInside old → (before : ℕ) (text : List ℕ)
+    → old.now.trees setup_tree ≡ setup_row before text ∷ []
+    → OnOk result (PutsSetup version text old new)
 
 -- what is shown of a row of `setup`: its id, its version and its text
 abbrev pub shown_setup : Row → Row

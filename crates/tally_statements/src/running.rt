@@ -2,7 +2,7 @@
 
 ghost use Rattle.sqlite.specs.Values.{bound};
 ghost use Rattle.tally_statements.specs.Inside.{Acts, Stays};
-ghost use Rattle.tally_statements.specs.Office.{Runs};
+ghost use Rattle.tally_statements.specs.Office.{RunsWithValues};
 
 use sqlite::types::ValueRef;
 use sqlite::{Alter, Error, Transaction};
@@ -14,7 +14,7 @@ pub(crate) fn run<S: Alter>(
     params: &[ValueRef<'_>],
 ) -> Result<(), Error>
     ensures stays { Stays S.Store tx.old tx.new }
-    ensures ran { Acts S.Store (Runs sql.now (bound params.now)) tx.old tx.new result }
+    ensures ran { Acts S.Store (RunsWithValues sql.now (bound params.now)) tx.old tx.new result }
 {
     tx.execute(sql, params)?;
     Ok(())

@@ -2,8 +2,8 @@
 
 ghost use Rattle.std.specs.Prelude.{◌≡◌};
 ghost use Rattle.tally_statements.specs.Inside.{Acts, OnlyReads, OnlyReadsFrom};
-ghost use Rattle.tally_statements.specs.Office.{Finds, HasTables, ShowsAllRowids, ShowsAllRows};
-ghost use Rattle.tally_statements.specs.Texts.{rows_of_text, all_rows_text, rowids_text};
+ghost use Rattle.tally_statements.specs.Office.{FindsRows, HasTables, ShowsAllRowids, ShowsAllRows};
+ghost use Rattle.tally_statements.specs.internal.Texts.{rows_of_text, all_rows_text, rowids_text};
 
 use crate::table::KeyedTable;
 use sqlite::{Alter, Error, Row, Transaction, params};
@@ -41,7 +41,7 @@ pub fn rows_of_key<S: Alter>(
     key: &str,
 ) -> Result<Vec<Row>, Error>
     ensures reads { OnlyReads S.Store tx.old tx.new result }
-    ensures found { Acts S.Store (Finds table key.now) tx.old tx.new result }
+    ensures found { Acts S.Store (FindsRows table key.now) tx.old tx.new result }
 {
     tx.query_all(text_of(table), params![key])
 }

@@ -35,7 +35,7 @@ use Rattle.tally_returns.specs.declared.ask.Ask.TheVariants.{Lodge, Query, Corre
 use Rattle.tally_returns.specs.declared.refusal.Refusal.{Refusal}
 use Rattle.tally_returns.specs.declared.refusal.Refusal.TheVariants.{AlreadyGone, BadNote, Exhausted, NoCandidate, NotCertified, NotHolder, Stale}
 use Rattle.tally_returns.specs.declared.reply.Reply.{Reply}
-use Rattle.tally_returns.proofs.DecideLemmas.{kept-note, may_stand-kept, passed-first, passed-rest}
+use Rattle.tally_returns.proofs.DecideLemmas.{kept-note, is_note_or_empty-kept, passed-first, passed-rest}
 use Rattle.tally_steps.proofs.LawfulViewLemmas.{certified-lawful, drawn-lawful, drawn-open}
 use Rattle.tally_steps.proofs.PastLemmas.{insert-past, past-later}
 use Rattle.tally_steps.proofs.VacancyLemmas.{allotted-sum}
@@ -164,7 +164,7 @@ reopened-may_be con s seats edition note keeps here view none =
       seen = record {
         first = omega (arith, here.seen.first);
         last = omega (arith, here.seen.last, not_last);
-        note = may_stand-kept note (keeps (passed-first (is_note note) BadNote second none));
+        note = is_note_or_empty-kept note (keeps (passed-first (is_note note) BadNote second none));
         lot = here.seen.lot;
         certified = λ certified. let never : false ≡ true = certified in cc;
         gone = here.seen.gone;

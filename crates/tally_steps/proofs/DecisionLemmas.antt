@@ -9,7 +9,7 @@ use Rattle.tally_rules.specs.Setup.{constituency_with, station_with}
 use Rattle.tally_rules.specs.declared.constituency.Station.{Station}
 use Rattle.tally_steps.specs.Step.{ConChange, after_change, certified_with, con_state_after, change_of_result, gone_for_good, lot_set, no_change, open_again, Answer, IsAnswered, IsConStep, IsConStepSeen, IsStepSeen, IsStepSeenAt, con_answer, lodge_reply, lodged, move_reply, return_reply, return_shown, same, state_after, con_of_station, change_at_station, change_in_state, is_certified}
 use Rattle.tally_steps.specs.Certification.{ListFound, gone_of, holders_of, list_found, reopen_result, vacate_checks, vacancy, vacate_result}
-use Rattle.tally_steps.specs.Decisions.{IsAt, LimitsAreThoseOfTheSetup, RefusalsOnReturnsAreSteps, ChangesOfReturnsAreSteps, UnknownStationsAreRefused, DecisionsOnConstituenciesAreSteps, UnknownConstituenciesAreRefused, EditionsStayWithinTheirLimit, NobodyGoesTwice, change_at_code, answer_to_change}
+use Rattle.tally_steps.specs.Decisions.{NamesStation, LimitsAreThoseOfTheSetup, RefusalsOnReturnsAreSteps, ChangesOfReturnsAreSteps, UnknownStationsAreRefused, DecisionsOnConstituenciesAreSteps, UnknownConstituenciesAreRefused, EditionsStayWithinTheirLimit, NobodyGoesTwice, change_at_code, answer_to_change}
 use Rattle.tally_steps.specs.Holders.{newcomer}
 use Rattle.tally_steps.specs.Step as replies
 use Rattle.tally_returns.specs.Checks.{check, first_refusal, refused_or}
@@ -62,7 +62,7 @@ pub decided-named : (setup : List Constituency) (s : State) (ask : Ask) (station
 decided-named setup s ask station named = ap (change_at_station setup s ask) named
 
 -- is what the state says of it
-pub decided-same : (setup : List Constituency) (s : State) (con : Constituency) (code : List ℕ) (ask : Ask) → IsAt setup con code ask → change_in_state setup s ask ≡ change_at_code s con code ask
+pub decided-same : (setup : List Constituency) (s : State) (con : Constituency) (code : List ℕ) (ask : Ask) → NamesStation setup con code ask → change_in_state setup s ask ≡ change_at_code s con code ask
 decided-same setup s con code ask at =
     decided-named setup s ask code at.0
     ∙ ap (λ limits. return_change limits (is_certified setup s code) (get s.returns code) ask) (sym (limits-same setup con code ask at))

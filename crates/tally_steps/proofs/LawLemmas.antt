@@ -12,7 +12,7 @@ use Rattle.tally_law.specs.LawStatements.{AllotmentsAreUnique, AllotmentsExist, 
 use Rattle.tally_steps.specs.Certification.{ByOutcome, Certifies, RefusedOr, seats_by_outcome, count_checks}
 use Rattle.tally_returns.specs.Checks.{check, first_refusal}
 use Rattle.tally_steps.specs.Step.{IsView, certified_with, change_of_result, IsAnswered, IsConStep, IsStep, con_answer, reply_seen, IsStepSeenAt}
-use Rattle.tally_steps.specs.LawStatements.{CertificatesOfRunsStand}
+use Rattle.tally_steps.specs.LawStatements.{CertificatesOfRunsAreRight}
 use Rattle.tally_steps.specs.LawfulState.{IsLawfulState}
 use Rattle.tally_returns.specs.Named.{BringsCode, con_named}
 use Rattle.tally_steps.specs.Outcome.{HasSeats, IsCertificate, IsOutcome, MayStand, Outcome, allotted, lot_missing, nobody, poll_in, rule_in}
@@ -134,7 +134,7 @@ view-stands laws setup s code con ok lawful is = go (con_state s con.code).certi
     go true certified = let stands = certificate-stands laws setup s ok lawful code con is certified in (stands.0, stands.1)
     go false opened = (view_of con s [], (refl, subst (λ (x : Bool). HasSeats con (view_of con s []) x) (sym opened) refl))
 
-pub certificate-of_run : AllotmentLaws → CertificatesOfRunsStand
+pub certificate-of_run : AllotmentLaws → CertificatesOfRunsAreRight
 certificate-of_run laws setup s t asks rs brings ok lawful run = certificate-stands laws setup t ok (run-lawful setup s t asks rs brings ok run lawful)
 
 -- ---- a missing lot

@@ -10,7 +10,7 @@ use Rattle.std.specs.declared.cmp.Ordering.TheVariants.{Less, Equal, Greater}
 use Rattle.std.proofs.lemmas.List.Elements.{All-cons, All-head, All-tail}
 use Rattle.tally_rules.specs.Constituency.{Constituency}
 use Rattle.tally_returns.specs.PastSeats.{PastSeats}
-use Rattle.tally_returns.specs.State.{Records, opening_con}
+use Rattle.tally_returns.specs.State.{PastRecords, opening_con}
 use Rattle.tally_returns.specs.View.{past_record, past_records}
 use Rattle.tally_steps.specs.Outcome.{IsLawfulPast}
 
@@ -37,7 +37,7 @@ put-past con edition key seats (e ∷ es) is all =
         (All-tail (IsLawfulPast con edition) (past_record e) (map past_record es) all)
     go Greater rest = All-cons (IsLawfulPast con edition) (past_record e) (map past_record (put nat_cmp key seats es)) here rest
 
-pub insert-past : (con : Constituency) (edition key : ℕ) (seats : List ℕ) (past : Records) → IsLawfulPast con edition (past_record (key, seats)) → All (IsLawfulPast con edition) (past_records past)
+pub insert-past : (con : Constituency) (edition key : ℕ) (seats : List ℕ) (past : PastRecords) → IsLawfulPast con edition (past_record (key, seats)) → All (IsLawfulPast con edition) (past_records past)
     → All (IsLawfulPast con edition) (past_records (fin.insert past key seats))
 insert-past con edition key seats past is all =
     subst (λ es. All (IsLawfulPast con edition) (map past_record es)) (sym (fin.entries-insert nat_cmp_total past key seats)) (put-past con edition key seats (fin.entries past) is all)
@@ -58,7 +58,7 @@ found-past con edition key seats (e ∷ es) is all = go (eq_by_cmp nat_cmp key e
         (subst (λ (s : List ℕ). IsLawfulPast con edition (past_record (e.0, s))) same (All-head (IsLawfulPast con edition) (past_record e) (map past_record es) all))
     go false apart some later = later some (All-tail (IsLawfulPast con edition) (past_record e) (map past_record es) all)
 
-pub past-lawful : (con : Constituency) (edition key : ℕ) (seats : List ℕ) (past : Records) → fin.get past key ≡ Some seats → All (IsLawfulPast con edition) (past_records past)
+pub past-lawful : (con : Constituency) (edition key : ℕ) (seats : List ℕ) (past : PastRecords) → fin.get past key ≡ Some seats → All (IsLawfulPast con edition) (past_records past)
     → IsLawfulPast con edition (past_record (key, seats))
 past-lawful con edition key seats past is all = found-past con edition key seats (fin.entries past) (sym (fin.get-entries past key) ∙ is) all
 

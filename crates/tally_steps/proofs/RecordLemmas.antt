@@ -15,7 +15,7 @@ use Rattle.tally_returns.specs.Checks.{check, first_refusal, refused_or}
 use Rattle.tally_returns.specs.GoneCandidate.{GoneCandidate}
 use Rattle.tally_returns.specs.Named.{BringsCode, con_named, station_named}
 use Rattle.tally_returns.specs.PastSeats.{PastSeats}
-use Rattle.tally_returns.specs.State.{ConState, Records, State, con_state, last_edition, opening_con}
+use Rattle.tally_returns.specs.State.{ConState, PastRecords, State, con_state, last_edition, opening_con}
 use Rattle.tally_steps.specs.Step.{state_after, after_put, after_return, con_of_station, change_in_state, without_lot, ConChange, Decides, IsView, after_change, certified_with, con_state_after, gone_for_good, lot_set, no_change, open_again, with_con, IsAnswered, IsConStep, con_answer, edition_now, reply_seen, IsStepSeenAt}
 use Rattle.tally_returns.specs.View.{View, past_records}
 use Rattle.tally_returns.specs.declared.ask.Ask.{Ask}
@@ -60,8 +60,8 @@ IsAsBefore c d = (d.past ≡ c.past) × (c.edition ≡ d.edition)
 
 stays-as_before : (c d : ConState) → IsAsBefore c d → Stays c d
 stays-as_before c d same earlier = (
-  λ edition seats is. ap (λ (past : Records). fin.get past edition) same.0 ∙ is,
-  λ edition seats is. omega (arith, same.1, earlier edition seats (sym (ap (λ (past : Records). fin.get past edition) same.0) ∙ is)),
+  λ edition seats is. ap (λ (past : PastRecords). fin.get past edition) same.0 ∙ is,
+  λ edition seats is. omega (arith, same.1, earlier edition seats (sym (ap (λ (past : PastRecords). fin.get past edition) same.0) ∙ is)),
 )
 
 -- a change that puts a certificate on record does so at the edition of the constituency
@@ -294,7 +294,7 @@ elsewhere s code c q edition seats apart is =
 
 same-past : (s : State) (code : List ℕ) (c : ConState) (q : List ℕ) (edition : ℕ) (seats : List ℕ) → c.past ≡ (con_state s code).past → IsOnRecord (with_con s code c) q edition seats → IsOnRecord s q edition seats
 same-past s code c q edition seats same is =
-    sym (ap (λ (past : Records). fin.get past edition) (with_con-each (λ (x y : ConState). y.past ≡ x.past) (λ x. refl) s code c same q)) ∙ is
+    sym (ap (λ (past : PastRecords). fin.get past edition) (with_con-each (λ (x y : ConState). y.past ≡ x.past) (λ x. refl) s code c same q)) ∙ is
 
 con-adds : AllotmentLaws → (setup : List Constituency) (s : State) (ask : Ask) (r : Result Reply Refusal) (t : State) (key : List ℕ) (other : Constituency) → IsSetup setup → IsLawfulState setup s
     → con_named ask ≡ Some key → constituency_with key setup ≡ Some other → IsConStep (Some other) s ask r t
@@ -336,7 +336,7 @@ step-adds : AllotmentLaws → (setup : List Constituency) (s : State) (ask : Ask
     → (code : List ℕ) (con : Constituency) (edition : ℕ) (seats : List ℕ) → constituency_with code setup ≡ Some con → IsOnRecord t con.code edition seats
     → IsOnRecord s con.code edition seats ⊎ IsReopened con edition seats s ask r
 step-adds laws setup s ask r t ok lawful None named step code con edition seats found on =
-    inl (sym (ap (λ (past : Records). fin.get past edition) (after-as_before setup s ask (change_in_state setup s ask) con.code).0) ∙ subst (λ (x : State). IsOnRecord x con.code edition seats) step.1 on)
+    inl (sym (ap (λ (past : PastRecords). fin.get past edition) (after-as_before setup s ask (change_in_state setup s ask) con.code).0) ∙ subst (λ (x : State). IsOnRecord x con.code edition seats) step.1 on)
 step-adds laws setup s ask r t ok lawful (Some key) named step code con edition seats found on = at (constituency_with key setup) refl step
   where
     at : (known : Option Constituency) → constituency_with key setup ≡ known → IsConStep known s ask r t → IsOnRecord s con.code edition seats ⊎ IsReopened con edition seats s ask r

@@ -18,7 +18,7 @@ use Rattle.tally_rules.specs.declared.constituency.Station.{Station}
 use Rattle.tally_returns.specs.Checks.{check, first_refusal, refused_or}
 use Rattle.tally_returns.specs.Counts.{VoteCounts, same_counts}
 use Rattle.tally_returns.specs.Decide.{return_change, limits_of, lodge_change, move_change, put_next}
-use Rattle.tally_returns.specs.Lawful.{IsLawful, may_stand}
+use Rattle.tally_returns.specs.Lawful.{IsLawful, is_note_or_empty}
 use Rattle.tally_steps.specs.LawfulState.{IsLawfulIn, IsLawfulState, IsUnderPlaces}
 use Rattle.tally_returns.specs.Lodge.{StationLimits, reply_after_checks, counts_checks}
 use Rattle.tally_returns.specs.Moves.{close_checks, closed_return, correct_checks, corrected_return, counts_checks_at, last_revision, may_close, may_correct, may_query, move_checks, queried_return, query_checks}
@@ -62,7 +62,7 @@ IsLawfulIn-open con s t now is_open lawful = record {
   seen = record {
     first = subst (λ (c : ConState). 1 ≤ c.edition) (sym now) lawful.seen.first;
     last = subst (λ (c : ConState). c.edition ≤ last_edition) (sym now) lawful.seen.last;
-    note = subst (λ (c : ConState). may_stand c.note ≡ true) (sym now) lawful.seen.note;
+    note = subst (λ (c : ConState). is_note_or_empty c.note ≡ true) (sym now) lawful.seen.note;
     lot = inl (ap (λ (c : ConState). c.lot) now);
     certified = λ is. let no : false ≡ true = sym (ap (λ (c : ConState). c.certified) now ∙ is_open) ∙ is in cc;
     gone = subst (λ (c : ConState). All (IsLawfulGone con) (gone_candidates c.gone)) (sym now) lawful.seen.gone;
@@ -410,7 +410,7 @@ opening-lawful setup is_setup = record {
       seen = record {
         first = subst (λ (c : ConState). 1 ≤ c.edition) (sym (opening-state setup con.code)) (omega arith);
         last = subst (λ (c : ConState). c.edition ≤ last_edition) (sym (opening-state setup con.code)) (omega arith);
-        note = ap (λ (c : ConState). may_stand c.note) (opening-state setup con.code);
+        note = ap (λ (c : ConState). is_note_or_empty c.note) (opening-state setup con.code);
         lot = inl (ap (λ (c : ConState). c.lot) (opening-state setup con.code));
         certified = λ is. let no : false ≡ true = sym (ap (λ (c : ConState). c.certified) (opening-state setup con.code)) ∙ is in cc;
         gone = subst (λ (c : ConState). All (IsLawfulGone con) (gone_candidates c.gone)) (sym (opening-state setup con.code)) (subst (λ es. All (IsLawfulGone con) (map gone_candidate es)) (sym nobody) (All-nil (IsLawfulGone con)));

@@ -42,9 +42,9 @@ ByOutcome con view gives result =
 -- refusal.
 abbrev pub ByOutcomeOrWrongLot : Constituency → View → (Outcome → Result (List ℕ) Refusal) → Refusal
     → Result (List ℕ) Refusal → Type 0
-ByOutcomeOrWrongLot con view gives told result =
+ByOutcomeOrWrongLot con view gives for_wrong_lot result =
     ByOutcome con view gives result
-    ⊎ (HasEligible (poll_in con view) × HasWrongLot con view × (result ≡ Err told))
+    ⊎ (HasEligible (poll_in con view) × HasWrongLot con view × (result ≡ Err for_wrong_lot))
 
 -- Draw and Certify alike: the refusal of the first check that fails, or else what is given for the
 -- outcome.
@@ -58,10 +58,10 @@ CountGives con view edition gives =
 -- wrong.
 abbrev pub IsCountRefusal : Constituency → View → ℕ → (Outcome → Result (List ℕ) Refusal) → Refusal
     → Refusal → Type 0
-IsCountRefusal con view edition gives told refusal =
+IsCountRefusal con view edition gives for_wrong_lot refusal =
     refusal ≢ Memory
     → RefusedOr (first_refusal (count_checks view edition))
-    (ByOutcomeOrWrongLot con view gives told) (Err refusal)
+    (ByOutcomeOrWrongLot con view gives for_wrong_lot) (Err refusal)
 
 -- ---- Certify
 

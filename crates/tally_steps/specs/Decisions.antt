@@ -26,8 +26,8 @@ use Rattle.tally_steps.specs.LawfulState.{IsLawfulState}
 -- ---- commands on returns
 
 -- the command names the station of a code, which is in this constituency
-abbrev pub IsAt : List Constituency → Constituency → List ℕ → Ask → Type 0
-IsAt setup con code ask =
+abbrev pub NamesStation : List Constituency → Constituency → List ℕ → Ask → Type 0
+NamesStation setup con code ask =
     (station_named ask ≡ Some code)
     × ((station : Station) × (station_with code setup ≡ Some (con, station)))
 
@@ -41,7 +41,8 @@ abbrev pub answer_to_change : Ask → Option StationReturn → Change → Option
 answer_to_change (Lodge station slip counts) found (PutReturn standing) = Some (lodged standing.rev)
 answer_to_change (Lodge station slip counts) (Some standing) Same = Some (same standing.rev)
 answer_to_change (Query station rev note) found (PutReturn standing) = Some (moved standing.rev)
-answer_to_change (Correct station rev slip counts) found (PutReturn standing) = Some (moved standing.rev)
+answer_to_change (Correct station rev slip counts) found (PutReturn standing) =
+    Some (moved standing.rev)
 answer_to_change (Close station rev) found (PutReturn standing) = Some (moved standing.rev)
 answer_to_change (ShowReturn station) (Some standing) Same = Some (return_shown standing)
 answer_to_change ask found other = None
@@ -50,21 +51,21 @@ answer_to_change ask found other = None
 abbrev pub LimitsAreThoseOfTheSetup : Type 0
 LimitsAreThoseOfTheSetup =
     (setup : List Constituency) (con : Constituency) (code : List ℕ) (ask : Ask)
-    → IsAt setup con code ask
+    → NamesStation setup con code ask
     → limits_named con ask ≡ stations_of setup code
 
 abbrev pub RefusalsOnReturnsAreSteps : Type 0
 RefusalsOnReturnsAreSteps =
     (setup : List Constituency) (s : State) (con : Constituency) (code : List ℕ) (ask : Ask)
     (refusal : Refusal)
-    → IsAt setup con code ask → change_at_code s con code ask ≡ Err refusal
+    → NamesStation setup con code ask → change_at_code s con code ask ≡ Err refusal
     → IsStepSeen setup s ask (Err refusal) s
 
 abbrev pub ChangesOfReturnsAreSteps : Type 0
 ChangesOfReturnsAreSteps =
     (setup : List Constituency) (s : State) (con : Constituency) (code : List ℕ) (ask : Ask)
     (change : Change)
-    → IsAt setup con code ask → change_at_code s con code ask ≡ Ok change
+    → NamesStation setup con code ask → change_at_code s con code ask ≡ Ok change
     → (answer : Answer) × (answer_to_change ask (get s.returns code) change ≡ Some answer)
     × IsStepSeen setup s ask (Ok answer) (state_after setup s ask (Ok change))
 

@@ -8,7 +8,8 @@ is_among place places = list_any (nat_eq place) places
 
 -- the places of the candidates, from 1, who are not gone
 abbrev pub remaining_candidates : ℕ → List ℕ → List ℕ
-remaining_candidates candidates gone = filter (λ place. not (is_among place gone)) (range_with_len 1 candidates)
+remaining_candidates candidates gone =
+    filter (λ place. not (is_among place gone)) (range_with_len 1 candidates)
 
 -- as many of them as there are seats; where there are fewer, seats stay empty
 abbrev pub holders : ℕ → ℕ → List ℕ → List ℕ

@@ -47,8 +47,8 @@ RunsKeepStatesLawful =
 -- ---- certificates
 
 -- after a run from a lawful state a certified constituency has a view with a certificate
-abbrev pub CertificatesOfRunsStand : Type 0
-CertificatesOfRunsStand =
+abbrev pub CertificatesOfRunsAreRight : Type 0
+CertificatesOfRunsAreRight =
     (setup : List Constituency) (s t : State) (asks : List Ask) (rs : List (Result Reply Refusal))
     → All BringsCode asks → IsSetup setup → IsLawfulState setup s → IsRun setup s asks rs t
     → (code : List ℕ) (con : Constituency) → constituency_with code setup ≡ Some con
@@ -56,8 +56,8 @@ CertificatesOfRunsStand =
     → (view : View) × IsView con t view × IsCertificate con view
 
 -- in a lawful state each view of a certified constituency has one
-abbrev pub CertificatesStand : Type 0
-CertificatesStand =
+abbrev pub CertificatesAreRight : Type 0
+CertificatesAreRight =
     (setup : List Constituency) (s : State) → IsSetup setup → IsLawfulState setup s
     → (code : List ℕ) (con : Constituency) (view : View)
     → constituency_with code setup ≡ Some con → (con_state s con.code).certified ≡ true
@@ -118,8 +118,8 @@ CommandsHaveSteps =
 
 -- where the checks before it pass and some list is eligible, Certify answers that a lot is missing
 -- exactly where one is needed and none is recorded
-abbrev pub MissingLotsAreTold : Type 0
-MissingLotsAreTold =
+abbrev pub MissingLotsAreReported : Type 0
+MissingLotsAreReported =
     (setup : List Constituency) (s t : State) (code : List ℕ) (con : Constituency) (view : View)
     (edition : ℕ)
     (r : Result Reply Refusal) → IsSetup setup → constituency_with code setup ≡ Some con
@@ -130,8 +130,8 @@ MissingLotsAreTold =
     ↔ (IsLotNeeded (rule_in con) (poll_in con view) con.seats × (view.lot ≡ []))
 
 -- and it names the group and the seats in question
-abbrev pub MissingLotsAreToldAsNeeded : Type 0
-MissingLotsAreToldAsNeeded =
+abbrev pub MissingLotsAreReportedAsNeeded : Type 0
+MissingLotsAreReportedAsNeeded =
     (setup : List Constituency) (s t : State) (code : List ℕ) (con : Constituency) (view : View)
     (edition : ℕ)
     (r : Result Reply Refusal) (group : List Bool) (in_question : ℕ)

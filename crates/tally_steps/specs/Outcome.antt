@@ -2,12 +2,13 @@
 use Rattle.std.specs.Prelude.{◌≡◌, ◌≢◌, ◌<◌, ◌≤◌, ◌⊎◌, ◌&&◌, ◌-◌, ℕ, nat_le, Bool, true, false, List, [], All, length, slice_get, sum}
 use Rattle.std.specs.Option.{option_map_or}
 use Rattle.tally_rules.specs.Constituency.{Constituency, ListEntry}
+use Rattle.tally_rules.specs.Limits.{most_stations}
 use Rattle.tally_law.specs.Poll.{Poll, HasEligible}
 use Rattle.tally_law.specs.Allotment.{Rule}
 use Rattle.tally_law.specs.LotNeed.{IsLotNeeded, IsLotTaken, IsLotWrong, IsNeed, IsAllotmentUnderLot}
 use Rattle.tally_law.specs.Rules.{rule_of, poll_of}
 use Rattle.tally_returns.specs.GoneCandidate.{GoneCandidate}
-use Rattle.tally_returns.specs.Lawful.{is_kept_note, may_stand}
+use Rattle.tally_returns.specs.Lawful.{is_kept_note, is_note_or_empty}
 use Rattle.tally_returns.specs.PastSeats.{PastSeats}
 use Rattle.tally_returns.specs.State.{last_edition}
 use Rattle.tally_returns.specs.View.{View, FitsView, HasEachList}
@@ -84,7 +85,7 @@ pub record IsLawfulPast (con : Constituency) (edition : ℕ) (past : PastSeats) 
 pub record IsLawfulCon (con : Constituency) (view : View) : Type 0 where
   pub first : 1 ≤ view.edition
   pub last : view.edition ≤ last_edition
-  pub note : may_stand view.note ≡ true
+  pub note : is_note_or_empty view.note ≡ true
   pub lot : (view.lot ≡ []) ⊎ MayStand con view
   pub certified : view.certified ≡ true → MayStand con view
   pub gone : All (IsLawfulGone con) view.gone
@@ -93,7 +94,7 @@ pub record IsLawfulCon (con : Constituency) (view : View) : Type 0 where
 -- A view that a constituency has in a lawful state.
 pub record IsLawfulView (con : Constituency) (view : View) : Type 0 where
   pub fits : FitsView con view
-  pub few : view.stations ≤ 5000
+  pub few : view.stations ≤ most_stations
   pub lawful : IsLawfulCon con view
   pub seats : HasSeats con view view.certified
 

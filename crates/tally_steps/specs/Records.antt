@@ -70,7 +70,8 @@ RecordsAreOfAllotments =
 -- At some place of the run, from 0, is the request that reopened the certificate, in the state to
 -- which the requests before it led.
 pub record IsReopenedIn (con : Constituency) (edition : ℕ) (seats : List ℕ)
-    (setup : List Constituency) (s : State) (asks : List Ask) (rs : List (Result Reply Refusal)) (t : State) : Type 0 where
+    (setup : List Constituency) (s : State) (asks : List Ask) (rs : List (Result Reply Refusal))
+    (t : State) : Type 0 where
   pub place : ℕ
   pub state : State
   pub ask : Ask

@@ -45,4 +45,7 @@ acting_asks (ask ∷ asks) [] = []
 -- the elements whose places, from 0, are kept
 abbrev pub kept_elements : {X : Type 0} → (ℕ → Bool) → List X → List X
 kept_elements keep [] = []
-kept_elements keep (x ∷ xs) = if keep 0 then x ∷ kept_elements (λ i. keep (i + 1)) xs else kept_elements (λ i. keep (i + 1)) xs
+kept_elements keep (x ∷ xs) =
+    if keep 0
+    then x ∷ kept_elements (λ i. keep (i + 1)) xs
+    else kept_elements (λ i. keep (i + 1)) xs

@@ -164,7 +164,8 @@ con_change (SetCertified seats) = Some (certified_with seats.items)
 con_change (SetReopened note past) = Some (open_again (string_bytes note) past)
 con_change (SetGone candidate next) = Some (gone_for_good candidate next)
 
-abbrev pub change_of_result : {X : Type 0} → (X → ConChange) → Result X Refusal → Result ConChange Refusal
+abbrev pub change_of_result : {X : Type 0} → (X → ConChange) → Result X Refusal
+    → Result ConChange Refusal
 change_of_result change (Ok x) = Ok (change x)
 change_of_result change (Err refusal) = Err refusal
 

@@ -13,7 +13,7 @@ use Rattle.tally_rules.specs.Limits.{IsSetup}
 use Rattle.tally_rules.specs.Setup.{constituency_with}
 use Rattle.tally_returns.specs.State.{ConState, State, con_state, opening_con}
 use Rattle.tally_returns.specs.View.{View, view_of}
-use Rattle.tally_steps.specs.LawStatements.{CertificatesStand}
+use Rattle.tally_steps.specs.LawStatements.{CertificatesAreRight}
 use Rattle.tally_steps.specs.LawfulState.{IsLawfulState}
 use Rattle.tally_steps.specs.Step.{IsView}
 use Rattle.tally_steps.proofs.ViewLemmas.{constituency-code}
@@ -39,7 +39,7 @@ seats-rows s given code c seen is held =
     (subst (λ o. IsPermutation (flat_map (seat_rows given) (map (λ v. (code, v)) (option_to_list o))) (filter (has_key code) (rows_in Seats seen))) is
     (rows_of_key (seat_rows given) (λ e. items_keyed e.0 (numbers_with_places 1 (given e.0))) s.cons code (seen.now.trees (tree_of Seats)) held))
 
-pub has-certificates : (setup : List Constituency) (s : State) (seen : Seen) → CertificatesStand → IsSetup setup → IsLawfulState setup s → IsOffice setup s seen → HasCertificates setup seen
+pub has-certificates : (setup : List Constituency) (s : State) (seen : Seen) → CertificatesAreRight → IsSetup setup → IsLawfulState setup s → IsOffice setup s seen → HasCertificates setup seen
 has-certificates setup s seen stand limits lawful office = record {
   state = s;
   lawful = lawful;

@@ -11,7 +11,7 @@ use Rattle.sqlite.specs.State.{State as Seen}
 use Rattle.tally_rules.specs.Constituency.{Constituency}
 use Rattle.tally_rules.specs.Limits.{IsSetup}
 use Rattle.tally_returns.specs.Return.{Returns}
-use Rattle.tally_returns.specs.State.{ConState, GoneCandidates, Records, State, opening}
+use Rattle.tally_returns.specs.State.{ConState, GoneCandidates, PastRecords, State, opening}
 use Rattle.tally_returns.specs.View.{gone_candidate, gone_candidates, past_record, past_records, view_with}
 use Rattle.tally_steps.specs.LawfulState.{IsLawfulState, IsUnderPlaces}
 use Rattle.tally_steps.specs.LawStatements.{ViewsAreLawful}
@@ -42,7 +42,7 @@ past_again (p ∷ past) = ap (λ l. p ∷ l) (past_again past)
 gone_is : (gone : GoneCandidates) → All IsUnderPlaces (entries gone) → from_sorted {R = text_cmp} (map gone_entry (gone_candidates gone)) ≡ gone
 gone_is gone under = map_again text_cmp gone _ (gone_again (entries gone) (recursion_from_All IsUnderPlaces (entries gone) under))
 
-past_is : (past : Records) → from_sorted {R = nat_cmp} (map past_entry (past_records past)) ≡ past
+past_is : (past : PastRecords) → from_sorted {R = nat_cmp} (map past_entry (past_records past)) ≡ past
 past_is past = map_again nat_cmp past _ (past_again (entries past))
 
 con_again : (con : Constituency) (c : ConState) (returns : Returns) (seats : List ℕ) → All IsUnderPlaces (entries c.gone) → con_seen (view_with con c returns seats) ≡ c

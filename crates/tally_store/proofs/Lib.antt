@@ -1,4 +1,5 @@
 pub mod SortedLemmas
 pub mod ContentLemmas
 pub mod RequestLemmas
+pub mod ShownLemmas
 pub mod CertifiedLemmas

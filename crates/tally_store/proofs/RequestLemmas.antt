@@ -28,7 +28,7 @@ use Rattle.tally_steps.specs.Step.{IsAnswered, IsNotAccepted}
 use Rattle.tally_steps.proofs.LawLemmas.{answered-lawful}
 use Rattle.tally_judge.specs.Numbers.{HasNumbers}
 use Rattle.tally_keeper.specs.Events.{BringsCodes}
-use Rattle.tally_keeper.specs.Keeper.{Event, Happens, Imports, IsFault, IsImportOf, failed_import, request, whole_import}
+use Rattle.tally_keeper.specs.Keeper.{Event, Happens, Imports, IsImportFault, IsImportOf, failed_import, request, whole_import}
 use Rattle.tally_keeper.specs.Source.{Delivery}
 use Rattle.tally_keeper.specs.declared.import.ImportCount.{ImportCount}
 use Rattle.tally_keeper.specs.declared.source.ImportFault.{ImportFault}
@@ -228,7 +228,7 @@ pub record Took (setup : List Constituency) (old new : Seen) (d : Delivery) (r :
   pub ended : new.in_transaction ≡ false
   pub clean : HasCleanDisk new → HasCleanDisk old
   pub done : DoesImport setup d old new r
-  pub fault : IfErr r (IsFault d)
+  pub fault : IfErr r (IsImportFault d)
   pub shut : HasCleanDisk new → new.is_open ≡ false → IsErr r
   pub was_open : HasCleanDisk new → IsTrue new.is_open → IsTrue old.is_open
 
@@ -276,7 +276,7 @@ module _ (setup : List Constituency) (old new : Seen) (d : Delivery) where
 
 -- ---- what is known
 
-nothing-known : (setup : List Constituency) (returns : Returns) (known : Known) → IsNothing known → AreKnown setup returns known
+pub nothing-known : (setup : List Constituency) (returns : Returns) (known : Known) → IsNothing known → AreKnown setup returns known
 nothing-known setup returns known nothing con here = rw (nothing con.code) tt
 
 -- an empty tree

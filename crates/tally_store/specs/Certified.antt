@@ -20,7 +20,8 @@ pub record HasSeatRows (con : Constituency) (s : State) (seen : Seen) : Type 0 w
   pub view : View
   pub is_view : IsView con s view
   pub certificate : IsCertificate con view
-  pub rows : IsPermutation (map (item_row con.code) (numbers_with_places 1 view.seats)) (filter (has_key con.code) (rows_in Seats seen))
+  pub rows : IsPermutation (map (item_row con.code) (numbers_with_places 1 view.seats))
+      (filter (has_key con.code) (rows_in Seats seen))
 
 -- The database is that of a lawful state, and has such rows of each constituency that is certified
 -- in it.
@@ -28,4 +29,5 @@ pub record HasCertificates (setup : List Constituency) (seen : Seen) : Type 0 wh
   pub state : State
   pub lawful : IsLawfulState setup state
   pub office : IsOffice setup state seen
-  pub each : (code : List ℕ) (con : Constituency) → constituency_with code setup ≡ Some con → (con_state state con.code).certified ≡ true → HasSeatRows con state seen
+  pub each : (code : List ℕ) (con : Constituency) → constituency_with code setup ≡ Some con
+      → (con_state state con.code).certified ≡ true → HasSeatRows con state seen

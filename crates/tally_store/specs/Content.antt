@@ -17,7 +17,7 @@ use Rattle.tally_statements.specs.declared.table.KeyedTable.TheVariants.{Returns
 use Rattle.tally_statements.specs.Office.{key_cells, rows_in}
 use Rattle.tally_tables.specs.Reading.{entries_in}
 use Rattle.tally_tables.specs.Views.{views_from}
-use Rattle.tally_judge.specs.OfficeRows.{Rows}
+use Rattle.tally_judge.specs.OfficeRows.{RowsInOrder}
 
 -- the order of rows by the columns of their key
 abbrev pub by_key : KeyedTable → Row → Row → Ordering
@@ -27,12 +27,18 @@ by_key t a b = row_cmp (key_cells t a) (key_cells t b)
 abbrev pub sorted_rows : KeyedTable → Seen → List Row
 sorted_rows t seen = sort_by (by_key t) (rows_in t seen)
 
-abbrev pub office_rows : Seen → Rows
+abbrev pub office_rows : Seen → RowsInOrder
 office_rows seen = record {
   returns = sorted_rows Returns seen;
   counts = sorted_rows Counts seen;
   cons = sorted_rows Cons seen;
-  tables = record { lots = sorted_rows Lots seen; seats = sorted_rows Seats seen; gone = sorted_rows Gone seen; totals = sorted_rows Totals seen; past = sorted_rows Past seen };
+  tables = record {
+    lots = sorted_rows Lots seen;
+    seats = sorted_rows Seats seen;
+    gone = sorted_rows Gone seen;
+    totals = sorted_rows Totals seen;
+    past = sorted_rows Past seen;
+  };
 }
 
 -- a candidate who is gone, and a certificate that was reopened, each under its key
@@ -44,7 +50,14 @@ past_entry past = (past.edition, past.seats)
 
 -- what a constituency has come to, by what is seen of it
 abbrev pub con_seen : View → ConState
-con_seen view = record { edition = view.edition; certified = view.certified; note = view.note; lot = view.lot; gone = from_sorted (map gone_entry view.gone); past = from_sorted (map past_entry view.past) }
+con_seen view = record {
+  edition = view.edition;
+  certified = view.certified;
+  note = view.note;
+  lot = view.lot;
+  gone = from_sorted (map gone_entry view.gone);
+  past = from_sorted (map past_entry view.past);
+}
 
 abbrev pub con_entry : List ℕ × View → List ℕ × ConState
 con_entry e = (e.0, con_seen e.1)
@@ -55,15 +68,22 @@ with_returns setup returns = record (opening_kept setup) { returns = from_entrie
 
 -- the state with these returns, and with what is seen of each constituency
 abbrev pub state_with : List (List ℕ × StationReturn) → List (List ℕ × View) → State
-state_with returns cons = record { returns = from_sorted returns; cons = from_sorted (map con_entry cons) }
+state_with returns cons = record {
+  returns = from_sorted returns;
+  cons = from_sorted (map con_entry cons);
+}
 
 -- the constituencies that the rows read as beside these returns
-abbrev pub cons_read : List Constituency → Rows → List (List ℕ × StationReturn) → Option (List (List ℕ × View))
-cons_read setup rows returns = views_from setup (view_in (with_returns setup returns)) rows.cons rows.tables
+abbrev pub cons_read : List Constituency → RowsInOrder → List (List ℕ × StationReturn)
+    → Option (List (List ℕ × View))
+cons_read setup rows returns =
+    views_from setup (view_in (with_returns setup returns)) rows.cons rows.tables
 
 -- the state that rows read as, where they read as one
-abbrev pub state_of_rows : List Constituency → Rows → Option State
-state_of_rows setup rows = option_and_then (λ returns. option_map (state_with returns) (cons_read setup rows returns)) (entries_in setup rows.returns rows.counts)
+abbrev pub state_of_rows : List Constituency → RowsInOrder → Option State
+state_of_rows setup rows =
+    option_and_then (λ returns. option_map (state_with returns) (cons_read setup rows returns))
+    (entries_in setup rows.returns rows.counts)
 
 -- the state that the tables read as
 unfoldable pub state_read : List Constituency → Seen → Option State
@@ -73,4 +93,5 @@ state_read setup seen = state_of_rows setup (office_rows seen)
 -- disk that did not return what was written may leave tables that read as none. Then nothing is
 -- said of the state, and the opening state is taken for it.
 abbrev pub content_of : List Constituency → Seen → Option State
-content_of setup seen = if seen.is_open then Some (unwrap_or (state_read setup seen) (opening setup)) else None
+content_of setup seen =
+    if seen.is_open then Some (unwrap_or (state_read setup seen) (opening setup)) else None

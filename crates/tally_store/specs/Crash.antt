@@ -16,7 +16,8 @@ use Rattle.tally_opening.specs.Create.{IsAsBefore}
 use Rattle.tally_opening.specs.Office.{HasState, IsOffice, IsWholeOffice}
 
 -- The tables of the state after a request, and no others.
-pub record AreTablesAfter (setup : List Constituency) (text : List ℕ) (s : State) (ask : Ask) (db : Trees) : Type 0 where
+pub record AreTablesAfter (setup : List Constituency) (text : List ℕ) (s : State) (ask : Ask)
+    (db : Trees) : Type 0 where
   pub answer : Result Reply Refusal
   pub state : State
   pub answered : IsAnswered setup s ask answer state
@@ -24,7 +25,8 @@ pub record AreTablesAfter (setup : List Constituency) (text : List ℕ) (s : Sta
 
 -- Beside what it could leave before: the store was open, with a lawful state, and what is left are
 -- the tables after a request.
-pub record LeavesAfter (setup : List Constituency) (ask : Ask) (old : Seen) (db : Trees) : Type 0 where
+pub record LeavesAfter (setup : List Constituency) (ask : Ask) (old : Seen) (db : Trees)
+    : Type 0 where
   pub was_open : IsTrue old.is_open
   pub text : List ℕ
   pub state : State
@@ -34,7 +36,8 @@ pub record LeavesAfter (setup : List Constituency) (ask : Ask) (old : Seen) (db 
 
 -- The tables of the state after an import of all rows that the source gave, which is at its end,
 -- and no others.
-pub record AreTablesImported (setup : List Constituency) (text : List ℕ) (s : State) (d : Delivery) (db : Trees) : Type 0 where
+pub record AreTablesImported (setup : List Constituency) (text : List ℕ) (s : State) (d : Delivery)
+    (db : Trees) : Type 0 where
   pub count : ImportCount
   pub state : State
   pub imported : IsImportOf setup (Some s) d count (Some state)
@@ -42,7 +45,8 @@ pub record AreTablesImported (setup : List Constituency) (text : List ℕ) (s : 
 
 -- Beside what it could leave before: the store was open, with a lawful state, and what is left are
 -- the tables after the import.
-pub record LeavesImported (setup : List Constituency) (d : Delivery) (old : Seen) (db : Trees) : Type 0 where
+pub record LeavesImported (setup : List Constituency) (d : Delivery) (old : Seen) (db : Trees)
+    : Type 0 where
   pub was_open : IsTrue old.is_open
   pub text : List ℕ
   pub state : State

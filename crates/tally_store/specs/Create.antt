@@ -3,10 +3,9 @@
 use Rattle.std.specs.Prelude.{◌≡◌, List, ℕ, IsTrue, Some, false}
 use Rattle.sqlite.specs.State.{State as Seen, HasCleanDisk}
 use Rattle.tally_rules.specs.Constituency.{Constituency}
-use Rattle.tally_returns.specs.State.{State, opening}
-use Rattle.tally_steps.specs.LawfulState.{IsLawfulState}
+use Rattle.tally_returns.specs.State.{opening}
 use Rattle.tally_opening.specs.Create.{IsAsBefore}
-use Rattle.tally_opening.specs.Office.{HasState, IsOffice}
+use Rattle.tally_opening.specs.Office.{HasState}
 use Rattle.tally_opening.specs.Open.{IsOpened}
 use Rattle.tally_store.specs.Content.{content_of}
 
@@ -21,12 +20,6 @@ pub record HasOpeningTables (setup : List Constituency) (text : List ℕ) (seen 
 pub record ShowsFound (setup : List Constituency) (old new : Seen) : Type 0 where
   pub opened : IsOpened setup old new
   pub content : IsTrue new.is_open → content_of setup new ≡ Some opened.state
-
--- While the connection is open, the content is each lawful state of which the database is.
-abbrev pub ShowsState : List Constituency → Seen → Type 0
-ShowsState setup seen =
-    IsTrue seen.is_open → (s : State) → IsLawfulState setup s → IsOffice setup s seen
-    → content_of setup seen ≡ Some s
 
 -- A connection comes back in no transaction. Where it is open, its tables are as they were.
 pub record IsGivenBack (old new : Seen) : Type 0 where

@@ -1,15 +1,18 @@
 -- What a call on a store does to its content, what it keeps, and what a crash may leave after it.
-use Rattle.std.specs.Prelude.{Option, Result, Ok, Err, IfSome, IsTrue}
+use Rattle.std.specs.Prelude.{ℕ, List, Option, Result, Ok, Err, IfSome, IsTrue}
 use Rattle.sqlite_trees.specs.declared.store.Store.{Ghosts}
 use Rattle.sqlite.specs.Held.{Held, state}
-use Rattle.sqlite.specs.State.{State as Seen, HasCleanDisk, KeepsCounts, Survives}
+use Rattle.sqlite.specs.State.{HasCleanDisk, Survives}
 use Rattle.tally_returns.specs.State.{State}
+use Rattle.tally_returns.specs.View.{View}
 use Rattle.tally_returns.specs.declared.ask.Ask.{Ask}
+use Rattle.tally_returns.specs.declared.refusal.Refusal.{Refusal}
 use Rattle.tally_keeper.specs.Keeper.{Event, Happens, Imports}
+use Rattle.tally_keeper.specs.Shown.{AnswersShowCon}
 use Rattle.tally_keeper.specs.Source.{Delivery}
+use Rattle.tally_keeper.specs.Stays.{StaysBy}
 use Rattle.tally_keeper.specs.declared.import.ImportCount.{ImportCount}
 use Rattle.tally_keeper.specs.declared.source.ImportFault.{ImportFault}
-use Rattle.tally_opening.specs.Crash.{HasPast}
 use Rattle.tally_opening.specs.Office.{IsOffice}
 use Rattle.tally_store.specs.Certified.{HasCertificates}
 use Rattle.tally_store.specs.Content.{content_of}
@@ -20,15 +23,31 @@ use Rattle.tally_store.specs.Store.{KeepsText, Stored}
 abbrev pub content_in : {S : Type 0} → Ghosts S → Stored S → Option State
 content_in g store = content_of store.setup (state g store.conn)
 
+-- A store stays the keeper that it was: it has the same setup, and its disk was clean before if it
+-- is clean after. It has a database, which may shut it.
+abbrev pub StaysStore : {S : Type 0} → Ghosts S → Stored S → Stored S → Type 0
+StaysStore g old new =
+    StaysBy (λ s. s.setup) (content_in g) (λ s. HasCleanDisk (state g s.conn)) (λ _. Unit {0}) old
+    new
+
 -- As long as the disk returned what was written, this happened to the content of a store.
 abbrev pub HappensIn : {S : Type 0} → Ghosts S → Event → Stored S → Stored S → Type 0
 HappensIn g event old new =
     HasCleanDisk (state g new.conn) → Happens old.setup (content_in g old) event (content_in g new)
 
+-- and so was a constituency shown, without its certificates on record
+abbrev pub ShowsConIn : {S : Type 0} → Ghosts S → List ℕ → Result View Refusal → Stored S → Stored S
+    → Type 0
+ShowsConIn g con shown old new =
+    HasCleanDisk (state g new.conn)
+    → AnswersShowCon old.setup (content_in g old) con shown (content_in g new)
+
 -- and so was this import done or not
-abbrev pub ImportsIn : {S : Type 0} → Ghosts S → Delivery → Result ImportCount ImportFault → Stored S → Stored S → Type 0
+abbrev pub ImportsIn : {S : Type 0} → Ghosts S → Delivery → Result ImportCount ImportFault
+    → Stored S → Stored S → Type 0
 ImportsIn g d result old new =
-    HasCleanDisk (state g new.conn) → Imports old.setup (content_in g old) d result (content_in g new)
+    HasCleanDisk (state g new.conn)
+    → Imports old.setup (content_in g old) d result (content_in g new)
 
 -- The database of a store that is not shut is that of its content.
 abbrev pub ShowsContent : {S : Type 0} → Ghosts S → Stored S → Type 0
@@ -73,7 +92,3 @@ HasCertificatesIn g store =
 abbrev pub conn_left : {S E : Type 0} → Result (Stored S) (Held S × E) → Held S
 conn_left (Ok store) = store.conn
 conn_left (Err e) = e.0
-
--- Where there was a table `past`, no change was counted.
-abbrev pub CountsNothing : Seen → Seen → Type 0
-CountsNothing old new = HasPast old.now → HasCleanDisk new → KeepsCounts old new

@@ -28,12 +28,6 @@ IsOfLawfulState setup seen =
     HasCleanDisk seen → IsTrue seen.is_open
     → (s : State) × IsLawfulState setup s × IsOffice setup s seen
 
--- and what is known of constituencies is true of that state
-abbrev pub IsOfKnownState : List Constituency → Seen → Known → Type 0
-IsOfKnownState setup seen known =
-    HasCleanDisk seen → IsTrue seen.is_open
-    → (s : State) × IsLawfulState setup s × IsOffice setup s seen × AreKnown setup s.returns known
-
 -- No transaction is open, and the database is that of a lawful state.
 pub record IsStored (setup : List Constituency) (seen : Seen) : Type 0 where
   pub limits : IsSetup setup
@@ -57,4 +51,5 @@ pub record IsServed (setup : List Constituency) (seen : Seen) (known : Known) : 
 -- lawful state over this text, it is that of some state over the same text.
 abbrev pub KeepsText : List Constituency → Seen → Seen → Type 0
 KeepsText setup old new =
-    (text : List ℕ) (s : State) → IsLawfulState setup s → HasState setup text s old → (t : State) × HasState setup text t new
+    (text : List ℕ) (s : State) → IsLawfulState setup s → HasState setup text s old
+    → (t : State) × HasState setup text t new

@@ -1,22 +1,28 @@
 //! The store as a keeper of the office's state.
 
-ghost use Rattle.std.specs.Prelude.{◌≡◌, false, IfOk};
+ghost use Rattle.std.specs.Prelude.{◌≡◌, [], false, Some, IfOk};
 ghost use Rattle.sqlite.specs.State.{HasCleanDisk};
 ghost use Rattle.sqlite.specs.Held.{state};
 ghost use Rattle.tally_keeper.specs.Delivery.{delivery};
 ghost use Rattle.tally_keeper.specs.Keeper.{request};
+ghost use Rattle.tally_keeper.specs.Shown.{con_with};
+ghost use Rattle.tally_returns.specs.View.{FitsView};
+ghost use Rattle.tally_returns.specs.declared.ask.Ask.TheVariants.{ShowCon};
+ghost use Rattle.tally_rules.specs.Constituency.{Constituency};
+ghost use Rattle.tally_rules.specs.Setup.{constituency_with};
 ghost use Rattle.tally_steps.specs.Kinds.{IsReplyTo};
 ghost use Rattle.tally_steps.specs.Runs.{is_act};
 ghost use Rattle.tally_store.specs.Content.{content_of};
 ghost use Rattle.tally_store.specs.Crash.{LeavesAsBefore};
-ghost use Rattle.tally_store.specs.Keeping.{HappensIn, ImportsIn, KeepsTextIn, ShowsContent, SurvivesImport, SurvivesRequest};
+ghost use Rattle.tally_store.specs.Keeping.{HappensIn, ImportsIn, KeepsTextIn, ShowsConIn, ShowsContent};
+ghost use Rattle.tally_store.specs.Keeping.{StaysStore, SurvivesImport, SurvivesRequest};
 
-use crate::requests::{answer_request, import_rows};
+use crate::requests::{answer_request, import_rows, show_request};
 use crate::store::Store;
 use sqlite::Alter;
-use tally_keeper::{Ask, ImportCount, ImportFault, Keeper, Refusal, Reply, RowSource};
+use tally_keeper::{Ask, ConView, ImportCount, ImportFault, Keeper, Refusal, Reply, RowSource};
 use tally_machine::laws;
-use tally_rules::Setup;
+use tally_rules::{Code, Setup};
 
 impl<S: Alter> Keeper for Store<S> {
     ghost constituencies = { λ s. s.setup };
@@ -41,9 +47,7 @@ impl<S: Alter> Keeper for Store<S> {
     /// before, or the tables after this request. A request that is refused, that repeats what is
     /// recorded or that shows something writes nothing.
     fn answer(&mut self, ask: &Ask) -> Result<Reply, Refusal>
-        ensures setup { self.new.setup ≡ self.old.setup }
-        ensures trusted { HasCleanDisk (state S.Store self.new.conn) →
-            HasCleanDisk (state S.Store self.old.conn) }
+        ensures stays { StaysStore S.Store self.old self.new }
         ensures kind { IfOk result (IsReplyTo self.old.setup ask.now) }
         ensures step { HappensIn S.Store (request ask.now result) self.old self.new }
         ensures tables { ShowsContent S.Store self.new }
@@ -63,14 +67,37 @@ impl<S: Alter> Keeper for Store<S> {
         )
     }
 
+    /// Shows a constituency in a transaction of its own, without its certificates on record, which
+    /// are not read. Nothing is written.
+    fn show_con(&mut self, con: Code) -> Result<ConView, Refusal>
+        ensures stays { StaysStore S.Store self.old self.new }
+        ensures fits { IfOk result (λ view. (found : Constituency)
+            → constituency_with con self.old.setup ≡ Some found → FitsView found view) }
+        ensures shows { ShowsConIn S.Store con result self.old self.new }
+        ensures bare { IfOk result (λ view. view.past ≡ []) }
+        ensures tables { ShowsContent S.Store self.new }
+        ensures text { KeepsTextIn S.Store self.old self.new }
+        ensures crash { SurvivesRequest S.Store (ShowCon con) self.old self.new }
+        ensures unwritten { LeavesAsBefore
+            (state S.Store self.old.conn) (state S.Store self.new.conn) (con_with [] result) }
+    {
+        // Called for what its contract says: a constituency has a view in each lawful state.
+        laws::a_constituency_has_a_view();
+        show_request(
+            self.alloc,
+            &mut self.conn,
+            &self.setup,
+            &mut self.known,
+            con,
+        )
+    }
+
     /// Lodges the rows of a source in one transaction. The database is then that of the store's
     /// state, with the same text of the setup, or a failed disk has shut the store. A crash at the
     /// end of the call, and so a disk that stops anywhere within it, leaves what it could leave
     /// before, or the tables after an import of all rows that the source gave until its end.
     fn lodge_from<R: RowSource>(&mut self, rows: &mut R) -> Result<ImportCount, ImportFault>
-        ensures setup { self.new.setup ≡ self.old.setup }
-        ensures trusted { HasCleanDisk (state S.Store self.new.conn) →
-            HasCleanDisk (state S.Store self.old.conn) }
+        ensures stays { StaysStore S.Store self.old self.new }
         ensures imported { ImportsIn S.Store
             (delivery R.RowSource rows.old rows.new) result self.old self.new }
         ensures tables { ShowsContent S.Store self.new }

@@ -23,7 +23,7 @@ pub fn certified_seats_are_the_allotment<S: Alter>(store: &Store<S>)
 {
     // Called for what its contract says: in a lawful state a certified constituency has the one
     // allotment of its closed votes.
-    machine::a_certificate_stands_on_closed_votes();
+    machine::a_certificate_is_of_closed_votes();
     // Called for what its contract says: what a store keeps true of its database.
     store.stored_setup();
 }

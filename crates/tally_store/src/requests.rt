@@ -1,30 +1,37 @@
 //! Requests and imports over a connection, each in a transaction of its own.
 
-ghost use Rattle.std.specs.Prelude.{◌≡◌, ◌⊎◌, false, IfErr, IfOk, IsErr, IsTrue, OnOk};
+ghost use Rattle.std.specs.Prelude.{◌≡◌, [], ◌⊎◌, false, Some, IfErr, IfOk, IsErr, IsTrue, OnOk};
 ghost use Rattle.sqlite.specs.State.{HasCleanDisk};
 ghost use Rattle.sqlite.specs.Held.{state};
 ghost use Rattle.tally_keeper.specs.Delivery.{delivery};
-ghost use Rattle.tally_keeper.specs.Keeper.{IsFault};
+ghost use Rattle.tally_keeper.specs.Keeper.{IsImportFault};
+ghost use Rattle.tally_keeper.specs.Shown.{con_with};
 ghost use Rattle.tally_keeper.specs.Source.{GaveAll};
 ghost use Rattle.tally_steps.specs.Kinds.{IsReplyTo};
 ghost use Rattle.tally_steps.specs.Runs.{is_act};
 ghost use Rattle.tally_steps.specs.Step.{IsNotAccepted};
+ghost use Rattle.tally_rules.specs.Constituency as value;
+ghost use Rattle.tally_rules.specs.Setup.{constituency_with};
 ghost use Rattle.tally_returns.specs.Named.{BringsCode};
+ghost use Rattle.tally_returns.specs.View.{FitsView};
+ghost use Rattle.tally_returns.specs.declared.ask.Ask.TheVariants.{ShowCon};
 ghost use Rattle.tally_store.specs.Crash.{LeavesAsBefore};
-ghost use Rattle.tally_statements.specs.Inside.{Acts, OnlyReads, StaysInside};
+ghost use Rattle.tally_statements.specs.Inside.{OnlyReads, StaysInside};
 ghost use Rattle.tally_requests.specs.Inside.{StaysInState};
 ghost use Rattle.tally_requests.specs.Known.{ForgetsNone, known_of};
-ghost use Rattle.tally_requests.specs.Requests.{CarriesOutKnown, ImportsRows, KeepsKnown, WritesOnlyActs};
-ghost use Rattle.tally_store.specs.internal.Requests.{Does, DoesImport, EndsImport, EndsRequest, IsNothing, KnowsAfter, KnowsImported};
+ghost use Rattle.tally_requests.specs.Requests.{AnswersIn, ImportsRows};
+ghost use Rattle.tally_store.specs.internal.Requests.{Does, DoesImport, DoesShow, EndsImport};
+ghost use Rattle.tally_store.specs.internal.Requests.{EndsRequest, IsNothing, KnowsAfter};
+ghost use Rattle.tally_store.specs.internal.Requests.{KnowsImported, KnowsStill};
 ghost use Rattle.tally_store.specs.Store.{IsKnownOf, IsOfLawfulState};
 
 use sqlite::{Alter, Connection, Error, Transaction};
 use std::alloc::Global;
 use std::collections::BTreeMap;
-use tally_keeper::{Ask, ImportCount, ImportFault, Refusal, Reply, RowSource};
-use tally_requests::{answer_in, import_fault_of, take_rows};
+use tally_keeper::{Ask, ConView, ImportCount, ImportFault, Refusal, Reply, RowSource};
+use tally_requests::{answer_in, import_fault_of, see_open, show_con_in, take_rows};
 use tally_rules::{Code, Setup};
-use tally_statements::{KeyedTable, is_memory, rows_of_key};
+use tally_statements::is_memory;
 use tally_tables::Statuses;
 
 /// Answers a request by the database and carries it out there. Where the request is not accepted,
@@ -69,6 +76,44 @@ pub(crate) fn answer_request<S: Alter>(
     }
 }
 
+/// Shows a constituency by the database, without its certificates on record. Nothing is written.
+/// What is known then is still true of the database, or nothing is known.
+pub(crate) fn show_request<S: Alter>(
+    alloc: Global,
+    conn: &mut Connection<S>,
+    setup: &Setup,
+    known: &mut BTreeMap<Code, Statuses>,
+    con: Code,
+) -> Result<ConView, Refusal>
+    requires autocommit { conn.old.in_transaction ≡ false }
+    requires office { IsOfLawfulState setup.now (state S.Store conn.old) }
+    requires known { IsKnownOf setup.now (state S.Store conn.old) (known_of known.old) }
+    ensures ends { EndsRequest setup.now (ShowCon con)
+        (state S.Store conn.old) (state S.Store conn.new) }
+    ensures fits { IfOk result (λ view. (found : value.Constituency)
+        → constituency_with con setup.now ≡ Some found → FitsView found view) }
+    ensures bare { IfOk result (λ view. view.past ≡ []) }
+    ensures done { DoesShow setup.now con (state S.Store conn.old) (state S.Store conn.new) result }
+    ensures known { KnowsStill setup.now
+        (state S.Store conn.old) (state S.Store conn.new) (known_of known.new) }
+    ensures shut { HasCleanDisk (state S.Store conn.new) →
+        (state S.Store conn.new).is_open ≡ false → IsNotAccepted (con_with [] result) }
+    ensures unwritten { LeavesAsBefore (state S.Store conn.old) (state S.Store conn.new)
+        (con_with [] result) }
+{
+    let mut tx = conn.transaction();
+    match show_con_in(alloc, &mut tx, setup, known, con) {
+        Ok(shown) => match tx.commit() {
+            Ok(()) => shown,
+            Err(error) => Err(forget(known, &error)),
+        },
+        Err(error) => {
+            tx.rollback();
+            Err(forget(known, &error))
+        }
+    }
+}
+
 /// Lodges the rows of a source in the database. With a fault the database is as it was, unless a
 /// disk that failed has shut the connection, and nothing is known.
 pub(crate) fn import_rows<S: Alter, R: RowSource>(
@@ -87,7 +132,7 @@ pub(crate) fn import_rows<S: Alter, R: RowSource>(
         (state S.Store conn.old) (state S.Store conn.new) result }
     ensures known { KnowsImported setup.now (delivery R.RowSource source.old source.new)
         (state S.Store conn.old) (state S.Store conn.new) result (known_of known.new) }
-    ensures fault { IfErr result (IsFault (delivery R.RowSource source.old source.new)) }
+    ensures fault { IfErr result (IsImportFault (delivery R.RowSource source.old source.new)) }
     ensures shut { HasCleanDisk (state S.Store conn.new) →
         (state S.Store conn.new).is_open ≡ false → IsErr result }
     ensures forgets { OnOk result (ForgetsNone (known_of known.old) (known_of known.new)) }
@@ -109,15 +154,6 @@ pub(crate) fn import_rows<S: Alter, R: RowSource>(
     }
 }
 
-/// Reads a row that is never there. A connection that is shut does not answer this. So a request
-/// that looks at no table, or an import without rows, gets to no commit there.
-fn see_open<S: Alter>(tx: &mut Transaction<'_, S>) -> Result<(), Error>
-    ensures reads { OnlyReads S.Store tx.old tx.new result }
-{
-    rows_of_key(tx, KeyedTable::Cons, "")?;
-    Ok(())
-}
-
 /// Answers a request and carries it out, where the connection is open.
 fn answer_open<S: Alter>(
     alloc: Global,
@@ -129,13 +165,7 @@ fn answer_open<S: Alter>(
     ensures stays { StaysInside S.Store tx.old tx.new }
     ensures was_open { HasCleanDisk (state S.Store tx.new.conn.now) →
         OnOk result (IsTrue (state S.Store tx.old.conn.now).is_open) }
-    ensures kind { IfOk result (λ r. IfOk r (IsReplyTo setup.now ask.now)) }
-    ensures step { Acts S.Store (CarriesOutKnown setup.now (known_of known.old) ask.now)
-        tx.old tx.new result }
-    ensures known { Acts S.Store (KeepsKnown setup.now (known_of known.old) (known_of known.new)
-        ask.now) tx.old tx.new result }
-    ensures forgets { OnOk result (ForgetsNone (known_of known.old) (known_of known.new)) }
-    ensures unwritten { Acts S.Store WritesOnlyActs tx.old tx.new result }
+    ensures answers { AnswersIn S.Store setup.now ask.now known.old known.new tx.old tx.new result }
 {
     see_open(tx)?;
     answer_in(alloc, tx, setup, known, ask)
@@ -156,7 +186,7 @@ fn take_open<S: Alter, R: RowSource>(
         (known_of known.old) (known_of known.new)
         (state S.Store tx.old.conn.now) (state S.Store tx.new.conn.now) result }
     ensures gave { OnOk result (GaveAll (delivery R.RowSource source.old source.new)) }
-    ensures fault { IfErr result (IsFault (delivery R.RowSource source.old source.new)) }
+    ensures fault { IfErr result (IsImportFault (delivery R.RowSource source.old source.new)) }
     ensures forgets { OnOk result (ForgetsNone (known_of known.old) (known_of known.new)) }
 {
     match see_open(tx) {

@@ -4,13 +4,16 @@ ghost use Rattle.std.specs.Prelude.{◌≡◌, false, Ok, IfOk, IfErr, OnOk};
 ghost use Rattle.sqlite.specs.State.{HasCleanDisk, Survives};
 ghost use Rattle.sqlite.specs.Held.{state};
 ghost use Rattle.tally_rules.specs.Reading.{setup_of_text};
-ghost use Rattle.tally_opening.specs.Crash.{HasPast, IsUnwritten, LeavesOpening, LeavesTakenOver};
+ghost use Rattle.tally_opening.specs.Crash.{CountsNothing, IsUnwrittenToday};
+ghost use Rattle.tally_opening.specs.Crash.{LeavesOpening, LeavesTakenOver};
 ghost use Rattle.tally_opening.specs.Create.{IsCreateFault, no_schema};
 ghost use Rattle.tally_opening.specs.Open.{IsOpenFault, IsSetupOf};
-ghost use Rattle.tally_store.specs.Create.{HasOpeningTables, IsGivenBack, ShowsFound, ShowsState};
+ghost use Rattle.tally_store.specs.Create.{HasOpeningTables, IsGivenBack, ShowsFound};
+ghost use Rattle.tally_store.specs.internal.Making.{ShowsState};
 ghost use Rattle.tally_requests.specs.Known.{known_of};
-ghost use Rattle.tally_store.specs.Keeping.{CountsNothing, conn_left};
-ghost use Rattle.tally_store.specs.Store.{IsOfKnownState, IsStored};
+ghost use Rattle.tally_store.specs.Keeping.{conn_left};
+ghost use Rattle.tally_store.specs.Store.{IsStored};
+ghost use Rattle.tally_store.specs.internal.Making.{IsOfKnownState};
 
 use sqlite::{Alter, Connection};
 use std::alloc::Global;
@@ -116,8 +119,8 @@ impl<S: Alter> Store<S> {
         ensures same { IfErr result (λ e. IsGivenBack (state S.Store conn) (state S.Store e.0)) }
         ensures crash { Survives (state S.Store conn) (state S.Store (conn_left result))
             (LeavesTakenOver (state S.Store conn).now) }
-        ensures unwritten { HasPast (state S.Store conn).now →
-            IsUnwritten (state S.Store conn) (state S.Store (conn_left result)) }
+        ensures unwritten { IsUnwrittenToday
+            (state S.Store conn) (state S.Store (conn_left result)) }
         ensures counts { IfOk result (λ store.
             CountsNothing (state S.Store conn) (state S.Store store.conn)) }
     {

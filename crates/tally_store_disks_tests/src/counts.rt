@@ -2,13 +2,12 @@
 //! run the files show what they showed before the step that was stopped, or what they show after
 //! it.
 
-use crate::deeds::Deed;
-use crate::disks::{
-    Contents, MIXTURES, Stop, are_same, disks, have_stopped, mixed, stop_after, synced, written,
-};
-use crate::runs::{Done, carried_out, told};
 use std::alloc::Global;
 use std::test::Fail;
+use tally_disk_scripts::{
+    Contents, Deed, Done, MIXTURES, Stop, are_same, carried_out, files_with, have_stopped, mixed,
+    stop_after, synced, told, written,
+};
 
 /// A deed on files of these contents, and what they show before it and after each of its steps.
 #[derive(Drop)]
@@ -58,7 +57,7 @@ fn check_left(
 
 /// Whether a file stops in a run where the files stop there.
 fn stops(alloc: Global, case: &Case<'_>, stop: Stop) -> Result<bool, Fail> {
-    let files = disks(alloc, &case.contents, stop)?;
+    let files = files_with(alloc, &case.contents, stop)?;
     let Done { files, steps, .. } = carried_out(alloc, files, case.deed)?;
     let has_stopped = have_stopped(&files);
     if !has_stopped && steps.saturating_add(1) != case.shows.len() {

@@ -5,19 +5,7 @@
 #[cfg(test)]
 mod counts;
 #[cfg(test)]
-mod deeds;
-#[cfg(test)]
-mod disks;
-#[cfg(test)]
-mod faltering;
-#[cfg(test)]
-mod lines;
-#[cfg(test)]
-mod looks;
-#[cfg(test)]
 mod refusals;
-#[cfg(test)]
-mod runs;
 #[cfg(test)]
 mod scripts;
 #[cfg(test)]

@@ -3,15 +3,14 @@
 //! nothing more.
 
 use crate::counts::{Case, MOST, check};
-use crate::deeds::Deed;
-use crate::disks::{Contents, Stop, disks, have_stopped, no_contents, stop_after, written};
-use crate::lines::push_each;
-use crate::looks::{TABLES, wanted};
-use crate::runs::{Done, carried_out, contents_after, told};
 use crate::scripts::MORE_STATIONS;
 use std::alloc::Global;
 use std::test::*;
 use tally_core::Book;
+use tally_disk_scripts::{
+    Contents, Deed, Done, Stop, TABLES, carried_out, contents_after, files_with, have_stopped,
+    no_contents, push_each, stop_after, told, wanted, written,
+};
 use tally_scripts::{TWIN_TOWN, setup};
 
 /// By how many calls each run lets more through than the one before. With 1, each call of a file is
@@ -105,7 +104,7 @@ fn check_shown(alloc: Global, left: &Contents, shown: &str) -> Result<(), Fail> 
 
 /// What becomes of an office that is looked at after the line that its store refuses.
 fn looked_at(alloc: Global, case: &Case<'_>, stop: Stop) -> Result<Came, Fail> {
-    let files = disks(alloc, &case.contents, stop)?;
+    let files = files_with(alloc, &case.contents, stop)?;
     let Done { files, steps, told } = carried_out(alloc, files, case.deed)?;
     let left = written(alloc, &files)?;
     check(alloc, case, &left, steps)?;
@@ -127,7 +126,7 @@ fn check_going_on(
     each_shown: &str,
     stop: Stop,
 ) -> Result<(), Fail> {
-    let files = disks(alloc, &case.contents, stop)?;
+    let files = files_with(alloc, &case.contents, stop)?;
     let Done { files, steps, told } = carried_out(alloc, files, Deed::Repeat(LINES))?;
     check(alloc, case, &written(alloc, &files)?, steps)?;
     if steps.saturating_add(1) == case.shows.len() && told.as_str() == each_shown {

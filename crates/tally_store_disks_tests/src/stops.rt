@@ -1,13 +1,13 @@
 //! What a stop of a file leaves of an office that is made, opened, asked or imported into.
 
 use crate::counts::{Case, is_whole};
-use crate::deeds::{Deed, Rows};
-use crate::disks::no_contents;
-use crate::looks::{FORMER_TABLES, NO_TABLES, TABLES, wanted};
-use crate::runs::{contents_after, former_contents};
-use crate::scripts::{LODGED, MORE_STATIONS, RETURNS, count};
+use crate::scripts::{LODGED, MORE_STATIONS, count};
 use std::alloc::Global;
 use std::test::*;
+use tally_disk_scripts::{
+    Deed, FORMER_TABLES, NO_TABLES, RETURNS, Rows, TABLES, contents_after, former_contents,
+    no_contents, wanted,
+};
 use tally_import::Sep;
 use tally_scripts::{RECOUNT, TWIN_TOWN};
 

@@ -155,7 +155,7 @@ fn imports_one_after_the_other(rt: HostRuntime) -> Result<(), Fail> {
             piece: 7,
             fails: true,
             want: Err(ImportFault::Read),
-            lines: "close s1 1 = refused 8\nshow c1 = open 1 0/3 [0, 0] [] []",
+            lines: "close s1 1 = refused 8\nshow c1 = open 1 0 0 0 0/3 [0, 0] 0 0 [] []",
         },
         Case {
             text: TOO_MANY,
@@ -171,7 +171,8 @@ fn imports_one_after_the_other(rt: HostRuntime) -> Result<(), Fail> {
             piece: 1,
             fails: false,
             want: count([2, 1, 0, 0, 0], None),
-            lines: "return s3 = 1 p3 Received [50, 60] 0 2 \nclose s1 1 = moved 2",
+            lines: "return s3 = 1 p3 Received [50, 60] 0 2 \nclose s1 1 = moved 2\n\
+show c1 = open 1 2 0 0 1/3 [10, 20] 0 0 [] []",
         },
         Case {
             text: RETURNS,
@@ -195,7 +196,7 @@ fn imports_one_after_the_other(rt: HostRuntime) -> Result<(), Fail> {
             piece: 4_096,
             fails: false,
             want: count([0, 1, 1, 0, 1], Some((2, 7))),
-            lines: "show c1 = open 1 3/3 [90, 120] [] []",
+            lines: "show c1 = open 1 0 0 0 3/3 [90, 120] 1 2 [] []",
         },
         Case {
             text: "station,slip,blank,spoiled,B,A\ns1,p1,0,0,20,10\n",
@@ -203,7 +204,7 @@ fn imports_one_after_the_other(rt: HostRuntime) -> Result<(), Fail> {
             piece: 4_096,
             fails: false,
             want: Err(ImportFault::BadHeader),
-            lines: "show c1 = open 1 3/3 [90, 120] [] []",
+            lines: "show c1 = open 1 0 0 0 3/3 [90, 120] 1 2 [] []",
         },
     ];
     let wrong = first_wrong_in_new(alloc, &cases)?;
@@ -215,16 +216,18 @@ fn imports_one_after_the_other(rt: HostRuntime) -> Result<(), Fail> {
 // none. 8 is NoReturn.
 const ALL_LODGED: &str = "return s1 = 1 p1 Received [10, 20] 0 0 \n\
 return s2 = 1 p2 Received [30, 40] 1 0 \n\
-return s3 = 1 p3 Received [50, 60] 0 2 ";
+return s3 = 1 p3 Received [50, 60] 0 2 \n\
+show c1 = open 1 3 0 0 0/3 [0, 0] 0 0 [] []";
 
 const TWO_LODGED: &str = "return s1 = 1 p1 Received [10, 20] 0 0 \n\
 return s2 = refused 8
-return s3 = 1 p3 Received [50, 60] 0 2 ";
+return s3 = 1 p3 Received [50, 60] 0 2 \n\
+show c1 = open 1 2 0 0 0/3 [0, 0] 0 0 [] []";
 
 const NONE_LODGED: &str = "return s1 = refused 8
 return s2 = refused 8
 return s3 = refused 8
-show c1 = open 1 0/3 [0, 0] [] []";
+show c1 = open 1 0 0 0 0/3 [0, 0] 0 0 [] []";
 
 /// The three returns, by reads of so many bytes.
 fn returns_by(piece: usize) -> Case<'static> {

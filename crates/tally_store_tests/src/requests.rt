@@ -5,10 +5,9 @@ use crate::offices::{database, made, opened};
 use sqlite::{Alter, Connection};
 use std::alloc::Global;
 use std::test::*;
-use tally_core::{Ask, Keeper, Refusal, Reply, run};
 use tally_scripts::{
-    ALTERNATING, HARE, LIFE, RECOUNT, RIVERS, TWIN_TOWN, VACANCIES, command, first_wrong,
-    first_wrong_of_run, told, twin_town, with,
+    ALTERNATING, HARE, LIFE, RECOUNT, RIVERS, TWICE, TWIN_TOWN, VACANCIES, all_told, first_wrong,
+    first_wrong_of_run, twin_town, with,
 };
 use tally_store::Store;
 
@@ -17,41 +16,17 @@ const SHOWN: &str = "return s1
 return r1
 return r2
 show c1
-show h";
-
-fn asks(alloc: Global, lines: &str) -> Result<Vec<Ask>, Fail> {
-    let mut asks = Vec::new(alloc);
-    for line in lines.lines() {
-        asks.push(command(alloc, line)?)?;
-    }
-    asks.push(Ask::ShowProgress)?;
-    Ok(asks)
-}
-
-fn all_told(alloc: Global, answers: &[Result<Reply, Refusal>]) -> Result<String, Fail> {
-    let mut text = String::new(alloc);
-    for answer in answers {
-        text.push_str(told(alloc, answer)?.as_str())?;
-        text.push_str("\n")?;
-    }
-    Ok(text)
-}
-
-/// What an office answers to a run of these commands and to one that shows the progress, a line
-/// each.
-fn answers<K: Keeper>(alloc: Global, office: &mut K, lines: &str) -> Result<String, Fail> {
-    let asks = asks(alloc, lines)?;
-    all_told(alloc, &run(alloc, office, &asks)?)
-}
+show h
+progress";
 
 /// An office, closed and opened again, that shows what it showed before.
 fn reopened_the_same<S: Alter + Drop>(
     alloc: Global,
     mut office: Store<S>,
 ) -> Result<Store<S>, Fail> {
-    let before = answers(alloc, &mut office, SHOWN)?;
+    let before = all_told(alloc, &mut office, SHOWN)?;
     let mut office = opened(alloc, office.close())?;
-    let after = answers(alloc, &mut office, SHOWN)?;
+    let after = all_told(alloc, &mut office, SHOWN)?;
     if after.as_str() == before.as_str() {
         return Ok(office);
     }
@@ -101,6 +76,7 @@ fn scripts_at_once_and_line_by_line(rt: HostRuntime) -> Result<(), Fail> {
     let alternating = with(alloc, TWIN_TOWN, "base = \"valid\"", rule)?;
     for (setup, script) in [
         (TWIN_TOWN, LIFE),
+        (TWIN_TOWN, TWICE),
         (TWIN_TOWN, RECOUNT),
         (RIVERS, HARE),
         (one_seat.as_str(), VACANCIES),
@@ -116,35 +92,6 @@ fn scripts_at_once_and_line_by_line(rt: HostRuntime) -> Result<(), Fail> {
     Ok(())
 }
 
-/// What a new office answers to a run of these commands and to one that shows the progress, a line
-/// each.
-fn answers_at_first<S: Alter + Drop>(
-    alloc: Global,
-    mut office: Store<S>,
-    lines: &str,
-) -> Result<String, Fail> {
-    answers(alloc, &mut office, lines)
-}
-
-const RUN: &str = "lodge s1 p1 100,100
-lodge s1 p1 100,100
-close s1 1
-close s1 1";
-
-const RUN_ANSWERED: &str = "lodged 1
-same 1
-moved 2
-stale 2
-progress c1 1: 0 0 0 1 1 false
-";
-
-#[test]
-fn a_run_and_the_progress_after_it(rt: HostRuntime) -> Result<(), Fail> {
-    let told = answers_at_first(rt.alloc(), made(rt.alloc(), TWIN_TOWN)?, RUN)?;
-    assert!(rt; told.as_str() == RUN_ANSWERED, "{told}");
-    Ok(())
-}
-
 const CERTIFIED: &str = "lodge s1 p1 100,100 = lodged 1
 close s1 1 = moved 2
 draw c1 1 B,A = edition 2
@@ -156,7 +103,7 @@ const FORMER: &str = "DROP TABLE past; UPDATE setup SET version = 1";
 // Once they were taken over a reopening puts the certificate on record.
 const REOPENED: &str = "certify c1 3 = refused 9
 reopen c1 3 recount = edition 4
-show c1 = open 4 1/1 [100, 100] [2, 1] [] recount past 3 [1, 2]";
+show c1 = open 4 0 0 0 1/1 [100, 100] 0 0 [2, 1] [] recount past 3 [1, 2]";
 
 // A certificate that was reopened, and votes that were counted again.
 const COUNTED_AGAIN: &str = "lodge s1 p1 100,100 = lodged 1
@@ -169,11 +116,11 @@ query s1 2 sum = moved 3
 correct s1 3 p2 120,120 = moved 4
 close s1 4 = moved 5";
 
-const CERTIFIED_AGAIN: &str = "show c1 = open 4 1/1 [120, 120] [] [] recount 2.1 resigned
+const CERTIFIED_AGAIN: &str = "show c1 = open 4 0 0 0 1/1 [120, 120] 0 0 [] [] recount 2.1 resigned
 certify c1 4 = lot of 1 2 for 1
 draw c1 4 A,B = edition 5
 certify c1 5 = edition 6
-show c1 = certified 6 1/1 [120, 120] [1, 2] [2, 1] recount 2.1 resigned
+show c1 = certified 6 0 0 0 1/1 [120, 120] 0 0 [1, 2] [2, 1] recount 2.1 resigned
 lodge s1 p1 100,100 = differs 5
 lodge s1 p2 120,120 = same 5";
 

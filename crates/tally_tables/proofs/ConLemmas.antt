@@ -16,8 +16,8 @@ use Rattle.tally_returns.specs.View.{View}
 use Rattle.tally_rows.specs.Cells.{text_of, number_of, wide_number_of}
 use Rattle.tally_schema.specs.Cells.{flag}
 use Rattle.tally_tables.specs.Cells.{item_row, numbers_with_places, items_of, gone_row, past_row, record_rows}
-use Rattle.tally_tables.specs.Reading.{with_text, utf8_of, numbers_from, sums_of, flag_of, note_in, standing_of, gone_of, all_gone_of, past_for, past_from, record_of, records_of, past_of, read_all}
-use Rattle.tally_tables.specs.Views.{Tables, statuses_of, view_in}
+use Rattle.tally_tables.specs.Reading.{with_text, utf8_of, numbers_from, sums_of, flag_of, note_in, standing_of, gone_in_row, all_gone_of, past_for, past_from, record_of, records_of, past_of, read_all}
+use Rattle.tally_tables.specs.Views.{Tables, statuses_of, view_from_tables}
 use Rattle.tally_tables.specs.declared.views.Statuses.{Statuses}
 use Rattle.tally_tables.proofs.ItemLemmas.{and_then_some, map_some, if_some, text_is, number_is, wide_number_is, number_reads, with_text_is, with_text_there, IsRead, number_rows, items_are, items_again}
 use Rattle.tally_tables.proofs.EntryLemmas.{utf8_is, counts_are, counts_again, AreRead, length_numbered}
@@ -86,7 +86,7 @@ gone_entry g = (g.list ∷ g.place ∷ [], g.note)
 abbrev pub all_gone_rows : List ℕ → List GoneCandidate → List Row
 all_gone_rows con gone = map (λ g. gone_row con (gone_entry g)) gone
 
-gone_is : (con : List ℕ) (row : Row) (g : GoneCandidate) → gone_of con row ≡ Some g → row ≡ gone_row con (gone_entry g)
+gone_is : (con : List ℕ) (row : Row) (g : GoneCandidate) → gone_in_row con row ≡ Some g → row ≡ gone_row con (gone_entry g)
 gone_is con row g h =
     let whole = if_some (length row == 4) _ g h in
     let key = with_text_is row 0 con _ g whole.1 in
@@ -102,7 +102,7 @@ pub record IsReadableGone (g : GoneCandidate) : Type 0 where
   pub place : g.place < 2 ^ 32
   pub note : is_utf8 g.note ≡ true
 
-gone_again : (con : List ℕ) (g : GoneCandidate) → IsReadableGone g → gone_of con (gone_row con (gone_entry g)) ≡ Some g
+gone_again : (con : List ℕ) (g : GoneCandidate) → IsReadableGone g → gone_in_row con (gone_row con (gone_entry g)) ≡ Some g
 gone_again con g fine =
     let row = gone_row con (gone_entry g) in
     let made : ℕ → ℕ → List ℕ → GoneCandidate = λ list place note. record { list = list; place = place; note = note } in
@@ -138,11 +138,11 @@ gone_rows_are con first [] = refl
 gone_rows_are con first (g ∷ gone) = ap (λ l. gone_row con (gone_entry g) ∷ l) (gone_rows_are con (first + 1) gone)
 
 pub all_gone_are : (con : List ℕ) (rows : List Row) (gone : List GoneCandidate) → all_gone_of con rows ≡ Some gone → rows ≡ all_gone_rows con gone
-all_gone_are con rows gone h = all_are (λ i row. gone_of con row) (λ i g. gone_row con (gone_entry g)) (λ i row g is. gone_is con row g is) 1 rows gone h ∙ gone_rows_are con 1 gone
+all_gone_are con rows gone h = all_are (λ i row. gone_in_row con row) (λ i g. gone_row con (gone_entry g)) (λ i row g is. gone_is con row g is) 1 rows gone h ∙ gone_rows_are con 1 gone
 
 pub all_gone_again : (con : List ℕ) (gone : List GoneCandidate) → AllByRecursion IsReadableGone gone → all_gone_of con (all_gone_rows con gone) ≡ Some gone
 all_gone_again con gone fine =
-    ap (all_gone_of con) (sym (gone_rows_are con 1 gone)) ∙ all_again (λ i row. gone_of con row) (λ i g. gone_row con (gone_entry g)) IsReadableGone (λ i g is. gone_again con g is) 1 gone fine
+    ap (all_gone_of con) (sym (gone_rows_are con 1 gone)) ∙ all_again (λ i row. gone_in_row con row) (λ i g. gone_row con (gone_entry g)) IsReadableGone (λ i g is. gone_again con g is) 1 gone fine
 
 -- ---- certificates that were reopened
 
@@ -266,7 +266,7 @@ pub record AreRowsOfView (con : List ℕ) (statuses : Statuses) (row : Row) (tab
   pub tables_are : tables ≡ tables_of_view con v
   pub statuses_are : statuses ≡ statuses_of v
 
-pub view_is : (con : Constituency) (statuses : Statuses) (row : Row) (tables : Tables) (v : View) → view_in con statuses row tables ≡ Some v → AreRowsOfView con.code statuses row tables v
+pub view_is : (con : Constituency) (statuses : Statuses) (row : Row) (tables : Tables) (v : View) → view_from_tables con statuses row tables ≡ Some v → AreRowsOfView con.code statuses row tables v
 view_is con statuses row tables v h =
     let standing = and_then_some _ (standing_of con.code row) v h in
     let lot = and_then_some _ (numbers_from con.code 1 tables.lots) v standing.2 in
@@ -302,7 +302,7 @@ wide_again c = record { votes = all c.votes; blank = refl; spoiled = refl }
     all [] = tt
     all (n ∷ ns) = (refl, all ns)
 
-pub view_again : (con : Constituency) (v : View) → 1 ≤ length con.lists → IsReadableView (length con.lists) v → view_in con (statuses_of v) (row_of_view con.code v) (tables_of_view con.code v) ≡ Some v
+pub view_again : (con : Constituency) (v : View) → 1 ≤ length con.lists → IsReadableView (length con.lists) v → view_from_tables con (statuses_of v) (row_of_view con.code v) (tables_of_view con.code v) ≡ Some v
 view_again con v some fine =
     let t = tables_of_view con.code v in
     let made : ℕ × Bool × List ℕ → List ℕ → List ℕ → List GoneCandidate → VoteCounts → List PastSeats → View = λ s lot seats gone sums past. record {

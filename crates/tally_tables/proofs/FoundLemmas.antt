@@ -21,7 +21,7 @@ use Rattle.tally_rows.specs.Rows.{text_cmp}
 use Rattle.tally_rows.proofs.RowsLemmas.{text_same}
 use Rattle.tally_tables.specs.Cells.{item_row, numbers_with_places, items_of, gone_row, past_row, record_rows}
 use Rattle.tally_tables.specs.Reading.{has_text}
-use Rattle.tally_tables.specs.Views.{Tables, in_each, is_empty, key_len, rows_of_key, rows_behind, statuses_of, view_in, con_at, view_with_code, next_view, views_from}
+use Rattle.tally_tables.specs.Views.{Tables, in_each, is_empty, key_len, rows_of_key, rows_behind, statuses_of, view_from_tables, con_at, view_with_code, next_view, views_from}
 use Rattle.tally_tables.proofs.ItemLemmas.{and_then_some, map_some, same_text}
 use Rattle.tally_tables.proofs.ConLemmas.{gone_entry, past_entry, sums_of_view, row_of_view, tables_of_view, view_is, view_again, IsReadableView}
 
@@ -80,7 +80,7 @@ views_are setup counted (row ∷ rows) tables vs h =
     let code = con.0.code in
     let e = and_then_some _ (view_with_code (counted con.0) row (in_each (rows_of_key code) tables) con.0) vs con.2 in
     let rest = map_some _ (views_from setup counted rows (in_each (rows_behind code) tables)) vs e.2 in
-    let v = map_some _ (view_in con.0 (statuses_of (counted con.0)) row (in_each (rows_of_key code) tables)) e.0 e.1 in
+    let v = map_some _ (view_from_tables con.0 (statuses_of (counted con.0)) row (in_each (rows_of_key code) tables)) e.0 e.1 in
     let told = view_is con.0 (statuses_of (counted con.0)) row (in_each (rows_of_key code) tables) v.0 v.1 in
     let later = views_are setup counted rows (in_each (rows_behind code) tables) rest.0 rest.1 in
     subst (AreRowsOfViews (row ∷ rows) tables) rest.2 (record {
@@ -203,8 +203,8 @@ next_again others setup counted e vs h above is =
     ap (λ k. in_each (rows_behind k) tables) h.same ∙ backs_are e.0 (tables_of_view e.0 e.1) (all_tables vs) mine apart in
     let one : view_with_code (counted h.con) row (in_each (rows_of_key h.con.code) tables) h.con ≡ Some e =
     ap (option_map (λ view. (h.con.code, view)))
-    (ap (λ t. view_in h.con (statuses_of (counted h.con)) row t) front ∙ ap (λ s. view_in h.con s row (tables_of_view h.con.code e.1)) h.statuses
-    ∙ ap (λ k. view_in h.con (statuses_of e.1) (row_of_view k e.1) (tables_of_view h.con.code e.1)) (sym h.same) ∙ view_again h.con e.1 h.some_list h.fine)
+    (ap (λ t. view_from_tables h.con (statuses_of (counted h.con)) row t) front ∙ ap (λ s. view_from_tables h.con s row (tables_of_view h.con.code e.1)) h.statuses
+    ∙ ap (λ k. view_from_tables h.con (statuses_of e.1) (row_of_view k e.1) (tables_of_view h.con.code e.1)) (sym h.same) ∙ view_again h.con e.1 h.some_list h.fine)
     ∙ ap (λ k. Some (k, e.1)) h.same in
     ap (option_and_then (λ x. option_map (λ l. x ∷ l) (others (in_each (rows_behind h.con.code) tables)))) one
     ∙ ap (option_map (λ l. e ∷ l)) (ap others back ∙ is)

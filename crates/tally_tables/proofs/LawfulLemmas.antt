@@ -12,7 +12,7 @@ use Rattle.tally_rules.specs.Text.{is_note}
 use Rattle.tally_rules.specs.declared.constituency.Station.{Station}
 use Rattle.tally_returns.specs.Counts.{VoteCounts, are_counts, is_number}
 use Rattle.tally_returns.specs.Decide.{limits_of}
-use Rattle.tally_returns.specs.Lawful.{IsLawful, may_stand}
+use Rattle.tally_returns.specs.Lawful.{IsLawful, is_note_or_empty}
 use Rattle.tally_returns.specs.Lodge.{StationLimits}
 use Rattle.tally_returns.specs.Return.{StationReturn}
 use Rattle.tally_returns.specs.State.{stations_of}
@@ -37,7 +37,7 @@ nothing_is_text : is_utf8 [] ≡ true
 unfolding is_utf8 chars
 nothing_is_text = refl
 
-pub note_is_text : (note : List ℕ) → may_stand note ≡ true → is_utf8 note ≡ true
+pub note_is_text : (note : List ℕ) → is_note_or_empty note ≡ true → is_utf8 note ≡ true
 note_is_text [] h = nothing_is_text
 note_is_text (byte ∷ note) h = (and_parts (is_note (byte ∷ note)) (is_utf8 (byte ∷ note)) h).1
 

@@ -41,16 +41,20 @@ spoiled_item = 61
 -- the blank votes are item 0, those of a list are the item of its place, and the spoiled ones are
 -- the last item
 abbrev pub items_of : VoteCounts → List (ℕ × ℕ)
-items_of counts = (0, counts.blank) ∷ numbers_with_places 1 counts.votes ++ (spoiled_item, counts.spoiled) ∷ []
+items_of counts =
+    (0, counts.blank) ∷ numbers_with_places 1 counts.votes ++ (spoiled_item, counts.spoiled) ∷ []
 
 -- ---- returns
 
 -- the code of the constituency of a station
 abbrev pub constituency_of : List Constituency → List ℕ → List ℕ
-constituency_of setup station = option_map_or (λ (place : Constituency × Station). place.0.code) (station_with station setup) []
+constituency_of setup station =
+    option_map_or (λ (place : Constituency × Station). place.0.code) (station_with station setup) []
 
 abbrev pub return_row : List ℕ → List ℕ × StationReturn → Row
-return_row con e = Text e.0 ∷ Text con ∷ Int (pos e.1.rev) ∷ Text e.1.slip ∷ Int (pos (status_number e.1.status)) ∷ Text e.1.note ∷ []
+return_row con e =
+    Text e.0 ∷ Text con ∷ Int (pos e.1.rev) ∷ Text e.1.slip ∷ Int (pos (status_number e.1.status))
+    ∷ Text e.1.note ∷ []
 
 abbrev pub return_rows : List Constituency → List ℕ × StationReturn → List Row
 return_rows setup e = return_row (constituency_of setup e.0) e ∷ []
@@ -61,7 +65,8 @@ count_rows e = map (item_row e.0) (items_of e.1.counts)
 -- ---- constituencies
 
 abbrev pub con_rows : List ℕ × ConState → List Row
-con_rows e = (Text e.0 ∷ Int (pos e.1.edition) ∷ Int (pos (flag e.1.certified)) ∷ Text e.1.note ∷ []) ∷ []
+con_rows e =
+    (Text e.0 ∷ Int (pos e.1.edition) ∷ Int (pos (flag e.1.certified)) ∷ Text e.1.note ∷ []) ∷ []
 
 -- for each place of the lot, from 1, the place of its list in the setup
 abbrev pub lot_rows : List ℕ × ConState → List Row
@@ -75,15 +80,26 @@ seat_rows seats e = map (item_row e.0) (numbers_with_places 1 (seats e.0))
 -- for each candidate who is gone, the place of the list, the candidate's own place there, and the
 -- note
 abbrev pub gone_row : List ℕ → List ℕ × List ℕ → Row
-gone_row con entry = Text con ∷ Int (pos (slice_index entry.0 0)) ∷ Int (pos (slice_index entry.0 1)) ∷ Text entry.1 ∷ []
+gone_row con entry =
+    Text con ∷ Int (pos (slice_index entry.0 0)) ∷ Int (pos (slice_index entry.0 1)) ∷ Text entry.1
+    ∷ []
 
 abbrev pub gone_rows : List ℕ × ConState → List Row
 gone_rows e = map (gone_row e.0) (entries e.1.gone)
 
 -- the sums of the closed returns of a constituency
+abbrev pub closed_totals : Returns → Constituency → VoteCounts
+closed_totals returns con = record {
+  votes = votes_of_lists (length con.lists) (closed_counts returns con.stations);
+  blank = blank_of (closed_counts returns con.stations);
+  spoiled = spoiled_of (closed_counts returns con.stations);
+}
+
+-- the same of the constituency of a code; none of no constituency
 abbrev pub totals_of : List Constituency → Returns → List ℕ → VoteCounts
 totals_of setup returns code =
-    option_map_or (λ (con : Constituency). record { votes = votes_of_lists (length con.lists) (closed_counts returns con.stations); blank = blank_of (closed_counts returns con.stations); spoiled = spoiled_of (closed_counts returns con.stations) }) (constituency_with code setup) (record { votes = []; blank = 0; spoiled = 0 })
+    option_map_or (closed_totals returns) (constituency_with code setup)
+    (record { votes = []; blank = 0; spoiled = 0 })
 
 abbrev pub total_rows : List Constituency → Returns → List ℕ × ConState → List Row
 total_rows setup returns e = map (item_row e.0) (items_of (totals_of setup returns e.0))

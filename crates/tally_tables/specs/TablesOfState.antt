@@ -19,14 +19,17 @@ version = 2
 -- These are the seats of each constituency, by its code: where it is certified, those of the one
 -- allotment of its closed votes, and else none.
 abbrev pub AreSeats : List Constituency → State → (List ℕ → List ℕ) → Type 0
-AreSeats setup s seats = (code : List ℕ) (con : Constituency) → constituency_with code setup ≡ Some con → HasSeats con (view_of con s (seats con.code)) (con_state s con.code).certified
+AreSeats setup s seats =
+    (code : List ℕ) (con : Constituency) → constituency_with code setup ≡ Some con
+    → HasSeats con (view_of con s (seats con.code)) (con_state s con.code).certified
 
 -- These are the tables of a state over a setup that has this text. `setup` has its one row.
 -- `returns` has one row for each return, and `counts` one for each of its numbers. Of each
 -- constituency `cons` has one row, `lots` one for each place of its lot, `seats` one for each list
 -- where it is certified, `gone` one for each candidate who is gone, `totals` one for each sum of
 -- its closed returns, and `past` one for each list of each certificate that was reopened.
-pub record AreTables (setup : List Constituency) (text : List ℕ) (s : State) (db : Trees) : Type 0 where
+pub record AreTables (setup : List Constituency) (text : List ℕ) (s : State) (db : Trees)
+    : Type 0 where
   pub given : List ℕ → List ℕ
   pub allotted : AreSeats setup s given
   pub setup_is : db setup_tree ≡ setup_row version text ∷ []

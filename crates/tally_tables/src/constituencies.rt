@@ -1,7 +1,7 @@
 //! Rows of what constituencies have come to.
 
 ghost use Rattle.std.specs.Prelude.{◌≡◌, IfOk, option_map};
-ghost use Rattle.tally_tables.specs.Reading.{AreRead, all_gone_of, flag_of, gone_of, standing_of};
+ghost use Rattle.tally_tables.specs.Reading.{AreRead, all_gone_of, flag_of, gone_in_row, standing_of};
 ghost use Rattle.tally_tables.specs.Views.{standing_value};
 ghost use Rattle.tally_tables.specs.internal.Parts.{place_value};
 
@@ -58,7 +58,7 @@ struct Place<'a> {
 }
 
 fn place_in<'a>(row: &'a Row, con: &[u8]) -> Option<Place<'a>>
-    ensures { option_map place_value result ≡ gone_of con.now row.now }
+    ensures { option_map place_value result ≡ gone_in_row con.now row.now }
 {
     if row.column_count() != 4 || !has_text(row, 0, con) {
         return None;
@@ -70,7 +70,7 @@ fn place_in<'a>(row: &'a Row, con: &[u8]) -> Option<Place<'a>>
 }
 
 fn gone_in(alloc: Global, row: &Row, con: &[u8]) -> Result<Option<Gone>, AllocError>
-    ensures { IfOk result (λ found. found ≡ gone_of con.now row.now) }
+    ensures { IfOk result (λ found. found ≡ gone_in_row con.now row.now) }
 {
     let Some(found) = place_in(row, con) else {
         return Ok(None);

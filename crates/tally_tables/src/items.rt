@@ -1,7 +1,8 @@
 //! Rows of a key, an item and a number, as the tables of counts, lots, seats and totals have them.
 
 ghost use Rattle.std.specs.Prelude.{◌≡◌, IfOk};
-ghost use Rattle.tally_tables.specs.Reading.{AreRead, counts_of, number_for, numbers_from};
+ghost use Rattle.tally_rows.specs.Cells.{number_of};
+ghost use Rattle.tally_tables.specs.Reading.{AreRead, counts_of, item_for, numbers_from};
 
 use crate::columns::has_text;
 use sqlite::Row;
@@ -14,7 +15,7 @@ pub const SPOILED_ITEM: u32 = 61;
 
 /// The number that a row has for this item of a key, where it is such a row.
 fn number_for(row: &Row, key: &[u8], item: u64) -> Option<u32>
-    ensures { result ≡ number_for row.now key.now item }
+    ensures { result ≡ item_for number_of row.now key.now item }
 {
     if row.column_count() != 3 || !has_text(row, 0, key) {
         return None;

@@ -18,4 +18,4 @@ pub use past::past_in;
 pub use returns::{Entry, entries_in};
 pub use statuses::{status_number, status_of};
 pub use sums::{Sums, sums_in};
-pub use views::{Statuses, view_in};
+pub use views::{Statuses, statuses_of, view_from_tables};

@@ -1,7 +1,7 @@
 //! The rows of one constituency among those of all.
 
 ghost use Rattle.std.specs.Prelude.{◌≡◌, ◌≤◌, length};
-ghost use Rattle.tally_tables.specs.Views.{in_each, is_empty, key_len, rows_behind, rows_of_key, tables_in};
+ghost use Rattle.tally_tables.specs.Views.{is_empty, key_len, rows_behind, rows_of_key, tables_behind, tables_in, tables_of_key};
 
 use crate::columns::has_text;
 use sqlite::Row;
@@ -40,8 +40,8 @@ impl<'a> ConTables<'a> {
     /// The rows at the start of each table that are those of this constituency, and those after
     /// them.
     pub fn split(self, con: &[u8]) -> (ConTables<'a>, ConTables<'a>)
-        ensures front { tables_in result.0 ≡ in_each (rows_of_key con.now) (tables_in self.entry) }
-        ensures back { tables_in result.1 ≡ in_each (rows_behind con.now) (tables_in self.entry) }
+        ensures front { tables_in result.0 ≡ tables_of_key con.now (tables_in self.entry) }
+        ensures back { tables_in result.1 ≡ tables_behind con.now (tables_in self.entry) }
     {
         let lots = split_rows(self.lots, con);
         let seats = split_rows(self.seats, con);

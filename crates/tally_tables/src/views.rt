@@ -1,7 +1,7 @@
 //! What is seen of a constituency, by its rows.
 
 ghost use Rattle.std.specs.Prelude.{◌≡◌, IfOk};
-ghost use Rattle.tally_tables.specs.Views.{tables_in, view_in};
+ghost use Rattle.tally_tables.specs.Views.{statuses_of, tables_in, view_from_tables};
 
 use crate::constituencies::{all_gone_in, standing_in};
 use crate::items::numbers_in;
@@ -23,16 +23,30 @@ pub struct Statuses {
     pub closed: u32,
 }
 
+/// The numbers of stations and of returns in each status, of what is seen of a constituency.
+pub fn statuses_of(view: &ConView) -> Statuses
+    ensures { result ≡ statuses_of view.now }
+{
+    Statuses {
+        stations: view.stations,
+        received: view.received,
+        queried: view.queried,
+        corrected: view.corrected,
+        closed: view.closed,
+    }
+}
+
 /// What is seen of a constituency with so many returns in each status, by its row of `cons` and its
 /// rows of the other tables. `None` where these are not such rows.
-pub fn view_in(
+pub fn view_from_tables(
     alloc: Global,
     con: &Constituency,
     statuses: Statuses,
     row: &Row,
     tables: ConTables<'_>,
 ) -> Result<Option<ConView>, AllocError>
-    ensures { IfOk result (λ v. v ≡ view_in con.now statuses row.now (tables_in tables.entry)) }
+    ensures { IfOk result
+        (λ v. v ≡ view_from_tables con.now statuses row.now (tables_in tables.entry)) }
 {
     let code = con.code.as_bytes();
     let Some(standing) = standing_in(row, code) else {

@@ -1,7 +1,7 @@
 -- How the votes short are found. No promise to a caller speaks of it.
 use Rattle.std.specs.Prelude.{ℕ, ◌≡◌, ◌≢◌, ◌+◌, ◌-◌, ◌*◌, ◌<◌, ◌≤◌, List, Option, None, Some}
 use Rattle.std.specs.Prelude.{MatchOption, length, slice_index, slice_index_or}
-use Rattle.tally_frac.specs.Rank.{RanksAboveByVotes}
+use Rattle.tally_frac.specs.Rank.{VotesRankAbove}
 use Rattle.tally_law.specs.Poll.{Poll, IsEligible, SharesOut, votes_of}
 use Rattle.tally_law.specs.Allotment.{Rule, IsAllotment}
 use Rattle.tally_allot.specs.VotesShort.{IsVotesShort, IsLeastNumber, HasNoMoreToGain}
@@ -9,13 +9,6 @@ use Rattle.tally_allot.specs.VotesShort.{IsVotesShort, IsLeastNumber, HasNoMoreT
 -- Each divisor is at most three times the one before.
 abbrev pub RiseSlowly : (ℕ → ℕ) → Type 0
 RiseSlowly nth = (k : ℕ) → 1 ≤ k → nth (k + 1) ≤ 3 * nth k
-
--- Votes by one divisor rank above votes by another, by the votes alone.
-abbrev pub VotesRankAbove : ℕ → ℕ → ℕ → ℕ → Type 0
-VotesRankAbove votes divisor other_votes other_divisor =
-    RanksAboveByVotes
-    (record { votes = votes; divisor = divisor; place = 0 })
-    (record { votes = other_votes; divisor = other_divisor; place = 0 })
 
 -- An allotment by the votes alone, without the unit of the rule, which cancels: no last seat ranks
 -- below the next seat of another list.

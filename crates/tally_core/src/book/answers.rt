@@ -9,7 +9,7 @@ ghost use Rattle.tally_rules.specs.Setup.{constituency_with};
 ghost use Rattle.tally_returns.specs.declared.ask.Ask.TheVariants.{ShowReturn};
 ghost use Rattle.tally_returns.specs.declared.refusal.Refusal.TheVariants.{Memory};
 
-use super::constituencies::answer_on;
+use super::constituencies::answer_on_con;
 use std::alloc::Global;
 use tally_ledger::Ledger;
 use tally_machine::{
@@ -28,7 +28,7 @@ pub(super) fn answer_in(alloc: Global, ledger: &mut Ledger, ask: &Ask) -> Result
     // Called for what its contract says: a slip is a code.
     let _slip = ask.slip();
     if let Some(con) = ask.con() {
-        return answer_on(alloc, ledger, con, ask);
+        return answer_on_con(alloc, ledger, con, ask);
     }
     match ask {
         Ask::Lodge {

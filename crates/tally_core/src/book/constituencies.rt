@@ -11,7 +11,7 @@ use tally_machine::{Ask, Change, Refusal, Reply, decide_con};
 use tally_rules::Code;
 
 /// Answers a command on the constituency of a code, and carries it out.
-pub(super) fn answer_on(
+pub(super) fn answer_on_con(
     alloc: Global,
     ledger: &mut Ledger,
     code: Code,

@@ -4,7 +4,7 @@ ghost use Rattle.std.specs.Prelude.{◌≡◌, ◌≢◌, Some, true, IfErr, IfO
 ghost use Rattle.tally_keeper.specs.Delivery.{delivery};
 ghost use Rattle.tally_keeper.specs.internal.Held.{after_row_in, lodge_answer_in, lodge_in, row_answer_in, returns_without};
 ghost use Rattle.tally_keeper.specs.Import.{IsCodedRow};
-ghost use Rattle.tally_keeper.specs.Keeper.{IsFault, IsImportOf};
+ghost use Rattle.tally_keeper.specs.Keeper.{IsImportFault, IsImportOf};
 ghost use Rattle.tally_keeper.specs.declared.import.Row.{Row};
 ghost use Rattle.tally_keeper.specs.declared.source.ImportFault.TheVariants.{Store};
 ghost use Rattle.tally_ledger.specs.Kept.{state_in};
@@ -29,7 +29,7 @@ pub(super) fn take_source<R: RowSource>(
     ensures imported { IfOk result (λ count.
         IsImportOf ledger.old.setup (Some (state_in ledger.old))
         (delivery R.RowSource source.old source.new) count (Some (state_in ledger.new))) }
-    ensures fault { IfErr result (IsFault (delivery R.RowSource source.old source.new)) }
+    ensures fault { IfErr result (IsImportFault (delivery R.RowSource source.old source.new)) }
     ensures own { IfErr result (λ fault. fault ≢ Store) }
     ensures kept { ledger.new ≡ record ledger.old { returns = ledger.new.returns } }
     ensures undone { returns_without lodged.new.items ledger.new.returns
@@ -46,7 +46,8 @@ pub(super) fn take_source<R: RowSource>(
     Err(ImportFault::TooLong)
 }
 
-/// Lodges a row. A row that is not a Lodge has no answer, just as a bad one has none.
+/// Lodges a row. A row that is not a Lodge has no answer, as a bad row has none. It takes one layer
+/// off, which the prover needs.
 fn take_row(
     alloc: Global,
     ledger: &mut Ledger,
@@ -66,6 +67,8 @@ fn take_row(
     take_ask(alloc, ledger, lodged, ask)
 }
 
+/// Lodges what a Lodge brings. Another request has no answer. It takes one layer off, which the
+/// prover needs.
 fn take_ask(
     alloc: Global,
     ledger: &mut Ledger,

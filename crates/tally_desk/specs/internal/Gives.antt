@@ -12,17 +12,17 @@ use Rattle.tally_keeper.specs.declared.keeper.Keeper.{Ghosts}
 use Rattle.tally_message.specs.declared.message.Message.{Message}
 use Rattle.tally_asks.specs.declared.routes.Route.{Route}
 use Rattle.tally_answer.specs.declared.word.Word.TheVariants as word
-use Rattle.tally_desk.specs.Requests.{Answer, Commands, Says}
+use Rattle.tally_desk.specs.Requests.{MessageAnswer, Commands, Says}
 use Rattle.tally_desk.specs.Respond.{IsAnswerOn}
 
 -- an answer; or none where there was no memory for one, and then nothing has changed
-abbrev pub Gives : Answer → Option State → Option (Vec ℕ Global) → Option State → Type 0
+abbrev pub Gives : MessageAnswer → Option State → Option (Vec ℕ Global) → Option State → Type 0
 Gives IsAnswer old (Some text) new = IsAnswer text.items new
 Gives IsAnswer old None new = new ≡ old
 
 -- what is answered by the setup of an office and its state
 abbrev pub AnswerBy : Type 1
-AnswerBy = List Constituency → Option State → Answer
+AnswerBy = List Constituency → Option State → MessageAnswer
 
 -- Where a keeper is trusted after the call, this is answered, by what the keeper was before.
 abbrev pub Answered : {K : Type 0} (g : Ghosts K) → AnswerBy → K → List ℕ → K → Type 0
@@ -46,6 +46,7 @@ as_return (Ok shown) = Ok (reply.Return shown)
 as_return (Err why) = Err why
 
 -- the answer to the command that a body was read as, or to a bad body
-abbrev pub OrdersRead : List Constituency → Option State → List ListEntry → Option Ask → Answer
+abbrev pub OrdersRead : List Constituency → Option State → List ListEntry → Option Ask
+    → MessageAnswer
 OrdersRead setup old lists None text new = Says old word.BadBody text new
 OrdersRead setup old lists (Some a) text new = Commands setup old lists a text new

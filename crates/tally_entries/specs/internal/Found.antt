@@ -24,7 +24,7 @@ use Rattle.tally_statements.specs.Inside.{IsOpenInside}
 use Rattle.tally_statements.specs.Office.{IsFound}
 use Rattle.tally_tables.specs.Cells.{con_rows, return_rows}
 use Rattle.tally_tables.specs.Reading.{standing_of, status_of}
-use Rattle.tally_tables.specs.Views.{Tables, view_in}
+use Rattle.tally_tables.specs.Views.{Tables, view_from_tables}
 use Rattle.tally_tables.specs.declared.views.Statuses.{Statuses}
 use Rattle.tally_entries.specs.Constituencies.{IsKnown}
 use Rattle.tally_entries.specs.Entries.{stored_in}
@@ -75,7 +75,11 @@ pub record Rows : Type 0 where
 -- what is seen of a constituency with so many returns in each status, by its one row of `cons` and
 -- its other rows
 abbrev pub view_of_rows : Constituency → Statuses → Rows → Option View
-view_of_rows con statuses rows = if length rows.cons == 1 then view_in con statuses (slice_index_or rows.cons 0 []) rows.tables else None
+view_of_rows con statuses rows = if length rows.cons == 1 then view_from_tables con statuses (slice_index_or rows.cons 0 []) rows.tables else None
+
+-- where one entry was read, its return is found
+abbrev pub GivesOnly : List (List ℕ × StationReturn) → Option StationReturn → Type 0
+GivesOnly entries found = (e : List ℕ × StationReturn) → entries ≡ e ∷ [] → found ≡ Some e.1
 
 -- where rows read as no return, none is found
 abbrev pub FindsNone : Option (List (List ℕ × StationReturn)) → Result (Option StationReturn) Error → Type 0

@@ -56,10 +56,10 @@ chain_le_le a b c d e f p h k =
     le_of_mul-le-mul_right both p
 
 -- the same answer for other facts
-matched : {P Q R P' Q' R' : Type 0} → (P → P') → (Q → Q') → (R → R') → (r : Ordering) → MatchOrdering r P Q R → MatchOrdering r P' Q' R'
-matched f g h Less m = f m
-matched f g h Equal m = g m
-matched f g h Greater m = h m
+match_ordering : {P Q R P' Q' R' : Type 0} → (P → P') → (Q → Q') → (R → R') → (r : Ordering) → MatchOrdering r P Q R → MatchOrdering r P' Q' R'
+match_ordering f g h Less m = f m
+match_ordering f g h Equal m = g m
+match_ordering f g h Greater m = h m
 
 -- values that have fractions, in the order of these
 module _ {K : Type 0} (f : K → Fraction) (positive : (x : K) → 1 ≤ (f x).den) where
@@ -73,7 +73,7 @@ module _ {K : Type 0} (f : K → Fraction) (positive : (x : K) → 1 ≤ (f x).d
   fractions_congr x y z h =
       let level : (f x).num * (f y).den ≡ (f y).num * (f x).den = equal_means _ _ h in
       nat_cmp_is _ _ (fraction_cmp (f x) (f z))
-      (matched
+      (match_ordering
       (λ less. chain_le_lt (f y).num (f y).den (f x).num (f x).den (f z).num (f z).den (positive y) (omega arith) less)
       (λ same.
       let up : (f y).num * (f z).den ≤ (f z).num * (f y).den = chain_le_le (f y).num (f y).den (f x).num (f x).den (f z).num (f z).den (positive x) (omega arith) (omega arith) in

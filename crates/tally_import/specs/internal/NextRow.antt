@@ -6,14 +6,14 @@ use Rattle.tally_keeper.specs.declared.import.Row.{Row}
 use Rattle.tally_keeper.specs.declared.source.ImportFault.{ImportFault}
 use Rattle.tally_keeper.specs.declared.source.ImportFault.TheVariants as cause
 use Rattle.tally_records.specs.declared.separator.Sep.{Sep}
-use Rattle.tally_import.specs.ReturnRows.{Advances, AllRowsCame, IsAt}
+use Rattle.tally_import.specs.ReturnRows.{Advances, AllRowsCame, IsAtStage}
 use Rattle.tally_import.specs.declared.return_rows.Stage.{Stage}
 
 -- Of each text that may be at this stage: what a call gives from there to the next stage.
 abbrev pub AdvancesAny : Option (List ℕ) → Stage
     → Result (Option Row) ImportFault → Option (List ℕ) → Stage → Type 0
 AdvancesAny old_left old result left new = (text : Option (List ℕ)) (con : Constituency) (sep : Sep)
-    → IsAt text old_left con sep old → Advances text con sep old_left old result left new
+    → IsAtStage text old_left con sep old → Advances text con sep old_left old result left new
 
 -- Where the rows ended before the call, it answers how, and leaves things so.
 abbrev pub EndsAgain : Ending → Result (Option Row) ImportFault → Type 0 → Type 0

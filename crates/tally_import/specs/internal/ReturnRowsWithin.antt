@@ -6,7 +6,7 @@ use Rattle.tally_keeper.specs.Source.{IsWithin, row_limit}
 use Rattle.tally_keeper.specs.declared.source.ImportFault.{ImportFault}
 use Rattle.tally_keeper.specs.declared.source.ImportFault.TheVariants as cause
 use Rattle.tally_records.specs.Input.{size_limit, text_records}
-use Rattle.tally_import.specs.ReturnRows.{coming_of, import_fault, is_header, fault_alone, rows_coming, text_coming}
+use Rattle.tally_import.specs.ReturnRows.{records_coming, import_fault, is_header, fault_alone, rows_coming, text_coming}
 use Rattle.tally_import.specs.ReturnRowsValue.{ReturnRows, coming, coming_at, own_fault}
 use Rattle.tally_records.specs.declared.end.Stop.TheVariants as stopped
 use Rattle.tally_records.specs.declared.separator.Sep.{Sep}
@@ -27,7 +27,7 @@ rows-within con records long = (few _ row_limit records, go (nat_lt row_limit (l
     go false false e = cc
 
 records-within : (con : Constituency) (records : List (List (List ℕ))) (long : Bool)
-    → IsWithin (coming_of con records (if long then Some stopped.TooLong else None))
+    → IsWithin (records_coming con records (if long then Some stopped.TooLong else None))
 records-within con [] true = (omega arith, λ e. cc)
 records-within con [] false = (omega arith, λ e. cc)
 records-within con (header ∷ records) long = go (is_header (list_codes con.lists) header)

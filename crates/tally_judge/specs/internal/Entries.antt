@@ -37,8 +37,8 @@ abbrev pub IsLawfulEntry : List Constituency → List ℕ × StationReturn → T
 IsLawfulEntry setup e =
     (limits : StationLimits) × (stations_of setup e.0 ≡ Some limits) × IsLawful limits e.1
 
--- The rows of `returns` and `counts` read as these returns, which are in the order of their stations
--- and lawful there.
+-- The rows of `returns` and `counts` read as these returns, which are in the order of their
+-- stations and lawful there.
 pub record AreLawfulEntries (setup : List Constituency) (rows counts : List Row)
     (es : List (List ℕ × StationReturn)) : Type 0 where
   pub read : Some es ≡ entries_in setup rows counts

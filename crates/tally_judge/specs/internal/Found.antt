@@ -1,5 +1,5 @@
 -- Constituencies that were read and are those of a lawful state.
-use Rattle.std.specs.Prelude.{◌≡◌, ◌==◌, ◌&&◌, ℕ, Bool, true, List, [], ◌∷◌, Some, All, length}
+use Rattle.std.specs.Prelude.{◌≡◌, ◌==◌, ◌&&◌, ℕ, Bool, true, List, [], ◌∷◌, Option, Some, All, length, option_map}
 use Rattle.std.specs.Prelude.{nat_eq}
 use Rattle.std.specs.Ordering.{nat_cmp}
 use Rattle.std.specs.Cmp.Lexicographic.{pointwise}
@@ -13,7 +13,11 @@ use Rattle.tally_rows.specs.Rows.{text_cmp}
 use Rattle.tally_rules.specs.Constituency.{Constituency}
 use Rattle.tally_rules.specs.Setup.{constituency_with}
 use Rattle.tally_judge.specs.internal.Entries.{rises, rises_on}
-use Rattle.tally_tables.specs.Views.{Tables, views_from}
+use Rattle.tally_tables.specs.Views.{Tables, con_at, views_from}
+
+-- the constituency that a row of `cons` names, and what is seen of it by its returns
+abbrev pub con_counted : List Constituency → (Constituency → View) → Row → Option (Constituency × View)
+con_counted setup counted row = option_map (λ con. (con, counted con)) (con_at setup row)
 
 -- the same numbers of returns and the same sums
 abbrev pub same_numbers : View → View → Bool
@@ -47,12 +51,16 @@ pub record IsLawfulFound (kept : Kept) (e : List ℕ × View) : Type 0 where
   pub past : rises_on past_edition nat_cmp e.1.past ≡ true
   pub lawful : IsLawfulView con e.1
 
+-- each is one of a lawful state with these returns
+abbrev pub AreEachLawful : Kept → List (List ℕ × View) → Type 0
+AreEachLawful kept found = All (IsLawfulFound kept) found
+
 -- What was read are the constituencies of a lawful state with these returns, in the order of their
 -- codes.
 pub record AreAllLawful (kept : Kept) (found : List (List ℕ × View)) : Type 0 where
   pub many : length found ≡ length kept.setup
   pub rise : rises found ≡ true
-  pub each : All (IsLawfulFound kept) found
+  pub each : AreEachLawful kept found
 
 -- These rows read as them.
 abbrev pub AreLawfulCons : Kept → List Row → Tables → Type 0

@@ -4,16 +4,17 @@ use Rattle.tally_law.specs.LotNeed.{IsLotTaken}
 use Rattle.tally_law.specs.Poll.{HasEligible}
 use Rattle.tally_steps.specs.Outcome.{HasSeats, IsLawfulGone, IsLawfulPast, MayStand, poll_in}
 use Rattle.tally_steps.specs.Outcome.{rule_in}
-use Rattle.tally_returns.specs.Lawful.{may_stand}
+use Rattle.tally_returns.specs.Lawful.{is_note_or_empty}
 use Rattle.tally_returns.specs.State.{last_edition}
 use Rattle.tally_returns.specs.View.{View, FitsView}
 use Rattle.tally_rules.specs.Constituency.{Constituency}
+use Rattle.tally_rules.specs.Limits.{most_stations}
 
 -- the stations, the edition and the note are within their limits
 abbrev pub is_in_range : View → Bool
 is_in_range view =
-    nat_le view.stations 5000 && nat_le 1 view.edition && nat_le view.edition last_edition
-    && may_stand view.note
+    nat_le view.stations most_stations && nat_le 1 view.edition && nat_le view.edition last_edition
+    && is_note_or_empty view.note
 
 -- All but the seats and the lot is as in a lawful view.
 pub record HasLawfulFrame (con : Constituency) (view : View) : Type 0 where

@@ -6,19 +6,19 @@ use Rattle.tally_rules.specs.Code.{code_cmp}
 use Rattle.tally_rules.specs.Constituency.{Constituency}
 use Rattle.tally_rules.specs.contracts.setup.Setup.{the_row as setup_row}
 use Rattle.tally_returns.specs.Return.{Returns}
-use Rattle.tally_returns.specs.State.{State, ConState, GoneCandidates, Records}
+use Rattle.tally_returns.specs.State.{State, ConState, GoneCandidates, PastRecords}
 use Rattle.tally_returns.specs.contracts.returns.Return.{the_row as return_row}
 use Rattle.tally_ledger.specs.Kept.{Kept, Seats}
 
 abbrev gone_code : Coded GoneCandidates
 gone_code = code (coded_list coded_ℕ) (coded_list coded_ℕ)
 
-abbrev past_code : Coded Records
+abbrev past_code : Coded PastRecords
 past_code = code coded_ℕ (coded_list coded_ℕ)
 
 abbrev con_code : Coded ConState
 con_code =
-    code_by (ℕ × (Bool × (List ℕ × (List ℕ × (GoneCandidates × Records))))) (coded× coded_ℕ (coded× coded_bool (coded× (coded_list coded_ℕ) (coded× (coded_list coded_ℕ) (coded× gone_code past_code)))))
+    code_by (ℕ × (Bool × (List ℕ × (List ℕ × (GoneCandidates × PastRecords))))) (coded× coded_ℕ (coded× coded_bool (coded× (coded_list coded_ℕ) (coded× (coded_list coded_ℕ) (coded× gone_code past_code)))))
     (λ c. (c.edition, (c.certified, (c.note, (c.lot, (c.gone, c.past)))))) (λ p. record { edition = p.0; certified = p.1.0; note = p.1.1.0; lot = p.1.1.1.0; gone = p.1.1.1.1.0; past = p.1.1.1.1.1 }) (λ _. refl)
 
 abbrev pub state_code : Coded State

@@ -1,6 +1,6 @@
 -- How what is kept is held in trees: the returns by station, and by constituency what is seen of
 -- it. No public contract speaks of it.
-use Rattle.std.specs.Prelude.{◌≡◌, ◌+◌, ◌++◌, ◌&&◌, ◌||◌, ◌==◌, nat_lt, ℕ, Bool, true, false, List, [], ◌∷◌, take, drop, Option, Some, None, is_some}
+use Rattle.std.specs.Prelude.{◌≡◌, ◌+◌, ◌++◌, ℕ, true, false, List, [], ◌∷◌, take, drop, Option, Some, None, is_some}
 use Rattle.std.specs.BTreeMap.{BTreeMap}
 use Rattle.std.specs.FinMap.{FinMap, get, empty, entries, from_entries, insert}
 use Rattle.std.specs.List.{prefix_len}
@@ -12,8 +12,8 @@ use Rattle.tally_returns.specs.GoneCandidate.{GoneCandidate}
 use Rattle.tally_returns.specs.Lawful.{IsLawfulAt}
 use Rattle.tally_returns.specs.PastSeats.{PastSeats}
 use Rattle.tally_returns.specs.Return.{StationReturn, Returns}
-use Rattle.tally_returns.specs.State.{ConState, GoneCandidates, Records, opening_con}
-use Rattle.tally_returns.specs.View.{View, view_with}
+use Rattle.tally_returns.specs.State.{ConState, GoneCandidates, PastRecords, opening_con}
+use Rattle.tally_returns.specs.View.{View, is_before, view_with}
 use Rattle.tally_returns.specs.declared.progress.ProgressRow.{ProgressRow}
 use Rattle.tally_ledger.specs.Kept.{Seats}
 use Rattle.tally_ledger.specs.MapOf.{map_of}
@@ -33,7 +33,7 @@ views_of tree = from_entries tree.entries
 abbrev pub gone_by_places : List GoneCandidate → GoneCandidates
 gone_by_places gone = map_of (λ (g : GoneCandidate). g.list ∷ g.place ∷ []) (λ g. g.note) gone
 
-abbrev pub past_of : List PastSeats → Records
+abbrev pub past_of : List PastSeats → PastRecords
 past_of past = map_of (λ (p : PastSeats). p.edition) (λ p. p.seats) past
 
 -- what a constituency has come to, of what is seen of it
@@ -92,10 +92,6 @@ opening_view con = view_with con opening_con empty []
 
 abbrev pub opening_views : List Constituency → Views
 opening_views setup = map_of (λ (con : Constituency). con.code) opening_view setup
-
--- in order of list and then of candidate
-abbrev pub is_before : GoneCandidate → GoneCandidate → Bool
-is_before g h = nat_lt g.list h.list || ((g.list == h.list) && nat_lt g.place h.place)
 
 -- how many come before a candidate
 abbrev pub gone_place : GoneCandidate → List GoneCandidate → ℕ

@@ -1,6 +1,7 @@
 -- Sums of closed votes that are moved by a return.
 use Rattle.std.specs.Prelude.{◌≡◌, ◌≤◌, ◌<◌, if◌then◌else◌, ℕ, Bool, true, List, map, slice_index, length}
 use Rattle.std.specs.List.{range_with_len}
+use Rattle.tally_rules.specs.Limits.{most_stations}
 use Rattle.tally_returns.specs.Counts.{VoteCounts}
 use Rattle.tally_returns.specs.Progress.{is_received, is_queried, is_corrected, is_closed}
 use Rattle.tally_returns.specs.Return.{StationReturn}
@@ -49,7 +50,7 @@ with_return_counted view standing add =
 
 -- the number of returns with a status can be moved by one
 pub record CanMoveOne (has_status : Bool) (n : ℕ) (add : Bool) : Type 0 where
-  pub few : n ≤ 5000
+  pub few : n ≤ most_stations
   pub can : has_status ≡ true → CanMove n 1 add
 
 -- so can those of a view, for a return of this status

@@ -7,7 +7,7 @@ use Rattle.clap.specs.declared.parser.matches.ArgMatches.{ArgMatches}
 use Rattle.clap.specs.declared.error.ErrorKind.TheVariants.{InvalidValue}
 use Rattle.tally_line.specs.declared.line.LineFault.{LineFault}
 use Rattle.tally_line.specs.declared.line.LineFault.TheVariants.{Usage, NoCon, Memory}
-use Rattle.tally_line.specs.Line.{lacks_con, lacks_report, most_count, most_port, number_of}
+use Rattle.tally_line.specs.Line.{lacks_con, lacks_report, most_count, most_port, number_given}
 
 -- what was given of the arguments of a command, and what stands for those that were not
 abbrev pub given_rows : ArgMatches → List Row
@@ -19,11 +19,11 @@ has id rows = is_some (first_of id rows)
 
 -- so has that of the port, a port
 abbrev pub has_port : List Row → Bool
-has_port rows = is_some (number_of (codes "port") 1 most_port rows)
+has_port rows = is_some (number_given (codes "port") 1 most_port rows)
 
 -- and that of the connections, a number of connections
 abbrev pub has_count : List Row → Bool
-has_count rows = is_some (number_of (codes "count") 1 most_count rows)
+has_count rows = is_some (number_given (codes "count") 1 most_count rows)
 
 -- what the command wants is given
 abbrev pub has_arguments : Text × List Row → Bool

@@ -2,7 +2,7 @@
 use Rattle.std.specs.Prelude.{◌≡◌, ℕ, ◌<◌, ◌≤◌, Bool, true, false, List, [], ◌++◌, length, take, Result, Ok, Err, IfOk, IfErr, ⊤}
 use Rattle.tally_door.specs.Connection.{Connection}
 use Rattle.httparse.specs.declared.spans.RequestSpans.{RequestSpans}
-use Rattle.tally_message.specs.Message.{OnlyReads, IsFault, FailsAs}
+use Rattle.tally_message.specs.Message.{OnlyReadsInput, IsFault, FailsAs}
 use Rattle.tally_message.specs.declared.message.MessageFault.{MessageFault}
 use Rattle.tally_message.specs.declared.message.MessageFault.TheVariants.{BadHead, HeadTooLong, LengthRequired, BadLength, BodyTooLong, EndedEarly, Read, Memory}
 use Rattle.tally_message.specs.declared.input.Input.{Input}
@@ -19,13 +19,13 @@ HasReadOnto c old Failure new d =
 
 -- Input was taken and put after the bytes that were there.
 abbrev pub ReadsOnto : List ℕ → Input → List ℕ → Connection → Connection → Type 0
-ReadsOnto old result new c d = OnlyReads c d × HasReadOnto c old result new d
+ReadsOnto old result new c d = OnlyReadsInput c d × HasReadOnto c old result new d
 
 -- Input was taken that begins with a head, and perhaps some of what follows it, or the input has a
 -- fault.
 abbrev pub ReadsHead : Result RequestSpans MessageFault → List ℕ → Connection → Connection → Type 0
 ReadsHead result bytes c d =
-    OnlyReads c d × IfOk result (λ _. c.input ≡ bytes ++ d.input)
+    OnlyReadsInput c d × IfOk result (λ _. c.input ≡ bytes ++ d.input)
     × IfErr result (IsFault c.input c.fails) × FailsAs result c d
 
 -- the body of so many bytes with which a text begins, or the fault
@@ -45,4 +45,5 @@ IsBodyOrFault text fails count (Err Memory) body = ⊤
 abbrev pub ReadsBody :
     List ℕ → ℕ → Result ⊤ MessageFault → List ℕ → Connection → Connection → Type 0
 ReadsBody old count result body c d =
-    OnlyReads c d × IsBodyOrFault (old ++ c.input) c.fails count result body × FailsAs result c d
+    OnlyReadsInput c d × IsBodyOrFault (old ++ c.input) c.fails count result body
+    × FailsAs result c d

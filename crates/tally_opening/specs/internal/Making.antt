@@ -1,11 +1,15 @@
 -- What the steps of making an office leave in a transaction. No public contract speaks of this.
-use Rattle.std.specs.Prelude.{◌≡◌, ◌≢◌, ◌++◌, ℕ, pos, List, [], ◌∷◌, map, length, IsPermutation, Result, OnOk}
+use Rattle.std.specs.Prelude.{◌≡◌, ◌≢◌, ◌++◌, ℕ, pos, List, [], ◌∷◌, map, length, IsOk, IsPermutation, Result, OnOk}
 use Rattle.std.specs.List.{flat_map}
 use Rattle.sqlite_value.specs.declared.value.Value.TheVariants.{Int, Text}
 use Rattle.sqlite_value.specs.Order.{Row}
 use Rattle.sqlite.specs.declared.error.Error.{Error}
 use Rattle.sqlite.specs.State.{State as Seen, HasCleanDisk}
+use Rattle.sqlite_trees.specs.Tree.{Trees}
+use Rattle.sqlite_schema.specs.declared.schema.Schema.{Schema}
+use Rattle.tally_faults.specs.declared.fault.CreateFault.{CreateFault}
 use Rattle.tally_rules.specs.Constituency.{Constituency}
+use Rattle.tally_rules.specs.Reading.{setup_of_text}
 use Rattle.tally_returns.specs.Counts.{VoteCounts}
 use Rattle.tally_returns.specs.State.{opening}
 use Rattle.tally_returns.specs.View.{votes_of_lists}
@@ -15,7 +19,13 @@ use Rattle.tally_statements.specs.declared.table.KeyedTable.{KeyedTable}
 use Rattle.tally_statements.specs.declared.table.KeyedTable.TheVariants.{Cons, Totals}
 use Rattle.tally_statements.specs.Office.{IsInside, HasRows, rows_in, tree_of}
 use Rattle.tally_tables.specs.Cells.{item_row, items_of, numbers_with_places}
+use Rattle.tally_opening.specs.Create.{IsCreateFault, MakesOffice}
 use Rattle.tally_opening.specs.Office.{IsWholeOffice}
+
+-- why no office is made in a database of this schema, of whatever text that is a setup
+abbrev pub IsFaultOfEachSetup : Schema → CreateFault → Type 0
+IsFaultOfEachSetup schema fault =
+    (text : List ℕ) → IsOk (setup_of_text text) → IsCreateFault text schema fault
 
 -- the sums of no return, for so many lists
 abbrev pub no_votes : ℕ → VoteCounts
@@ -69,3 +79,13 @@ Opened cons old new result = HasCleanDisk new → IsInside old → OnOk result (
 abbrev pub Made : List Constituency → List ℕ → Seen → Seen → Result Unit Error → Type 0
 Made setup text old new result =
     HasCleanDisk new → HasEmptyTables 0 old → OnOk result (IsMade setup text new)
+
+-- ---- the whole transaction
+
+-- stored are the tables of the opening state, and no others
+abbrev pub IsNew : List Constituency → List ℕ → Trees → Type 0
+IsNew setup text db = IsWholeOffice setup text (opening setup) db
+
+-- with Ok the database is that of the opening state
+abbrev pub MakesNew : List Constituency → List ℕ → Seen → Seen → Result Unit Error → Type 0
+MakesNew setup text old new result = OnOk result (MakesOffice text setup old new)

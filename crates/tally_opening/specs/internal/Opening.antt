@@ -1,8 +1,9 @@
 -- What the steps of an opening see in a transaction. No public contract speaks of this.
-use Rattle.std.specs.Prelude.{◌≡◌, ◌≢◌, ◌⊎◌, ◌==◌, if◌then◌else◌, List, [], ◌∷◌, ℕ, Option, None, Some, Result, Ok, IfOk, codes, false, length, option_and_then, option_map, slice_index_or, true}
+use Rattle.std.specs.Prelude.{◌≡◌, ◌≢◌, ◌⊎◌, ◌==◌, if◌then◌else◌, List, [], ◌∷◌, ℕ, Option, None, Some, Result, Ok, IfOk, OnSome, codes, false, length, option_and_then, option_map, slice_index_or, true}
+use Rattle.std.specs.BTreeMap.{BTreeMap}
 use Rattle.sqlite.specs.declared.error.Error.{Error}
 use Rattle.sqlite.specs.declared.transaction.Transaction.{Transaction}
-use Rattle.sqlite.specs.Effect.{IsDatabase}
+use Rattle.sqlite.specs.Effect.{Database, IsDatabase}
 use Rattle.sqlite.specs.Held.{state}
 use Rattle.sqlite.specs.State.{State as Seen, HasCleanDisk}
 use Rattle.sqlite_schema.specs.declared.schema.Schema.{Schema}
@@ -26,31 +27,39 @@ use Rattle.tally_schema.specs.Tables.{former_schema, office_schema, setup_tree}
 use Rattle.tally_statements.specs.declared.table.KeyedTable.{KeyedTable}
 use Rattle.tally_statements.specs.Office.{HasTables, IsInside, ShowsTable, tree_of}
 use Rattle.tally_tables.specs.TablesOfState.{AreTables, version}
+use Rattle.tally_tables.specs.declared.views.Statuses.{Statuses}
 use Rattle.tally_opening.specs.Open.{AreFormerTables, HasSetup, IsTakenOver, former_version, tables_taken_over}
 use Rattle.tally_opening.specs.declared.judging.FoundRows.{FoundRows}
-use Rattle.tally_judge.specs.Numbers.{HasNumbers, Numbers}
-use Rattle.tally_judge.specs.OfficeRows.{Rows}
+use Rattle.tally_judge.specs.Numbers.{HasNumbers, numbers_of}
+use Rattle.tally_judge.specs.OfficeRows.{RowsInOrder}
 
--- ---- what a call says, where the disk returned what was written
+-- ---- what a call in a transaction says, where the disk returned what was written
 
--- what it saw of the tables of the office, and answered
+-- how the tables of the office before it and after it and its answer belong together
 abbrev pub Sees : {S X : Type 0} (g : Ghosts S)
-    → (Seen → X → Type 0) → Transaction S → Transaction S → Result X Error → Type 0
+    → (Seen → Seen → X → Type 0) → Transaction S → Transaction S → Result X Error → Type 0
 Sees g Saw old new result =
     HasCleanDisk (state g new.conn.now) → HasTables (state g old.conn.now)
-    → IfOk result (Saw (state g old.conn.now))
+    → IfOk result (Saw (state g old.conn.now) (state g new.conn.now))
 
--- what it did to the tables of version 1, and answered
-abbrev pub Does : {S X : Type 0} (g : Ghosts S)
+-- the same of the tables of version 1
+abbrev pub SeesFormer : {S X : Type 0} (g : Ghosts S)
     → (Seen → Seen → X → Type 0) → Transaction S → Transaction S → Result X Error → Type 0
-Does g Did old new result =
+SeesFormer g Saw old new result =
     HasCleanDisk (state g new.conn.now) → HasFirstTables 8 (state g old.conn.now)
-    → IfOk result (Did (state g old.conn.now) (state g new.conn.now))
+    → IfOk result (Saw (state g old.conn.now) (state g new.conn.now))
+
+-- what is so where something is found, or nothing, by what was there
+abbrev pub WhereSome : {X : Type 0} → (Database → Type 0) → Seen → Seen → Option X → Type 0
+WhereSome Holds old new found = OnSome found (Holds old.now)
+
+abbrev pub WhereNone : {X : Type 0} → (Database → Type 0) → Seen → Seen → Option X → Type 0
+WhereNone Holds old new found = found ≡ None → Holds old.now
 
 -- ---- the rows of tables
 
 -- these rows were answered of the whole tables
-pub record ShowsOffice (seen : Seen) (rows : Rows) : Type 0 where
+pub record ShowsOffice (seen : Seen) (rows : RowsInOrder) : Type 0 where
   pub returns : ShowsTable Returns seen rows.returns
   pub counts : ShowsTable Counts seen rows.counts
   pub cons : ShowsTable Cons seen rows.cons
@@ -61,29 +70,29 @@ pub record ShowsOffice (seen : Seen) (rows : Rows) : Type 0 where
   pub past : ShowsTable Past seen rows.tables.past
 
 -- The tables are those of one lawful state over the setup, with this text, and of no other one.
-pub record AreOfOne (setup : List Constituency) (text : List ℕ) (seen : Seen) : Type 0 where
+pub record AreOfOne (setup : List Constituency) (text : List ℕ) (db : Trees) : Type 0 where
   pub state : State
   pub lawful : IsLawfulState setup state
-  pub tables : AreTables setup text state seen.now.trees
+  pub tables : AreTables setup text state db
   pub alone : (other : State) → IsLawfulState setup other
-      → AreTables setup text other seen.now.trees → other ≡ state
+      → AreTables setup text other db → other ≡ state
 
 -- the rows of a table have rowids that differ
-abbrev pub HasDistinctRows : Seen → KeyedTable → Type 0
-HasDistinctRows seen t = HaveDistinctRowids (seen.now.trees (tree_of t))
+abbrev pub HasDistinctRows : Database → KeyedTable → Type 0
+HasDistinctRows db t = HaveDistinctRowids (db.trees (tree_of t))
 
 -- these are the rows of a table, and their rowids differ
 pub record IsReadOf (t : KeyedTable) (seen : Seen) (rows : List Row) : Type 0 where
   pub shown : ShowsTable t seen rows
-  pub distinct : HasDistinctRows seen t
+  pub distinct : HasDistinctRows seen.now t
 
 -- the same of all tables
-pub record AreReadOf (seen : Seen) (rows : Rows) : Type 0 where
+pub record AreReadOf (seen : Seen) (rows : RowsInOrder) : Type 0 where
   pub shown : ShowsOffice seen rows
-  pub distinct : (t : KeyedTable) → HasDistinctRows seen t
+  pub distinct : (t : KeyedTable) → HasDistinctRows seen.now t
 
 -- the rows that were read of all tables
-abbrev pub rows_found : FoundRows → Rows
+abbrev pub rows_found : FoundRows → RowsInOrder
 rows_found rows = record {
   returns = rows.returns.items;
   counts = rows.counts.items;
@@ -97,31 +106,27 @@ rows_found rows = record {
   };
 }
 
--- the database with the one row of `setup`, of today's version and this text
-abbrev pub with_setup : List ℕ → Seen → Seen
-with_setup text seen = record seen {
-  now = record seen.now {
-    trees = λ tree. if tree == setup_tree then setup_row version text ∷ [] else seen.now.trees tree;
-  };
-}
+-- the tables with the one row of `setup`, of today's version and this text
+abbrev pub trees_with : List ℕ → Trees → Trees
+trees_with text db tree = if tree == setup_tree then setup_row version text ∷ [] else db tree
 
 -- No two rows of a table have the same rowid, and the tables are, with whatever text, those of one
 -- lawful state.
-pub record IsJudged (setup : List Constituency) (seen : Seen) : Type 0 where
-  pub distinct : (t : KeyedTable) → HasDistinctRows seen t
-  pub one : (text : List ℕ) → AreOfOne setup text (with_setup text seen)
+pub record IsJudged (setup : List Constituency) (db : Database) : Type 0 where
+  pub distinct : (t : KeyedTable) → HasDistinctRows db t
+  pub one : (text : List ℕ) → AreOfOne setup text (trees_with text db.trees)
 
 -- the tables are those of no lawful state over this setup, with whatever text
-abbrev pub AreTablesOfNone : List Constituency → Seen → Type 0
-AreTablesOfNone setup seen =
+abbrev pub AreTablesOfNone : List Constituency → Database → Type 0
+AreTablesOfNone setup db =
     (text : List ℕ) (s : State) → IsLawfulState setup s
-    → AreTables setup text s (with_setup text seen).now.trees → ⊥
+    → AreTables setup text s (trees_with text db.trees) → ⊥
 
 -- the numbers of every lawful state over this setup whose tables they are, with whatever text
-abbrev pub HasNumbersOfTables : List Constituency → Seen → Numbers → Type 0
-HasNumbersOfTables setup seen numbers =
+abbrev pub CountsTables : BTreeMap (List ℕ) Statuses → List Constituency → Database → Type 0
+CountsTables known setup db =
     (text : List ℕ) (s : State) → IsLawfulState setup s
-    → AreTables setup text s (with_setup text seen).now.trees → HasNumbers setup s numbers
+    → AreTables setup text s (trees_with text db.trees) → HasNumbers setup s (numbers_of known)
 
 -- ---- the table `setup`
 
@@ -137,105 +142,93 @@ shown_of_row row =
 abbrev pub setup_shown : List Row → Option (ℕ × List ℕ)
 setup_shown rows = if length rows == 1 then shown_of_row (slice_index_or rows 0 []) else None
 
+-- `setup` has its one row, of this version and this text: as it is shown, and as it is stored
+abbrev pub HasShownRow : List Row → ℕ → List ℕ → Type 0
+HasShownRow rows number text = setup_shown rows ≡ Some (number, text)
+
+abbrev pub HasStoredRow : Database → ℕ → List ℕ → Type 0
+HasStoredRow db number text = HasSetup number text db.trees
+
+-- the setup of this version that is shown
+abbrev pub IsShownSetup : ℕ → List Row → List Constituency → Type 0
+IsShownSetup number rows setup =
+    (text : List ℕ) × HasShownRow rows number text × (setup_of_text text ≡ Ok setup)
+
+-- The text that is stored, in this version, is that of this setup.
+pub record HasSetupRow (number : ℕ) (setup : List Constituency) (db : Database) : Type 0 where
+  pub text : List ℕ
+  pub reads : setup_of_text text ≡ Ok setup
+  pub row : HasSetup number text db.trees
+
+-- ---- why tables are not taken
+
+-- `setup` does not have its one row, of this version
+abbrev pub Lacks : (ℕ → List ℕ → Type 0) → ℕ → Type 0
+Lacks HasRow number = (text : List ℕ) → HasRow number text → ⊥
+
 -- why a stored text is not taken: its first fault, or out of memory
 abbrev pub IsTextFault : List ℕ → OpenFault → Type 0
 IsTextFault text (Setup fault) = IsFaultIn (setup_of_text text) fault × (fault ≢ setup_fault.Memory)
 IsTextFault text Memory = Unit {0}
 IsTextFault text other = ⊥
 
--- `setup` has its one row, of this version and of a text that is this setup.
-pub record HasSetupRow (number : ℕ) (setup : List Constituency) (seen : Seen) : Type 0 where
-  pub text : List ℕ
-  pub reads : setup_of_text text ≡ Ok setup
-  pub row : seen.now.trees setup_tree ≡ setup_row number text ∷ []
+-- Why tables are not taken that should be of this version: the row is of today's version instead;
+-- there is none of either version, or the tables are those of no lawful state; or the text is at
+-- fault.
+abbrev pub IsTablesFault : ℕ → (ℕ → List ℕ → Type 0) → Type 0 → OpenFault → Type 0
+IsTablesFault number HasRow Unlawful NoTables =
+    (number ≢ version) × (text : List ℕ) × HasRow version text
+IsTablesFault number HasRow Unlawful BadTables =
+    (Lacks HasRow number × Lacks HasRow version) ⊎ Unlawful
+IsTablesFault number HasRow Unlawful fault =
+    (text : List ℕ) × HasRow number text × IsTextFault text fault
 
--- `setup` does not have its one row, of this version
-abbrev pub LacksSetup : ℕ → Trees → Type 0
-LacksSetup number db = (text : List ℕ) → HasSetup number text db → ⊥
-
--- the text of its one row, of this version, is at fault
-abbrev pub IsFaultOfText : ℕ → Trees → OpenFault → Type 0
-IsFaultOfText number db fault = (text : List ℕ) × HasSetup number text db × IsTextFault text fault
+-- or the database failed, or was out of memory, at any place
+abbrev pub OrFails : (OpenFault → Type 0) → OpenFault → Type 0
+OrFails IsFault Memory = Unit {0}
+OrFails IsFault Store = Unit {0}
+OrFails IsFault fault = IsFault fault
 
 -- the tables are those of no lawful state over the setup that is stored
-abbrev pub AreOfNoStored : ℕ → Seen → Type 0
-AreOfNoStored number seen =
-    (setup : List Constituency) × HasSetupRow number setup seen × AreTablesOfNone setup seen
+abbrev pub AreOfNoStored : ℕ → Database → Type 0
+AreOfNoStored number db =
+    (setup : List Constituency) × HasSetupRow number setup db × AreTablesOfNone setup db
 
--- Why no setup was read of `setup`: it does not have its one row, of this version, or the text is
--- at fault.
-abbrev pub IsSetupFault : ℕ → Seen → OpenFault → Type 0
-IsSetupFault number seen BadTables = LacksSetup number seen.now.trees
-IsSetupFault number seen fault = IsFaultOfText number seen.now.trees fault
+-- why no setup is read, of what is shown of `setup` and of the table itself
+abbrev pub IsShownFault : ℕ → List Row → OpenFault → Type 0
+IsShownFault number rows = IsTablesFault number (HasShownRow rows) ⊥
 
--- Why the tables are not taken: the same; or they are those of no lawful state over the setup that
--- is stored.
-abbrev pub IsJudgedFault : ℕ → Seen → OpenFault → Type 0
-IsJudgedFault number seen BadTables =
-    LacksSetup number seen.now.trees ⊎ AreOfNoStored number seen
-IsJudgedFault number seen fault = IsFaultOfText number seen.now.trees fault
+abbrev pub IsSetupFault : ℕ → Database → OpenFault → Type 0
+IsSetupFault number db = IsTablesFault number (HasStoredRow db) ⊥
 
--- The same of an opening of today's tables; the database may fail at any place.
-abbrev pub IsTodayFault : Seen → OpenFault → Type 0
-IsTodayFault seen Store = Unit {0}
-IsTodayFault seen Memory = Unit {0}
-IsTodayFault seen fault = IsJudgedFault version seen fault
+-- why tables of today's form are not taken, in a transaction and by an opening
+abbrev pub IsJudgedFault : ℕ → Database → OpenFault → Type 0
+IsJudgedFault number db = IsTablesFault number (HasStoredRow db) (AreOfNoStored number db)
+
+abbrev pub IsTodayFault : Database → OpenFault → Type 0
+IsTodayFault db = OrFails (IsJudgedFault version db)
 
 -- ---- version 1
 
--- why no setup of version 1 is read of what is shown of the table `setup`
-abbrev pub IsShownFault : List Row → OpenFault → Type 0
-IsShownFault rows NoTables = (text : List ℕ) × (setup_shown rows ≡ Some (version, text))
-IsShownFault rows BadTables =
-    ((text : List ℕ) → setup_shown rows ≡ Some (former_version, text) → ⊥)
-    × ((text : List ℕ) → setup_shown rows ≡ Some (version, text) → ⊥)
-IsShownFault rows fault =
-    (text : List ℕ) × (setup_shown rows ≡ Some (former_version, text)) × IsTextFault text fault
-
--- the setup of version 1 that is shown of the table `setup`
-abbrev pub IsShownSetup : List Row → List Constituency → Type 0
-IsShownSetup rows setup =
-    (text : List ℕ) × (setup_shown rows ≡ Some (former_version, text))
-    × (setup_of_text text ≡ Ok setup)
-
--- `setup` does not have its one row, of version 1 or that of today
-abbrev pub IsOfNoVersion : Trees → Type 0
-IsOfNoVersion db = LacksSetup former_version db × LacksSetup version db
-
--- why no setup of version 1 is read of the table `setup`
-abbrev pub IsFormerSetupFault : Trees → OpenFault → Type 0
-IsFormerSetupFault db NoTables = (text : List ℕ) × HasSetup version text db
-IsFormerSetupFault db BadTables = IsOfNoVersion db
-IsFormerSetupFault db fault = IsFaultOfText former_version db fault
-
--- Why tables with an empty `past` are not taken over: the same; or they are those of no lawful
--- state over the setup that is stored.
-abbrev pub IsFormerJudgedFault : Seen → OpenFault → Type 0
-IsFormerJudgedFault seen BadTables =
-    IsOfNoVersion seen.now.trees ⊎ AreOfNoStored former_version seen
-IsFormerJudgedFault seen fault = IsFormerSetupFault seen.now.trees fault
-
 -- The tables of version 1 are those of no lawful state over the setup that is stored.
-pub record AreFormerOfNone (db : Trees) : Type 0 where
+pub record AreFormerOfNone (db : Database) : Type 0 where
   pub setup : List Constituency
   pub text : List ℕ
   pub reads : setup_of_text text ≡ Ok setup
-  pub row : HasSetup former_version text db
-  pub none : (s : State) → IsLawfulState setup s → AreTables setup text s (tables_taken_over text db) → ⊥
+  pub row : HasSetup former_version text db.trees
+  pub none : (s : State) → IsLawfulState setup s
+      → AreTables setup text s (tables_taken_over text db.trees) → ⊥
 
--- Why tables of version 1 are not taken over; the database may fail at any place.
-abbrev pub IsFormerFault : Trees → OpenFault → Type 0
-IsFormerFault db NoTables = (text : List ℕ) × HasSetup version text db
-IsFormerFault db BadTables = IsOfNoVersion db ⊎ AreFormerOfNone db
-IsFormerFault db (Setup fault) = IsFaultOfText former_version db (Setup fault)
-IsFormerFault db Memory = Unit {0}
-IsFormerFault db Store = Unit {0}
+-- why tables of version 1 are not taken over
+abbrev pub IsFormerFault : Database → OpenFault → Type 0
+IsFormerFault db =
+    OrFails (IsTablesFault former_version (HasStoredRow db) (AreFormerOfNone db))
 
 -- the numbers of every lawful state whose tables of version 1 they are
-abbrev pub HasNumbersOfFormer : List Constituency → Trees → Numbers → Type 0
-HasNumbersOfFormer setup db numbers =
+abbrev pub CountsFormer : BTreeMap (List ℕ) Statuses → List Constituency → Database → Type 0
+CountsFormer known setup db =
     (text : List ℕ) (s : State) → IsLawfulState setup s
-    → AreFormerTables setup text s db → HasNumbers setup s numbers
+    → AreFormerTables setup text s db.trees → HasNumbers setup s (numbers_of known)
 
 -- Beside the tables of version 1, whose rows stay, there is a table `past` without rows.
 pub record AddsPast (old new : Seen) : Type 0 where
@@ -247,8 +240,8 @@ pub record AddsPast (old new : Seen) : Type 0 where
 
 -- The tables of version 1 are those of one lawful state, and `past` is there.
 pub record IsReady (setup : List Constituency) (old new : Seen) : Type 0 where
-  pub stored : HasSetupRow former_version setup old
-  pub judged : IsJudged setup new
+  pub stored : HasSetupRow former_version setup old.now
+  pub judged : IsJudged setup new.now
   pub past : AddsPast old new
 
 -- They are taken over, and were those of one lawful state.

@@ -12,7 +12,7 @@ use Rattle.tally_records.specs.declared.end.Stop.{Stop}
 use Rattle.tally_records.specs.declared.held.Held.{Held}
 use Rattle.tally_records.specs.declared.text.Text.{Text}
 use Rattle.tally_records.specs.declared.work.Work.{Work}
-use Rattle.tally_records.specs.Given.{Came, GaveAll, GivesRecord, HasGiven}
+use Rattle.tally_records.specs.Given.{Came, GaveAllRecords, GivesRecord, HasGiven, TellsTrue}
 use Rattle.tally_records.specs.RecordsValue.{Records}
 use Rattle.tally_records.specs.declared.piece.Rest.{Rest}
 use Rattle.tally_records.specs.declared.separator.Sep.{Sep}
@@ -175,7 +175,11 @@ GivesOfPiece fields old new = (left : Option (List ℕ)) → GivesRecordAt left 
 
 -- the records that were given before are all
 abbrev pub GaveAllAt : Option (List ℕ) → Option (List ℕ) → Work → Option Stop → Type 0
-GaveAllAt old_left left old stop = GaveAll old_left left (records_of_work old true) stop
+GaveAllAt old_left left old stop = GaveAllRecords old_left left (records_of_work old true) stop
+
+-- the watch notes what it noted before, and a failed read where one stopped the input
+abbrev pub TellsTrueAt : Bool → Work → Bool → Type 0
+TellsTrueAt before work failed = TellsTrue before (records_of_work work true) failed
 
 -- the records that were given before are those given now
 abbrev pub KeepsGiven : Option (List ℕ) → Option (List ℕ) → Work → Work → Type 0

@@ -1,5 +1,5 @@
--- What a command that moves a return does to the tables of an office, by what was found of its
--- station.
+-- What a request on the return of a station does to the tables of an office, by what was found of
+-- the station.
 use Rattle.std.specs.Prelude.{◌≡◌, ◌≢◌, ℕ, Bool, List, length, Option, Some, Result, IfOk}
 use Rattle.std.specs.FinMap.{get}
 use Rattle.std.specs.Option.{ForSome}
@@ -50,3 +50,9 @@ abbrev pub CarriesOutFound : List Constituency → Constituency → List ℕ →
 CarriesOutFound setup con station certified found ask old new result =
     HasCleanDisk new → IsInside old → IfOk result (λ r. (text : List ℕ) (s : State) → IsLawfulState setup s → certified ≡ (con_state s con.code).certified → found ≡ get s.returns station
     → AreTables setup text s old.now.trees → IsCarriedOut setup text s ask r new)
+
+-- What holds after a call that answers a request, where the disk returned what was written. It
+-- holds for every lawful state whose tables were there.
+abbrev pub CarriesOut : List Constituency → Ask → Seen → Seen → Result (Result Reply Refusal) Error → Type 0
+CarriesOut setup ask old new result =
+    HasCleanDisk new → IsInside old → IfOk result (λ r. (text : List ℕ) (s : State) → IsLawfulState setup s → AreTables setup text s old.now.trees → IsCarriedOut setup text s ask r new)

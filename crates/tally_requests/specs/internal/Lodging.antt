@@ -1,11 +1,12 @@
--- What a Lodge is answered, by what is looked up.
+-- What a Lodge is answered, by what is looked up, and what lodging a return or a row does to the
+-- tables.
 use Rattle.std.specs.Prelude.{◌≡◌, ◌≤◌, false, ℕ, List, length, Result, Ok, IfOk}
 use Rattle.sqlite.specs.declared.error.Error.{Error}
 use Rattle.sqlite.specs.State.{State as Seen, HasCleanDisk, IsUnchanged}
 use Rattle.tally_frac.specs.Limits.{most_lists}
 use Rattle.tally_rules.specs.Constituency.{Constituency}
 use Rattle.tally_returns.specs.Counts.{VoteCounts}
-use Rattle.tally_returns.specs.Lodge.{lodge_answer}
+use Rattle.tally_returns.specs.Lodge.{lodge_answer, lodge}
 use Rattle.tally_returns.specs.State.{State, stations_of}
 use Rattle.tally_returns.specs.declared.refusal.Refusal.{Refusal}
 use Rattle.tally_returns.specs.declared.reply.LodgeReply.{LodgeReply}
@@ -16,6 +17,10 @@ use Rattle.tally_keeper.specs.Events.{as_answer}
 use Rattle.tally_statements.specs.Inside.{IsOpenInside}
 use Rattle.tally_statements.specs.Office.{IsInside}
 use Rattle.tally_tables.specs.TablesOfState.{AreTables}
+use Rattle.tally_keeper.specs.Import.{RowAnswer, after_row, row_answer}
+use Rattle.tally_keeper.specs.declared.import.Row.{Row}
+use Rattle.tally_keeper.specs.declared.source.ImportFault.{ImportFault}
+use Rattle.tally_requests.specs.Requests.{IsInState}
 
 -- What a Lodge is answered, for every lawful state whose tables are there.
 abbrev pub IsLodgeAnswer : List Constituency → List ℕ → List ℕ → VoteCounts → Seen → Result LodgeReply Refusal → Type 0
@@ -34,3 +39,29 @@ IsFewIfLodged counts r = (rev : ℕ) → r ≡ Ok (Lodged rev) → length counts
 abbrev pub WritesOnlyLodged : Seen → Seen → Result (Result LodgeReply Refusal) Error → Type 0
 WritesOnlyLodged old new result =
     HasCleanDisk new → IsOpenInside old → IfOk result (λ r. is_act (as_answer r) ≡ false → IsUnchanged old new)
+
+-- A return was lodged as in this state, or the Lodge was refused. The tables are those of the state
+-- after it.
+pub record IsLodged (setup : List Constituency) (text : List ℕ) (s : State) (station slip : List ℕ) (counts : VoteCounts) (r : Result LodgeReply Refusal) (new : Seen) : Type 0 where
+  pub answered : r ≡ lodge_answer (stations_of setup) s.returns station slip counts
+  pub in_state : IsInState setup text (record s { returns = lodge (stations_of setup) s.returns station slip counts }) new
+
+-- and so for every lawful state whose tables were there
+abbrev pub LodgesOf : List Constituency → List ℕ → List ℕ → VoteCounts → Seen → Seen → Result LodgeReply Refusal → Type 0
+LodgesOf setup station slip counts old new r =
+    (text : List ℕ) (s : State) → IsLawfulState setup s → AreTables setup text s old.now.trees → IsLodged setup text s station slip counts r new
+
+-- The same after a call that lodges a return, where the disk returned what was written.
+abbrev pub Lodges : {E : Type 0} → List Constituency → List ℕ → List ℕ → VoteCounts → Seen → Seen → Result (Result LodgeReply Refusal) E → Type 0
+Lodges setup station slip counts old new result =
+    HasCleanDisk new → IsInside old → IfOk result (LodgesOf setup station slip counts old new)
+
+-- A row was taken as in this state, and the tables are those of the state after it.
+pub record IsRowTaken (setup : List Constituency) (text : List ℕ) (s : State) (row : Row) (answer : RowAnswer) (new : Seen) : Type 0 where
+  pub answered : row_answer (stations_of setup) s.returns row ≡ answer
+  pub in_state : IsInState setup text (record s { returns = after_row (stations_of setup) s.returns row }) new
+
+-- and so for every lawful state whose tables were there
+abbrev pub TakesRow : List Constituency → Row → Seen → Seen → Result RowAnswer ImportFault → Type 0
+TakesRow setup row old new result =
+    HasCleanDisk new → IsInside old → IfOk result (λ answer. (text : List ℕ) (s : State) → IsLawfulState setup s → AreTables setup text s old.now.trees → IsRowTaken setup text s row answer new)

@@ -17,6 +17,7 @@ use Rattle.tally_tables.specs.TablesOfState.{AreTables}
 use Rattle.tally_entries.specs.Constituencies.{IsViewWith}
 use Rattle.tally_requests.specs.Known.{AreKnown, Known}
 use Rattle.tally_requests.specs.Requests.{IsCarriedOut}
+pub use Rattle.tally_requests.specs.Shown.{FindsKnown}
 
 -- whether a request shows a constituency, with its certificates on record; a command needs none of
 -- them
@@ -44,8 +45,3 @@ LooksUp old new result = HasCleanDisk new → IsInside old → OnOk result (IsSt
 abbrev pub FindsProgress : List Constituency → Known → Seen → List ProgressRow → Type 0
 FindsProgress setup known seen rows =
     (text : List ℕ) (s : State) → IsLawfulState setup s → AreKnown setup s.returns known → AreTables setup text s seen.now.trees → rows ≡ progress setup s
-
--- What is known then is true as well.
-abbrev pub FindsKnown : List Constituency → Known → Known → Seen → Type 0
-FindsKnown setup before after seen =
-    (text : List ℕ) (s : State) → IsLawfulState setup s → AreKnown setup s.returns before → AreTables setup text s seen.now.trees → AreKnown setup s.returns after

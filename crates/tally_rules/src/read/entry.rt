@@ -8,18 +8,19 @@ ghost use Rattle.tally_frac.specs.Limits.{most_lists};
 ghost use Rattle.tally_rules.specs.Constituency.{list_codes, station_codes};
 ghost use Rattle.tally_rules.specs.Codes.{AreDistinct};
 ghost use Rattle.tally_rules.specs.Limits.{IsConstituency, IsListEntry, IsStation};
+ghost use Rattle.tally_rules.specs.Limits.{most_candidates, most_stations};
 ghost use Rattle.tally_rules.specs.internal.Found.{key_name, IsFoundIn, is_kind};
-ghost use Rattle.tally_rules.specs.Reading.{array_at, candidates_of, constituency_entry};
-ghost use Rattle.tally_rules.specs.Reading.{list_entry, lists_of, station_entry, stations_of};
+ghost use Rattle.tally_rules.specs.Reading.{read_array, read_candidates, constituency_entry};
+ghost use Rattle.tally_rules.specs.Reading.{list_entry, read_lists, station_entry, read_stations};
 ghost use Rattle.tally_rules.specs.Text.{IsName};
 
 use crate::codes::Codes;
 use crate::constituency::{Constituency, ListEntry, Station};
 use crate::read::fault::{Key, KeyFault};
-use crate::read::key::{code_at, name_from, name_of, new_code, number_at, value_at};
+use crate::read::key::{name_from, new_code, read_code, read_name, read_number, read_value};
 use crate::read::profile::Profiles;
 use std::alloc::Global;
-use tally_frac::{MOST_LISTS, MOST_SEATS};
+use tally_frac::{MOST_CANDIDATES, MOST_ELECTORS, MOST_LISTS, MOST_SEATS, MOST_STATIONS};
 use toml::Value;
 
 /// What the items of an array have to be.
@@ -41,21 +42,21 @@ impl Kind {
 }
 
 /// The array of a key, of one to `limit` items.
-#[tactic(auto, unfolding(crate::specs::Reading::array_at))]
-pub(super) fn array_at(
+#[tactic(auto, unfolding(crate::specs::Reading::read_array))]
+pub(super) fn read_array(
     entry: &Value,
     key: Key,
     kind: Kind,
     limit: usize,
 ) -> Result<&[Value], KeyFault>
     ensures array { IfOk result (λ items.
-        array_at (is_kind kind) (key_name key) limit (view entry.now) ≡ Ok (map view items.now)) }
+        read_array (is_kind kind) (key_name key) limit (view entry.now) ≡ Ok (map view items.now)) }
     ensures some { IfOk result (λ items. 1 ≤ length items.now) }
     ensures limit { IfOk result (λ items. length items.now ≤ limit) }
     ensures fault { IfErr result
-        (IsFoundIn (array_at (is_kind kind) (key_name key) limit (view entry.now))) }
+        (IsFoundIn (read_array (is_kind kind) (key_name key) limit (view entry.now))) }
 {
-    let items = match value_at(entry, key)?.as_array() {
+    let items = match read_value(entry, key)?.as_array() {
         Some(items) => items.as_slice(),
         None => return Err(KeyFault::BadValue(key)),
     };
@@ -88,25 +89,25 @@ fn station_entry(entry: &Value, taken: &mut Codes) -> Result<Station, KeyFault>
 {
     Ok(Station {
         code: new_code(entry, taken)?,
-        electors: number_at(entry, Key::Electors, 1, 1_000_000)?,
+        electors: read_number(entry, Key::Electors, 1, MOST_ELECTORS)?,
     })
 }
 
 /// The stations of a constituency, whose codes are added to those taken.
-#[tactic(auto, unfolding(crate::specs::Reading::stations_of))]
-fn stations_of(alloc: Global, entry: &Value, taken: &mut Codes) -> Result<Vec<Station>, KeyFault>
+#[tactic(auto, unfolding(crate::specs::Reading::read_stations))]
+fn read_stations(alloc: Global, entry: &Value, taken: &mut Codes) -> Result<Vec<Station>, KeyFault>
     requires distinct { AreDistinct taken.old }
     ensures stations { IfOk result (λ stations.
-        stations_of taken.old (view entry.now) ≡ Ok stations.items) }
+        read_stations taken.old (view entry.now) ≡ Ok stations.items) }
     ensures taken { IfOk result (λ stations.
         taken.new ≡ taken.old ++ station_codes stations.items) }
     ensures distinct { OnOk result (AreDistinct taken.new) }
     ensures some { IfOk result (λ stations. 1 ≤ length stations.items) }
-    ensures limit { IfOk result (λ stations. length stations.items ≤ 5000) }
+    ensures limit { IfOk result (λ stations. length stations.items ≤ most_stations) }
     ensures each { IfOk result (λ stations. All IsStation stations.items) }
-    ensures fault { IfErr result (IsFoundIn (stations_of taken.old (view entry.now))) }
+    ensures fault { IfErr result (IsFoundIn (read_stations taken.old (view entry.now))) }
 {
-    let entries = array_at(entry, Key::Station, Kind::Table, 5000)?;
+    let entries = read_array(entry, Key::Station, Kind::Table, MOST_STATIONS)?;
     let mut stations = Vec::with_capacity(alloc, entries.len())?;
     for station in entries {
         stations.push(station_entry(station, taken)?)?;
@@ -115,16 +116,16 @@ fn stations_of(alloc: Global, entry: &Value, taken: &mut Codes) -> Result<Vec<St
 }
 
 /// The names of a list's candidates.
-#[tactic(auto, unfolding(crate::specs::Reading::candidates_of))]
-fn candidates_of(alloc: Global, entry: &Value) -> Result<Vec<String>, KeyFault>
+#[tactic(auto, unfolding(crate::specs::Reading::read_candidates))]
+fn read_candidates(alloc: Global, entry: &Value) -> Result<Vec<String>, KeyFault>
     ensures candidates { IfOk result (λ names.
-        candidates_of (view entry.now) ≡ Ok (map string_bytes names.items)) }
+        read_candidates (view entry.now) ≡ Ok (map string_bytes names.items)) }
     ensures some { IfOk result (λ names. 1 ≤ length names.items) }
-    ensures limit { IfOk result (λ names. length names.items ≤ 1000) }
+    ensures limit { IfOk result (λ names. length names.items ≤ most_candidates) }
     ensures each { IfOk result (λ names. All IsName (map string_bytes names.items)) }
-    ensures fault { IfErr result (IsFoundIn (candidates_of (view entry.now))) }
+    ensures fault { IfErr result (IsFoundIn (read_candidates (view entry.now))) }
 {
-    let entries = array_at(entry, Key::Candidates, Kind::Text, 1000)?;
+    let entries = read_array(entry, Key::Candidates, Kind::Text, MOST_CANDIDATES)?;
     let mut names = Vec::with_capacity(alloc, entries.len())?;
     for name in entries {
         names.push(name_from(alloc, name, Key::Candidates)?)?;
@@ -143,22 +144,22 @@ fn list_entry(alloc: Global, entry: &Value, taken: &mut Codes) -> Result<ListEnt
 {
     Ok(ListEntry {
         code: new_code(entry, taken)?,
-        name: name_of(alloc, entry)?,
-        candidates: candidates_of(alloc, entry)?,
+        name: read_name(alloc, entry)?,
+        candidates: read_candidates(alloc, entry)?,
     })
 }
 
 /// The lists of a constituency.
-#[tactic(auto, unfolding(crate::specs::Reading::lists_of))]
-fn lists_of(alloc: Global, entry: &Value) -> Result<Vec<ListEntry>, KeyFault>
-    ensures lists { IfOk result (λ lists. lists_of (view entry.now) ≡ Ok lists.items) }
+#[tactic(auto, unfolding(crate::specs::Reading::read_lists))]
+fn read_lists(alloc: Global, entry: &Value) -> Result<Vec<ListEntry>, KeyFault>
+    ensures lists { IfOk result (λ lists. read_lists (view entry.now) ≡ Ok lists.items) }
     ensures distinct { IfOk result (λ lists. AreDistinct (list_codes lists.items)) }
     ensures some { IfOk result (λ lists. 1 ≤ length lists.items) }
     ensures limit { IfOk result (λ lists. length lists.items ≤ most_lists) }
     ensures each { IfOk result (λ lists. All IsListEntry lists.items) }
-    ensures fault { IfErr result (IsFoundIn (lists_of (view entry.now))) }
+    ensures fault { IfErr result (IsFoundIn (read_lists (view entry.now))) }
 {
-    let entries = array_at(entry, Key::List, Kind::Table, MOST_LISTS)?;
+    let entries = read_array(entry, Key::List, Kind::Table, MOST_LISTS)?;
     let mut codes = Codes::new(alloc);
     let mut lists = Vec::with_capacity(alloc, entries.len())?;
     for list in entries {
@@ -189,9 +190,9 @@ pub(super) fn constituency_entry(
         (IsFoundIn (constituency_entry profiles.now taken.old stations.old (view entry.now))) }
 {
     let code = new_code(entry, taken)?;
-    let name = name_of(alloc, entry)?;
-    let seats = number_at(entry, Key::Seats, 1, MOST_SEATS)?;
-    let profile_code = code_at(entry, Key::Profile)?;
+    let name = read_name(alloc, entry)?;
+    let seats = read_number(entry, Key::Seats, 1, MOST_SEATS)?;
+    let profile_code = read_code(entry, Key::Profile)?;
     let profile = match profiles.find(profile_code) {
         Some(profile) => profile,
         None => return Err(KeyFault::UnknownProfile),
@@ -202,7 +203,7 @@ pub(super) fn constituency_entry(
         seats,
         profile_code,
         profile,
-        lists: lists_of(alloc, entry)?,
-        stations: stations_of(alloc, entry, stations)?,
+        lists: read_lists(alloc, entry)?,
+        stations: read_stations(alloc, entry, stations)?,
     })
 }

@@ -6,9 +6,9 @@ ghost use Rattle.toml.specs.View.{view};
 ghost use Rattle.tally_rules.specs.Code.{is_code};
 ghost use Rattle.tally_rules.specs.Codes.{AreDistinct};
 ghost use Rattle.tally_rules.specs.internal.Found.{key_name, IsFoundIn};
-ghost use Rattle.tally_rules.specs.Reading.{base_of, code_at, lot_rule_of, method_of, name_from};
-ghost use Rattle.tally_rules.specs.Reading.{name_of, new_code, number_at, number_in, text_at};
-ghost use Rattle.tally_rules.specs.Reading.{value_at};
+ghost use Rattle.tally_rules.specs.Reading.{read_base, read_code, read_lot_rule, read_method, name_from};
+ghost use Rattle.tally_rules.specs.Reading.{read_name, new_code, read_number, number_in, read_text};
+ghost use Rattle.tally_rules.specs.Reading.{read_value};
 ghost use Rattle.tally_rules.specs.Text.{IsName};
 
 use crate::code::Code;
@@ -20,11 +20,11 @@ use std::alloc::Global;
 use toml::Value;
 
 /// The value of a key.
-#[tactic(auto, unfolding(crate::specs::Reading::value_at))]
-pub(super) fn value_at<'a>(entry: &'a Value, key: Key) -> Result<&'a Value, KeyFault>
+#[tactic(auto, unfolding(crate::specs::Reading::read_value))]
+pub(super) fn read_value<'a>(entry: &'a Value, key: Key) -> Result<&'a Value, KeyFault>
     ensures value { IfOk result (λ value.
-        value_at (key_name key) (view entry.now) ≡ Ok (view value.now)) }
-    ensures fault { IfErr result (IsFoundIn (value_at (key_name key) (view entry.now))) }
+        read_value (key_name key) (view entry.now) ≡ Ok (view value.now)) }
+    ensures fault { IfErr result (IsFoundIn (read_value (key_name key) (view entry.now))) }
 {
     match entry.get(key.name()) {
         Some(value) => Ok(value),
@@ -33,12 +33,12 @@ pub(super) fn value_at<'a>(entry: &'a Value, key: Key) -> Result<&'a Value, KeyF
 }
 
 /// The text of a key.
-#[tactic(auto, unfolding(crate::specs::Reading::text_at))]
-pub(super) fn text_at<'a>(entry: &'a Value, key: Key) -> Result<&'a str, KeyFault>
-    ensures text { IfOk result (λ text. text_at (key_name key) (view entry.now) ≡ Ok text.now) }
-    ensures fault { IfErr result (IsFoundIn (text_at (key_name key) (view entry.now))) }
+#[tactic(auto, unfolding(crate::specs::Reading::read_text))]
+pub(super) fn read_text<'a>(entry: &'a Value, key: Key) -> Result<&'a str, KeyFault>
+    ensures text { IfOk result (λ t. read_text (key_name key) (view entry.now) ≡ Ok t.now) }
+    ensures fault { IfErr result (IsFoundIn (read_text (key_name key) (view entry.now))) }
 {
-    match value_at(entry, key)?.as_str() {
+    match read_value(entry, key)?.as_str() {
         Some(text) => Ok(text),
         None => Err(KeyFault::BadValue(key)),
     }
@@ -54,28 +54,29 @@ fn number_in(low: u32, high: u32, number: i64) -> Option<u32>
 }
 
 /// The number of a key, which is whole and from `low` to `high`.
-#[tactic(auto, unfolding(crate::specs::Reading::number_at))]
-pub(super) fn number_at(entry: &Value, key: Key, low: u32, high: u32) -> Result<u32, KeyFault>
+#[tactic(auto, unfolding(crate::specs::Reading::read_number))]
+pub(super) fn read_number(entry: &Value, key: Key, low: u32, high: u32) -> Result<u32, KeyFault>
     ensures number { IfOk result (λ number.
-        number_at (key_name key) low high (view entry.now) ≡ Ok number) }
+        read_number (key_name key) low high (view entry.now) ≡ Ok number) }
     ensures low { IfOk result (λ number. low ≤ number) }
     ensures high { IfOk result (λ number. number ≤ high) }
-    ensures fault { IfErr result (IsFoundIn (number_at (key_name key) low high (view entry.now))) }
+    ensures fault { IfErr result
+        (IsFoundIn (read_number (key_name key) low high (view entry.now))) }
 {
-    match value_at(entry, key)?.as_integer() {
+    match read_value(entry, key)?.as_integer() {
         Some(number) => number_in(low, high, number).ok_or(KeyFault::BadValue(key)),
         None => Err(KeyFault::BadValue(key)),
     }
 }
 
 /// The code of a key.
-#[tactic(auto, unfolding(crate::specs::Reading::code_at))]
-pub(super) fn code_at(entry: &Value, key: Key) -> Result<Code, KeyFault>
-    ensures code { IfOk result (λ code. code_at (key_name key) (view entry.now) ≡ Ok code) }
+#[tactic(auto, unfolding(crate::specs::Reading::read_code))]
+pub(super) fn read_code(entry: &Value, key: Key) -> Result<Code, KeyFault>
+    ensures code { IfOk result (λ code. read_code (key_name key) (view entry.now) ≡ Ok code) }
     ensures is_code { IfOk result (λ code. is_code code ≡ true) }
-    ensures fault { IfErr result (IsFoundIn (code_at (key_name key) (view entry.now))) }
+    ensures fault { IfErr result (IsFoundIn (read_code (key_name key) (view entry.now))) }
 {
-    Code::new(text_at(entry, key)?.as_bytes()).ok_or(KeyFault::BadValue(key))
+    Code::new(read_text(entry, key)?.as_bytes()).ok_or(KeyFault::BadValue(key))
 }
 
 /// The entry's code, which is added to those taken.
@@ -87,7 +88,7 @@ pub(super) fn new_code(entry: &Value, taken: &mut Codes) -> Result<Code, KeyFaul
     ensures distinct { OnOk result (AreDistinct taken.new) }
     ensures fault { IfErr result (IsFoundIn (new_code taken.old (view entry.now))) }
 {
-    let code = code_at(entry, Key::Code)?;
+    let code = read_code(entry, Key::Code)?;
     if taken.insert(code)? {
         Ok(code)
     } else {
@@ -110,22 +111,22 @@ pub(super) fn name_from(alloc: Global, value: &Value, key: Key) -> Result<String
 }
 
 /// The entry's name.
-#[tactic(auto, unfolding(crate::specs::Reading::name_of))]
-pub(super) fn name_of(alloc: Global, entry: &Value) -> Result<String, KeyFault>
-    ensures name { IfOk result (λ name. name_of (view entry.now) ≡ Ok (string_bytes name)) }
+#[tactic(auto, unfolding(crate::specs::Reading::read_name))]
+pub(super) fn read_name(alloc: Global, entry: &Value) -> Result<String, KeyFault>
+    ensures name { IfOk result (λ name. read_name (view entry.now) ≡ Ok (string_bytes name)) }
     ensures limits { IfOk result (λ name. IsName (string_bytes name)) }
-    ensures fault { IfErr result (IsFoundIn (name_of (view entry.now))) }
+    ensures fault { IfErr result (IsFoundIn (read_name (view entry.now))) }
 {
-    name_from(alloc, value_at(entry, Key::Name)?, Key::Name)
+    name_from(alloc, read_value(entry, Key::Name)?, Key::Name)
 }
 
 /// The profile's method.
-#[tactic(auto, unfolding(crate::specs::Reading::method_of))]
-pub(super) fn method_of(entry: &Value) -> Result<Method, KeyFault>
-    ensures method { IfOk result (λ method. method_of (view entry.now) ≡ Ok method) }
-    ensures fault { IfErr result (IsFoundIn (method_of (view entry.now))) }
+#[tactic(auto, unfolding(crate::specs::Reading::read_method))]
+pub(super) fn read_method(entry: &Value) -> Result<Method, KeyFault>
+    ensures method { IfOk result (λ method. read_method (view entry.now) ≡ Ok method) }
+    ensures fault { IfErr result (IsFoundIn (read_method (view entry.now))) }
 {
-    match text_at(entry, Key::Method)? {
+    match read_text(entry, Key::Method)? {
         "dhondt" => Ok(Method::DHondt),
         "sainte-lague" => Ok(Method::SainteLague),
         "modified-sainte-lague" => Ok(Method::ModifiedSainteLague),
@@ -135,12 +136,12 @@ pub(super) fn method_of(entry: &Value) -> Result<Method, KeyFault>
 }
 
 /// The base of the profile's threshold.
-#[tactic(auto, unfolding(crate::specs::Reading::base_of))]
-pub(super) fn base_of(entry: &Value) -> Result<Base, KeyFault>
-    ensures base { IfOk result (λ base. base_of (view entry.now) ≡ Ok base) }
-    ensures fault { IfErr result (IsFoundIn (base_of (view entry.now))) }
+#[tactic(auto, unfolding(crate::specs::Reading::read_base))]
+pub(super) fn read_base(entry: &Value) -> Result<Base, KeyFault>
+    ensures base { IfOk result (λ base. read_base (view entry.now) ≡ Ok base) }
+    ensures fault { IfErr result (IsFoundIn (read_base (view entry.now))) }
 {
-    match text_at(entry, Key::Base)? {
+    match read_text(entry, Key::Base)? {
         "valid" => Ok(Base::Valid),
         "lists" => Ok(Base::Lists),
         _ => Err(KeyFault::BadValue(Key::Base)),
@@ -148,15 +149,15 @@ pub(super) fn base_of(entry: &Value) -> Result<Base, KeyFault>
 }
 
 /// How the profile's lots decide. A profile that does not say it has fixed lots.
-#[tactic(auto, unfolding(crate::specs::Reading::lot_rule_of))]
-pub(super) fn lot_rule_of(entry: &Value) -> Result<LotRule, KeyFault>
-    ensures lot { IfOk result (λ lot. lot_rule_of (view entry.now) ≡ Ok lot) }
-    ensures fault { IfErr result (IsFoundIn (lot_rule_of (view entry.now))) }
+#[tactic(auto, unfolding(crate::specs::Reading::read_lot_rule))]
+pub(super) fn read_lot_rule(entry: &Value) -> Result<LotRule, KeyFault>
+    ensures lot { IfOk result (λ lot. read_lot_rule (view entry.now) ≡ Ok lot) }
+    ensures fault { IfErr result (IsFoundIn (read_lot_rule (view entry.now))) }
 {
     if entry.get(Key::Lot.name()).is_none() {
         return Ok(LotRule::Fixed);
     }
-    match text_at(entry, Key::Lot)? {
+    match read_text(entry, Key::Lot)? {
         "fixed" => Ok(LotRule::Fixed),
         "alternating" => Ok(LotRule::Alternating),
         _ => Err(KeyFault::BadValue(Key::Lot)),

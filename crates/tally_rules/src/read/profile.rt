@@ -2,17 +2,19 @@
 
 ghost use Rattle.std.specs.Prelude.{◌≡◌, ◌≤◌, ◌++◌, ◌∷◌, [], Ok, IfOk, IfErr, IfSome};
 ghost use Rattle.toml.specs.View.{view};
+ghost use Rattle.tally_frac.specs.Limits.{whole_base};
 ghost use Rattle.tally_rules.specs.internal.Found.{IsFoundIn};
-ghost use Rattle.tally_rules.specs.Reading.{profile_entry, profile_with, profiles_of};
+ghost use Rattle.tally_rules.specs.Reading.{profile_entry, profile_with, read_profiles};
 
 use crate::code::Code;
 use crate::codes::Codes;
 use crate::profile::Profile;
-use crate::read::entry::{Kind, array_at};
+use crate::read::entry::{Kind, read_array};
 use crate::read::fault::{Key, KeyFault};
-use crate::read::key::{base_of, lot_rule_of, method_of, new_code, number_at};
+use crate::read::key::{new_code, read_base, read_lot_rule, read_method, read_number};
 use std::alloc::Global;
 use std::marker::Model;
+use tally_frac::{MOST_PROFILES, WHOLE_BASE};
 use toml::Value;
 
 /// The profiles by their codes, in order. Each threshold is at most 10,000.
@@ -40,7 +42,7 @@ impl Profiles {
     /// The profile of a code.
     pub fn find(&self, code: Code) -> Option<Profile>
         ensures profile { result ≡ profile_with code self.now }
-        ensures threshold { IfSome result (λ profile. profile.threshold ≤ 10000) }
+        ensures threshold { IfSome result (λ profile. profile.threshold ≤ whole_base) }
     {
         match self.profiles.get(self.codes.index_of(code)?) {
             Some((_, profile)) => Some(*profile),
@@ -54,26 +56,26 @@ impl Profiles {
 fn profile_entry(entry: &Value, taken: &mut Codes) -> Result<(Code, Profile), KeyFault>
     ensures profile { IfOk result (λ p. profile_entry taken.old (view entry.now) ≡ Ok p) }
     ensures taken { IfOk result (λ p. taken.new ≡ taken.old ++ p.0 ∷ []) }
-    ensures threshold { IfOk result (λ p. p.1.threshold ≤ 10000) }
+    ensures threshold { IfOk result (λ p. p.1.threshold ≤ whole_base) }
     ensures fault { IfErr result (IsFoundIn (profile_entry taken.old (view entry.now))) }
 {
     let code = new_code(entry, taken)?;
     let profile = Profile {
-        method: method_of(entry)?,
-        threshold: number_at(entry, Key::Threshold, 0, 10_000)?,
-        base: base_of(entry)?,
-        lot: lot_rule_of(entry)?,
+        method: read_method(entry)?,
+        threshold: read_number(entry, Key::Threshold, 0, WHOLE_BASE)?,
+        base: read_base(entry)?,
+        lot: read_lot_rule(entry)?,
     };
     Ok((code, profile))
 }
 
 /// The profiles of a setup's text.
-#[tactic(auto, unfolding(crate::specs::Reading::profiles_of))]
-pub(super) fn profiles_of(alloc: Global, text: &Value) -> Result<Profiles, KeyFault>
-    ensures profiles { IfOk result (λ profiles. profiles_of (view text.now) ≡ Ok profiles) }
-    ensures fault { IfErr result (IsFoundIn (profiles_of (view text.now))) }
+#[tactic(auto, unfolding(crate::specs::Reading::read_profiles))]
+pub(super) fn read_profiles(alloc: Global, text: &Value) -> Result<Profiles, KeyFault>
+    ensures profiles { IfOk result (λ profiles. read_profiles (view text.now) ≡ Ok profiles) }
+    ensures fault { IfErr result (IsFoundIn (read_profiles (view text.now))) }
 {
-    let entries = array_at(text, Key::Profile, Kind::Table, 200)?;
+    let entries = read_array(text, Key::Profile, Kind::Table, MOST_PROFILES)?;
     let mut codes = Codes::new(alloc);
     let mut profiles = Vec::with_capacity(alloc, entries.len())?;
     for profile in entries {

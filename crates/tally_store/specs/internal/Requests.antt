@@ -7,10 +7,14 @@ use Rattle.tally_rules.specs.Constituency.{Constituency}
 use Rattle.tally_steps.specs.LawfulState.{IsLawfulState}
 use Rattle.tally_steps.specs.Step.{IsAnswered}
 use Rattle.tally_returns.specs.State.{State}
+use Rattle.tally_returns.specs.PastSeats.{PastSeats}
+use Rattle.tally_returns.specs.View.{View}
 use Rattle.tally_returns.specs.declared.ask.Ask.{Ask}
+use Rattle.tally_returns.specs.declared.ask.Ask.TheVariants.{ShowCon}
 use Rattle.tally_returns.specs.declared.refusal.Refusal.{Refusal}
 use Rattle.tally_returns.specs.declared.reply.Reply.{Reply}
 use Rattle.tally_keeper.specs.Keeper.{IsImportOf}
+use Rattle.tally_keeper.specs.Shown.{con_with}
 use Rattle.tally_keeper.specs.Source.{Delivery}
 use Rattle.tally_keeper.specs.declared.import.ImportCount.{ImportCount}
 use Rattle.tally_keeper.specs.declared.source.ImportFault.{ImportFault}
@@ -19,8 +23,8 @@ use Rattle.tally_opening.specs.Office.{HasState}
 use Rattle.tally_store.specs.Crash.{LeavesAfter, LeavesImported}
 
 -- What a call keeps that works in a transaction of its own, whatever it answers: none is open after
--- it; the connection was open before if it is open after; a crash leaves what it could leave before,
--- or such a database.
+-- it; the connection was open before if it is open after; a crash leaves what it could leave
+-- before, or such a database.
 pub record EndsFrom (Leaves : Trees → Type 0) (old new : Seen) : Type 0 where
   pub ended : new.in_transaction ≡ false
   pub was_open : HasCleanDisk new → IsTrue new.is_open → IsTrue old.is_open
@@ -43,6 +47,19 @@ pub record IsDone (setup : List Constituency) (text : List ℕ) (s : State) (ask
 abbrev pub Does : List Constituency → Ask → Seen → Seen → Result Reply Refusal → Type 0
 Does setup ask old new r =
     HasCleanDisk new → IsTrue new.is_open → (text : List ℕ) (s : State) → IsLawfulState setup s → HasState setup text s old → IsDone setup text s ask r new
+
+-- A ShowCon was answered, as in this state, with what was shown and some certificates on record, and
+-- the database is that of the state after it.
+abbrev pub IsShown : List Constituency → List ℕ → State → List ℕ → Result View Refusal → Seen → Type 0
+IsShown setup text s con shown new =
+    (past : List PastSeats) × IsDone setup text s (ShowCon con) (con_with past shown) new
+
+-- and so for every lawful state that the database was of, where the disk returned what was written
+-- and has not failed
+abbrev pub DoesShow : List Constituency → List ℕ → Seen → Seen → Result View Refusal → Type 0
+DoesShow setup con old new shown =
+    HasCleanDisk new → IsTrue new.is_open → (text : List ℕ) (s : State) → IsLawfulState setup s
+    → HasState setup text s old → IsShown setup text s con shown new
 
 -- All rows that a source gave were lodged as in this state, and the database is that of the state
 -- after that.
@@ -72,6 +89,14 @@ IsNothing known = (code : List ℕ) → get known code ≡ None
 abbrev pub KnowsAfter : List Constituency → Ask → Seen → Seen → Result Reply Refusal → Known → Type 0
 KnowsAfter setup ask old new r after =
     HasCleanDisk new → IsNothing after ⊎ (IsTrue new.is_open × ((text : List ℕ) (s t : State) → IsLawfulState setup s → HasState setup text s old → IsAnswered setup s ask r t → AreKnown setup t.returns after))
+
+-- After something was shown, where the disk returned what was written, nothing is known, or the
+-- connection is open and what is known is true of the state that the database was of.
+abbrev pub KnowsStill : List Constituency → Seen → Seen → Known → Type 0
+KnowsStill setup old new after =
+    HasCleanDisk new → IsNothing after ⊎ (IsTrue new.is_open
+    × ((text : List ℕ) (s : State) → IsLawfulState setup s → HasState setup text s old
+    → AreKnown setup s.returns after))
 
 -- All rows that a source gave were lodged, and what is known is true of the state after that.
 abbrev pub IsAllKnown : List Constituency → List ℕ → State → Delivery → ImportCount → Seen → Known → Type 0

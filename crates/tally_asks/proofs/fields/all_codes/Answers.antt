@@ -1,6 +1,6 @@
 use Rattle.std.proofs.Common.{◌≡◌, Some, sym, ap, ◌∙◌}
 use Rattle.serde_json.specs.View.{view}
-use Rattle.tally_asks.specs.Bodies.{code}
+use Rattle.tally_asks.specs.Bodies.{as_code}
 use Rattle.tally_asks.proofs.ItemLemmas.{value_none, value_next}
 use Rattle.tally_asks.proofs.fields.all_codes.Goals as goal
 
@@ -8,11 +8,11 @@ pub returns-in_default : goal.returns-in_default
 returns-in_default c =
     let i = c.loop-value.value-index in
     let d = c.value-item.result in
-    sym (value_none code c.args.values.now i d c.loop-value-test.true (ap (λ v. code (view v)) (sym c.value-item.is) ∙ sym c.in_default.ensures))
+    sym (value_none as_code c.args.values.now i d c.loop-value-test.true (ap (λ v. as_code (view v)) (sym c.value-item.is) ∙ sym c.in_default.ensures))
 
 pub loop-value-preserved : goal.loop-value-preserved
 loop-value-preserved c =
     let i = c.loop-value.value-index in
     let d = c.value-item.result in
-    let is : code (view _) ≡ Some c.in-Some.code = ap (λ v. code (view v)) (sym c.value-item.is) ∙ sym c.in-Some.ensures in
-    value_next code c.args.values.now i d c.loop-value.all.items c.in-Some.code c.loop-value-test.true c.loop-value.invariant is ∙ ap Some (sym c.in_ok-push.ensures.items)
+    let is : as_code (view _) ≡ Some c.in-Some.code = ap (λ v. as_code (view v)) (sym c.value-item.is) ∙ sym c.in-Some.ensures in
+    value_next as_code c.args.values.now i d c.loop-value.all.items c.in-Some.code c.loop-value-test.true c.loop-value.invariant is ∙ ap Some (sym c.in_ok-push.ensures.items)

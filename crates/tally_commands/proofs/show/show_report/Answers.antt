@@ -8,7 +8,8 @@ use Rattle.tally_returns.specs.declared.reply.Reply.TheVariants as reply
 use Rattle.tally_steps.specs.Outcome.{IsLawfulView}
 use Rattle.tally_desk.specs.Shown.{as_con}
 use Rattle.tally_report.specs.Reports.{report_fault}
-use Rattle.tally_commands.specs.Show.{IsGiven, IsReportShown, IsReportTrouble, IsWithheld, Shows}
+use Rattle.tally_commands.specs.Show.{IsGiven, IsReportShown, IsReportTrouble, Shows}
+use Rattle.tally_commands.specs.internal.Withheld.{IsWithheld}
 use Rattle.tally_commands.proofs.ShowLemmas.{con-known, con-unknown, con-trouble, fault-trouble, known-found}
 use Rattle.tally_commands.proofs.show.show_report.Goals as goal
 
@@ -49,7 +50,7 @@ returns-in-Ok-clause-shown g c sure =
     let here = subst (λ (code : List ℕ). Happens setup old (request (ShowCon code) (Ok (reply.Con c.in-Ok.view))) new) known.2 happens in
     let kept = rw c.in-Ok.is at c.view_of.ensures.kept sure in
     let lawful = rw c.in-Ok.is at c.view_of.ensures.lawful sure in
-    let same : c.setup-in-Ok.result.now ≡ setup = c.setup-in-Ok.ensures.setup ∙ c.view_of.ensures.setup in
+    let same : c.setup-in-Ok.result.now ≡ setup = c.setup-in-Ok.ensures.setup ∙ c.view_of.ensures.stays.setup in
     let found = subst (λ (q : List ℕ). constituency_with q setup ≡ Some known.0) (sym known.2) known.1 in
     IfOk-weaker c.text_of.result (λ t. (con : Constituency) → constituency_with code c.setup-in-Ok.result.now ≡ Some con → IsLawfulView con c.in-Ok.view → IsGiven con c.in-Ok.view c.args.which (string_bytes t))
     (λ t. IsReportShown setup old text c.args.which (string_bytes t) new)
@@ -74,7 +75,7 @@ returns-in-Ok-clause-trouble g c sure =
     let happens = subst (λ r. Happens setup old (request (ShowCon code) (as_con r)) new) c.in-Ok.is (c.view_of.ensures.shows sure) in
     let here = subst (λ (code : List ℕ). Happens setup old (request (ShowCon code) (Ok (reply.Con c.in-Ok.view))) new) known.2 happens in
     let kept = rw c.in-Ok.is at c.view_of.ensures.kept sure in
-    let same : c.setup-in-Ok.result.now ≡ setup = c.setup-in-Ok.ensures.setup ∙ c.view_of.ensures.setup in
+    let same : c.setup-in-Ok.result.now ≡ setup = c.setup-in-Ok.ensures.setup ∙ c.view_of.ensures.stays.setup in
     let found = subst (λ (q : List ℕ). constituency_with q setup ≡ Some known.0) (sym known.2) known.1 in
     IfErr-weaker c.text_of.result (λ t. (con : Constituency) → constituency_with code c.setup-in-Ok.result.now ≡ Some con → IsWithheld (report_fault con c.in-Ok.view c.args.which) t)
     (λ t. IsReportTrouble setup old text c.args.which t new)
@@ -87,5 +88,5 @@ pub text_of-requires : goal.text_of-requires
 text_of-requires g c con found =
     let k = g.K.Keeper in
     let fits = rw c.in-Ok.is at c.view_of.ensures.fits in
-    let same : c.setup-in-Ok.result.now ≡ k.constituencies c.args.keeper.now = c.setup-in-Ok.ensures.setup ∙ c.view_of.ensures.setup in
+    let same : c.setup-in-Ok.result.now ≡ k.constituencies c.args.keeper.now = c.setup-in-Ok.ensures.setup ∙ c.view_of.ensures.stays.setup in
     fits con (subst (λ (x : List Constituency). constituency_with c.in-Some.code x ≡ Some con) same found)

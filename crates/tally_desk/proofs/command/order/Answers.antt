@@ -17,6 +17,6 @@ returns-clause-orders g c sure =
       c.answer-outcome.ensures.step sure,
       c.outcome.ensures
           ∙ ap (λ lists. outcome_text lists c.answer-outcome.result)
-          (c.lists_of.ensures.lists ∙ ap (λ setup. lists_of setup c.args.subject) (c.setup.ensures.setup ∙ c.answer-outcome.ensures.setup)),
+          (c.lists_of.ensures.lists ∙ ap (λ setup. lists_of setup c.args.subject) (c.setup.ensures.setup ∙ c.answer-outcome.ensures.stays.setup)),
     ) in
     subst (λ (asked : Option Ask). OrdersRead setup old lists asked c.outcome.result.items new) (sym c.in-Some.is) commands

@@ -19,8 +19,8 @@ returns-in-Err-clause-gives g c sure =
     let old = k.content c.args.keeper.now in
     let new = k.content c.return_of.new.keeper in
     let m = c.args.message.now in
-    station-answer c.setup.result.now setup old new m c.deref.result.now c.in-Some.station c.station_named.result (λ code con. ShowsReturn setup old code) c.refusal-in-Err.result.items
-    c.station_named.ensures c.setup.ensures.setup c.deref.ensures.value c.in-Some.is
+    station-answer c.setup.result.now setup old new m c.deref.result.now c.in-Some.station c.station_in_target.result (λ code con. ShowsReturn setup old code) c.refusal-in-Err.result.items
+    c.station_in_target.ensures c.setup.ensures.setup c.deref.ensures.value c.in-Some.is
     (λ place found. (Err c.in-Err.refusal, subst (λ r. Happens setup old (request (ShowReturn c.in-Some.station) (as_return r)) new) c.in-Err.is (c.return_of.ensures.shows sure), c.refusal-in-Err.ensures))
 
 pub returns-in-Ok-clause-gives : goal.returns-in-Ok-clause-gives
@@ -33,7 +33,7 @@ returns-in-Ok-clause-gives g c sure =
     let kept = rw c.in-Ok.is at c.return_of.ensures.kept sure in
     gives (AtStation setup old m (λ code con. ShowsReturn setup old code)) (λ text. text ≡ answer_text status.Done body.Json (compact_text (shown_return c.in-Some.station c.in-Ok.kept)))
     old new c.return_answer.result c.return_answer.ensures
-    (λ text is. station-answer c.setup.result.now setup old new m c.deref.result.now c.in-Some.station c.station_named.result (λ code con. ShowsReturn setup old code) text
-    c.station_named.ensures c.setup.ensures.setup c.deref.ensures.value c.in-Some.is
+    (λ text is. station-answer c.setup.result.now setup old new m c.deref.result.now c.in-Some.station c.station_in_target.result (λ code con. ShowsReturn setup old code) text
+    c.station_in_target.ensures c.setup.ensures.setup c.deref.ensures.value c.in-Some.is
     (λ place found. (Ok (reply.Return c.in-Ok.kept), subst (λ r. Happens setup old (request (ShowReturn c.in-Some.station) (as_return r)) new) c.in-Ok.is (c.return_of.ensures.shows sure), is)))
     kept

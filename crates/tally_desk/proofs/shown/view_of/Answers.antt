@@ -8,4 +8,4 @@ returns-in-Ok-Con-clause-lawful g c sure found is =
     let k = g.K.Keeper in
     let told = rw c.in-Ok-Con.field-0-is at c.in-Ok-Con.ensures in
     shown-lawful c.a_constituency_has_a_view.ensures.lawful (k.constituencies c.args.keeper.now) (k.content c.args.keeper.now) (k.content c.answer.new.self)
-    c.args.con c.in-Ok-Con.view found (subst IsSetup c.setup.ensures.setup c.cons-cons.ensures.limits) (c.setup.ensures.lawful (c.answer.ensures.trusted sure)) is (told.step sure)
+    c.args.con c.in-Ok-Con.view found (subst IsSetup c.setup.ensures.setup c.cons-cons.ensures.limits) (c.setup.ensures.lawful (c.answer.ensures.stays.trusted sure)) is (told.step sure)

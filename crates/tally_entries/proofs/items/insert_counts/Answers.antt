@@ -5,7 +5,7 @@ use Rattle.sqlite.specs.Held.{state}
 use Rattle.tally_statements.specs.declared.table.KeyedTable.TheVariants.{Counts}
 use Rattle.tally_returns.specs.Counts.{VoteCounts}
 use Rattle.tally_tables.specs.Cells.{item_row, items_of}
-use Rattle.tally_entries.specs.Entries.{Adds}
+use Rattle.tally_entries.specs.internal.Written.{Adds}
 use Rattle.tally_entries.proofs.RowLemmas.{adds_counts}
 use Rattle.tally_entries.proofs.items.insert_counts.Goals as goal
 

@@ -3,7 +3,8 @@ use Rattle.sqlite.specs.State.{HasCleanDisk}
 use Rattle.sqlite.specs.Held.{state}
 use Rattle.tally_statements.specs.Office.{IsInside}
 use Rattle.tally_tables.specs.Cells.{item_row, numbers_with_places}
-use Rattle.tally_entries.specs.Entries.{Adds, keyed_table}
+use Rattle.tally_entries.specs.Entries.{keyed_table}
+use Rattle.tally_entries.specs.internal.Written.{Adds}
 use Rattle.tally_statements.specs.Inside.{Stays}
 use Rattle.tally_entries.proofs.items.insert_numbers.Given as goal
 

@@ -4,7 +4,7 @@ use Rattle.sqlite.specs.State.{HasCleanDisk}
 use Rattle.sqlite.specs.Held.{state}
 use Rattle.tally_returns.specs.Counts.{VoteCounts}
 use Rattle.tally_statements.specs.declared.table.KeyedTable.TheVariants.{Counts}
-use Rattle.tally_entries.specs.Entries.{HasCounts}
+use Rattle.tally_entries.specs.internal.Written.{HasCounts}
 use Rattle.tally_entries.proofs.CountLemmas.{blank_set, spoiled_after, counts_then}
 use Rattle.tally_entries.proofs.items.update_counts.Goals as goal
 

@@ -5,7 +5,7 @@ use Rattle.sqlite.specs.Held.{state}
 use Rattle.tally_returns.specs.Return.{StationReturn}
 use Rattle.tally_statements.specs.declared.table.KeyedTable.TheVariants.{Counts}
 use Rattle.tally_tables.specs.Cells.{item_row, items_of}
-use Rattle.tally_entries.specs.Entries.{Adds}
+use Rattle.tally_entries.specs.internal.Written.{Adds}
 use Rattle.tally_entries.proofs.ReturnLemmas.{return_added}
 use Rattle.tally_entries.proofs.returns.add_return.Goals as goal
 

@@ -1,4 +1,3 @@
-use Rattle.std.proofs.lemmas.Result.{IfOk-weaker}
 use Rattle.tally_statements.specs.Office.{HasTables, IsInside}
 use Rattle.sqlite.specs.State.{State}
 use Rattle.sqlite.specs.Held.{state}
@@ -24,4 +23,4 @@ returns-clause-reads g c =
 
 pub returns-clause-found : goal.returns-clause-found
 returns-clause-found g c clean inside =
-    IfOk-weaker c.all_rows.result _ _ (λ rows shown. shown.same) (c.all_rows.ensures.shown clean (has-tables (state g.S.Store c.args.tx.now.conn.now) inside))
+    c.all_rows.ensures.shown clean (has-tables (state g.S.Store c.args.tx.now.conn.now) inside)

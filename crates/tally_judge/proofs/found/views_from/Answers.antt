@@ -3,9 +3,10 @@ use Rattle.sqlite_value.specs.Order.{Row}
 use Rattle.tally_ledger.specs.Kept.{view_in}
 use Rattle.tally_returns.specs.View.{View}
 use Rattle.tally_rules.specs.Constituency.{Constituency}
-use Rattle.tally_tables.specs.Views.{con_at, con_counted, view_with_code, in_each, rows_behind, rows_of_key, tables_in}
+use Rattle.tally_tables.specs.Views.{con_at, view_with_code, in_each, rows_behind, rows_of_key, tables_in}
 use Rattle.tally_tables.proofs.FoundLemmas.{Reading, not_found, one_found}
 use Rattle.tally_tables.proofs.ItemLemmas.{map_some}
+use Rattle.tally_judge.specs.internal.Found.{con_counted}
 use Rattle.tally_judge.proofs.found.views_from.Goals as goal
 
 -- the constituency that was named, and what was counted of it

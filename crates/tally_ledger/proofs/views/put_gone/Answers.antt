@@ -1,7 +1,7 @@
 use Rattle.std.proofs.Common.{arith}
 use Rattle.std.proofs.lemmas.List.Sums.{prefix_len-le-length}
 use Rattle.tally_returns.specs.GoneCandidate.{GoneCandidate}
-use Rattle.tally_ledger.specs.internal.Rows.{is_before}
+use Rattle.tally_returns.specs.View.{is_before}
 use Rattle.tally_ledger.proofs.views.put_gone.Goals as goal
 
 pub insert-requires : goal.insert-requires

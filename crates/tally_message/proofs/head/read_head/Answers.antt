@@ -1,7 +1,8 @@
-use Rattle.std.proofs.Common.{◌≡◌, ◌≤◌, ◌++◌, ℕ, [], Err, length, take, refl, subst, sym, ◌∙◌, ap, arith}
+use Rattle.std.proofs.Common.{rules, ◌≡◌, ◌≤◌, ◌++◌, ℕ, [], Err, length, take, refl, subst, sym, ◌∙◌, ap, arith}
 use Rattle.std.proofs.lemmas.List.{length-take}
 use Rattle.httparse.specs.Grammar.{HasNoRequest}
 use Rattle.tally_door.specs.Connection.{Connection}
+use Rattle.tally_message.specs.internal.Reading.{ReadsHead}
 use Rattle.tally_message.specs.internal.Lines.{no_lines, lines_after}
 use Rattle.tally_message.specs.Message.{head_limit, FailsAs}
 use Rattle.tally_message.specs.declared.message.MessageFault.{MessageFault}
@@ -23,18 +24,20 @@ loop-count-init g c =
       known = λ ended coming connection is. (connection, is, (([], refl, refl), ap (λ t. t ++ connection.input) (sym none), refl));
     }
 
-pub returns-in-Err-clause-known : goal.returns-in-Err-clause-known
-returns-in-Err-clause-known g c ended coming connection is =
+pub returns-in_err-head-clause-known : goal.returns-in_err-head-clause-known
+returns-in_err-head-clause-known g c ended coming connection is =
     let at = c.loop-count.invariant.known ended coming connection is in
     let after = c.in-Bytes.ensures.known ended coming at.0 at.1 in
     let buf = take c.read_more.new.count c.read_more.new.room in
     let next : Connection = after.0 in
     let taken = length-take c.read_more.new.count c.read_more.new.room in
     let short : length buf ≤ head_limit = omega (arith, taken, c.read_more.auto.room, c.loop-count.invariant.whole, c.requires.room) in
-    let found = c.in-Err.ensures.err in
-    let fault = overflowing_head connection.input buf next.input connection.fails c.in-Err.fault (at.2.1 ∙ after.2.1.0) short found in
+    let found = c.in_err-head.ensures.err in
+    let e = c.in_err-head.field-0.0 in
+    let is : c.from_residual.result ≡ Err e = search rules in
+    let fault = overflowing_head connection.input buf next.input connection.fails e (at.2.1 ∙ after.2.1.0) short found in
     let fails = subst (λ (e : MessageFault). FailsAs {X = ℕ} (Err e) connection next) (sym found.0) (after.2.1.1 ∙ at.2.2) in
-    (next, after.1, (reads_on connection at.0 next at.2.0 after.2.0, tt, fault, fails))
+    (next, after.1, subst (λ r. ReadsHead r buf connection next) (sym is) (reads_on connection at.0 next at.2.0 after.2.0, tt, fault, fails))
 
 pub returns-clause-known : goal.returns-clause-known
 returns-clause-known g c ended coming connection is =

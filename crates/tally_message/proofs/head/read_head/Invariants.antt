@@ -2,7 +2,7 @@ use Rattle.std.proofs.Common.{◌≡◌, ◌≤◌, ◌-◌, ◌++◌, true, len
 use Rattle.httparse.specs.Grammar.{HasNoRequest}
 use Rattle.tally_door.specs.Connection.{ChangesCurrent}
 use Rattle.tally_message.specs.internal.Lines.{no_lines, lines_after}
-use Rattle.tally_message.specs.Message.{head_limit, field_limit, OnlyReads}
+use Rattle.tally_message.specs.Message.{head_limit, field_limit, OnlyReadsInput}
 use Rattle.tally_message.proofs.head.read_head.Given as goal
 
 abbrev pub invariant-loop-count : goal.invariant-loop-count
@@ -14,7 +14,7 @@ invariant-loop-count g l = let d = g.D.Door in record {
   lines : l.lines ≡ lines_after no_lines (take l.count l.room);
   no_head : HasNoRequest (take l.count l.room);
   known : ChangesCurrent (d.known l.fn.door) (d.known l.door)
-      (λ c now. OnlyReads c now × (c.input ≡ take l.count l.room ++ now.input) × (now.read_failed ≡ c.read_failed));
+      (λ c now. OnlyReadsInput c now × (c.input ≡ take l.count l.room ++ now.input) × (now.read_failed ≡ c.read_failed));
 }
 
 abbrev pub decreases-loop-count : goal.decreases-loop-count

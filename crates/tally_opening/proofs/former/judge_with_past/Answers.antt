@@ -1,7 +1,6 @@
 use Rattle.std.proofs.Common.{arith}
 use Rattle.sqlite.specs.State.{HasCleanDisk}
 use Rattle.sqlite.specs.Held.{state}
-use Rattle.tally_judge.specs.Numbers.{numbers_of}
 use Rattle.tally_opening.proofs.TakeoverLemmas.{fault_each, numbers_each, past_added, ready_each}
 use Rattle.tally_opening.proofs.former.judge_with_past.Goals as goal
 
@@ -9,24 +8,24 @@ pub returns-clause-ready : goal.returns-clause-ready
 returns-clause-ready g c clean first =
     let old = state g.S.Store c.args.tx.now.conn.now in
     let mid = state g.S.Store c.create_past.new.tx.conn.now in
-    let new = state g.S.Store c.judge_former.new.tx.conn.now in
-    let early : HasCleanDisk mid = omega (arith, c.judge_former.ensures.reads.stays.survives.clean) in
+    let new = state g.S.Store c.judge_stored.new.tx.conn.now in
+    let early : HasCleanDisk mid = omega (arith, c.judge_stored.ensures.reads.stays.survives.clean) in
     let past = past_added old mid (c.in_ok-create_past.ensures.past early first) in
-    let told = c.judge_former.ensures in
-    ready_each c.judge_former.result old mid new past (told.reads.same clean past.has) (told.stored clean past.has) (told.judged clean past.has)
+    let told = c.judge_stored.ensures in
+    ready_each c.judge_stored.result old mid new past (told.reads.same clean past.has) (told.stored clean past.has) (told.judged clean past.has)
 
 pub returns-clause-fault : goal.returns-clause-fault
 returns-clause-fault g c clean first =
     let old = state g.S.Store c.args.tx.now.conn.now in
     let mid = state g.S.Store c.create_past.new.tx.conn.now in
-    let early : HasCleanDisk mid = omega (arith, c.judge_former.ensures.reads.stays.survives.clean) in
+    let early : HasCleanDisk mid = omega (arith, c.judge_stored.ensures.reads.stays.survives.clean) in
     let past = past_added old mid (c.in_ok-create_past.ensures.past early first) in
-    fault_each c.judge_former.result old mid past (c.judge_former.ensures.fault clean past.has)
+    fault_each c.judge_stored.result old mid past (c.judge_stored.ensures.fault clean past.has)
 
 pub returns-clause-numbers : goal.returns-clause-numbers
 returns-clause-numbers g c clean first =
     let old = state g.S.Store c.args.tx.now.conn.now in
     let mid = state g.S.Store c.create_past.new.tx.conn.now in
-    let early : HasCleanDisk mid = omega (arith, c.judge_former.ensures.reads.stays.survives.clean) in
+    let early : HasCleanDisk mid = omega (arith, c.judge_stored.ensures.reads.stays.survives.clean) in
     let past = past_added old mid (c.in_ok-create_past.ensures.past early first) in
-    numbers_each c.judge_former.result old mid (numbers_of c.judge_former.new.known) past (c.judge_former.ensures.numbers clean past.has)
+    numbers_each c.judge_stored.result old mid c.judge_stored.new.known past (c.judge_stored.ensures.numbers clean past.has)

@@ -3,12 +3,10 @@ use Rattle.sqlite.specs.State.{HasCleanDisk, Survives}
 use Rattle.sqlite.specs.Held.{state}
 use Rattle.sqlite.proofs.StateLemmas.{survives_then}
 use Rattle.sqlite.proofs.Callers.{survives_begin}
-use Rattle.sqlite.specs.Effect.{Database}
-use Rattle.tally_judge.specs.Numbers.{numbers_of}
 use Rattle.tally_schema.specs.Made.{HasFirstTables}
 use Rattle.tally_opening.specs.Crash.{LeavesTakenOver}
 use Rattle.tally_opening.specs.Open.{IsOpened}
-use Rattle.tally_opening.specs.internal.Opening.{HasNumbersOfFormer, IsFormerFault, IsTaken}
+use Rattle.tally_opening.specs.internal.Opening.{CountsFormer, IsFormerFault, IsTaken}
 use Rattle.tally_opening.proofs.TakeoverLemmas.{leaves_taken, opened_former, taken_now}
 use Rattle.tally_opening.proofs.former.open_former.Goals as goal
 
@@ -82,19 +80,18 @@ returns-in-Ok-Err-clause-fault g c clean =
     let clean_end : HasCleanDisk (state g.S.Store c.rollback.new.self.0) = subst (λ (h : _). HasCleanDisk (state g.S.Store h)) (sym ends) clean in
     let early : HasCleanDisk last = omega (arith, c.rollback.ensures.survives.clean) in
     let first : HasFirstTables 8 bare = rw begun (record { schema = c.requires.schema; inside = refl }) in
-    subst (λ (h : _). IsFormerFault (state g.S.Store h).now.trees c.in-Ok-Err.fault) begun (rw c.in-Ok-Err.field-0-is at (c.in-Ok-Err.ensures.fault early first))
+    subst (λ (h : _). IsFormerFault (state g.S.Store h).now c.in-Ok-Err.fault) begun (rw c.in-Ok-Err.field-0-is at (c.in-Ok-Err.ensures.fault early first))
 
 pub returns-in-Ok-clause-numbers : goal.returns-in-Ok-clause-numbers
 returns-in-Ok-clause-numbers g c clean =
     let old = state g.S.Store c.args.conn.now in
     let bare = state g.S.Store c.transaction-tx.result.conn.now in
     let last = state g.S.Store c.take_over.new.tx.conn.now in
-    let numbers = numbers_of c.take_over.new.known in
     let begun = c.transaction-tx.ensures.begun in
     let ends : c.commit.new.self.0 ≡ c.conn-1.given.0 = search rules in
     let clean_end : HasCleanDisk (state g.S.Store c.commit.new.self.0) = subst (λ (h : _). HasCleanDisk (state g.S.Store h)) (sym ends) clean in
     let early : HasCleanDisk last = omega (arith, c.commit.ensures.survives.clean) in
     let same : bare.now ≡ old.now = ap (λ (h : _). (state g.S.Store h).now) begun in
     let first : HasFirstTables 8 bare = rw begun (record { schema = c.requires.schema; inside = refl }) in
-    let told : HasNumbersOfFormer c.in-Ok-Ok.setup bare.now.trees numbers = rw c.in-Ok-Ok.field-0-is at (c.in-Ok-Ok.ensures.numbers early first) in
-    subst (λ (d : Database). HasNumbersOfFormer c.in-Ok-Ok.setup d.trees numbers) same told
+    let told : CountsFormer c.take_over.new.known c.in-Ok-Ok.setup bare.now = rw c.in-Ok-Ok.field-0-is at (c.in-Ok-Ok.ensures.numbers early first) in
+    subst (CountsFormer c.take_over.new.known c.in-Ok-Ok.setup) same told

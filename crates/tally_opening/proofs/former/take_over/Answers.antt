@@ -1,9 +1,8 @@
 use Rattle.std.proofs.Common.{arith}
 use Rattle.sqlite.specs.State.{HasCleanDisk}
 use Rattle.sqlite.specs.Held.{state}
-use Rattle.tally_judge.specs.Numbers.{numbers_of}
 use Rattle.tally_opening.specs.Open.{former_version}
-use Rattle.tally_opening.specs.internal.Opening.{HasNumbersOfFormer, IsReady}
+use Rattle.tally_opening.specs.internal.Opening.{CountsFormer, IsReady}
 use Rattle.tally_opening.proofs.TakeoverLemmas.{ready_inside, ready_row, taken}
 use Rattle.tally_opening.proofs.former.take_over.Goals as goal
 
@@ -22,5 +21,5 @@ returns-clause-numbers g c clean first =
     let old = state g.S.Store c.args.tx.now.conn.now in
     let mid = state g.S.Store c.judge_with_past.new.tx.conn.now in
     let early : HasCleanDisk mid = omega (arith, c.update_version.ensures.stays.survives.clean) in
-    let told : HasNumbersOfFormer c.in-Ok.setup old.now.trees (numbers_of c.judge_with_past.new.known) = rw c.in-Ok.is at (c.in_ok-setup.ensures.numbers early first) in
+    let told : CountsFormer c.judge_with_past.new.known c.in-Ok.setup old.now = rw c.in-Ok.is at (c.in_ok-setup.ensures.numbers early first) in
     told

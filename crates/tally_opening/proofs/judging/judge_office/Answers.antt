@@ -3,7 +3,6 @@ use Rattle.std.specs.Prelude.{IsSome}
 use Rattle.std.proofs.lemmas.Result.{IfOk-weaker}
 use Rattle.sqlite.specs.Held.{state}
 use Rattle.tally_rules.specs.Limits.{IsSetup}
-use Rattle.tally_judge.specs.Numbers.{numbers_of}
 use Rattle.tally_opening.specs.internal.Opening.{AreReadOf, rows_found}
 use Rattle.tally_opening.proofs.JudgingLemmas.{judged, judged_none, numbers_judged, on_some}
 use Rattle.tally_opening.proofs.judging.judge_office.Goals as goal
@@ -28,5 +27,5 @@ returns-clause-numbers g c clean has =
     let old = state g.S.Store c.args.tx.now.conn.now in
     let rows = rows_found c.in_ok-rows.rows in
     let read : AreReadOf old rows = c.in_ok-rows.ensures.shown clean has in
-    let here = numbers_judged c.args.setup old rows (numbers_of c.accept.new.known) (subst IsSetup c.setup.view_is c.setup.invariant.limits) read.shown in
+    let here = numbers_judged c.args.setup old rows c.accept.new.known (subst IsSetup c.setup.view_is c.setup.invariant.limits) read.shown in
     IfOk-weaker c.accept.result _ _ (λ found told. on_some found here told) c.accept.ensures.numbers

@@ -2,9 +2,10 @@ use Rattle.std.proofs.Common.{◌≡◌, arith, refl, rules, subst, sym, ap}
 use Rattle.std.proofs.lemmas.Result.{IfOk-weaker, IfErr-weaker}
 use Rattle.sqlite.specs.State.{HasCleanDisk, KeepsCounts}
 use Rattle.sqlite.specs.Held.{state}
-use Rattle.tally_judge.specs.Numbers.{numbers_of}
 use Rattle.tally_statements.specs.Office.{HasTables}
-use Rattle.tally_opening.proofs.JudgingLemmas.{judged_now, numbers_now, today_fault}
+use Rattle.tally_tables.specs.TablesOfState.{version}
+use Rattle.tally_opening.specs.internal.Opening.{CountsTables, IsJudged, IsJudgedFault}
+use Rattle.tally_opening.proofs.StoredLemmas.{or_fails}
 use Rattle.tally_opening.proofs.UnwrittenLemmas.{counts_after}
 use Rattle.tally_opening.proofs.opening.open_today.Goals as goal
 
@@ -19,7 +20,7 @@ returns-in-Ok-clause-judged g c clean =
     let early : HasCleanDisk last = omega (arith, c.rollback.ensures.survives.clean) in
     let same : bare.now ≡ old.now = ap (λ (h : _). (state g.S.Store h).now) begun in
     let has : HasTables bare = rw begun (record { schema = c.requires.schema; sound = c.requires.sound; inside = refl }) in
-    IfOk-weaker c.in-Ok.told _ _ (λ setup judged. judged_now setup old bare same judged) (c.in-Ok.ensures.judged early has)
+    IfOk-weaker c.in-Ok.told _ _ (λ setup judged. subst (IsJudged setup) same judged) (c.in-Ok.ensures.judged early has)
 
 pub returns-in-Ok-clause-fault : goal.returns-in-Ok-clause-fault
 returns-in-Ok-clause-fault g c clean =
@@ -32,7 +33,7 @@ returns-in-Ok-clause-fault g c clean =
     let early : HasCleanDisk last = omega (arith, c.rollback.ensures.survives.clean) in
     let same : bare.now ≡ old.now = ap (λ (h : _). (state g.S.Store h).now) begun in
     let has : HasTables bare = rw begun (record { schema = c.requires.schema; sound = c.requires.sound; inside = refl }) in
-    IfErr-weaker c.in-Ok.told _ _ (λ fault told. today_fault old bare fault same told) (c.in-Ok.ensures.fault early has)
+    IfErr-weaker c.in-Ok.told _ _ (λ fault told. or_fails (IsJudgedFault version old.now) fault (subst (λ d. IsJudgedFault version d fault) same told)) (c.in-Ok.ensures.fault early has)
 
 pub returns-in-Ok-clause-counts : goal.returns-in-Ok-clause-counts
 returns-in-Ok-clause-counts g c clean =
@@ -62,4 +63,10 @@ returns-in-Ok-clause-numbers g c clean =
     let early : HasCleanDisk last = omega (arith, c.rollback.ensures.survives.clean) in
     let same : bare.now ≡ old.now = ap (λ (h : _). (state g.S.Store h).now) begun in
     let has : HasTables bare = rw begun (record { schema = c.requires.schema; sound = c.requires.sound; inside = refl }) in
-    IfOk-weaker c.in-Ok.told _ _ (λ setup told. numbers_now setup old bare (numbers_of c.judge_stored-judged.new.known) same told) (c.in-Ok.ensures.numbers early has)
+    IfOk-weaker c.in-Ok.told _ _ (λ setup told. subst (CountsTables c.judge_stored-judged.new.known setup) same told) (c.in-Ok.ensures.numbers early has)
+
+pub returns-in-Ok-clause-ends : goal.returns-in-Ok-clause-ends
+returns-in-Ok-clause-ends g c = record { ended = search rules; was_open = search rules; same = search rules; survives = search rules }
+
+pub returns-in-Err-clause-ends : goal.returns-in-Err-clause-ends
+returns-in-Err-clause-ends g c = record { ended = search rules; was_open = search rules; same = search rules; survives = search rules }

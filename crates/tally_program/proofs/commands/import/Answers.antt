@@ -9,10 +9,10 @@ returns-in-Err-clause-written g c = unwritten g.W.Write.contents IsCountText cou
 
 pub returns-clause-written : goal.returns-clause-written
 returns-clause-written g c =
-    ended g.W.Write.contents IsCountText counted string_bytes c.args.output.now c.end.new.output c.import_file-outcome.result c.end.result
-    c.import_file-outcome.ensures.text c.end.ensures.text c.end.ensures.trouble
+    ended g.W.Write.contents IsCountText counted string_bytes c.args.output.now c.close_and_print.new.output c.import_file-outcome.result c.close_and_print.result
+    c.import_file-outcome.ensures.text c.close_and_print.ensures.text c.close_and_print.ensures.trouble
 
 pub returns-clause-named : goal.returns-clause-named
 returns-clause-named g c =
-    ended-named _ IsTroubleOfImporting IsTroubleOfImport (λ t is. inr (inl is)) (λ t is. inr (inr is)) c.import_file-outcome.result c.end.result
-    c.import_file-outcome.ensures.named c.end.ensures.named c.end.ensures.trouble
+    ended-named _ IsTroubleOfImporting IsTroubleOfImport (λ t is. inr (inl is)) (λ t is. inr (inr is)) c.import_file-outcome.result c.close_and_print.result
+    c.import_file-outcome.ensures.named c.close_and_print.ensures.named c.close_and_print.ensures.trouble

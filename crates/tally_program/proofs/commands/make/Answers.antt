@@ -15,4 +15,4 @@ returns-in-Err-make_office-clause-written g c = unwritten g.W.Write.contents IsM
 pub returns-clause-written : goal.returns-clause-written
 returns-clause-written g c =
     of_kind g.W.Write.contents IsMadeText (string_bytes c.made_text-text.result) (_, c.made_text-text.ensures)
-    c.args.output.now c.end.new.output c.end.result c.end.ensures.text
+    c.args.output.now c.close_and_print.new.output c.close_and_print.result c.close_and_print.ensures.text

@@ -1,23 +1,32 @@
-use Rattle.std.proofs.Common.{inl, inr, string_bytes}
+use Rattle.std.proofs.Common.{inl, inr, refl, string_bytes}
 use Rattle.tally_commands.specs.Served.{IsServedText}
+use Rattle.tally_program.specs.Commands.{NotListening}
 use Rattle.tally_program.specs.Troubles.{IsTroubleOfServe, IsTroubleOfServing}
-use Rattle.tally_program.proofs.WrittenLemmas.{ended, ended-named, said-by, served, unwritten}
+use Rattle.tally_program.proofs.WrittenLemmas.{ended, ended-named, served, takes, unwritten}
 use Rattle.tally_program.proofs.commands.serve_office.Goals as goal
 
 pub returns-in-Err-clause-written : goal.returns-in-Err-clause-written
-returns-in-Err-clause-written g c = unwritten g.W.Write.contents (IsServedText c.args.count) (served c.args.count) c.args.output.now c.in-Err.trouble
+returns-in-Err-clause-written g c = unwritten g.W.Write.contents (IsServedText c.args.count) (served c.args.count) c.args.output.now c.in-Err.unopened
+
+pub returns-in-Err-clause-takes : goal.returns-in-Err-clause-takes
+returns-in-Err-clause-takes g c = record {
+  course = NotListening c.in-Err.unopened;
+  is = refl;
+  named = inl (c.in-Err.ensures.named, c.in-Err.ensures.opens);
+  says = refl;
+}
 
 pub returns-clause-written : goal.returns-clause-written
 returns-clause-written g c =
-    ended g.W.Write.contents (IsServedText c.args.count) (served c.args.count) string_bytes c.args.output.now c.end.new.output c.serve_on-outcome.result c.end.result
-    c.serve_on-outcome.ensures.text c.end.ensures.text c.end.ensures.trouble
+    ended g.W.Write.contents (IsServedText c.args.count) (served c.args.count) string_bytes c.args.output.now c.close_and_print.new.output c.serve_on-outcome.result c.close_and_print.result
+    c.serve_on-outcome.ensures.text c.close_and_print.ensures.text c.close_and_print.ensures.trouble
 
 pub returns-clause-named : goal.returns-clause-named
 returns-clause-named g c =
-    ended-named _ IsTroubleOfServing IsTroubleOfServe (λ t is. inr (inl is)) (λ t is. inr (inr is)) c.serve_on-outcome.result c.end.result
-    c.serve_on-outcome.ensures.named c.end.ensures.named c.end.ensures.trouble
+    ended-named _ IsTroubleOfServing IsTroubleOfServe (λ t is. inr (inl is)) (λ t is. inr (inr is)) c.serve_on-outcome.result c.close_and_print.result
+    c.serve_on-outcome.ensures.named c.close_and_print.ensures.named c.close_and_print.ensures.trouble
 
-pub returns-clause-says : goal.returns-clause-says
-returns-clause-says g c =
-    said-by g.E.Write.contents c.args.port c.args.count _ c.args.errors.now c.serve_on-outcome.new.errors c.serve_on-outcome.result c.end.result
-    c.serve_on-outcome.ensures.said c.serve_on-outcome.ensures.silent c.serve_on-outcome.ensures.named c.end.ensures.named c.end.ensures.trouble
+pub returns-clause-takes : goal.returns-clause-takes
+returns-clause-takes g c =
+    takes (g.O.Offices.Opens c.args.offices.now c.args.db.now) g.E.Write.contents c.args.port c.args.count _ c.args.errors.now c.serve_on-outcome.new.errors c.serve_on-outcome.result c.close_and_print.result
+    c.in-Ok.ensures.opens c.serve_on-outcome.ensures.said c.serve_on-outcome.ensures.silent c.serve_on-outcome.ensures.named c.close_and_print.ensures.named c.close_and_print.ensures.trouble

@@ -10,10 +10,10 @@ returns-in-Err-clause-written g c = unwritten g.W.Write.contents IsAnyText any c
 
 pub returns-clause-written : goal.returns-clause-written
 returns-clause-written g c =
-    ended g.W.Write.contents IsAnyText any string_bytes c.args.output.now c.end.new.output c.show_in-outcome.result c.end.result
-    (any_text string_bytes c.show_in-outcome.result) c.end.ensures.text c.end.ensures.trouble
+    ended g.W.Write.contents IsAnyText any string_bytes c.args.output.now c.close_and_print.new.output c.show_in-outcome.result c.close_and_print.result
+    (any_text string_bytes c.show_in-outcome.result) c.close_and_print.ensures.text c.close_and_print.ensures.trouble
 
 pub returns-clause-named : goal.returns-clause-named
 returns-clause-named g c =
-    ended-named _ IsTroubleOfReport IsTroubleOfShow (λ t is. inr (inl is)) (λ t is. inr (inr is)) c.show_in-outcome.result c.end.result
-    c.show_in-outcome.ensures.named c.end.ensures.named c.end.ensures.trouble
+    ended-named _ IsTroubleOfReport IsTroubleOfShow (λ t is. inr (inl is)) (λ t is. inr (inr is)) c.show_in-outcome.result c.close_and_print.result
+    c.show_in-outcome.ensures.named c.close_and_print.ensures.named c.close_and_print.ensures.trouble

@@ -5,11 +5,12 @@ use Rattle.tally_steps.specs.Outcome.{poll_in, rule_in}
 use Rattle.tally_returns.specs.View.{View}
 use Rattle.tally_rules.specs.declared.profile.Profile.{Profile}
 use Rattle.tally_rules.specs.Constituency.{Constituency}
+use Rattle.tally_rules.specs.DivisorRule.{divisor_rule_of}
 use Rattle.tally_report.proofs.AwardLemmas.{allots, carried, each-in}
 use Rattle.tally_report.proofs.awards.awards_in.Goals as goal
 
 pub returns-in-Ok-clause-each : goal.returns-in-Ok-clause-each
-returns-in-Ok-clause-each c = each-in c.args.con.now.profile.method c.args.con.now.profile.lot c.args.con.now c.args.view.now c.in-Ok.awards.items (search rules) c.requires.view.lists
+returns-in-Ok-clause-each c = each-in (divisor_rule_of c.args.con.now.profile.method) c.args.con.now.profile.lot c.args.con.now c.args.view.now c.in-Ok.awards.items (search rules) c.requires.view.lists
 
 pub returns-in_default : goal.returns-in_default
 returns-in_default c =

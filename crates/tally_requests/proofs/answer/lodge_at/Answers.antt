@@ -1,4 +1,4 @@
-use Rattle.std.proofs.Common.{◌∙◌, Ok, Err, sym, ap}
+use Rattle.std.proofs.Common.{◌∙◌, Ok, Err, sym, ap, rules}
 use Rattle.tally_keeper.specs.Events.{as_answer}
 use Rattle.tally_steps.specs.Runs.{is_act}
 use Rattle.tally_steps.specs.Step.{lodge_reply, reply_seen}
@@ -7,43 +7,42 @@ use Rattle.tally_requests.proofs.KnownLemmas.{forgets-lodged, lodged-known}
 use Rattle.tally_requests.proofs.LodgeLemmas.{lodged-carried, seen-reply}
 use Rattle.tally_requests.proofs.answer.lodge_at.Goals as goal
 
-pub returns-in-Ok-clause-step : goal.returns-in-Ok-clause-step
-returns-in-Ok-clause-step g c clean inside text s lawful held tables =
-    let done = c.in_ok-reply.ensures.lodged clean inside text s lawful tables in
-    lodged-carried c.args.setup.now text s c.args.station c.args.slip c.args.counts.now c.in_ok-reply.field-0 (Ok c.from.result) _
-    (ap (λ r. reply_seen (Ok r)) c.from.ensures ∙ seen-reply c.in-Ok.reply ∙ ap lodge_reply (sym c.in-Ok.is)) done
-
-pub returns-in-Ok-clause-known : goal.returns-in-Ok-clause-known
-returns-in-Ok-clause-known g c clean inside text s t lawful held tables answered =
+pub returns-in-Ok-clause-answers : goal.returns-in-Ok-clause-answers
+returns-in-Ok-clause-answers g c =
+    let setup = c.args.setup.now in
+    let station = c.args.station in
+    let slip = c.args.slip in
+    let counts = c.args.counts.now in
+    let before = known_of c.args.known.now in
+    let after = known_of c.lodge.new.known in
     let told = c.in_ok-reply.ensures in
-    let done = told.lodged clean inside text s lawful tables in
-    lodged-known c.args.setup.now s t c.args.station c.args.slip c.args.counts.now c.in_ok-reply.field-0 (Ok c.from.result) (known_of c.args.known.now) (known_of c.lodge.new.known) told.limits done.answered
-    (ap (λ r. reply_seen (Ok r)) c.from.ensures ∙ seen-reply c.in-Ok.reply ∙ ap lodge_reply (sym c.in-Ok.is)) told.known held answered
+    let r = c.in_ok-reply.field-0 in
+    let seen = ap (λ q. reply_seen (Ok q)) c.from.ensures ∙ seen-reply c.in-Ok.reply ∙ ap lodge_reply (sym c.in-Ok.is) in
+    record {
+      kind = search rules;
+      step = λ clean inside text s lawful held tables. lodged-carried setup text s station slip counts r (Ok c.from.result) _ seen (told.lodged clean inside text s lawful tables);
+      known = λ clean inside text s t lawful held tables answered.
+          lodged-known setup s t station slip counts r (Ok c.from.result) before after told.limits (told.lodged clean inside text s lawful tables).answered seen told.known held answered;
+      forgets = forgets-lodged setup station r before after told.known;
+      unwritten = λ clean at acts. told.unwritten clean at (ap (λ q. is_act (as_answer q)) c.in-Ok.is ∙ sym (ap (λ q. is_act (Ok q)) c.from.ensures) ∙ acts);
+    }
 
-pub returns-in-Err-clause-step : goal.returns-in-Err-clause-step
-returns-in-Err-clause-step g c clean inside text s lawful held tables =
-    let done = c.in_ok-reply.ensures.lodged clean inside text s lawful tables in
-    lodged-carried c.args.setup.now text s c.args.station c.args.slip c.args.counts.now c.in_ok-reply.field-0 (Err c.in-Err.refusal) _
-    (ap lodge_reply (sym c.in-Err.is)) done
-
-pub returns-in-Err-clause-known : goal.returns-in-Err-clause-known
-returns-in-Err-clause-known g c clean inside text s t lawful held tables answered =
+pub returns-in-Err-clause-answers : goal.returns-in-Err-clause-answers
+returns-in-Err-clause-answers g c =
+    let setup = c.args.setup.now in
+    let station = c.args.station in
+    let slip = c.args.slip in
+    let counts = c.args.counts.now in
+    let before = known_of c.args.known.now in
+    let after = known_of c.lodge.new.known in
     let told = c.in_ok-reply.ensures in
-    let done = told.lodged clean inside text s lawful tables in
-    lodged-known c.args.setup.now s t c.args.station c.args.slip c.args.counts.now c.in_ok-reply.field-0 (Err c.in-Err.refusal) (known_of c.args.known.now) (known_of c.lodge.new.known) told.limits done.answered
-    (ap lodge_reply (sym c.in-Err.is)) told.known held answered
-
-pub returns-in-Ok-clause-forgets : goal.returns-in-Ok-clause-forgets
-returns-in-Ok-clause-forgets g c =
-    forgets-lodged c.args.setup.now c.args.station c.in_ok-reply.field-0 (known_of c.args.known.now) (known_of c.lodge.new.known) c.in_ok-reply.ensures.known
-
-pub returns-in-Err-clause-forgets : goal.returns-in-Err-clause-forgets
-returns-in-Err-clause-forgets g c =
-    forgets-lodged c.args.setup.now c.args.station c.in_ok-reply.field-0 (known_of c.args.known.now) (known_of c.lodge.new.known) c.in_ok-reply.ensures.known
-
-pub returns-in-Ok-clause-unwritten : goal.returns-in-Ok-clause-unwritten
-returns-in-Ok-clause-unwritten g c clean at acts =
-    c.in_ok-reply.ensures.unwritten clean at (ap (λ r. is_act (as_answer r)) c.in-Ok.is ∙ sym (ap (λ r. is_act (Ok r)) c.from.ensures) ∙ acts)
-
-pub returns-in-Err-clause-unwritten : goal.returns-in-Err-clause-unwritten
-returns-in-Err-clause-unwritten g c clean at acts = c.in_ok-reply.ensures.unwritten clean at (ap (λ r. is_act (as_answer r)) c.in-Err.is)
+    let r = c.in_ok-reply.field-0 in
+    let seen = ap lodge_reply (sym c.in-Err.is) in
+    record {
+      kind = tt;
+      step = λ clean inside text s lawful held tables. lodged-carried setup text s station slip counts r (Err c.in-Err.refusal) _ seen (told.lodged clean inside text s lawful tables);
+      known = λ clean inside text s t lawful held tables answered.
+          lodged-known setup s t station slip counts r (Err c.in-Err.refusal) before after told.limits (told.lodged clean inside text s lawful tables).answered seen told.known held answered;
+      forgets = forgets-lodged setup station r before after told.known;
+      unwritten = λ clean at acts. told.unwritten clean at (ap (λ q. is_act (as_answer q)) c.in-Err.is);
+    }

@@ -13,7 +13,8 @@ use Rattle.tally_entries.proofs.FindLemmas.{inside_still}
 use Rattle.tally_ledger.proofs.SetupLemmas.{Has, con-only, has-at}
 use Rattle.tally_statements.specs.Inside.{IsOpenInside}
 use Rattle.tally_statements.specs.Office.{IsInside}
-use Rattle.tally_requests.specs.Known.{AreKnown, known_of, statuses_of_row}
+use Rattle.tally_requests.specs.Known.{AreKnown, known_of}
+use Rattle.tally_requests.specs.internal.Counting.{statuses_of_row}
 use Rattle.tally_requests.proofs.AnswerLemmas.{cons-still, row-found, rows-more, stays-on, still-state, still-unchanged}
 use Rattle.tally_requests.proofs.KnownLemmas.{forgets-remembered, forgets-then, known-remembered}
 use Rattle.tally_requests.proofs.constituencies.find_progress.Goals as goal
@@ -27,7 +28,7 @@ loop-con-init g c =
       known = λ clean inside text s lawful held tables. held;
       forgets = λ code had. had;
       same = λ clean inside. told.reads.same clean inside;
-      all = λ clean inside. told.found clean inside;
+      all = λ clean inside. (told.found clean inside).same;
     }
 
 pub loop-con-preserved : goal.loop-con-preserved

@@ -1,4 +1,4 @@
-use Rattle.tally_requests.specs.Known.{with_move}
+use Rattle.tally_requests.specs.internal.Counting.{with_move}
 use Rattle.tally_requests.proofs.KnownLemmas.{not_written, written}
 use Rattle.tally_requests.proofs.known.count_move.Goals as goal
 

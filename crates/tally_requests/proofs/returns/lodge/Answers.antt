@@ -5,7 +5,8 @@ use Rattle.sqlite.specs.Held.{state}
 use Rattle.tally_keeper.specs.Events.{as_answer}
 use Rattle.tally_steps.specs.Runs.{is_act}
 use Rattle.tally_rules.specs.Constituency.{Constituency}
-use Rattle.tally_requests.specs.Known.{after_lodge, known_of}
+use Rattle.tally_requests.specs.Known.{known_of}
+use Rattle.tally_requests.specs.internal.Counting.{known_after_lodge}
 use Rattle.tally_requests.specs.internal.Lodging.{IsLodgeAnswer}
 use Rattle.tally_requests.proofs.KnownLemmas.{lodge-counted}
 use Rattle.tally_requests.proofs.LodgedLemmas.{lodged-first, lodged-refused, lodged-same, still}
@@ -38,10 +39,10 @@ returns-clause-lodged g c clean inside text s lawful tables =
     (answers text s lawful tables) (ap Ok c.in-Lodged.is) (still setup text s old mid (done.reads.same early inside) inside tables) c.in_ok-put_first.ensures.added
 
 pub returns-in_default-answer-clause-known : goal.returns-in_default-answer-clause-known
-returns-in_default-answer-clause-known g c = sym (ap (λ r. after_lodge c.args.setup.now c.args.station r (known_of c.args.known.now)) c.in_default-answer.is)
+returns-in_default-answer-clause-known g c = sym (ap (λ r. known_after_lodge c.args.setup.now c.args.station r (known_of c.args.known.now)) c.in_default-answer.is)
 
 pub returns-in_default-reply-clause-known : goal.returns-in_default-reply-clause-known
-returns-in_default-reply-clause-known g c = sym (ap (λ r. after_lodge c.args.setup.now c.args.station (Ok r) (known_of c.args.known.now)) c.in_default-reply.is)
+returns-in_default-reply-clause-known g c = sym (ap (λ r. known_after_lodge c.args.setup.now c.args.station (Ok r) (known_of c.args.known.now)) c.in_default-reply.is)
 
 pub returns-clause-known : goal.returns-clause-known
 returns-clause-known g c =

@@ -1,6 +1,7 @@
 use Rattle.std.proofs.Common.{◌∙◌, Some, ap, sym}
 use Rattle.tally_keeper.specs.declared.import.Row.TheVariants as row
-use Rattle.tally_requests.specs.Known.{after_row, known_of}
+use Rattle.tally_requests.specs.Known.{known_of}
+use Rattle.tally_requests.specs.internal.Counting.{known_after_row}
 use Rattle.tally_requests.proofs.LodgeLemmas.{lodged-taken}
 use Rattle.tally_requests.proofs.rows.take_ask.Goals as goal
 
@@ -11,4 +12,4 @@ returns-clause-taken g c clean inside text s lawful tables =
 
 pub returns-clause-known : goal.returns-clause-known
 returns-clause-known g c =
-    c.in_ok-answer.ensures.known ∙ sym (ap (λ a. after_row c.args.setup.now (row.Lodge a) (Some c.in_ok-answer.answer) (known_of c.args.known.now)) c.in-Lodge.is)
+    c.in_ok-answer.ensures.known ∙ sym (ap (λ a. known_after_row c.args.setup.now (row.Lodge a) (Some c.in_ok-answer.answer) (known_of c.args.known.now)) c.in-Lodge.is)

@@ -3,7 +3,7 @@ use Rattle.std.proofs.lemmas.Result.{IfOk-weaker}
 use Rattle.sqlite.specs.Held.{state}
 use Rattle.tally_rows.proofs.ReadLemmas.{read_keeps, read_changes_nothing, read_was_open, answered_was_open}
 use Rattle.tally_schema.specs.Tables.{office_schema}
-use Rattle.tally_statements.specs.Texts.{all_rows_text}
+use Rattle.tally_statements.specs.internal.Texts.{all_rows_text}
 use Rattle.tally_statements.proofs.WholeLemmas.{shows_table, all_rows_mean}
 use Rattle.tally_statements.proofs.select.all_rows.Goals as goal
 

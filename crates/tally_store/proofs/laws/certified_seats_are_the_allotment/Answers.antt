@@ -5,4 +5,4 @@ pub returns : goal.returns
 returns g c clean now =
     let kept = c.stored_setup.ensures.kept in
     let office = kept.office clean now in
-    has-certificates c.args.store.now.setup office.0 _ c.a_certificate_stands_on_closed_votes.ensures.each kept.limits office.1 office.2
+    has-certificates c.args.store.now.setup office.0 _ c.a_certificate_is_of_closed_votes.ensures.each kept.limits office.1 office.2

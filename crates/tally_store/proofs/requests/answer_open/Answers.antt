@@ -23,29 +23,24 @@ returns-clause-was_open g c clean =
     let early : HasCleanDisk mid = omega (arith, clean, c.answer_in.ensures.stays.survives.clean) in
     on_ok c.answer_in.result (c.in_ok-see_open.ensures.reads.answered_open early)
 
-pub returns-clause-step : goal.returns-clause-step
-returns-clause-step g c clean inside =
+pub returns-clause-answers : goal.returns-clause-answers
+returns-clause-answers g c =
     let setup = c.args.setup.now in
-    let old = state g.S.Store c.args.tx.now.conn.now in
-    let mid = state g.S.Store c.see_open.new.tx.conn.now in
-    let early : HasCleanDisk mid = omega (arith, clean, c.answer_in.ensures.stays.survives.clean) in
-    let same : IsUnchanged old mid = c.in_ok-see_open.ensures.reads.same early inside in
-    IfOk-weaker c.answer_in.result _ _ (λ r carried text s lawful known tables. carried text s lawful known (subst (λ (d : Database). AreTables setup text s d.trees) (sym same.0.now_is) tables))
-    (c.answer_in.ensures.step clean (inside_still old mid same inside))
-
-pub returns-clause-known : goal.returns-clause-known
-returns-clause-known g c clean inside =
-    let setup = c.args.setup.now in
-    let old = state g.S.Store c.args.tx.now.conn.now in
-    let mid = state g.S.Store c.see_open.new.tx.conn.now in
-    let early : HasCleanDisk mid = omega (arith, clean, c.answer_in.ensures.stays.survives.clean) in
-    let same : IsUnchanged old mid = c.in_ok-see_open.ensures.reads.same early inside in
-    IfOk-weaker c.answer_in.result _ _ (λ r keeps text s t lawful known tables. keeps text s t lawful known (subst (λ (d : Database). AreTables setup text s d.trees) (sym same.0.now_is) tables))
-    (c.answer_in.ensures.known clean (inside_still old mid same inside))
-
-pub returns-clause-unwritten : goal.returns-clause-unwritten
-returns-clause-unwritten g c =
     let old = state g.S.Store c.args.tx.now.conn.now in
     let mid = state g.S.Store c.see_open.new.tx.conn.now in
     let new = state g.S.Store c.answer_in.new.tx.conn.now in
-    unwritten-then old mid new c.answer_in.result (λ clean. omega (arith, clean, c.answer_in.ensures.stays.survives.clean)) (λ early inside. c.in_ok-see_open.ensures.reads.same early inside) c.answer_in.ensures.unwritten
+    let earlier : (HasCleanDisk new → HasCleanDisk mid) = λ clean. omega (arith, clean, c.answer_in.ensures.stays.survives.clean) in
+    let told = c.answer_in.ensures.answers in
+    record {
+      kind = told.kind;
+      step = λ clean inside.
+          let same : IsUnchanged old mid = c.in_ok-see_open.ensures.reads.same (earlier clean) inside in
+          IfOk-weaker c.answer_in.result _ _ (λ r carried text s lawful known tables. carried text s lawful known (subst (λ (d : Database). AreTables setup text s d.trees) (sym same.0.now_is) tables))
+          (told.step clean (inside_still old mid same inside));
+      known = λ clean inside.
+          let same : IsUnchanged old mid = c.in_ok-see_open.ensures.reads.same (earlier clean) inside in
+          IfOk-weaker c.answer_in.result _ _ (λ r keeps text s t lawful known tables. keeps text s t lawful known (subst (λ (d : Database). AreTables setup text s d.trees) (sym same.0.now_is) tables))
+          (told.known clean (inside_still old mid same inside));
+      forgets = told.forgets;
+      unwritten = unwritten-then old mid new c.answer_in.result earlier (λ early inside. c.in_ok-see_open.ensures.reads.same early inside) told.unwritten;
+    }

@@ -28,7 +28,7 @@ returns-in-Ok-commit-clause-done g c clean now text s lawful has =
     let held : AreTables setup text s bare.now.trees = rw begun has.tables in
     let inside = survives_begin g.S.Store c.args.conn.now last _ (rw begun at c.answer_open.ensures.stays.survives) in
     let known = c.requires.known (omega (arith, early, inside.clean)) (rw begun at (c.in-Ok.ensures.was_open early)) text s lawful has in
-    let carried = c.in-Ok.ensures.step early here text s lawful known held in
+    let carried = c.in-Ok.ensures.answers.step early here text s lawful known held in
     let shown = (c.in-Ok-commit.ensures.ok clean_end).1 in
     subst (λ (h : _). IsDone setup text s c.args.ask.now c.in-Ok.answer (state g.S.Store h)) same
     (done_committed setup text s c.args.ask.now c.in-Ok.answer last new carried shown)
@@ -51,7 +51,7 @@ returns-in-Ok-commit-clause-known g c clean =
           let here : IsInside bare = rw begun (record { schema = has.schema; sound = has.sound; distinct = has.distinct; inside = refl }) in
           let held : AreTables setup text s bare.now.trees = rw begun has.tables in
           let known = c.requires.known (omega (arith, early, inside.clean)) (rw begun at (c.in-Ok.ensures.was_open early)) text s lawful has in
-          c.in-Ok.ensures.known early here text s t lawful known held answered,
+          c.in-Ok.ensures.answers.known early here text s t lawful known held answered,
     )
 
 pub returns-in-Err-commit-clause-known : goal.returns-in-Err-commit-clause-known
@@ -86,7 +86,7 @@ returns-in-Ok-commit-clause-ends g c =
           let here : IsInside bare = rw begun (record { schema = has.schema; sound = has.sound; distinct = has.distinct; inside = refl }) in
           let held : AreTables setup text s bare.now.trees = rw begun has.tables in
           let known = c.requires.known (omega (arith, early, inside.clean)) (rw begun at (c.in-Ok.ensures.was_open early)) text s lawful has in
-          record { was_open = was_open; text = text; state = s; lawful = lawful; has = has; after = tables_after setup text s c.args.ask.now c.in-Ok.answer last (c.in-Ok.ensures.step early here text s lawful known held) }));
+          record { was_open = was_open; text = text; state = s; lawful = lawful; has = has; after = tables_after setup text s c.args.ask.now c.in-Ok.answer last (c.in-Ok.ensures.answers.step early here text s lawful known held) }));
     }
 
 pub returns-in-Err-commit-clause-done : goal.returns-in-Err-commit-clause-done
@@ -105,7 +105,7 @@ returns-in-Err-commit-clause-done g c clean now text s lawful has =
     let held : AreTables setup text s bare.now.trees = rw begun has.tables in
     let inside = survives_begin g.S.Store c.args.conn.now last _ (rw begun at c.answer_open.ensures.stays.survives) in
     let known = c.requires.known (omega (arith, early, inside.clean)) (rw begun at (c.in-Ok.ensures.was_open early)) text s lawful has in
-    let carried = c.in-Ok.ensures.step early here text s lawful known held in
+    let carried = c.in-Ok.ensures.answers.step early here text s lawful known held in
     let kept = c.answer_open.ensures.stays.kept early here in
     let was_open = rw begun at kept.was_open in
     let committed = rw begun at kept.committed in
@@ -140,7 +140,7 @@ returns-in-Err-commit-clause-ends g c =
           let here : IsInside bare = rw begun (record { schema = has.schema; sound = has.sound; distinct = has.distinct; inside = refl }) in
           let held : AreTables setup text s bare.now.trees = rw begun has.tables in
           let known = c.requires.known (omega (arith, early, inside.clean)) (rw begun at (c.in-Ok.ensures.was_open early)) text s lawful has in
-          record { was_open = was_open; text = text; state = s; lawful = lawful; has = has; after = tables_after setup text s c.args.ask.now c.in-Ok.answer last (c.in-Ok.ensures.step early here text s lawful known held) }));
+          record { was_open = was_open; text = text; state = s; lawful = lawful; has = has; after = tables_after setup text s c.args.ask.now c.in-Ok.answer last (c.in-Ok.ensures.answers.step early here text s lawful known held) }));
     }
 
 pub returns-in-Err-clause-done : goal.returns-in-Err-clause-done
@@ -184,7 +184,7 @@ returns-in-Ok-commit-clause-unwritten g c acts =
     let still : HasCleanDisk last → IsUnchanged bare last = λ early.
     let has = (office early).2.has in
     let here : IsInside bare = rw begun (record { schema = has.schema; sound = has.sound; distinct = has.distinct; inside = refl }) in
-    c.in-Ok.ensures.unwritten early (here, c.in-Ok.ensures.was_open early) acts in
+    c.in-Ok.ensures.answers.unwritten early (here, c.in-Ok.ensures.was_open early) acts in
     subst (λ (h : _). LeavesAsBefore old (state g.S.Store h) c.in-Ok.answer) same
     (inl (unwritten_commit old last new (λ db now may. g.met.S.Store.settled c.args.conn.now.store db now may) inside c.commit.ensures.survives
     (λ early. (office early).2.has.settled)
@@ -219,7 +219,7 @@ returns-in-Err-commit-clause-unwritten g c acts = inr (
       let here : IsInside bare = rw begun (record { schema = has.schema; sound = has.sound; distinct = has.distinct; inside = refl }) in
       let held : AreTables setup text s bare.now.trees = rw begun has.tables in
       let known = c.requires.known (omega (arith, early, inside.clean)) (rw begun at (c.in-Ok.ensures.was_open early)) text s lawful has in
-      let carried = c.in-Ok.ensures.step early here text s lawful known held in
+      let carried = c.in-Ok.ensures.answers.step early here text s lawful known held in
       let kept = c.answer_open.ensures.stays.kept early here in
       let opened = rw begun at kept.was_open in
       let committed = rw begun at kept.committed in

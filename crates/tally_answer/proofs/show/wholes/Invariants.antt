@@ -1,7 +1,0 @@
-use Rattle.std.proofs.Common.{◌≡◌, map, take}
-use Rattle.serde_json.specs.View.{view}
-use Rattle.tally_answer.specs.Shown.{whole}
-use Rattle.tally_answer.proofs.show.wholes.Given as goal
-
-abbrev pub invariant-loop-number : goal.invariant-loop-number
-invariant-loop-number l = map view l.items.items ≡ map whole (take l.number-index l.numbers)

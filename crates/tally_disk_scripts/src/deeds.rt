@@ -1,0 +1,295 @@
+//! What is done to a database until its store refuses, over any store.
+
+use crate::lines::{answered, push_each, shown_again};
+use crate::looks::push_looked;
+use sqlite::{Alter, Connection};
+use std::alloc::Global;
+use std::io::{self, ErrorKind, Read};
+use std::test::Fail;
+use tally_core::{ImportCount, ImportFault, Keeper};
+use tally_import::{ReturnRows, Sep};
+use tally_scripts::{code, first_wrong_of_run};
+use tally_store::{CreateFault, OpenFault, Store};
+
+/// Gives its text by pieces of so many bytes, and then ends or fails.
+#[derive(Drop)]
+pub(crate) struct Text<'a> {
+    pub(crate) text: &'a [u8],
+    pub(crate) piece: usize,
+    pub(crate) fails: bool,
+}
+
+impl Read for Text<'_> {
+    fn read(&mut self, buf: &mut [u8]) -> io::Result<usize> {
+        if self.fails && self.text.is_empty() {
+            return Err(io::Error::from(ErrorKind::BrokenPipe));
+        }
+        let taken = self.piece.min(buf.len()).min(self.text.len());
+        buf[..taken].copy_from_slice(&self.text[..taken]);
+        self.text = &self.text[taken..];
+        Ok(taken)
+    }
+}
+
+/// Rows of a text, the bytes that a read gives, whether a read fails after it, and what their
+/// import comes to.
+#[derive(Clone, Copy)]
+pub struct Rows<'a> {
+    pub text: &'a str,
+    pub sep: Sep,
+    pub piece: usize,
+    pub fails: bool,
+    pub want: Result<ImportCount, ImportFault>,
+}
+
+/// What is done. The first four have steps, each of which is carried out or not.
+#[derive(Clone, Copy)]
+pub enum Deed<'a> {
+    /// An office of this setup is made. Another fault than that of the store is shown.
+    Create(&'a str),
+    /// It is opened.
+    Open,
+    /// It answers these lines, a step each.
+    Answer(&'a str),
+    /// It answers these lines in one run, and the first that is wrong is shown.
+    Run(&'a str),
+    /// It lodges these rows.
+    Import(Rows<'a>),
+    /// It answers these lines up to one that its store refuses, and shows then what it shows. What
+    /// was written is left as it is.
+    Refuse(&'a str),
+    /// It answers these lines, where one that its store refuses is given again, and shows after
+    /// each what it shows.
+    Repeat(&'a str),
+    /// These statements run, and the log is not copied into the database file.
+    Leave(&'a str),
+    /// All that an office shows is shown.
+    Look,
+}
+
+/// What is left of a connection: itself, or the store of one that was dropped as it is.
+#[derive(Drop)]
+pub(crate) enum Left<S: Alter> {
+    Conn(Connection<S>),
+    Store(S),
+}
+
+/// What is left after the steps that were acknowledged, how many these were, and what was shown.
+#[derive(Drop)]
+pub(crate) struct Work<S: Alter> {
+    pub(crate) left: Left<S>,
+    pub(crate) steps: usize,
+    pub(crate) told: String,
+}
+
+/// A connection as a stop leaves it.
+fn stopped<S: Alter + Drop>(alloc: Global, conn: Connection<S>, steps: usize) -> Work<S> {
+    Work {
+        left: Left::Store(conn.into_store()),
+        steps,
+        told: String::new(alloc),
+    }
+}
+
+/// One whose log is copied into the database file.
+fn ended<S: Alter + Drop>(alloc: Global, conn: Connection<S>, steps: usize) -> Work<S> {
+    Work {
+        left: Left::Conn(conn),
+        steps,
+        told: String::new(alloc),
+    }
+}
+
+/// What making an office in a database answers, and its connection where none is made.
+fn made<S: Alter + Drop>(
+    alloc: Global,
+    conn: Connection<S>,
+    text: &str,
+) -> Result<Store<S>, (Connection<S>, CreateFault)> {
+    if !conn.is_autocommit() {
+        return Err((conn, CreateFault::Store));
+    }
+    Store::create(alloc, conn, text.as_bytes())
+}
+
+/// What opening an office answers, and its connection where none is opened.
+pub(crate) fn open<S: Alter + Drop>(
+    alloc: Global,
+    conn: Connection<S>,
+) -> Result<Store<S>, (Connection<S>, OpenFault)> {
+    if !conn.is_autocommit() {
+        return Err((conn, OpenFault::Store));
+    }
+    Store::open(alloc, conn)
+}
+
+fn create<S: Alter + Drop>(
+    alloc: Global,
+    conn: Connection<S>,
+    text: &str,
+) -> Result<Work<S>, Fail> {
+    match made(alloc, conn, text) {
+        Ok(office) => Ok(ended(alloc, office.close(), 1)),
+        Err((conn, CreateFault::Store)) => Ok(stopped(alloc, conn, 0)),
+        Err((conn, fault)) => {
+            let mut work = ended(alloc, conn, 1);
+            write!(work.told, "{fault}")?;
+            Ok(work)
+        }
+    }
+}
+
+fn answer<S: Alter + Drop>(
+    alloc: Global,
+    mut office: Store<S>,
+    lines: &str,
+) -> Result<Work<S>, Fail> {
+    let (steps, is_all) = answered(alloc, &mut office, lines)?;
+    if is_all {
+        return Ok(ended(alloc, office.close(), steps));
+    }
+    Ok(stopped(alloc, office.close(), steps))
+}
+
+/// What an import of a text into the constituency comes to.
+pub(crate) fn lodged<K: Keeper>(
+    alloc: Global,
+    office: &mut K,
+    text: Text<'_>,
+    sep: Sep,
+) -> Result<Result<ImportCount, ImportFault>, Fail> {
+    let found = office.setup().con(code("c1")?).ok_or("c1")?;
+    let con = found.try_copy(alloc)?;
+    let mut source = ReturnRows::new(alloc, text, sep, con);
+    Ok(office.lodge_from(&mut source))
+}
+
+/// Whether an import of rows comes to what it should. `false` where the store refuses.
+fn imported<K: Keeper>(alloc: Global, office: &mut K, rows: Rows<'_>) -> Result<bool, Fail> {
+    let text = Text {
+        text: rows.text.as_bytes(),
+        piece: rows.piece,
+        fails: rows.fails,
+    };
+    let came = lodged(alloc, office, text, rows.sep)?;
+    if came == rows.want {
+        return Ok(true);
+    }
+    match came {
+        Err(ImportFault::Store) => Ok(false),
+        _ => Err(Fail::from("another count or fault")),
+    }
+}
+
+fn import<S: Alter + Drop>(
+    alloc: Global,
+    mut office: Store<S>,
+    rows: Rows<'_>,
+) -> Result<Work<S>, Fail> {
+    if imported(alloc, &mut office, rows)? {
+        return Ok(ended(alloc, office.close(), 1));
+    }
+    Ok(stopped(alloc, office.close(), 0))
+}
+
+fn run_in<S: Alter + Drop>(
+    alloc: Global,
+    mut office: Store<S>,
+    lines: &str,
+) -> Result<Work<S>, Fail> {
+    let told = first_wrong_of_run(alloc, &mut office, lines)?;
+    Ok(Work {
+        left: Left::Conn(office.close()),
+        steps: 1,
+        told,
+    })
+}
+
+fn refuse<S: Alter + Drop>(
+    alloc: Global,
+    mut office: Store<S>,
+    lines: &str,
+) -> Result<Work<S>, Fail> {
+    let (steps, _is_all) = answered(alloc, &mut office, lines)?;
+    let told = shown_again(alloc, &mut office)?;
+    Ok(Work {
+        left: Left::Store(office.close().into_store()),
+        steps,
+        told,
+    })
+}
+
+fn repeat<S: Alter + Drop>(
+    alloc: Global,
+    mut office: Store<S>,
+    lines: &str,
+) -> Result<Work<S>, Fail> {
+    let mut told = String::new(alloc);
+    let steps = push_each(alloc, &mut told, &mut office, lines)?;
+    Ok(Work {
+        left: Left::Conn(office.close()),
+        steps,
+        told,
+    })
+}
+
+/// Carries out what is done to an office.
+fn in_office<S: Alter + Drop>(
+    alloc: Global,
+    office: Store<S>,
+    deed: Deed<'_>,
+) -> Result<Work<S>, Fail> {
+    match deed {
+        Deed::Answer(lines) => answer(alloc, office, lines),
+        Deed::Run(lines) => run_in(alloc, office, lines),
+        Deed::Import(rows) => import(alloc, office, rows),
+        Deed::Refuse(lines) => refuse(alloc, office, lines),
+        Deed::Repeat(lines) => repeat(alloc, office, lines),
+        _ => Ok(ended(alloc, office.close(), 1)),
+    }
+}
+
+fn opened<S: Alter + Drop>(
+    alloc: Global,
+    conn: Connection<S>,
+    deed: Deed<'_>,
+) -> Result<Work<S>, Fail> {
+    match open(alloc, conn) {
+        Ok(office) => in_office(alloc, office, deed),
+        Err((conn, OpenFault::Store)) => Ok(stopped(alloc, conn, 0)),
+        Err(_) => Err(Fail::from("another fault")),
+    }
+}
+
+fn leave<S: Alter + Drop>(
+    alloc: Global,
+    mut conn: Connection<S>,
+    statements: &str,
+) -> Result<Work<S>, Fail> {
+    conn.execute_batch(statements)?;
+    Ok(stopped(alloc, conn, 1))
+}
+
+fn look<S: Alter + Drop>(alloc: Global, conn: Connection<S>) -> Result<Work<S>, Fail> {
+    let mut told = String::new(alloc);
+    let conn = push_looked(alloc, &mut told, conn)?;
+    Ok(Work {
+        left: Left::Conn(conn),
+        steps: 1,
+        told,
+    })
+}
+
+/// Carries a deed out, as far as it goes.
+pub(crate) fn carry_out<S: Alter + Drop>(
+    alloc: Global,
+    conn: Connection<S>,
+    deed: Deed<'_>,
+) -> Result<Work<S>, Fail> {
+    match deed {
+        Deed::Create(text) => create(alloc, conn, text),
+        Deed::Leave(statements) => leave(alloc, conn, statements),
+        Deed::Look => look(alloc, conn),
+        _ => opened(alloc, conn, deed),
+    }
+}

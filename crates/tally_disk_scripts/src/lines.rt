@@ -1,0 +1,124 @@
+//! Lines of a script: commands, and imports beside them.
+
+use crate::deeds::{Text, lodged};
+use crate::looks::shown;
+use std::alloc::Global;
+use std::test::Fail;
+use tally_core::{ImportCount, ImportFault, Keeper};
+use tally_import::Sep;
+use tally_scripts::first_wrong;
+
+/// The returns of the stations s1, s2 and s3 that a line `import` lodges.
+pub const RETURNS: &str =
+    "station,slip,blank,spoiled,A,B\ns1,p1,0,0,10,20\ns2,p2,1,0,30,40\ns3,p3,0,2,50,60\n";
+
+/// The numbers of rows, or the fault. That of a store is answered as a refusal, by its number.
+fn told(alloc: Global, came: &Result<ImportCount, ImportFault>) -> Result<String, Fail> {
+    match came {
+        Ok(
+            ImportCount {
+                lodged,
+                same,
+                differs,
+                refused,
+                bad,
+                ..
+            },
+        ) => Ok(format!(in alloc; "{lodged} {same} {differs} {refused} {bad}")?),
+        Err(ImportFault::Store) => Ok(String::from_str(alloc, "refused 23")?),
+        Err(fault) => Ok(format!(in alloc; "{fault:?}")?),
+    }
+}
+
+/// What is wrong with the answer to `import = ANSWER`, or to `cut import = ANSWER`, where a read
+/// fails after the rows; or nothing.
+fn wrong_import<K: Keeper>(alloc: Global, keeper: &mut K, line: &str) -> Result<String, Fail> {
+    let (what, wanted) = line.split_once(" = ").ok_or("no answer")?;
+    let text = Text {
+        text: RETURNS.as_bytes(),
+        piece: 4_096,
+        fails: what == "cut import",
+    };
+    let told = told(alloc, &lodged(alloc, keeper, text, Sep::Comma)?)?;
+    if told.as_str() == wanted {
+        return Ok(String::new(alloc));
+    }
+    Ok(format!(in alloc; "{line}, and not {told}")?)
+}
+
+/// What is wrong with the answer to a line, or nothing.
+pub(crate) fn wrong<K: Keeper>(alloc: Global, keeper: &mut K, line: &str) -> Result<String, Fail> {
+    if line.starts_with("import") || line.starts_with("cut") {
+        return wrong_import(alloc, keeper, line);
+    }
+    first_wrong(alloc, keeper, line)
+}
+
+/// Whether a keeper answers a line as it should. `false` where its store refuses.
+pub(crate) fn is_answered<K: Keeper>(
+    alloc: Global,
+    keeper: &mut K,
+    line: &str,
+) -> Result<bool, Fail> {
+    let wrong = wrong(alloc, keeper, line)?;
+    if wrong.as_str().ends_with(", and not refused 23") {
+        return Ok(false);
+    }
+    if !wrong.is_empty() {
+        return Err(Fail::from(wrong));
+    }
+    Ok(true)
+}
+
+/// How many of the lines a keeper answers, up to the one that its store refuses, and whether there
+/// is such a line.
+pub(crate) fn answered<K: Keeper>(
+    alloc: Global,
+    keeper: &mut K,
+    lines: &str,
+) -> Result<(usize, bool), Fail> {
+    let mut steps = 0usize;
+    for line in lines.lines() {
+        if !is_answered(alloc, keeper, line)? {
+            return Ok((steps, false));
+        }
+        steps = steps.saturating_add(1);
+    }
+    Ok((steps, true))
+}
+
+/// Whether a keeper answers a line that is given again where its store refuses it once.
+fn is_answered_again<K: Keeper>(alloc: Global, keeper: &mut K, line: &str) -> Result<bool, Fail> {
+    if is_answered(alloc, keeper, line)? {
+        return Ok(true);
+    }
+    is_answered(alloc, keeper, line)
+}
+
+/// What a keeper shows. It is asked again where its store refuses any of it.
+pub(crate) fn shown_again<K: Keeper>(alloc: Global, keeper: &mut K) -> Result<String, Fail> {
+    let text = shown(alloc, keeper)?;
+    if text.as_str().contains("refused 23") {
+        return shown(alloc, keeper);
+    }
+    Ok(text)
+}
+
+/// How many of the lines a keeper answers, each of which is given again where its store refuses it
+/// once. What it shows after each is added.
+pub fn push_each<K: Keeper>(
+    alloc: Global,
+    text: &mut String,
+    keeper: &mut K,
+    lines: &str,
+) -> Result<usize, Fail> {
+    let mut steps = 0usize;
+    for line in lines.lines() {
+        if !is_answered_again(alloc, keeper, line)? {
+            return Ok(steps);
+        }
+        text.push_str(shown_again(alloc, keeper)?.as_str())?;
+        steps = steps.saturating_add(1);
+    }
+    Ok(steps)
+}

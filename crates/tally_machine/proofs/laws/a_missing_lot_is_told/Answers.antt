@@ -1,8 +1,0 @@
-use Rattle.tally_steps.proofs.LawLemmas.{missing-told, told-is_need}
-use Rattle.tally_machine.proofs.laws.a_missing_lot_is_told.Goals as goal
-
-pub returns-clause-missing : goal.returns-clause-missing
-returns-clause-missing c = missing-told (record { unique = c.laws_of_allotments.ensures.unique; exist = c.laws_of_allotments.ensures.exist; orders_give = c.laws_of_allotments.ensures.orders_give; groups = c.laws_of_allotments.ensures.groups; either = c.laws_of_allotments.ensures.either; never_both = c.laws_of_allotments.ensures.never_both })
-
-pub returns-clause-told : goal.returns-clause-told
-returns-clause-told c = told-is_need

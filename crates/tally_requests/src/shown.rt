@@ -1,0 +1,68 @@
+//! A constituency, shown without its certificates on record.
+
+ghost use Rattle.std.specs.Prelude.{◌≡◌, [], Some, IfOk, OnOk};
+ghost use Rattle.tally_rules.specs.Constituency as value;
+ghost use Rattle.tally_rules.specs.Setup.{constituency_with};
+ghost use Rattle.tally_returns.specs.View.{FitsView};
+ghost use Rattle.tally_entries.specs.Entries.{Finds};
+ghost use Rattle.tally_statements.specs.Inside.{OnlyReads};
+ghost use Rattle.tally_requests.specs.Known.{ForgetsNone, known_of};
+ghost use Rattle.tally_requests.specs.Shown.{FindsKnown, FindsShown};
+
+use crate::known::{known_at, remember};
+use sqlite::{Alter, Error, Transaction};
+use std::alloc::Global;
+use std::collections::BTreeMap;
+use tally_entries::find_view;
+use tally_returns::{ConView, Refusal};
+use tally_rules::{Code, Setup};
+use tally_statements::{KeyedTable, rows_of_key};
+use tally_tables::{Statuses, statuses_of};
+
+/// Reads a row that is never there. A connection that is shut does not answer this. So a request
+/// that looks at no table, or an import without rows, gets to no commit there.
+pub fn see_open<S: Alter>(tx: &mut Transaction<'_, S>) -> Result<(), Error>
+    ensures reads { OnlyReads S.Store tx.old tx.new result }
+{
+    rows_of_key(tx, KeyedTable::Cons, "")?;
+    Ok(())
+}
+
+/// Shows the constituency of a code, without its certificates on record, which are not read.
+/// Nothing is written.
+pub fn show_con_in<S: Alter>(
+    alloc: Global,
+    tx: &mut Transaction<'_, S>,
+    setup: &Setup,
+    known: &mut BTreeMap<Code, Statuses>,
+    code: Code,
+) -> Result<Result<ConView, Refusal>, Error>
+    ensures reads { OnlyReads S.Store tx.old tx.new result }
+    ensures fits { IfOk result (λ shown. IfOk shown (λ view. (con : value.Constituency)
+        → constituency_with code setup.now ≡ Some con → FitsView con view)) }
+    ensures bare { IfOk result (λ shown. IfOk shown (λ view. view.past ≡ [])) }
+    ensures shown { Finds S.Store (FindsShown setup.now (known_of known.old) code)
+        tx.old tx.new result }
+    ensures known { Finds S.Store
+        (λ seen _. FindsKnown setup.now (known_of known.old) (known_of known.new) seen)
+        tx.old tx.new result }
+    ensures forgets { OnOk result (ForgetsNone (known_of known.old) (known_of known.new)) }
+{
+    let Some(con) = setup.con(code) else {
+        see_open(tx)?;
+        return Ok(Err(Refusal::NoConstituency));
+    };
+    let view = find_view(alloc, tx, setup, con, known_at(known, con.code), false)?;
+    remember(known, con.code, statuses_of(&view))?;
+    Ok(Ok(without_past(view)))
+}
+
+/// A view without its certificates on record. Where they were not read it has none, but that is
+/// known only of the tables of a lawful state.
+fn without_past(view: ConView) -> ConView
+    ensures { result ≡ record view { past = [] } }
+{
+    let mut shown = view;
+    shown.past.clear();
+    shown
+}

@@ -1,0 +1,14 @@
+use Rattle.std.proofs.Common.{◌≡◌, All}
+use Rattle.tally_rules.specs.Codes.{AreDistinct}
+use Rattle.tally_rules.specs.Limits.{IsListEntry}
+use Rattle.tally_rules.specs.Constituency.{list_codes}
+use Rattle.tally_rules.specs.Reading.{list_entry}
+use Rattle.tally_rules.proofs.ReadLemmas.{IsReadTo}
+use Rattle.tally_rules.proofs.read.entry.read_lists.Given as goal
+
+abbrev pub invariant-loop-list : goal.invariant-loop-list
+invariant-loop-list l =
+    IsReadTo (λ before. list_entry (list_codes before)) l.entries l.lists.items l.list-index
+    × (l.codes ≡ list_codes l.lists.items)
+    × AreDistinct l.codes
+    × All IsListEntry l.lists.items
