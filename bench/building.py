@@ -5,7 +5,7 @@
     python3 bench/building.py ENDS       from a copy of that file, crates/tally_office/out/office.ends
     python3 bench/building.py --files    from the times of the files that checks left, where there is no such file
 
-It writes bench/crate_seconds.txt, from which ./office tells how long a build takes. Parts of which it finds no whole
+It writes bench/crate_seconds.txt, from which ./office says how long a build takes. Parts of which it finds no whole
 measurement keep their seconds: of a crate that was taken over, or proved over what an earlier build left.
 """
 

@@ -23,7 +23,7 @@ from pathlib import Path
 # What is imported from here is not to be left beside it in compiled form.
 sys.dont_write_bytecode = True
 from building import build_office, build_plain
-from measuring import Numbers, run
+from measuring import Numbers, number_text, run
 
 HERE = Path(__file__).resolve().parent
 PROGRAM = HERE.parent / "crates" / "tally_office" / "out" / "tally_office"
@@ -78,7 +78,7 @@ def distinct_rows(rows, row):
 
 
 def repeated_rows(rows, row):
-    """Rows of few stations: behind the first of each, every third one differs and the others repeat."""
+    """Rows of few stations: after the first of each, every third one differs and the others repeat."""
     numbers = Numbers(2)
     stations = codes("station", FEW_STATIONS)
     slips = codes("slip", FEW_STATIONS)
@@ -152,11 +152,6 @@ def peak_of(command, path):
     return int(ended.stderr.split()[-1]) / 1024
 
 
-def told(number):
-    """A number as text, or `-` where there is none."""
-    return "-" if number is None else f"{number:.1f}"
-
-
 def in_turn(commands, path, rounds, status=0, beside=()):
     """The times of each command, run in turn on one file, followed by those of the programs beside
     them, which write other texts and end with status 0."""
@@ -189,7 +184,7 @@ def compare(office, rust, path, rounds):
         low, high, least = (peak_of(command, path) for command in (office, python, rust))
         print(
             f"{name:18} {size:5.2f} {own:11.1f} {slow:11.1f} {slow / own:7.1f} {fast:9.1f} {fast / own:7.2f}"
-            f" {told(low):>12} {told(low and low / size):>8} {told(high):>12} {told(least):>10}"
+            f" {number_text(low):>12} {number_text(low and low / size):>8} {number_text(high):>12} {number_text(least):>10}"
         )
 
 
@@ -210,7 +205,7 @@ def hold(office, rust, alone, path, rounds):
         print(
             f"{name:25} {size:6.2f} {own:11.1f} {fast:9.1f} {fast / own:7.2f} {bare:8.1f} {own / bare:14.2f}"
             f" {least_own / least_bare:8.2f}"
-            f" {told(low):>12} {told(low and low / size):>8} {told(much):>10} {told(little):>9}"
+            f" {number_text(low):>12} {number_text(low and low / size):>8} {number_text(much):>10} {number_text(little):>9}"
         )
 
 
@@ -220,7 +215,7 @@ def grow(office, path, rounds):
     for rows in (1_500, 5_000, 10_000, 20_000):
         size = write(path, distinct_rows(rows, long_row))
         (taken,) = medians([office], path, rounds)
-        print(f"{rows:6} {size:7.2f} {taken:11.2f} {taken / rows * 1000:10.2f} {told(peak_of(office, path)):>12}")
+        print(f"{rows:6} {size:7.2f} {taken:11.2f} {taken / rows * 1000:10.2f} {number_text(peak_of(office, path)):>12}")
 
 
 def main():

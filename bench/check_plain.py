@@ -24,7 +24,7 @@ NUMBER = re.compile(r"[0-9]{1,9}")
 
 
 class BadText(Exception):
-    """The text is no text of returns."""
+    """The text is not a file of returns."""
 
 
 class BadRow(Exception):
@@ -62,7 +62,7 @@ def return_of(row, lists):
 
 
 def refusal_of(entry, standing):
-    """The number of the refusal of a return, or None where it is lodged or stands already."""
+    """The number of the refusal of a return, or None where it is lodged or recorded already."""
     _, blank, spoiled, votes = entry
     if max(blank, spoiled, *votes) > GREATEST:
         return BAD_COUNTS

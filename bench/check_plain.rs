@@ -26,7 +26,7 @@ impl Record {
     }
 }
 
-/// Reads the record that begins at a place, behind empty lines: where it ends, if there is one.
+/// Reads the record that begins at a place, after empty lines: where it ends, if there is one.
 fn next_record(text: &[u8], mut at: usize, record: &mut Record) -> Option<usize> {
     record.bytes.clear();
     record.ends.clear();
@@ -53,7 +53,7 @@ fn next_record(text: &[u8], mut at: usize, record: &mut Record) -> Option<usize>
     }
 }
 
-/// Reads a field within quotes, behind the first: where it ends.
+/// Reads a field within quotes, after the first: where it ends.
 fn quoted(text: &[u8], mut at: usize, bytes: &mut Vec<u8>) -> usize {
     loop {
         let start = at;

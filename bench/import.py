@@ -2,7 +2,7 @@
 """Measures an import of returns into a keeper in memory against a check of the same text.
 
 A constituency has 60 lists and 5,000 stations, and the text has a return of each. One program reads
-both, and in each round imports the text into a keeper in which no return stands and checks the text,
+both, and in each round imports the text into a keeper without returns and checks the text,
 in turn the one first and then the other. A time is the thread's for the call alone, with the reading
 of the text and without that of the setup; it is the median of the rounds, and what counts is the
 ratio of the medians.

@@ -54,12 +54,12 @@ def run_timed(command, status=0):
     memory at first. What GNU time takes itself, some tenths of a millisecond, is counted with it.
     """
     timer = shutil.which("time")
-    with tempfile.NamedTemporaryFile() as told_peak:
-        timed = [timer, "-f", "%M", "-o", told_peak.name] if timer else []
+    with tempfile.NamedTemporaryFile() as peak_file:
+        timed = [timer, "-f", "%M", "-o", peak_file.name] if timer else []
         began = time.monotonic()
         spent, output = run([*timed, *map(str, command)], os.devnull, status)
         clock = (time.monotonic() - began) * 1000
-        peak = int(told_peak.read().split()[-1]) / 1024 if timer else None
+        peak = int(peak_file.read().split()[-1]) / 1024 if timer else None
     return Ran(spent, clock, peak, output)
 
 
@@ -75,7 +75,7 @@ class Medians:
 
 
 def in_turn(rounds, commands, before=lambda: None, refused=()):
-    """What each command took, by its name. In each round the commands run one after the other, each behind
+    """What each command took, by its name. In each round the commands run one after the other, each after
     `before`. Those that are refused end with status 1."""
     runs = {name: [] for name in commands}
     for _ in range(rounds):
@@ -97,8 +97,8 @@ def counted(command, folder):
     profile = folder / "profile"
     counting = ["valgrind", "--tool=callgrind", f"--callgrind-out-file={profile}", *map(str, command)]
     subprocess.run(counting, capture_output=True)
-    telling = ["callgrind_annotate", "--inclusive=yes", "--threshold=100", profile]
-    lines = subprocess.run(telling, capture_output=True, text=True, check=True).stdout
+    annotate = ["callgrind_annotate", "--inclusive=yes", "--threshold=100", profile]
+    lines = subprocess.run(annotate, capture_output=True, text=True, check=True).stdout
     return number_before(lines, r"\(100\.0%\)  PROGRAM TOTALS"), lines
 
 
@@ -114,6 +114,11 @@ def number_before(lines, what):
     return int(found[1].replace(",", ""))
 
 
-def told(number, places=1):
+def took_text(name, took):
+    """What a command took, as the first columns of a line."""
+    return f"  {name:22} {took.spent:7.0f} {took.least:7.0f} {took.clock:14.0f} {number_text(took.peak):>6}"
+
+
+def number_text(number, places=1):
     """A number as text, or `-` where there is none."""
     return "-" if number is None else f"{number:,.{places}f}"

@@ -1,7 +1,7 @@
 #!/usr/bin/env python3
 """Refuses a check its memory, once at each place where it asks for some.
 
-A library of a few lines of C stands before the allocator of the C library. It refuses the first
+A library of a few lines of C comes before the allocator of the C library. It refuses the first
 request for memory, then in another run the second, and so on until a run makes fewer requests than
 that; and again so that every request from the chosen one on is refused. Each run of `office check`
 has to end with status 3 and `failed: memory`, with nothing on standard output, or to do without
@@ -9,7 +9,7 @@ what was refused and answer as it does with ample memory.
 
     bench/refused_memory.py [--program PATH] [--every N]
 
-With `--every N` only every Nth request is refused, alone and with all behind it. A C compiler is needed, as
+With `--every N` only every Nth request is refused, alone and with all after it. A C compiler is needed, as
 `cc`. The last line is `N passed, M failed, K skipped`: texts, or the script where there is no compiler.
 """
 
@@ -24,7 +24,7 @@ from pathlib import Path
 HERE = Path(__file__).resolve().parent
 PROGRAM = HERE.parent / "crates" / "tally_office" / "out" / "tally_office"
 
-# Counts the requests, and tells how many there were when the program listens for connections, and at
+# Counts the requests, and writes how many there were when the program listens for connections, and at
 # the end.
 LIBRARY = r"""
 #define _GNU_SOURCE
@@ -34,9 +34,9 @@ LIBRARY = r"""
 
 static long asked, first, last;
 
-static void tell(void)
+static void write_count(void)
 {
-    dprintf(atoi(getenv("REFUSE_TOLD")), "%ld\n", asked);
+    dprintf(atoi(getenv("REFUSE_COUNTS")), "%ld\n", asked);
 }
 
 static int is_refused(void)
@@ -54,13 +54,13 @@ __attribute__((constructor)) static void begin(void)
 
 __attribute__((destructor)) static void end(void)
 {
-    tell();
+    write_count();
 }
 
 int listen(int socket, int waiting)
 {
     int (*real)(int, int) = dlsym(RTLD_NEXT, "listen");
-    tell();
+    write_count();
     return real(socket, waiting);
 }
 
@@ -113,9 +113,9 @@ class Runs:
         self.library = library
 
     def begin(self, command, first, last, folder=None):
-        """Begins a run in which these requests are refused: the process, and where it is told how many there were."""
+        """Begins a run in which these requests are refused: the process, and the file to which it writes how many there were."""
         reader, writer = os.pipe()
-        names = {"LD_PRELOAD": self.library, "REFUSE_FIRST": str(first), "REFUSE_LAST": str(last), "REFUSE_TOLD": str(writer)}
+        names = {"LD_PRELOAD": self.library, "REFUSE_FIRST": str(first), "REFUSE_LAST": str(last), "REFUSE_COUNTS": str(writer)}
         # Fresh memory by large pages, which else takes most of the time of a run over a database.
         names["GLIBC_TUNABLES"] = "glibc.malloc.top_pad=16777216:glibc.malloc.hugetlb=1"
         pipes = {"stdin": subprocess.PIPE, "stdout": subprocess.PIPE, "stderr": subprocess.PIPE}
@@ -126,10 +126,10 @@ class Runs:
     def run(self, command, text, first, last, folder=None):
         """Refuses these requests: how many there were, or nothing where the program was killed, and what the run wrote and
         answered."""
-        process, told = self.begin(command, first, last, folder)
+        process, written = self.begin(command, first, last, folder)
         output, error = process.communicate(text, timeout=600)
-        with told:
-            counts = told.read().split()
+        with written:
+            counts = written.read().split()
         if not counts:
             return None, (process.returncode, output, error)
         return int(counts[-1]), (process.returncode, output, error)
@@ -150,7 +150,7 @@ class Checks:
         return self.runs.run([self.program, "check"], text.encode(), first, last)
 
     def is_done_without(self, text, ample, at, last):
-        """Whether a check with this request refused came to the same as with ample memory. It may fail for want of memory."""
+        """Whether a check with this request refused came to the same as with ample memory. It may fail out of memory."""
         count, answer = self.run(text, at, last)
         if count is None or count < at:
             raise NotPromised(f"request {at} was not made, or the program was killed: {answer}")
@@ -166,10 +166,11 @@ class Checks:
         places = range(1, asked + 1, self.every)
         alone = sum(self.is_done_without(text, ample, at, at) for at in places)
         with_all = sum(self.is_done_without(text, ample, at, WHOLE) for at in places)
-        return f"{told_of(len(places), asked)}, alone and with all behind it; {alone + with_all} times the check did without"
+        words = requests_refused(len(places), asked)
+        return f"{words}, alone and with all after it; {alone + with_all} times the check did without"
 
 
-def told_of(refused, asked):
+def requests_refused(refused, asked):
     """How many requests for memory were refused, in words."""
     return f"each of {asked} requests refused" if refused == asked else f"{refused} of {asked} requests refused"
 

@@ -16,7 +16,7 @@ refused from there on, so is every later message. The server ends with its usual
 
     bench/refused_program.py [--program FILE] [--jobs N] [--every N] [NAME..]
 
-With `--every N` only every Nth request is refused, alone and with all behind it. With parts of names of workloads, only
+With `--every N` only every Nth request is refused, alone and with all after it. With parts of names of workloads, only
 those. A C compiler is needed, as `cc`. The last line is `N passed, M failed, K skipped`: workloads, or the script where there
 is no compiler.
 """
@@ -231,7 +231,7 @@ class Command:
     def __init__(self, bench, name, words, files, first=1, takes_over=False, opens=True):
         self.bench, self.name, self.files, self.first = bench, name, files, first
         self.words = [bench.program, *words]
-        # Whether it opens a database of version 1, which is then taken over though the command fails behind that; whether the
+        # Whether it opens a database of version 1, which is then taken over though the command fails after that; whether the
         # database is one that opens.
         self.takes_over, self.opens = takes_over, opens
 
@@ -266,9 +266,9 @@ class Command:
             return "failed: memory, an empty file is left", True
         if is_whole and answer == MEMORY and state == self.after and self.takes_over:
             return "failed: memory, taken over" + beside, True
-        return f"{answer}, {self.told(state)}, {left}", False
+        return f"{answer}, {self.rows_in_words(state)}, {left}", False
 
-    def told(self, state):
+    def rows_in_words(self, state):
         """Which rows these are, in words."""
         if state == self.before:
             return "as before"
@@ -310,9 +310,9 @@ class Server:
         folder, port = self.bench.fresh(self.files), self.bench.port()
         count = str(len(self.messages) + 1)
         words = [self.bench.program, "serve", "--db", DB, "--port", str(port), "--count", count]
-        process, told = self.bench.runs.begin(words, first, last, folder)
+        process, counts = self.bench.runs.begin(words, first, last, folder)
         made = None
-        with process, told:
+        with process, counts:
             try:
                 line = process.stderr.readline()
                 if line == f"listening on 127.0.0.1:{port} for {count} connections\n".encode():
@@ -323,7 +323,7 @@ class Server:
                 raise NotPromised(f"{error}, status {process.poll()}") from error
             finally:
                 process.kill()
-            asked = [int(n) for n in told.read().split()]
+            asked = [int(n) for n in counts.read().split()]
         return asked, (process.returncode, output, line + error), made
 
     def outcome(self, first, last):
@@ -339,10 +339,10 @@ class Server:
         is_end = self.is_end(ended) if made else ended == MEMORY
         if is_end and self.states[done] == state == self.bench.judge.state(self.bench.own.folder, [DB]):
             return words + (", a log is left" if LOG in left else ""), True
-        return f"{words}; {ended}, {left}, {self.told(state)}", False
+        return f"{words}; {ended}, {left}, {self.rows_in_words(state)}", False
 
-    def told(self, state):
-        """Behind which messages the rows are these, in words."""
+    def rows_in_words(self, state):
+        """After which messages the rows are these, in words."""
         places = [place for place, known in enumerate(self.states[:-1]) if known == state]
         return f"as after the messages {places}" if places else f"other rows: {state}"
 
@@ -362,7 +362,7 @@ class Server:
                 refused = place
                 state = self.bench.judge.state(self.bench.own.folder)
                 if state != self.states[place]:
-                    raise NotPromised(f"503 to message {place + 1}, {self.told(state)}")
+                    raise NotPromised(f"503 to message {place + 1}, {self.rows_in_words(state)}")
                 if one_alone:
                     answer = ask(port, text)
             if refused is not None and not one_alone:
@@ -408,7 +408,7 @@ def of_version_1(bench):
 
 
 def after_import(bench, files, text):
-    """The database behind an import of a text."""
+    """The database after an import of a text."""
     folder = bench.fresh({**files, "returns.csv": text.encode()})
     words = [bench.program, "import", "--db", DB, "--con", "c1", "--csv", "returns.csv"]
     subprocess.run(words, cwd=folder, check=True, stdout=subprocess.DEVNULL)
@@ -416,7 +416,7 @@ def after_import(bench, files, text):
 
 
 def changed(bench, files, statements):
-    """The database behind statements of C SQLite."""
+    """The database after statements of C SQLite."""
     folder = bench.fresh(files)
     with database(str(folder / DB)) as it:
         it.executescript(statements)
@@ -434,7 +434,7 @@ def imports(bench, name, files, text, con="c1", first=1):
 
 
 def imports_into_open(bench, name, files, text):
-    """An import that is refused memory behind the opening."""
+    """An import that is refused memory after the opening."""
     return imports(bench, name, files, text, first=opening(imports(bench, name, files, text, "zz")))
 
 
@@ -503,7 +503,7 @@ def refuse_each(work, every, pool):
     places = range(work.first, last + 1, every)
     wrong = 0
     print(f"{work.name}: requests {work.first} to {last}" + (f", every {every}th" if every > 1 else ""), flush=True)
-    for words, end in (("alone", lambda at: at), ("and all behind it", lambda at: WHOLE)):
+    for words, end in (("alone", lambda at: at), ("and all after it", lambda at: WHOLE)):
         came, bad = Counter(), {}
         for at, (what, fine) in zip(places, pool.map(lambda at: work.outcome(at, end(at)), places)):
             if fine:

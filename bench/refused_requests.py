@@ -28,7 +28,7 @@ from pathlib import Path
 # What is imported from here is not to be left beside it in compiled form.
 sys.dont_write_bytecode = True
 from building import Kept
-from refused_memory import WHOLE, NotPromised, Runs, each_judged, ended, has_no_compiler, library_in, told_of
+from refused_memory import WHOLE, NotPromised, Runs, each_judged, ended, has_no_compiler, library_in, requests_refused
 
 BENCH = Path(__file__).resolve().parent
 CRATES = BENCH.parent / "crates"
@@ -47,8 +47,6 @@ OWN_ERRORS = {
     b"error: AllocFailed { .. }\n",
     b"error: Kind(OutOfMemory)\n",
 }
-
-STATION = '\n[[constituency.station]]\ncode = "{}"\nelectors = 300\n'
 
 RETURNS = """station,slip,blank,spoiled,A,B
 s1,p1,0,0,10,20
@@ -85,7 +83,7 @@ def tasks():
     the counts of the imports."""
     twin_town, rivers = constant("setups", "TWIN_TOWN"), constant("scripts", "RIVERS")
     alternating = twin_town.replace('base = "valid"', 'base = "valid"\nlot = "alternating"')
-    three_stations = twin_town + STATION.format("s2") + STATION.format("s3")
+    three_stations = twin_town + constant("setups", "MORE_STATIONS")
     imports = [
         (RETURNS, counted(lodged=3)),
         (RETURNS, counted(same=3)),
@@ -151,7 +149,7 @@ def refuse_each(runs, every, task, command):
     refused = [line for place, line in enumerate(task.lines) if place in places]
     if not refused:
         raise NotPromised(f"nothing was refused its memory; {counts}")
-    words = f"{told_of(came.total(), asked)}; {counts}\n    {len(refused)} of {len(task.lines)} {task.word} were refused"
+    words = f"{requests_refused(came.total(), asked)}; {counts}\n    {len(refused)} of {len(task.lines)} {task.word} were refused"
     # Of a few refusals most lines have none.
     never = [line for line in task.lines if line not in refused] if every == 1 else []
     return words + "".join(f"\n    never: {line}" for line in never)

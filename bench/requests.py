@@ -3,7 +3,7 @@
 
 A constituency has 60 lists and 5,000 stations, and the returns are lodged in no order. A program
 reads the setup and the returns and makes the requests; in each round it then asks a new keeper one
-kind behind the other. A time is the thread's for the call that asks all of a kind, with the answers
+kind after the other. A time is the thread's for the call that asks all of a kind, with the answers
 that it hands out; it is the median of the rounds. The program counts the answers that are of the
 kind that is wanted, and at the end the votes and the seats have to be what this script comes to.
 

@@ -9,7 +9,7 @@ the disk, the store and the desk cost. What they answer is compared byte for byt
 
 The servers are asked in turn. A time is that of the clock, from the first request of a kind to the last
 answer, and beside it the processor's for the server alone; both are medians of the rounds. Of the
-processor's the least of the rounds is told too.
+processor's the least of the rounds is printed too.
 
 Then messages whose heads have 16,384 bytes are sent whole and byte by byte: over TCP to the desk over a
 keeper in memory, where each byte is a call of the system, and to a small proved program
@@ -37,7 +37,6 @@ sys.dont_write_bytecode = True
 from building import build_office, processor
 from check import LISTS, codes
 from databases import MEMORY, PROGRAM, Con, closes_of, make, setup_of
-from measuring import told
 from serving import Server, free_port, get, office, post, rest_of
 
 STATIONS = 5_000
@@ -144,9 +143,9 @@ def show(taken):
         print(f"\n{head:34} " + "".join(f"{name:>11}" for name in names) + ("   desk - alone, us" if both else ""))
         for kind, by_name in taken.items():
             times = {name: found[place] for name, found in by_name.items()}
-            told_times = "".join(f"{1e6 / time if place == 0 else time:11,.1f}" for time in times.values())
+            texts = "".join(f"{1e6 / time if place == 0 else time:11,.1f}" for time in times.values())
             added = f"{times['desk'] - times['alone']:19.1f}" if both else ""
-            print(f"  {kind:32} {told_times} {added}")
+            print(f"  {kind:32} {texts} {added}")
     return max(by_name["desk"][1] - by_name["alone"][1] for by_name in taken.values()) if both else 0
 
 
@@ -163,7 +162,7 @@ def head_of(fields):
 
 
 def lines_before():
-    """The same behind as many empty lines as there may be."""
+    """The same after as many empty lines as there may be."""
     request = b"GET /progress HTTP/1.1\r\n\r\n"
     return b"\r\n" * ((HEAD_BYTES - len(request)) // 2) + request
 

@@ -42,7 +42,7 @@ from databases import (
     reopen,
     show_command,
 )
-from measuring import counted, in_turn, told, within
+from measuring import counted, in_turn, number_text, took_text, within
 
 STATIONS = 5_000
 CONSTITUENCIES = 200
@@ -95,7 +95,7 @@ def certified(folder, program, cons):
 
 
 def line(name, ran):
-    print(f"  {name:28} {ran.spent:9.0f} ms {ran.clock:9.0f} by the clock {told(ran.peak):>7} MiB", flush=True)
+    print(f"  {name:28} {ran.spent:9.0f} ms {ran.clock:9.0f} by the clock {number_text(ran.peak):>7} MiB", flush=True)
 
 
 def reports(program, alone, db, cons, rounds):
@@ -116,8 +116,8 @@ def reports(program, alone, db, cons, rounds):
     print("  show                        ms   least   by the clock    MiB   / opening   of the least   / sqlite alone")
     for name, took in found.items():
         print(
-            f"  {name:22} {took.spent:7.0f} {took.least:7.0f} {took.clock:14.0f} {told(took.peak):>6}"
-            f" {took.spent / opening.spent:11.2f} {took.least / opening.least:14.2f} {took.spent / alone.spent:16.2f}",
+            took_text(name, took)
+            + f" {took.spent / opening.spent:11.2f} {took.least / opening.least:14.2f} {took.spent / alone.spent:16.2f}",
             flush=True,
         )
     return max(found[report].spent for report in REPORTS if report in found) / opening.spent

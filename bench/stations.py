@@ -3,7 +3,7 @@
 
 A constituency has 60 lists and 5,000 stations, or 20; a return of each is closed. Its view and its tally
 are shown, returns of it are queried, corrected and closed, and it is certified and opened again in turn.
-What an office is asked first after it was opened is told by itself. The same is asked of the 5,000 stations
+What an office is asked first after it was opened is printed apart. The same is asked of the 5,000 stations
 where the constituency was certified and opened again 100 times before. Then the progress of a country of 52
 constituencies with 60,000 stations is shown, whose returns are as they were imported.
 
@@ -162,8 +162,8 @@ def constituencies(folder, program, built, rounds, asked):
     ratios = {}
     for kind in taken[STATIONS]:
         medians = {name: statistics.median(of[kind]) for name, of in taken.items()}
-        told = "".join(f"{medians[name]:15,.0f} ({min(of[kind]):6,.0f})" for name, of in taken.items())
-        print(f"  {kind:30}{told}", flush=True)
+        columns = "".join(f"{medians[name]:15,.0f} ({min(of[kind]):6,.0f})" for name, of in taken.items())
+        print(f"  {kind:30}{columns}", flush=True)
         ratios[kind] = {
             "few stations": medians[STATIONS] / medians[FEW_STATIONS],
             "none on record": medians["recorded"] / medians[STATIONS],

@@ -6,20 +6,20 @@ and 310,000 of `counts`. `office import` is beside the kit's `sqlite` alone, by 
 these rows into the same database, and beside C SQLite through Python. `office show` of a constituency
 that is not there opens the database, judges all its rows and closes it; it is beside programs that open
 it and read all rows. The kit's `sqlite` tests every page and row at an opening, C SQLite only where it is
-told to.
+asked to.
 
 The programs run in turn, and the rows that they leave are compared. A time is the processor's for the
 whole process, and for the system on its behalf; what counts is the ratio of the medians.
 
-Where `valgrind` is installed, the instructions of an import of fewer returns and of an opening behind it
+Where `valgrind` is installed, the instructions of an import of fewer returns and of an opening after it
 are counted too, of the office and of the kit's `sqlite` alone: they do not depend on other work.
 
 Then `office serve` is asked over HTTP, by one client that opens a connection for each request, on the
-file and on a copy in memory (/dev/shm). Where `strace` is installed, a third run tells how long the
+file and on a copy in memory (/dev/shm). Where `strace` is installed, a third run counts how long the
 server waited for the disk (fdatasync, fsync).
 
 With `--country` a country of 52 constituencies, 60,000 stations and 20 lists is measured once, and a
-tenth of it; with numbers behind it, countries of so many stations in place of these.
+tenth of it; with numbers after it, countries of so many stations in place of these.
 
 With `--part` only the parts that are named are measured.
 
@@ -56,7 +56,7 @@ from databases import (
     reopen,
     show_command,
 )
-from measuring import Ran, counted, in_turn, run_timed, told
+from measuring import Ran, counted, in_turn, number_text, run_timed, took_text
 from serving import Server, free_port, get, office, post
 
 STATIONS = 5_000
@@ -101,10 +101,7 @@ def table(title, found):
     print(f"\n{title:24}      ms   least   by the clock    MiB   ratio   of the least")
     alone = found["sqlite alone"]
     for name, took in found.items():
-        print(
-            f"  {name:22} {took.spent:7.0f} {took.least:7.0f} {took.clock:14.0f} {told(took.peak):>6}"
-            f" {took.spent / alone.spent:7.2f} {took.least / alone.least:14.2f}"
-        )
+        print(took_text(name, took) + f" {took.spent / alone.spent:7.2f} {took.least / alone.least:14.2f}")
     return found["office"].spent / alone.spent
 
 
@@ -182,11 +179,11 @@ def instructions(folder, program, alone, con):
 
 def grow(folder, program, con, rounds):
     """Prints the time and the memory of imports of fewer returns into the same constituency, of one whose
-    text has each return four times, and of openings behind them."""
+    text has each return four times, and of openings after them."""
     print("\ntext   returns     rows   import ms   us a row    MiB   opening ms   us a row    MiB   bytes a row")
     db, text = folder / "growing.db", folder / "growing.csv"
     empty = opening_of(folder / "new.db", program, rounds)
-    print(f"{'':33} {'':>10} {'':>6} {empty.spent:12.0f} {'':>10} {told(empty.peak):>6}")
+    print(f"{'':33} {'':>10} {'':>6} {empty.spent:12.0f} {'':>10} {number_text(empty.peak):>6}")
     for count, times in [*((count, 1) for count in FEWER_ROWS), (STATIONS, 1), (STATIONS, 4)]:
         text.write_text(con.text_of(con.returns()[:count] * times))
 
@@ -199,8 +196,8 @@ def grow(folder, program, con, rounds):
         by_import, by_opening = ((took.spent - empty.spent) * 1e3 / rows for took in (imported, opened))
         bytes_each = None if opened.peak is None else (opened.peak - empty.peak) * 2**20 / rows
         print(
-            f"x {times} {count:9,} {rows:8,} {imported.spent:11.0f} {by_import:10.2f} {told(imported.peak):>6}"
-            f" {opened.spent:12.0f} {by_opening:10.2f} {told(opened.peak):>6} {told(bytes_each, 0):>13}"
+            f"x {times} {count:9,} {rows:8,} {imported.spent:11.0f} {by_import:10.2f} {number_text(imported.peak):>6}"
+            f" {opened.spent:12.0f} {by_opening:10.2f} {number_text(opened.peak):>6} {number_text(bytes_each, 0):>13}"
         )
 
 
@@ -305,8 +302,8 @@ def requests(folder, program, con):
         syncs, wait, share = waited.get(name, (None, None, None))
         share = "-" if share is None else f"{share:.0%}"
         print(
-            f"  {name:12} {1e6 / clock:9,.0f} {clock:7,.0f} {spent:18,.0f} {told(memory, 0):>14} {told(syncs):>7}"
-            f" {told(wait, 0):>12} {share:>7}"
+            f"  {name:12} {1e6 / clock:9,.0f} {clock:7,.0f} {spent:18,.0f} {number_text(memory, 0):>14} {number_text(syncs):>7}"
+            f" {number_text(wait, 0):>12} {share:>7}"
         )
 
 
@@ -382,7 +379,10 @@ def line(name, ran, rows=None):
     """Prints what something took, and for each row where rows are given."""
     places = 2 if ran.spent < 100 else 0
     each = None if rows is None else ran.spent * 1e3 / rows
-    print(f"  {name:56} {ran.spent:11,.{places}f} {ran.clock:14,.{places}f} {told(each, 2):>12} {told(ran.peak, 0):>5}", flush=True)
+    print(
+        f"  {name:56} {ran.spent:11,.{places}f} {ran.clock:14,.{places}f} {number_text(each, 2):>12} {number_text(ran.peak, 0):>5}",
+        flush=True,
+    )
 
 
 def main():

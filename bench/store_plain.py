@@ -3,7 +3,7 @@
 
     store_plain.py write DATABASE CON RETURNS    writes the rows that an import of the returns writes
     store_plain.py read DATABASE                 reads all rows of its tables, and prints how many there are
-    store_plain.py check DATABASE                the same behind `PRAGMA integrity_check`
+    store_plain.py check DATABASE                the same after `PRAGMA integrity_check`
 
 The journal is that of the file, a log (WAL), and each commit is synced as the office's are.
 """

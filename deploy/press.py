@@ -144,7 +144,7 @@ def read_seats(text):
 
 def read_quotients(text):
     """Per list its quotients, each with whether it won a seat."""
-    # A code of 16 characters has a star right behind it.
+    # A code of 16 characters has a star right after it.
     rows = [matched(CODE + r"( *(?:[ *] *\d+)+)", line) for line in text.split("\n")[1:-1]]
     return [(code, [(int(number), star == "*") for star, number in re.findall(r"(\*?) *(\d+)", rest)]) for code, rest in rows]
 

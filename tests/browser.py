@@ -93,7 +93,7 @@ def browser(folder, *words):
     """A browser with a profile of its own in the folder; it is ended at the end."""
     with socket.create_server(("127.0.0.1", 0)) as free:
         port = free.getsockname()[1]
-    # Both keep files in the folder of temporary ones, which is this one.
+    # Both keep files in the folder of temporary files, here the given folder.
     driver = subprocess.Popen([DRIVER, f"--port={port}"], stdout=subprocess.DEVNULL, stderr=subprocess.DEVNULL,
                               env={**os.environ, "TMPDIR": str(folder), "HOME": str(folder)}, start_new_session=True)
     it = Browser(port)

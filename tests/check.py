@@ -122,17 +122,17 @@ def check(text, *flags):
     return Ran(ran.returncode, ran.stdout.decode(), ran.stderr.decode())
 
 
-def told(text, ran, wanted):
+def compared(text, ran, wanted):
     assert ran == wanted, f"\n  of     {text[:200]!r}\n  found  {ran}\n  wanted {wanted}"
 
 
 def counted(text, numbers, *flags, lists=("A", "B")):
     lines = zip(NAMES + tuple(lists), numbers.split(", "), strict=True)
-    told(text, check(text, *flags), Ran(0, "".join(f"{name} {number}\n" for name, number in lines), ""))
+    compared(text, check(text, *flags), Ran(0, "".join(f"{name} {number}\n" for name, number in lines), ""))
 
 
 def refused(text, word, *flags):
-    told(text, check(text, *flags), Ran(1, "", f"refused: {word}\n"))
+    compared(text, check(text, *flags), Ran(1, "", f"refused: {word}\n"))
 
 
 def lines(table):
@@ -194,14 +194,14 @@ def test_sixteen_mebibytes_and_one_more():
 
 
 def test_lines_within_quotes_where_the_input_is_cut():
-    # Records with line ends in quotes, and one that is longer than what is read at once, behind so many empty lines.
+    # Records with line ends in quotes, and one that is longer than what is read at once, after so many empty lines.
     for empty in range(20):
         text = HEADER + "\n" * empty + '"xxxxxxxx\n\nxxxxxx"\r' * 18000 + "x" * 800000 + "\n" + ROW
         counted(text, "1, 0, 0, 0, 18001, 1 0, 0, 0, 1, 2")
 
 
-def test_rows_behind_a_long_record():
-    # What comes behind a record longer than what is read at once is held in parts; a part may end anywhere in a row.
+def test_rows_after_a_long_record():
+    # What comes after a record longer than what is read at once is held in parts; a part may end anywhere in a row.
     count = 19000
     rows = "".join(f"station-{n:08d},slip-{n:011d},000000000,000000000,000000001,000000002\n" for n in range(count))
     for longer in range(15):

@@ -186,7 +186,7 @@ def literal(value):
 
 
 def selected(table, where):
-    """The rows of a table, each behind its rowid, in the order of the columns."""
+    """The rows of a table, each after its rowid, in the order of the columns."""
     with contextlib.closing(sqlite3.connect("good.db")) as it:
         names = ", ".join(COLUMNS[table])
         return it.execute(f"SELECT rowid, {names} FROM {table} {where} ORDER BY {names}").fetchall()

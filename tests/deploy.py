@@ -32,12 +32,12 @@ import sys
 import tempfile
 import threading
 import time
-import traceback
 from pathlib import Path
 
 import browser
 import model
 from office import TABLES, constituency, party_list, profile, station, with_stations
+from running import Skipped, run_tests, take_signals
 
 ROOT = Path(__file__).resolve().parent.parent
 DEPLOY = ROOT / "deploy"
@@ -52,10 +52,6 @@ EXAMPLES = (ROOT / "examples/setup.toml").read_text(encoding="utf-8")
 STATIONS = re.findall(r'constituency\.station\]\]\ncode = "(.*)"', EXAMPLES)
 LATE = {"04-001-B": {"slip": "r213", "votes": [73, 68, 31, 14, 3], "blank": 2, "spoiled": 1},
         "04-002-A": {"slip": "r214", "votes": [40, 40, 20, 0, 0], "blank": 0, "spoiled": 0}}
-
-
-class Skipped(Exception):
-    """What a test needs is not there."""
 
 
 def needs(*found):
@@ -262,24 +258,35 @@ def office_and_proxy(setup):
 
 
 @contextlib.contextmanager
-def recording_desk(answer=b'{"ok":"lodged","rev":1}', wait=0.0):
-    """In place of the office something that keeps what came; its port, and the messages."""
-    messages = []
+def desk_with(answered):
+    """In place of the office something that sends what this function answers to the head and the body of a message; its port."""
 
     def serve(listener):
         with contextlib.suppress(OSError):
             while True:
                 connection, _ = listener.accept()
                 with connection:
-                    messages.append(whole_message(connection))
-                    time.sleep(wait)
-                    connection.sendall(b"HTTP/1.1 200 OK\r\nContent-Type: application/json\r\nContent-Length: %d\r\n"
-                                       b"Connection: close\r\n\r\n%s" % (len(answer), answer))
+                    connection.sendall(answered(*whole_message(connection)))
 
     with socket.create_server(("127.0.0.1", 0), backlog=512) as listener:
         threading.Thread(target=serve, args=(listener,), daemon=True).start()
-        yield listener.getsockname()[1], messages
+        yield listener.getsockname()[1]
         listener.shutdown(socket.SHUT_RDWR)
+
+
+@contextlib.contextmanager
+def recording_desk(answer=b'{"ok":"lodged","rev":1}', wait=0.0):
+    """In place of the office something that keeps what came; its port, and the messages."""
+    messages = []
+
+    def recorded(*message):
+        messages.append(message)
+        time.sleep(wait)
+        return (b"HTTP/1.1 200 OK\r\nContent-Type: application/json\r\nContent-Length: %d\r\n"
+                b"Connection: close\r\n\r\n%s" % (len(answer), answer))
+
+    with desk_with(recorded) as port:
+        yield port, messages
 
 
 def whole_message(connection):
@@ -534,7 +541,7 @@ def test_silent_and_slow_clients():
             same(front.ask("POST", f"/station/s{n}/lodge", lodge, "clara").status, 200)
             same(front.ask("GET", "/con/c1/tally").status, 200)
         assert time.monotonic() - began < 10, "slow clients held the desk"
-        # A silent client is let go after ten seconds or so.
+        # The connection of a silent client is closed after ten seconds or so.
         slow[0].settimeout(20)
         same(slow[0].recv(10), b"")
 
@@ -845,19 +852,13 @@ def answering_desk(answers):
     and what was asked."""
     asked = []
 
-    def serve(listener):
-        with contextlib.suppress(OSError):
-            while True:
-                connection, _ = listener.accept()
-                with connection:
-                    target = whole_message(connection)[0].split(b" ")[1].decode()
-                    asked.append(target)
-                    connection.sendall(answer_of(answers.get(target, 404)))
+    def answered(head, _):
+        target = head.split(b" ")[1].decode()
+        asked.append(target)
+        return answer_of(answers.get(target, 404))
 
-    with socket.create_server(("127.0.0.1", 0), backlog=512) as listener:
-        threading.Thread(target=serve, args=(listener,), daemon=True).start()
-        yield listener.getsockname()[1], asked
-        listener.shutdown(socket.SHUT_RDWR)
+    with desk_with(answered) as port:
+        yield port, asked
 
 
 def answer_of(answer):
@@ -952,7 +953,7 @@ def page_of(name, folder="pages"):
 
 
 def test_a_page_of_the_press():
-    """Twin Town: every number of the office's texts is in a table, and the texts stand there as they are."""
+    """Twin Town: every number of the office's texts is in a table, and the texts are there word for word."""
     Path("setup.toml").write_text(with_stations(1), encoding="utf-8")
     with answering_desk(TWIN) as (port, asked):
         last = press(port, "--setup", "setup.toml")
@@ -1261,7 +1262,7 @@ def test_the_pages_of_the_first_election():
 # ---- the pages in a browser
 
 # What is wrong with how a page is shown: an element that is wider than the window, unless it may be moved sideways, and a text
-# that cannot be told from what is behind it (4.5 to 1, after WCAG 2, or 3 to 1 where it is large).
+# that has too little contrast with its background (4.5 to 1, after WCAG 2, or 3 to 1 where it is large).
 SHOWN_WRONG = """
 const wrong = [], wide = innerWidth;
 if (document.documentElement.scrollWidth > wide) wrong.push("the page is " + document.documentElement.scrollWidth + " wide");
@@ -1541,39 +1542,14 @@ def test_what_the_clerks_page_is():
 def main(names):
     """Runs the tests among these names, or those of them that the arguments give."""
     global PROGRAM, PICTURES
-    for number in (signal.SIGINT, signal.SIGTERM, signal.SIGHUP):
-        signal.signal(number, signal.SIG_DFL)
+    take_signals()
     signal.signal(signal.SIGTERM, lambda *_: sys.exit(143))
     words = sys.argv[1:]
     while words[:1] in (["--program"], ["--pictures"]):
         where = Path(words[1]).resolve()
         PROGRAM, PICTURES = (where, PICTURES) if words[0] == "--program" else (PROGRAM, where)
         words = words[2:]
-    tests = {name.removeprefix("test_"): test for name, test in names.items() if name.startswith("test_")}
-    lost = set(words) - set(tests)
-    if lost or not os.access(PROGRAM, os.X_OK):
-        print(f"no such test: {' '.join(sorted(lost))}" if lost else f"no program at {PROGRAM}: ./office builds it")
-        print("0 passed, 1 failed, 0 skipped")
-        return 1
-    passed = failures = skipped = 0
-    for name in words or tests:
-        with tempfile.TemporaryDirectory(prefix="office-deploy-", ignore_cleanup_errors=True) as folder:
-            os.chdir(folder)
-            began = time.monotonic()
-            try:
-                tests[name]()
-                passed += 1
-                if os.environ.get("TIMES"):
-                    print(f"{name} {time.monotonic() - began:.1f} s", flush=True)
-            except Skipped as missing:
-                skipped += 1
-                print(f"skipped: {name}: {missing}", flush=True)
-            except Exception:
-                failures += 1
-                print(f"FAILED: {name}\n{traceback.format_exc(limit=-4)}", flush=True)
-            os.chdir("/")
-    print(f"{passed} passed, {failures} failed, {skipped} skipped")
-    return 1 if failures else 0
+    return run_tests(names, words, PROGRAM, prefix="office-deploy-", ignore_cleanup_errors=True)
 
 
 if __name__ == "__main__":

@@ -18,6 +18,8 @@ import time
 from concurrent.futures import ThreadPoolExecutor
 from pathlib import Path
 
+from running import take_signals
+
 ROOT = Path(__file__).resolve().parent.parent
 PARTS = ("src", "specs", "proofs")
 NOBODY = 65534
@@ -509,7 +511,7 @@ def a_forecast_goes_along_the_crates(copy):
     says("about 22 min", queue=queue.replace("reading new", "reading kept"), workers=2)
     says("about 15 min", queue=queue.replace("beside new", "beside kept").replace("low new", "low kept"))
     says("about 12 min", ended={**read, "low": "180 kept", "beside": "180 kept"}, now=180)
-    # What is proved again has a ratio of its own, of which nothing is known before one has ended.
+    # What is proved again has a ratio of its own, which is unknown before one has ended.
     says("at most 45 min", queue=again)
     says("about 23 min", ended={**read, "low": "240 again"}, queue=again, now=240)
 
@@ -674,9 +676,7 @@ def passes(test):
 
 
 def main():
-    # A program in the background may begin with these ignored, and what it starts then ignores them too.
-    for number in (signal.SIGINT, signal.SIGTERM, signal.SIGHUP):
-        signal.signal(number, signal.SIG_DFL)
+    take_signals()
     chosen = [test for test in TESTS if not sys.argv[1:] or test.__name__ in sys.argv[1:]]
     # The first only waits, so it runs beside the others; those run one at a time.
     with ThreadPoolExecutor(2) as pool:

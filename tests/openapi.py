@@ -235,7 +235,7 @@ def test_examples_are_of_their_schemas():
                 assert fits(schema, value), f"{method} {path} {name}: {value}"
 
 
-def test_answers_stand_in_the_tests_of_the_desk():
+def test_answers_are_in_the_tests_of_the_desk():
     for name, status, kind, _, value in answers():
         if kind != "application/json":
             assert f"{status} {PHRASES[status]}|" + value.replace("\n", "|") in TESTED, f"{name}: {value}"
@@ -245,7 +245,7 @@ def test_answers_stand_in_the_tests_of_the_desk():
             assert re.search(line, TESTED) or re.search(whole, TESTED), f"{name}: {compact(value)}"
 
 
-def test_bodies_stand_in_the_tests_of_the_desk():
+def test_bodies_are_in_the_tests_of_the_desk():
     for path, method, operation in operations():
         if "requestBody" not in operation:
             continue

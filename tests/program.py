@@ -24,18 +24,17 @@ import sqlite3
 import struct
 import subprocess
 import sys
-import tempfile
 import threading
 import time
 import tomllib
-import traceback
 from concurrent.futures import ThreadPoolExecutor
 from fractions import Fraction
 from pathlib import Path
 
 import model
 import openapi
-from office import PROFILE, RETURNS, SETUP, TABLES, THREE_STATIONS, constituency, party_list, station
+from office import PROFILE, RETURNS, SETUP, TABLES, THREE_STATIONS, constituency, party_list, profile, station
+from running import Skipped, run_tests, take_signals
 
 ROOT = Path(__file__).resolve().parent.parent
 PROGRAM = ROOT / "crates/tally_office/out/tally_office"
@@ -403,7 +402,7 @@ def hot_journal(name):
         shutil.copy("other.db-journal", name)
         it.execute("ROLLBACK")
     os.remove("other.db")
-    # Its magic number, and behind it a number of pages: without one no page would be rolled back.
+    # Its magic number, and after it a number of pages: without one no page would be rolled back.
     text = Path(name).read_bytes()
     assert text[:8] == bytes.fromhex("d9d505f920a163d7") and text[8:12] != bytes(4), text[:12]
 
@@ -451,7 +450,7 @@ def test_offices_that_are_made_at_once():
         os.remove("office.db")
 
 
-def test_a_database_behind_a_link():
+def test_a_database_through_a_link():
     os.mkdir("kept")
     new(db="kept/office.db")
     os.symlink("kept/office.db", "link.db")
@@ -629,7 +628,7 @@ def test_imports_that_change_nothing():
 
 
 def test_two_commands_at_once():
-    """One command has the database alone; another is told so, and nothing is lost."""
+    """One command has the database alone; another is answered so, and nothing is lost."""
     new(THREE_STATIONS)
     os.mkfifo("pipe")
     words = [PROGRAM, "import", "--db", "office.db", "--con", "c1", "--csv", "pipe"]
@@ -766,24 +765,10 @@ def test_a_certificate_that_was_reopened():
     recount()
 
 
-def setup_of(method, seats, lists, more=""):
-    return f"""\
-[[profile]]
-code = "p"
-method = "{method}"
-threshold = 0
-base = "valid"
-{more}
-[[constituency]]
-code = "c1"
-name = "Village"
-seats = {seats}
-profile = "p"
-""" + "".join(f'\n[[constituency.list]]\ncode = "{code}"\nname = "List {code}"\ncandidates = ["x"]\n' for code in lists) + """
-[[constituency.station]]
-code = "s1"
-electors = 1000000
-"""
+def setup_of(method, seats, lists):
+    """The setup of a village with one station."""
+    each = "".join(party_list(code, f"List {code}", "x") for code in lists)
+    return profile("p", method) + constituency("c1", "Village", seats, "p") + each + station("s1", 1000000)
 
 
 def test_a_quota_by_hare():
@@ -854,10 +839,10 @@ def test_seats_and_votes_short_are_found_by_trying():
         votes = [draw.randrange(7) for _ in "ABC"]
         if any(votes):
             polls.append((draw.choice(methods), draw.randint(1, 4), votes))
-    text = "".join(f'[[profile]]\ncode = "p{n}"\nmethod = "{method}"\nthreshold = 0\nbase = "lists"\n' for n, method in enumerate(methods))
+    text = "".join(profile(f"p{n}", method, base="lists") for n, method in enumerate(methods))
     lists = ", ".join(f'{{code = "{code}", name = "{code}", candidates = ["x"]}}' for code in "ABC")
     for n, (method, seats, _) in enumerate(polls):
-        text += f'[[constituency]]\ncode = "c{n}"\nname = "Village"\nseats = {seats}\nprofile = "p{methods.index(method)}"\n'
+        text += constituency(f"c{n}", "Village", seats, f"p{methods.index(method)}")
         text += f'list = [{lists}]\nstation = [{{code = "s{n}", electors = 1000}}]\n'
     new(text, constituencies=200)
     wanted = {}
@@ -1135,7 +1120,7 @@ def test_bodies_that_are_read():
         for body, status, word in cases:
             found, _, text = desk.ask("POST", "/station/s1/close", body)
             same((found, json.loads(text)["word"]), (status, word))
-        # The longest body: the return, and spaces behind it.
+        # The longest body: the return, and spaces after it.
         body = LODGE[LODGE.index(b"{"):].ljust(1048576)
         same(desk.ask("POST", "/station/s1/lodge", body)[::2], (200, '{"ok":"lodged","rev":1}'))
         for note, answer in (("n" * 201, (400, '{"refused":5,"word":"bad_note"}')), ("n" * 200, (200, '{"ok":"moved","rev":2}'))):
@@ -1143,7 +1128,7 @@ def test_bodies_that_are_read():
 
 
 def test_how_clients_send():
-    """Byte by byte, with an interim answer asked for, with bytes behind the body, and gone before the answer."""
+    """Byte by byte, with an interim answer asked for, with bytes after the body, and gone before the answer."""
     new()
     body = b'{"slip":"p1","votes":[50,40],"blank":2,"spoiled":1}'
     head = b"POST /station/s1/lodge HTTP/1.1\r\nContent-Length: 51\r\n"
@@ -1272,8 +1257,8 @@ def test_a_port_that_is_taken():
         failed("port", "serve", "--db", "office.db", "--port", str(it.getsockname()[1]), "--count", "1")
 
 
-def test_a_server_that_is_told_to_end():
-    """What it answered stands, and the same port can be had again at once."""
+def test_a_server_that_is_asked_to_end():
+    """What it answered is recorded, and the same port can be had again at once."""
     for number in (signal.SIGINT, signal.SIGTERM):
         new(db="office.db")
         desk = Desk("office.db", 5)
@@ -1298,7 +1283,7 @@ def test_names_in_other_scripts():
 
 
 def test_a_server_that_is_killed():
-    """What was acknowledged stands at the next opening, and what was refused does not."""
+    """What was acknowledged is there at the next opening, and what was refused is not."""
     stations = "".join(f'\n[[constituency.station]]\ncode = "t{n}"\nelectors = 300\n' for n in range(2000))
     new(SETUP + stations)
     chance = random.Random(26)
@@ -1409,13 +1394,12 @@ SIXTY_LISTS = (("d", "dhondt", 0, "valid"), ("w", "sainte-lague", 100, "lists"),
 
 def sixty_lists():
     """A setup of three constituencies with 60 lists, 500 seats and four stations each. Some lists have fewer candidates than seats."""
-    text = "".join(f'[[profile]]\ncode = "{code}"\nmethod = "{method}"\nthreshold = {threshold}\nbase = "{base}"\n'
-                   for code, method, threshold, base in SIXTY_LISTS)
+    text = "".join(profile(*terms) for terms in SIXTY_LISTS)
     candidates = {n: ", ".join(f'"{n}.{m}"' for m in range(1, n * 7 % 40 + 2)) for n in range(1, 61)}
     lists = ",\n".join(f'{{ code = "L{n}", name = "Lista ñ {n}", candidates = [{names}] }}' for n, names in candidates.items())
     for code, *_ in SIXTY_LISTS:
         stations = ", ".join(f'{{ code = "{code}{n}", electors = 1000000 }}' for n in range(4))
-        text += f'[[constituency]]\ncode = "{code}"\nname = "Sixty of {code}"\nseats = 500\nprofile = "{code}"\n'
+        text += constituency(code, f"Sixty of {code}", 500, code)
         text += f"list = [\n{lists}\n]\nstation = [{stations}]\n"
     return text
 
@@ -1475,9 +1459,7 @@ def test_sixty_lists_and_five_hundred_seats():
 def five_thousand_stations():
     stations = ",\n".join(f'{{ code = "s{n}", electors = 1000000 }}' for n in range(5000))
     lists = ", ".join(f'{{ code = "{code}", name = "{code}", candidates = ["x", "y"] }}' for code in "ABC")
-    profile = SETUP[:SETUP.index("[[constituency]]")]
-    return (f'{profile}[[constituency]]\ncode = "c1"\nname = "Country"\nseats = 500\nprofile = "d0"\nlist = [{lists}]\n'
-            f"station = [\n{stations}\n]\n")
+    return PROFILE + constituency("c1", "Country", 500, "d0") + f"list = [{lists}]\nstation = [\n{stations}\n]\n"
 
 
 # What is looked at between the requests on a constituency of 5,000 stations.
@@ -1600,8 +1582,8 @@ def answered(message, desk):
     return int(status), value
 
 
-def stands(desk, text):
-    """A return of this text stands, or none where there is no text."""
+def recorded(desk, text):
+    """A return of this text is recorded, or none where there is no text."""
     status, _, body = desk.ask("GET", "/station/s1")
     if text is None:
         same((status, body), (404, '{"refused":8,"word":"no_return"}'))
@@ -1617,7 +1599,7 @@ def test_every_beginning_of_a_message():
         for length in range(len(LODGE)):
             status, value = answered(LODGE[:length], desk)
             same((status, value["word"]), (400, "bad_head" if length < LODGE.index(b"{") else "ended_early"))
-            stands(desk, None)
+            recorded(desk, None)
         desk.get("/progress", PROGRESS)
     recount()
 
@@ -1630,7 +1612,7 @@ def test_a_connection_that_is_reset_at_every_byte():
             it = socket.create_connection(("127.0.0.1", desk.port), timeout=60)
             it.sendall(LODGE[:length])
             reset(it)
-        stands(desk, None)
+        recorded(desk, None)
         desk.get("/progress", PROGRESS)
     recount()
 
@@ -1649,7 +1631,7 @@ def test_every_byte_of_a_message():
                 lodged += 1
                 same(value, {"ok": "lodged", "rev": 1})
             text = json.loads(message[LODGE.index(b"{"):]) if status == 200 else None
-            stands(desk, text)
+            recorded(desk, text)
             desk.get("/progress", PROGRESS if text is None else PROGRESS.replace("1      1      0", "1      0      1"))
         only("new.db", "office.db")
     assert lodged > 5, lodged
@@ -1783,7 +1765,7 @@ def lead_to(state):
 
 
 def wrongly_answered(desk, sent):
-    """Those of these examples that are not answered as they stand."""
+    """Those of these examples that are not answered as they say."""
     return [f"{name}: {message[:200]}\n  found  {found}\n  wanted {answer}" for name, _, message, answer in sent
             if (found := desk.send(message)) != answer]
 
@@ -1879,7 +1861,7 @@ def test_nothing_that_is_shown_changes_where_the_disk_is_full():
             shown = [desk.ask("GET", path)[::2] for path in paths]
             resource.prlimit(desk.process.pid, resource.RLIMIT_FSIZE, (0, 0))
             found = desk.send(message)
-            # A return that stands already is the same, and takes no write.
+            # A return that is recorded already is the same, and takes no write.
             assert found.endswith(shut[1].encode()) or found == answer and (b'"ok":"same"' in answer or b'"lodged":0' in answer), (name, found)
             after = [desk.ask("GET", path)[::2] for path in paths]
             same((name, [now if then != shut else then for then, now in zip(after, shown)]), (name, after))
@@ -1893,7 +1875,7 @@ def test_nothing_that_is_shown_changes_where_the_disk_is_full():
         same((name, rows("copy.db")), (name, before))
 
 
-# Stands before the C library: while there is a file `broken` in the program's folder, a call that brings a file to its disk fails.
+# Comes before the C library: while there is a file `broken` in the program's folder, a call that brings a file to its disk fails.
 FAILING_DISK = r"""
 #define _GNU_SOURCE
 #include <dlfcn.h>
@@ -1955,7 +1937,7 @@ def test_a_disk_that_fails_shuts_an_office():
 
 
 def replay(text):
-    """Each command of a document's text prints what stands under it. Blocks that begin with no command are not replayed."""
+    """Each command of a document's text prints what is written under it. Blocks that begin with no command are not replayed."""
     blocks = [block for block in re.findall(r"(?:^    .*\n)+", text, re.M) if block.startswith("    $ ")]
     lines = [line[4:] for block in blocks for line in block.splitlines()]
     port = str(free_port())
@@ -1979,14 +1961,14 @@ def replay(text):
 
 
 def test_the_first_election_of_the_readme():
-    """Each command as it stands in README.md prints what stands there."""
+    """Each command of README.md prints what is written there."""
     text = (ROOT / "README.md").read_text(encoding="utf-8")
     replay(text[text.index("## A first election"):text.index("## Statuses and spreadsheets")])
     same(Path("closed").read_text(encoding="utf-8"), '{"ok":"moved","rev":2}' * 15)
 
 
 def test_the_evening_of_the_guide():
-    """Each command as it stands in docs/GUIDE.md prints what stands there."""
+    """Each command of docs/GUIDE.md prints what is written there."""
     replay((ROOT / "docs/GUIDE.md").read_text(encoding="utf-8"))
     same(Path("closed").read_text(encoding="utf-8"), '{"ok":"moved","rev":2}' * 14)
 
@@ -1995,12 +1977,12 @@ def command_lines(document):
     """The lines of a document, in blocks and within the text, that begin with the program or the recount."""
     text = (ROOT / document).read_text(encoding="utf-8")
     found = re.findall(r"^    (?:\$ )?((?:\./office|python3 examples/recount\.py)\b.*)|`((?:\./office|python3 examples/recount\.py)\b[^`]*)`", text, re.M)
-    # Behind two spaces a block has words on the line.
+    # After two spaces a block has words on the line.
     return [re.split(r"  | &$", block or inline)[0] for block, inline in found]
 
 
 def test_the_command_lines_of_the_documents():
-    """Each runs as it stands: none is a wrong command line but those that ask for help, and a recount agrees."""
+    """Each runs as it is written: none is a wrong command line but those that ask for help, and a recount agrees."""
     Path("office").symlink_to(PROGRAM)
     Path("examples").symlink_to(ROOT / "examples")
     lines = [line for document in ("README.md", "docs/FORMATS.md", "examples/README.md") for line in command_lines(document)]
@@ -2033,7 +2015,7 @@ def starts_to_serve(words):
     assert said.startswith(("listening on ", "refused: ")), (words, said)
 
 
-# A stand-in for `curl -s URL` and `curl -s -d BODY URL`.
+# A substitute for `curl -s URL` and `curl -s -d BODY URL`.
 CURL = """
 import sys, urllib.error, urllib.request
 body = sys.argv[3].encode() if sys.argv[2] == "-d" else None
@@ -2048,43 +2030,22 @@ print(end=answer.read().decode())
 # ---- running the tests
 
 
-class Skipped(Exception):
-    """Something that a test needs is not on this machine."""
+@contextlib.contextmanager
+def recounted():
+    """A test with a recount of the databases that it leaves."""
+    SPOILED.clear()
+    yield
+    recount_all()
 
 
 def main(names):
     """Runs the tests among these names, or those of them that the arguments give."""
     global PROGRAM
-    # A program in the background may begin with these ignored, and what it starts then ignores them too.
-    for number in (signal.SIGINT, signal.SIGTERM, signal.SIGHUP):
-        signal.signal(number, signal.SIG_DFL)
+    take_signals()
     words = sys.argv[1:]
     if words[:1] == ["--program"]:
         PROGRAM, words = Path(words[1]).resolve(), words[2:]
-    tests = {name.removeprefix("test_"): test for name, test in names.items() if name.startswith("test_")}
-    lost = set(words) - set(tests)
-    if lost or not os.access(PROGRAM, os.X_OK):
-        print(f"no such test: {' '.join(sorted(lost))}" if lost else f"no program at {PROGRAM}: ./office builds it")
-        print("0 passed, 1 failed, 0 skipped")
-        return 1
-    passed = failures = skipped = 0
-    for name in words or tests:
-        with tempfile.TemporaryDirectory(prefix="office-test-") as folder:
-            os.chdir(folder)
-            try:
-                SPOILED.clear()
-                tests[name]()
-                recount_all()
-                passed += 1
-            except Skipped as why:
-                skipped += 1
-                print(f"skipped: {name}: {why}", flush=True)
-            except Exception:
-                failures += 1
-                print(f"FAILED: {name}\n{traceback.format_exc(limit=-4)}", flush=True)
-            os.chdir("/")
-    print(f"{passed} passed, {failures} failed, {skipped} skipped")
-    return 1 if failures else 0
+    return run_tests(names, words, PROGRAM, recounted, prefix="office-test-")
 
 
 if __name__ == "__main__":

@@ -4,7 +4,7 @@
     python3 tests/setup.py [--program FILE] [TEST..]
 
 The program and the last line are those of `tests/program.py`. Tables have a line for each case, with what it comes to
-behind ` => `: `read`, or the word of the refusal.
+after ` => `: `read`, or the word of the refusal.
 """
 
 import os
@@ -18,7 +18,7 @@ STATION = station("s1")
 
 EXAMPLE = PROFILE + CONSTITUENCY + LISTS + STATION
 
-# Edits of the example, each of the first place where the text stands. ` / ` is the end of a line.
+# Edits of the example, each of the first place that has the text. ` / ` is the end of a line.
 EDITS = r"""
 code = "d0" =>  => missing code
 code = "d0" => code = 7 => bad_value code
@@ -75,8 +75,8 @@ electors = 300 => electors = 1000001 => bad_value electors
 [[profile]] => [[ => not_toml
 """
 
-# What stands in quotes as the code of a constituency: of up to 16 characters, and beside those that may stand in a
-# code their neighbours.
+# What is in quotes as the code of a constituency: of up to 16 characters, and beside those that a code may have their
+# neighbours.
 CODES = r"""
 A => read
 ABCDEFGHIJKLMNOP => read
@@ -217,7 +217,7 @@ def test_a_text_has_8_mib_at_most():
 
 def test_a_text_that_breaks_off_is_a_setup_or_has_a_fault():
     answers = [answer(EXAMPLE[:end]) for end in range(len(EXAMPLE))]
-    # Those that end behind a digit of the number of electors.
+    # Those that end after a digit of the number of electors.
     same([end for end, word in enumerate(answers) if word == "read 1"], [len(EXAMPLE) - back for back in (3, 2, 1)])
 
 

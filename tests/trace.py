@@ -9,8 +9,10 @@ That is checked in every document; `docs/LAW.md` has to have such a link in each
 `N passed, M failed`. It needs nothing but Python, and takes a few seconds.
 """
 
+import ast
 import re
 import sys
+import tokenize
 from functools import cache
 from pathlib import Path
 
@@ -28,9 +30,8 @@ TARGET = re.compile(r"""\]\(\s*<?([^)\s>]+)|^ {0,3}\[[^\]]+\]:\s*<?([^\s>]+)|\b(
 # A link with a name as its text, and the labels that follow it.
 NAMED = re.compile(r"\[`([^`\]]+)`\]\(([^)\s]+)\)(: `[^`]+`(?:(?:, | and )`[^`]+`)*)?")
 
-# What is not written, and what is written for it. The words are looked for in the documents, in the help texts and in the
-# comments of `src` and `specs`, and there in the text and not in names and examples. Comments of proofs and of scripts are not
-# looked at: some of them have such words still.
+# What is not written, and what is written for it. The words are looked for in the documents, in the help texts, in comments and
+# docstrings, and in the names of tests and of edits; not in other names, and not in examples.
 WORDS = {
     r"\bwant of memory\b|\bmemory ran out\b": "out of memory",
     r"\bstands?\b(?! (?:out|for|alone|apart))": "is, exists, is recorded",
@@ -47,7 +48,7 @@ WORDS = {
     r"\blet go\b": "freed, dropped",
     r"\bown profile\b": "this project's own rule",
     r"\b(?:proved|written) anew\b": "proved again, rewritten",
-    r"\bbehind\b(?! (?:a (?:reverse )?proxy|one address|nginx))": "after",
+    r"\bbehind\b(?! (?:(?:a|the) (?:reverse )?proxy|one address|nginx))": "after",
 }
 
 
@@ -60,7 +61,7 @@ def shown(path):
 
 
 def without_blocks(text):
-    """The text without what stands between lines of back quotes or tildes."""
+    """The text without what is between lines of back quotes or tildes."""
     return re.sub(r"^(?:```|~~~).*?^(?:```|~~~)", "", text, flags=re.M | re.S)
 
 
@@ -79,6 +80,26 @@ def words_of_code(path):
         if comment or path.name == "help.rt":
             text = comment[1] or comment[2] or "" if comment else line
             yield number, re.sub(r"`[^`]*`", "`", text)
+
+
+def words_of_python(path):
+    """What a file of Python says in words, each with its line: its comments, its docstrings and the names of its tests."""
+    with path.open("rb") as file:
+        for token in tokenize.tokenize(file.readline):
+            if token.type == tokenize.COMMENT:
+                yield token.start[0], re.sub(r"`[^`]*`", "`", token.string)
+    for node in ast.walk(ast.parse(text_of(path))):
+        if isinstance(node, (ast.Module, ast.ClassDef, ast.FunctionDef)) and ast.get_docstring(node):
+            # (a name in back quotes may be broken over lines)
+            yield node.body[0].lineno, re.sub(r"`[^`]*`", "`", ast.get_docstring(node))
+        if isinstance(node, ast.FunctionDef) and node.name.startswith("test_"):
+            yield node.lineno, node.name.replace("_", " ")
+
+
+def words_of_edit(path):
+    """The words of an edit: its text, and its name."""
+    yield from enumerate(text_of(path).split("\n"), 1)
+    yield 0, path.stem.replace("-", " ")
 
 
 def targets(path):
@@ -189,7 +210,7 @@ def test_what_a_link_names_is_in_its_file():
     return count, wrong
 
 
-def test_the_labels_behind_a_link_are_clauses():
+def test_the_labels_after_a_link_are_clauses():
     wrong, count = [], 0
     for path in DOCUMENTS:
         for name, file, labels in named(path):
@@ -311,9 +332,24 @@ def test_the_words_of_the_documents():
     return len(DOCUMENTS), [wrong for path in DOCUMENTS for wrong in unwanted(path, enumerate(prose(text_of(path)).split("\n"), 1))]
 
 
+def found_in(*patterns):
+    return sorted(path for pattern in patterns for path in ROOT.glob(pattern))
+
+
 def test_the_words_of_comments_and_of_the_help():
-    paths = [path for kind in ("src/**/*.rt", "specs/**/*.antt", "specs.antt") for path in sorted(ROOT.glob(f"crates/*/{kind}"))]
+    kinds = ("src/**/*.rt", "specs/**/*.antt", "specs.antt", "proofs/**/*.antt")
+    paths = found_in(*(f"crates/*/{kind}" for kind in kinds), "bench/*.rattle", "bench/*.rs")
     return len(paths), [wrong for path in paths for wrong in unwanted(path, words_of_code(path))]
+
+
+def test_the_words_of_scripts():
+    paths = found_in("tests/*.py", "bench/*.py", "deploy/*.py", "examples/*.py")
+    return len(paths), [wrong for path in paths for wrong in unwanted(path, words_of_python(path))]
+
+
+def test_the_words_of_edits():
+    paths = found_in("tests/wrong_bodies/*/*.edit", "crates/*/must-fail/*.edit")
+    return len(paths), [wrong for path in paths for wrong in unwanted(path, words_of_edit(path))]
 
 
 def test_no_document_names_a_place_on_one_machine():

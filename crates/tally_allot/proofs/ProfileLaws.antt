@@ -58,7 +58,7 @@ order_gives rule poll seats group in_question lot d s some need order =
     let w = exists rule poll lot seats d s some (v.0, v.1) (proper_if_taken (record { rule = rule; poll = poll; lot = lot; seats = seats }) (are_races rule poll lot seats d s some) (inr (group, in_question, need, order))) in
     (w.0, w.1, by_votes rule poll lot seats w.0 d s some w.1)
 
--- the poll of a profile where the lists stand in another order
+-- the poll of a profile whose lists are in another order
 module _ (profile : Profile) (votes : List ℕ) (blank : ℕ) (order : List ℕ) (perm : IsReordering (length votes) order) where
   same_sum : sum (numbers_in_order votes order) ≡ sum votes
   same_sum = sum_over (poll_of profile votes blank) order perm (λ l. get_or votes l 0) ∙ sym (sum-is votes)

@@ -1,6 +1,6 @@
 //! Seats from votes.
 
-ghost use Rattle.std.specs.Prelude.{◌≡◌, ℕ, ◌≤◌, ◌<◌, ◌↔◌, IsTrue, IfOk, IfErr, OnOk, length, sum};
+ghost use Rattle.std.specs.Prelude.{◌≡◌, ◌≤◌, ◌<◌, ◌↔◌, IsTrue, IfOk, IfErr, OnOk, length, sum};
 ghost use Rattle.tally_frac.specs.Limits.{most_lists, most_seats};
 ghost use Rattle.tally_contest.specs.internal.KeptPoll.{kept_poll};
 ghost use Rattle.tally_law.specs.Allotment.{IsAllotment, divisors as by_divisors, hare};

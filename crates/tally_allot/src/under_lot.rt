@@ -1,6 +1,6 @@
 //! The award under the lot that is to be taken.
 
-ghost use Rattle.std.specs.Prelude.{◌≡◌, ◌≤◌, IfOk, IfErr, OnOk, length};
+ghost use Rattle.std.specs.Prelude.{◌≤◌, IfOk, IfErr, OnOk, length};
 ghost use Rattle.tally_frac.specs.Limits.{most_seats};
 ghost use Rattle.tally_allot.specs.AllotFault.{IsFaultOf};
 ghost use Rattle.tally_allot.specs.internal.OnTerms.{IsAllotmentOn, IsFaultOn, IsLotTakenOn};

@@ -3,7 +3,7 @@ use Rattle.std.proofs.Common.{◌≡◌, ℕ, zero, suc, ◌+◌, ◌<◌, Bool,
 use Rattle.std.specs.List.{flat_map}
 use Rattle.tally_rules.specs.Constituency.{ListEntry}
 use Rattle.tally_answer.specs.Outcome.{marked_lists, quoted_code, next_code, quoted_codes}
-use Rattle.tally_answer.specs.internal.Group.{is_begun, code_of}
+use Rattle.tally_answer.specs.internal.Group.{is_begun, code_in_group}
 
 -- the list, where it is marked
 abbrev chosen : Bool → ListEntry → List ListEntry
@@ -24,7 +24,7 @@ more : (xs : List ListEntry) (x : ListEntry) → flat_map next_code (xs ++ x ∷
 more [] x = append-nil (next_code x)
 more (y ∷ xs) x = ap (λ t. next_code y ++ t) (more xs x) ∙ sym (append_assoc (next_code y) (flat_map next_code xs) (next_code x))
 
-separated_next : (xs : List ListEntry) (mark : Bool) (x : ListEntry) → quoted_codes (xs ++ chosen mark x) ≡ quoted_codes xs ++ code_of (is_begun xs) mark x
+separated_next : (xs : List ListEntry) (mark : Bool) (x : ListEntry) → quoted_codes (xs ++ chosen mark x) ≡ quoted_codes xs ++ code_in_group (is_begun xs) mark x
 separated_next xs false x = ap quoted_codes (append-nil xs) ∙ sym (append-nil (quoted_codes xs))
 separated_next [] true x = append-nil (quoted_code x)
 separated_next (y ∷ xs) true x = ap (λ t. quoted_code y ++ t) (more xs x) ∙ sym (append_assoc (quoted_code y) (flat_map next_code xs) (next_code x))
@@ -39,7 +39,7 @@ one_more i = omega arith
 
 -- one more list
 pub written_next : (lists : List ListEntry) (marks : List Bool) (i : ℕ) (d : ListEntry) → i < length lists
-    → quoted_codes (marked_lists (take (i + 1) lists) marks) ≡ quoted_codes (marked_lists (take i lists) marks) ++ code_of (is_begun (marked_lists (take i lists) marks)) (slice_index_or marks i false) (get_or lists i d)
+    → quoted_codes (marked_lists (take (i + 1) lists) marks) ≡ quoted_codes (marked_lists (take i lists) marks) ++ code_in_group (is_begun (marked_lists (take i lists) marks)) (slice_index_or marks i false) (get_or lists i d)
 written_next lists marks i d within =
     ap (λ (n : ℕ). quoted_codes (marked_lists (take n lists) marks)) (one_more i)
     ∙ ap quoted_codes (marked_next lists marks i d within) ∙ separated_next (marked_lists (take i lists) marks) (slice_index_or marks i false) (get_or lists i d)

@@ -53,8 +53,8 @@ abbrev pub all_gone : List ListEntry → List GoneCandidate → Data
 all_gone lists all = array (items_of (map (shown_gone lists) all))
 
 -- the members of a constituency after those who are gone
-abbrev pub members_behind_gone : Constituency → View → Members
-members_behind_gone con v =
+abbrev pub members_after_gone : Constituency → View → Members
+members_after_gone con v =
     member (codes "lot") (codes_at_places con.lists v.lot)
     (member (codes "note") (string v.note) (member (codes "seats") (whole_values v.seats)
     (member (codes "spoiled") (whole_value v.spoiled)
@@ -68,4 +68,4 @@ shown_con con v =
     (member (codes "closed") (whole_value v.closed) (member (codes "con") (string con.code)
     (member (codes "edition") (whole_value v.edition)
     (member (codes "gone") (all_gone con.lists v.gone)
-    (members_behind_gone con v)))))))
+    (members_after_gone con v)))))))

@@ -1,7 +1,9 @@
 //! The head of an answer, and its body.
 
-ghost use Rattle.std.specs.Prelude.{◌≡◌, ◌≤◌, ◌+◌, ◌++◌, [], IfOk, codes, length, vec_len, vec_capacity};
-ghost use Rattle.tally_answer.specs.Answer.{status_line, type_line, length_line, allow_line, close_line, fields_text, head_text, answer_text};
+ghost use Rattle.std.specs.Prelude.{◌≡◌, ◌≤◌, ◌+◌, ◌++◌, [], IfOk, codes, length, vec_len};
+ghost use Rattle.std.specs.Prelude.{vec_capacity};
+ghost use Rattle.tally_answer.specs.Answer.{status_line, type_line, length_line, allow_line};
+ghost use Rattle.tally_answer.specs.Answer.{close_line, fields_text, head_text, answer_text};
 
 use crate::push::{push, push_around};
 use crate::status::{AnswerStatus, BodyType, allow_of, code_of, name_of, phrase_of};

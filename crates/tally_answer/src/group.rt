@@ -3,7 +3,7 @@
 ghost use Rattle.std.specs.Prelude.{◌≡◌, ◌≤◌, ◌+◌, ◌++◌, ◌||◌, length, vec_len, vec_capacity};
 ghost use Rattle.tally_frac.specs.Limits.{most_lists};
 ghost use Rattle.tally_answer.specs.Outcome.{group_text, marked_lists, quoted_code, quoted_codes};
-ghost use Rattle.tally_answer.specs.internal.Group.{code_of};
+ghost use Rattle.tally_answer.specs.internal.Group.{code_in_group};
 
 use crate::push::push;
 use tally_returns::ListSet;
@@ -25,7 +25,7 @@ fn push_code(out: &mut Vec<u8>, list: &ListEntry)
 /// any has come now.
 fn push_marked(out: &mut Vec<u8>, list: &ListEntry, others: bool, mark: bool) -> bool
     requires { vec_len out.old + 19 ≤ vec_capacity out.old }
-    ensures items { out.new.items ≡ out.old.items ++ code_of others mark list.now }
+    ensures items { out.new.items ≡ out.old.items ++ code_in_group others mark list.now }
     ensures len { vec_len out.new ≤ vec_len out.old + 19 }
     ensures room { vec_capacity out.old ≤ vec_capacity out.new }
     ensures begun { result ≡ (others || mark) }

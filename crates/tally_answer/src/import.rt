@@ -1,7 +1,8 @@
 //! The answer to an import.
 
 ghost use Rattle.std.specs.Prelude.{◌≡◌, ◌≤◌, ◌+◌, ◌++◌, [], vec_len, vec_capacity};
-ghost use Rattle.tally_answer.specs.Import.{counts_before, counts_after, first_value, import_body, import_text, pair_text};
+ghost use Rattle.tally_answer.specs.Import.{counts_before, counts_after, first_value, import_body};
+ghost use Rattle.tally_answer.specs.Import.{import_text, pair_text};
 
 use crate::answer::write_answer;
 use crate::push::{push, push_around};

@@ -3,8 +3,11 @@
 ghost use Rattle.std.specs.Prelude.{◌≡◌, ◌≤◌, ◌+◌, ◌++◌, List, [], length, vec_len, vec_capacity};
 ghost use Rattle.tally_frac.specs.Limits.{most_lists};
 ghost use Rattle.tally_rules.specs.Constituency.{ListEntry};
-ghost use Rattle.tally_returns.specs.declared.refusal.Refusal.TheVariants.{WrongStatus, LotWrongGroup, LotMissing};
-ghost use Rattle.tally_answer.specs.Outcome.{reply_body, refusal_answer, status_word, outcome_answer, outcome_text};
+ghost use Rattle.tally_returns.specs.declared.refusal.Refusal.TheVariants.{WrongStatus};
+ghost use Rattle.tally_returns.specs.declared.refusal.Refusal.TheVariants.{LotWrongGroup};
+ghost use Rattle.tally_returns.specs.declared.refusal.Refusal.TheVariants.{LotMissing};
+ghost use Rattle.tally_answer.specs.Outcome.{reply_body, refusal_answer, status_word};
+ghost use Rattle.tally_answer.specs.Outcome.{outcome_answer, outcome_text};
 
 use crate::answer::write_answer;
 use crate::group::push_group;

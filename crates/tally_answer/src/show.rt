@@ -4,9 +4,9 @@ ghost use Rattle.std.specs.Prelude.{◌≡◌, IfOk, OnOk, string_bytes};
 ghost use Rattle.serde_json.specs.Data.{no_members, object, put as with_member, string};
 ghost use Rattle.serde_json.specs.View.{view, members_view};
 ghost use Rattle.serde_json.specs.Written.{compact_text};
-ghost use Rattle.tally_answer.specs.Shown.{all_gone, code_at_place, codes_at_places, members_behind_gone};
-ghost use Rattle.tally_answer.specs.Shown.{members_from_spoiled};
-ghost use Rattle.tally_answer.specs.Shown.{shown_con, shown_gone, shown_return, whole_value, whole_values};
+ghost use Rattle.tally_answer.specs.Shown.{all_gone, code_at_place, codes_at_places};
+ghost use Rattle.tally_answer.specs.Shown.{members_after_gone, members_from_spoiled, shown_con};
+ghost use Rattle.tally_answer.specs.Shown.{shown_gone, shown_return, whole_value, whole_values};
 
 use crate::outcome::status_word;
 use serde_json::{Map, Value, json};
@@ -155,14 +155,14 @@ fn all_gone(alloc: Global, lists: &[ListEntry], all: &[Gone]) -> Result<Value, A
     Ok(Value::from(items))
 }
 
-fn put_behind_gone(
+fn put_after_gone(
     map: &mut Map<String, Value>,
     alloc: Global,
     con: &Constituency,
     seen: &ConView,
 ) -> Result<(), AllocError>
     requires { members_view map.old.entries ≡ no_members }
-    ensures { OnOk result (members_view map.new.entries ≡ members_behind_gone con.now seen.now) }
+    ensures { OnOk result (members_view map.new.entries ≡ members_after_gone con.now seen.now) }
 {
     serde_json::put(map, alloc, "votes", long_whole_values(alloc, &seen.votes)?)?;
     put_number(map, alloc, "stations", seen.stations)?;
@@ -186,7 +186,7 @@ fn put_con(
     requires { members_view map.old.entries ≡ no_members }
     ensures { OnOk result (object (members_view map.new.entries) ≡ shown_con con.now seen.now) }
 {
-    put_behind_gone(map, alloc, con, seen)?;
+    put_after_gone(map, alloc, con, seen)?;
     serde_json::put(map, alloc, "gone", all_gone(alloc, &con.lists, &seen.gone)?)?;
     put_number(map, alloc, "edition", seen.edition)?;
     put_text(map, alloc, "con", con.code.as_str())?;

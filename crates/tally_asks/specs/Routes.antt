@@ -105,14 +105,14 @@ rest_after prefix text =
     else None
 
 -- the code in a target between a prefix and the next slash, or the end
-abbrev pub code_behind : List ℕ → List ℕ → Option (List ℕ)
-code_behind prefix target =
+abbrev pub code_after : List ℕ → List ℕ → Option (List ℕ)
+code_after prefix target =
     option_and_then (λ rest. code_of (before_slash rest)) (rest_after prefix target)
 
 -- the station that a target names
 abbrev pub station_of_target : List ℕ → Option (List ℕ)
-station_of_target target = code_behind (codes "/station/") target
+station_of_target target = code_after (codes "/station/") target
 
 -- the constituency that a target names
 abbrev pub con_of_target : List ℕ → Option (List ℕ)
-con_of_target target = code_behind (codes "/con/") target
+con_of_target target = code_after (codes "/con/") target

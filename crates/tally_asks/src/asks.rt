@@ -3,7 +3,9 @@
 ghost use Rattle.std.specs.Prelude.{◌≡◌, codes, option_map, IfOk, string_bytes};
 ghost use Rattle.serde_json.specs.View.{view};
 ghost use Rattle.tally_returns.specs.AskSeen.{ask_seen};
-ghost use Rattle.tally_asks.specs.Bodies.{IsCommand, text_under, lodge_in, query_in, correct_in, close_in, draw_in, certify_in, reopen_in, vacate_in, con_command, station_command};
+ghost use Rattle.tally_asks.specs.Bodies.{IsCommand, text_under, lodge_in, query_in, correct_in};
+ghost use Rattle.tally_asks.specs.Bodies.{close_in, draw_in, certify_in, reopen_in, vacate_in};
+ghost use Rattle.tally_asks.specs.Bodies.{con_command, station_command};
 
 use crate::fields::{code_under, codes_under, counts_of_body, number_under, text_under, value_of};
 use crate::routes::{ConCommand, StationCommand};

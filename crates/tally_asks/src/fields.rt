@@ -3,7 +3,9 @@
 ghost use Rattle.std.specs.Prelude.{◌≡◌, option_map, option_and_then, IfOk};
 ghost use Rattle.serde_json.specs.Find.{get, as_array};
 ghost use Rattle.serde_json.specs.View.{view, items_view};
-ghost use Rattle.tally_asks.specs.Bodies.{IsBody, as_whole, number_under, text_under, as_code, code_under, all_items, numbers_under, codes_under, counts_of_body};
+ghost use Rattle.tally_asks.specs.Bodies.{IsBody, as_whole, number_under, text_under, as_code};
+ghost use Rattle.tally_asks.specs.Bodies.{code_under, all_items, numbers_under, codes_under};
+ghost use Rattle.tally_asks.specs.Bodies.{counts_of_body};
 
 use serde_json::Value;
 use std::alloc::{AllocError, Global};

@@ -2,7 +2,9 @@
 
 ghost use Rattle.std.specs.Prelude.{◌≡◌, Option, option_map, IfOk, OnOk, map, bytes_eq};
 ghost use Rattle.matchit.specs.Router.{RouteOf};
-ghost use Rattle.tally_asks.specs.Routes.{desk_rows, with_route, with_routes, station_routes, con_routes, command_routes, takes_get, route_method, IsRouted};
+ghost use Rattle.tally_asks.specs.Routes.{desk_rows, with_route, with_routes, station_routes};
+ghost use Rattle.tally_asks.specs.Routes.{con_routes, command_routes, takes_get, route_method};
+ghost use Rattle.tally_asks.specs.Routes.{IsRouted};
 
 use http::Method;
 use matchit::{InsertError, Router};

@@ -1,7 +1,8 @@
 //! The code in a target.
 
 ghost use Rattle.std.specs.Prelude.{◌≡◌, ◌≤◌, ◌==◌, IfSome, length, position};
-ghost use Rattle.tally_asks.specs.Routes.{before_slash, code_behind, station_of_target, con_of_target};
+ghost use Rattle.tally_asks.specs.Routes.{before_slash, code_after, station_of_target};
+ghost use Rattle.tally_asks.specs.Routes.{con_of_target};
 
 use tally_rules::Code;
 
@@ -21,8 +22,8 @@ fn before_slash(text: &[u8]) -> &[u8]
     }
 }
 
-fn code_behind(target: &[u8], prefix: &[u8]) -> Option<Code>
-    ensures { result ≡ code_behind prefix.now target.now }
+fn code_after(target: &[u8], prefix: &[u8]) -> Option<Code>
+    ensures { result ≡ code_after prefix.now target.now }
 {
     let rest = target.strip_prefix(prefix)?;
     Code::new(before_slash(rest))
@@ -33,7 +34,7 @@ fn code_behind(target: &[u8], prefix: &[u8]) -> Option<Code>
 pub fn station_of_target(target: &[u8]) -> Option<Code>
     ensures { result ≡ station_of_target target.now }
 {
-    code_behind(target, b"/station/")
+    code_after(target, b"/station/")
 }
 
 /// The constituency that a target names: what is between `/con/` and the next slash, if it is a
@@ -41,5 +42,5 @@ pub fn station_of_target(target: &[u8]) -> Option<Code>
 pub fn con_of_target(target: &[u8]) -> Option<Code>
     ensures { result ≡ con_of_target target.now }
 {
-    code_behind(target, b"/con/")
+    code_after(target, b"/con/")
 }

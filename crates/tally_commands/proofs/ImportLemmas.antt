@@ -16,7 +16,7 @@ use Rattle.tally_commands.specs.declared.trouble.Trouble.TheVariants as trouble
 use Rattle.tally_keeper.specs.declared.source.ImportFault.{ImportFault}
 use Rattle.tally_keeper.specs.declared.source.ImportFault.TheVariants.{BadHeader, TooLong, Read, Memory, Store}
 
--- an import that was not done for want of memory
+-- an import that was not done, since it was out of memory
 pub memory-import : (setup : List Constituency) (old : Option State) (at : SourceAt) → Imports setup old (record { start = at; finish = at }) (Err Memory) old
 memory-import setup old at = (own-first at Memory (inl refl), go old)
   where
@@ -32,7 +32,7 @@ find-trouble (Some con) sep bytes setup old t is =
     let at : SourceAt = record { coming = coming_of con sep bytes; given = []; ended = None } in
     (record { start = at; finish = at }, refl, (Memory, memory-import setup old at, is))
 
--- how the rows of a text stand as a source
+-- the state of the rows of a text as a source
 abbrev pub rows_at : ReturnRows → SourceAt
 rows_at rows = record { coming = coming rows; given = rows.given; ended = rows.ended }
 
@@ -51,21 +51,21 @@ own-no-read (inl is) = cc
 own-no-read (inr is) = cc
 
 read-of-source : (d : Delivery) (fault : ImportFault) → IsImportFault d fault → import_trouble fault ≡ trouble.Read → d.finish.ended ≡ Some (Some Read)
-read-of-source d BadHeader is told = cc
-read-of-source d TooLong is told = cc
-read-of-source d Read (rows, given, inl own) told = absurd (own-no-read own)
-read-of-source d Read (rows, given, inr (inl source)) told = source.0
-read-of-source d Read (rows, given, inr (inr many)) told = let is = many.0 in cc
-read-of-source d Memory is told = cc
-read-of-source d Store is told = cc
+read-of-source d BadHeader is ensured = cc
+read-of-source d TooLong is ensured = cc
+read-of-source d Read (rows, given, inl own) ensured = absurd (own-no-read own)
+read-of-source d Read (rows, given, inr (inl source)) ensured = source.0
+read-of-source d Read (rows, given, inr (inr many)) ensured = let is = many.0 in cc
+read-of-source d Memory is ensured = cc
+read-of-source d Store is ensured = cc
 
--- a failed read is told only of a source that ended with one
+-- a failed read is reported only of a source that ended with one
 pub read-ended : {S : Type 0} (setup : List Constituency) (old new : Option State) (d : Delivery) (r : Result S Trouble)
     → IfErr r (λ t. IsImportTrouble setup old d t new) → r ≡ Err trouble.Read → d.finish.ended ≡ Some (Some Read)
-read-ended setup old new d (Ok text) told is = cc
-read-ended setup old new d (Err t) (fault, imports, told) is =
+read-ended setup old new d (Ok text) ensured is = cc
+read-ended setup old new d (Err t) (fault, imports, ensured) is =
     let same : t ≡ trouble.Read = cc in
-    read-of-source d fault imports.0 (sym told ∙ same)
+    read-of-source d fault imports.0 (sym ensured ∙ same)
 
 -- the rows of a source were imported only once it came to its end
 pub end-then : {S : Type 0} (setup : List Constituency) (old new : Option State) (d : Delivery) (bytes : S → List ℕ) (Then : Type 0) (r : Result S Trouble)

@@ -1,4 +1,4 @@
-pub mod ToldLemmas
+pub mod ReportedLemmas
 pub mod ShowLemmas
 pub mod ImportLemmas
 pub mod NamedLemmas

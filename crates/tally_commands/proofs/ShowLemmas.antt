@@ -56,7 +56,7 @@ con-step : (s t : State) (code : List ℕ) (why : Refusal) (found : Constituency
 con-step s t code why found (v, decided, seen, decides, answered, after) =
     let same : Err why ≡ con_answer v (Ok no_change) = answered ∙ ap (con_answer v) decides in cc
 
--- a constituency that the setup has is refused for nothing but want of memory or a database that failed
+-- a constituency that the setup has is refused only where it is out of memory, or a database failed
 con-refused : (setup : List Constituency) (old new : Option State) (code : List ℕ) (found : Constituency) (why : Refusal) → constituency_with code setup ≡ Some found
     → Happens setup old (request (ShowCon code) (Err why)) new → IsNotAccepted (Err why)
 con-refused setup (Some s) (Some t) code found why is (inl step) =
@@ -72,9 +72,9 @@ con-trouble setup old new code which found why is happens = go (con-refused setu
   where
     by : (other : Refusal) → why ≡ other → (Happens setup old (request (ShowCon code) (Err other)) new → IsReportTrouble setup old code which (refusal_trouble other) new)
         → IsReportTrouble setup old code which (refusal_trouble why) new
-    by other e told =
+    by other e ensured =
         subst (λ (w : Refusal). IsReportTrouble setup old code which (refusal_trouble w) new) (sym e)
-        (told (subst (λ (w : Refusal). Happens setup old (request (ShowCon code) (Err w)) new) e happens))
+        (ensured (subst (λ (w : Refusal). Happens setup old (request (ShowCon code) (Err w)) new) e happens))
 
     go : IsNotAccepted (Err why) → IsReportTrouble setup old code which (refusal_trouble why) new
     go (inl e) = let same : why ≡ Memory = cc in by Memory same (λ h. h)
@@ -93,17 +93,17 @@ progress-trouble setup old new why happens = go (progress-refused setup old new 
   where
     by : (other : Refusal) → why ≡ other → (Happens setup old (request ShowProgress (Err other)) new → IsProgressTrouble setup old (refusal_trouble other) new)
         → IsProgressTrouble setup old (refusal_trouble why) new
-    by other e told =
+    by other e ensured =
         subst (λ (w : Refusal). IsProgressTrouble setup old (refusal_trouble w) new) (sym e)
-        (told (subst (λ (w : Refusal). Happens setup old (request ShowProgress (Err w)) new) e happens))
+        (ensured (subst (λ (w : Refusal). Happens setup old (request ShowProgress (Err w)) new) e happens))
 
     go : IsNotAccepted (Err why) → IsProgressTrouble setup old (refusal_trouble why) new
     go (inl e) = let same : why ≡ Memory = cc in by Memory same (λ h. h)
     go (inr e) = let same : why ≡ Store = cc in by Store same (λ h. h)
 
--- ---- want of memory, and faults of a report
+-- ---- out of memory, and faults of a report
 
--- where nothing has changed, that memory ran out may have been answered
+-- where nothing has changed, the answer may have been that it was out of memory
 pub memory-refused : (setup : List Constituency) (old new : Option State) (ask : Ask) → new ≡ old → Happens setup old (request ask (Err Memory)) new
 memory-refused setup old new ask kept = subst (λ (n : Option State). Happens setup old (request ask (Err Memory)) n) (sym kept) (go old)
   where
@@ -116,21 +116,21 @@ pub fault-trouble : (setup : List Constituency) (old new : Option State) (code :
     → IsReportTrouble setup old code which t new
 fault-trouble setup old new code which con view t is shows withheld = go (report_fault con view which) refl withheld
   where
-    told_as : (other : Trouble) → t ≡ other → IsReportTrouble setup old code which other new → IsReportTrouble setup old code which t new
-    told_as other e told = subst (λ (x : Trouble). IsReportTrouble setup old code which x new) (sym e) told
+    trouble_as : (other : Trouble) → t ≡ other → IsReportTrouble setup old code which other new → IsReportTrouble setup old code which t new
+    trouble_as other e ensured = subst (λ (x : Trouble). IsReportTrouble setup old code which x new) (sym e) ensured
 
     go : (o : Option ReportFault) → report_fault con view which ≡ o → IsWithheld o t → IsReportTrouble setup old code which t new
-    go None e w = told_as trouble.Memory w (memory-refused setup old new (ShowCon code) shows.1)
-    go (Some fault.NotCertified) e w = told_as trouble.NotCertified w (con, view, is, shows, e)
-    go (Some fault.OtherMethod) e w = told_as trouble.OtherMethod w (con, view, is, shows, e)
-    go (Some fault.Memory) e w = told_as trouble.Memory w (memory-refused setup old new (ShowCon code) shows.1)
+    go None e w = trouble_as trouble.Memory w (memory-refused setup old new (ShowCon code) shows.1)
+    go (Some fault.NotCertified) e w = trouble_as trouble.NotCertified w (con, view, is, shows, e)
+    go (Some fault.OtherMethod) e w = trouble_as trouble.OtherMethod w (con, view, is, shows, e)
+    go (Some fault.Memory) e w = trouble_as trouble.Memory w (memory-refused setup old new (ShowCon code) shows.1)
 
 -- a report that was given has no fault
 pub given-none : {T : Type 0} (o : Option ReportFault) (text : T) → IsRefused o (Ok text) → o ≡ None
 given-none None text refused = refl
 given-none (Some why) text refused = cc
 
--- a report that was not given has this fault, or memory ran out
+-- a report that was not given has this fault, or was out of memory
 pub withheld : (T : Type 0) (o : Option ReportFault) (why : ReportFault) → IsRefused {T = T} o (Err why) → IsWithheld o (report_trouble why)
 withheld T None why refused = ap report_trouble refused
 withheld T (Some other) why refused = let same : why ≡ other = cc in ap report_trouble same

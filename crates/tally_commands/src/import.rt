@@ -1,13 +1,15 @@
 //! Imports of returns. Errors are matched and returned, and not passed on by `?`, since the `?` of
 //! an enum that holds a text (`Trouble`) has no proof yet.
 
-ghost use Rattle.std.specs.Prelude.{◌≡◌, Err, IfErr, IfOk, OnOk, Some, false, is_some, string_bytes, true};
+ghost use Rattle.std.specs.Prelude.{◌≡◌, Err, IfErr, IfOk, OnOk, Some, false, is_some};
+ghost use Rattle.std.specs.Prelude.{string_bytes, true};
 ghost use Rattle.tally_rules.specs.Setup.{constituency_with};
 ghost use Rattle.tally_records.specs.Watch.{NotesNothing, has_failed};
 ghost use Rattle.tally_keeper.specs.Delivery.{delivery};
 ghost use Rattle.tally_keeper.specs.StaysKeeper.{StaysKeeper};
 ghost use Rattle.tally_commands.specs.Imported.{IsCountText, IsImportTrouble, IsImportText};
-ghost use Rattle.tally_commands.specs.Imported.{IsImportedComing, IsTextImported, IsTextTrouble, IsTroubleComing, coming_of};
+ghost use Rattle.tally_commands.specs.Imported.{IsImportedComing, IsTextImported, IsTextTrouble};
+ghost use Rattle.tally_commands.specs.Imported.{IsTroubleComing, coming_of};
 ghost use Rattle.tally_commands.specs.Trouble.{IsTroubleOfText, IsTroubleOfRows};
 ghost use Rattle.tally_commands.specs.internal.Found.{IsFindTrouble};
 

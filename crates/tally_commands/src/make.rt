@@ -1,6 +1,7 @@
 //! What is reported of an office that was made.
 
-ghost use Rattle.std.specs.Prelude.{◌≡◌, ◌≤◌, ◌+◌, ◌++◌, IsOk, OnErr, OnOk, string_bytes, string_len, string_capacity};
+ghost use Rattle.std.specs.Prelude.{◌≡◌, ◌≤◌, ◌+◌, ◌++◌, IsOk, OnErr, OnOk, string_bytes};
+ghost use Rattle.std.specs.Prelude.{string_len, string_capacity};
 ghost use Rattle.tally_commands.specs.Made.{constituencies_text};
 
 use std::alloc::AllocError;

@@ -1,7 +1,8 @@
 //! What a server says when it listens, and what is reported of one that has ended.
 
 ghost use Rattle.std.specs.Prelude.{◌≡◌, ◌≤◌, ◌+◌, ◌++◌, string_bytes, string_len, string_capacity};
-ghost use Rattle.tally_commands.specs.Served.{for_connections, listening_at, listening_line, served_line};
+ghost use Rattle.tally_commands.specs.Served.{for_connections, listening_at, listening_line};
+ghost use Rattle.tally_commands.specs.Served.{served_line};
 
 use itoa::Buffer;
 use tally_import::room::push;

@@ -1,20 +1,21 @@
 //! What the office shows, as text.
 
 ghost use Rattle.std.specs.Prelude.{◌≡◌, Err, IfErr, IfOk, None, Some, string_bytes};
-ghost use Rattle.tally_steps.specs.Outcome.{IsLawfulView};
 ghost use Rattle.tally_keeper.specs.StaysKeeper.{StaysKeeper};
 ghost use Rattle.tally_report.specs.ProgressText.{progress_text};
 ghost use Rattle.tally_returns.specs.View.{FitsView};
 ghost use Rattle.tally_rules.specs.Setup.{constituency_with};
-ghost use Rattle.tally_report.specs.Reports.{IsReport, report_fault};
-ghost use Rattle.tally_commands.specs.Trouble.{IsTroubleOfDatabase, IsTroubleOfProgress, IsTroubleOfReport};
-ghost use Rattle.tally_commands.specs.Show.{IsGiven, IsProgressShown, IsProgressTrouble, IsReportShown, IsReportTrouble};
+ghost use Rattle.tally_report.specs.Reports.{IsEnoughFor, report_fault};
+ghost use Rattle.tally_commands.specs.Trouble.{IsTroubleOfDatabase, IsTroubleOfProgress};
+ghost use Rattle.tally_commands.specs.Trouble.{IsTroubleOfReport};
+ghost use Rattle.tally_commands.specs.Show.{IsGiven, IsProgressShown, IsProgressTrouble};
+ghost use Rattle.tally_commands.specs.Show.{IsReportShown, IsReportTrouble};
 ghost use Rattle.tally_commands.specs.internal.Withheld.{IsWithheld, OfCon, refusal_trouble};
 
 use crate::named::code_named;
 use crate::trouble::Trouble;
 use std::alloc::Global;
-use tally_desk::{progress_of, view_of};
+use tally_desk::{progress_of, view_for};
 use tally_keeper::{ConView, Keeper, ProgressRow, Refusal};
 use tally_report::{Report, progress_text, report_text};
 use tally_rules::{Code, Setup};
@@ -40,7 +41,7 @@ pub fn show_report<K: Keeper>(
     let Some(code) = code_named(keeper.setup(), con) else {
         return Err(Trouble::NoConstituency);
     };
-    match view_of(keeper, code) {
+    match view_for(keeper, code, which) {
         Ok(view) => text_of(alloc, keeper.setup(), code, &view, which),
         Err(refusal) => Err(trouble_of(refusal)),
     }
@@ -74,7 +75,7 @@ fn text_of(
     requires { OfCon setup.now code (λ con. FitsView con view.now) }
     ensures named { IfErr result IsTroubleOfReport }
     ensures text { IfOk result (λ text. OfCon setup.now code (λ con.
-        IsLawfulView con view.now → IsGiven con view.now which (string_bytes text))) }
+        IsEnoughFor which con view.now → IsGiven con view.now which (string_bytes text))) }
     ensures trouble { IfErr result (λ trouble. OfCon setup.now code (λ con.
         IsWithheld (report_fault con view.now which) trouble)) }
 {

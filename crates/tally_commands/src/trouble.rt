@@ -4,9 +4,11 @@ ghost use Rattle.std.specs.Prelude.{◌≡◌, ◌≢◌};
 ghost use Rattle.tally_rules.specs.declared.fault.SetupFault.{SetupFault};
 ghost use Rattle.tally_commands.specs.declared.trouble.Trouble.TheVariants.{Setup};
 ghost use Rattle.tally_commands.specs.Reported.{IsReported};
-ghost use Rattle.tally_commands.specs.Trouble.{check_trouble, create_trouble, import_trouble, open_trouble, report_trouble};
-ghost use Rattle.tally_commands.specs.Trouble.{IsTroubleOfMaking, IsTroubleOfOpening, IsTroubleOfReport, IsTroubleOfRows};
-ghost use Rattle.tally_commands.specs.Trouble.{setup_line, setup_status, trouble_line, trouble_status};
+ghost use Rattle.tally_commands.specs.Trouble.{check_trouble, create_trouble, import_trouble};
+ghost use Rattle.tally_commands.specs.Trouble.{open_trouble, report_trouble, IsTroubleOfMaking};
+ghost use Rattle.tally_commands.specs.Trouble.{IsTroubleOfOpening, IsTroubleOfReport};
+ghost use Rattle.tally_commands.specs.Trouble.{IsTroubleOfRows, setup_line, setup_status};
+ghost use Rattle.tally_commands.specs.Trouble.{trouble_line, trouble_status};
 
 use crate::standard_error::{tell, tell_named};
 use std::io::Write;

@@ -1,4 +1,4 @@
--- Words of private contracts and of proofs. No promise to a caller speaks of them.
+-- Words of private contracts and of proofs. No promise to a program speaks of them.
 pub mod Pairs
 pub mod Premises
 pub mod Sums

@@ -1,7 +1,6 @@
 //! Contests under Hare's rule.
 
-ghost use Rattle.std.specs.Prelude.{◌≡◌, ℕ, ◌*◌, ◌<◌, ◌≤◌, ◌⊎◌, ◌↔◌, IsTrue, length, slice_index};
-ghost use Rattle.std.specs.Prelude.{slice_index_or};
+ghost use Rattle.std.specs.Prelude.{◌≡◌, ℕ, ◌*◌, ◌<◌, ◌≤◌, length, slice_index, slice_index_or};
 ghost use Rattle.tally_frac.specs.Limits.{most_lists, most_seats};
 ghost use Rattle.tally_law.specs.Poll.{IsEligible};
 ghost use Rattle.tally_law.specs.HareAllotment as spec;

@@ -1,6 +1,6 @@
 //! Whether a lot is needed.
 
-ghost use Rattle.std.specs.Prelude.{◌≡◌, ℕ, ◌<◌, ◌≤◌, ◌↔◌, IsTrue, length};
+ghost use Rattle.std.specs.Prelude.{◌≡◌, ◌<◌, ◌≤◌, ◌↔◌, IsTrue, length};
 ghost use Rattle.tally_frac.specs.Limits.{most_lists};
 ghost use Rattle.tally_contest.specs.internal.Needs.{IsNeedOn};
 ghost use Rattle.tally_contest.specs.internal.Orders.{IsOrderOfEquals, MayBeTaken};

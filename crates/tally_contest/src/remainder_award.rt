@@ -1,6 +1,6 @@
 //! The award of the seats that whole quotas leave over, from a heap of claims.
 
-ghost use Rattle.std.specs.Prelude.{◌≡◌, ℕ, ◌+◌, ◌<◌, ◌≤◌, IfOk, length, sum};
+ghost use Rattle.std.specs.Prelude.{◌≡◌, ◌+◌, ◌<◌, IfOk, length, sum};
 ghost use Rattle.std.specs.BinaryHeap.{IsHeap, heap_items};
 ghost use Rattle.tally_contest.specs.internal.KeptPoll.{kept_poll};
 ghost use Rattle.tally_law.specs.Poll.{HasEligible};

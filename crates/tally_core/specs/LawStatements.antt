@@ -3,7 +3,7 @@ use Rattle.std.specs.Prelude.{◌≡◌, ◌↔◌, ◌⊎◌, ◌<◌, ℕ, All
 use Rattle.std.specs.List.{filter}
 use Rattle.tally_keeper.specs.Events.{BringsCodes, acts, answers_of, asks_of, lodges, lodge_answers}
 use Rattle.tally_keeper.specs.Import.{RowAnswer, count_of}
-use Rattle.tally_keeper.specs.Keeper.{Event, Happen, Happens, IsImport, Runs, whole_import}
+use Rattle.tally_keeper.specs.Keeper.{Event, HappensInTurn, Happens, IsImport, Runs, whole_import}
 use Rattle.tally_keeper.specs.declared.import.ImportCount.{ImportCount}
 use Rattle.tally_keeper.specs.declared.import.Row.{Row}
 use Rattle.tally_steps.specs.Step.{IsView}
@@ -44,27 +44,28 @@ ImportsAreRuns =
 abbrev pub WhatHappensToAShutKeeperIsARun : Type 0
 WhatHappensToAShutKeeperIsARun =
     (setup : List Constituency) (s : State) (events : List Event)
-    → Happen setup (Some s) events None
+    → HappensInTurn setup (Some s) events None
     → (t : State) × IsRun setup s (asks_of events) (answers_of events) t
 
 -- whatever happens to a keeper that is not shut is a run
 abbrev pub WhatHappensToAKeeperIsARun : Type 0
 WhatHappensToAKeeperIsARun =
     (setup : List Constituency) (s t : State) (events : List Event)
-    → Happen setup (Some s) events (Some t) → IsRun setup s (asks_of events) (answers_of events) t
+    → HappensInTurn setup (Some s) events (Some t)
+    → IsRun setup s (asks_of events) (answers_of events) t
 
 -- whatever happens to a keeper, its state stays lawful
 abbrev pub KeepersKeepStatesLawful : Type 0
 KeepersKeepStatesLawful =
     (setup : List Constituency) (s t : State) (events : List Event) → All BringsCodes events
-    → IsSetup setup → IsLawfulState setup s → Happen setup (Some s) events (Some t)
+    → IsSetup setup → IsLawfulState setup s → HappensInTurn setup (Some s) events (Some t)
     → IsLawfulState setup t
 
 -- whatever happened since a lawful state, a certified constituency has a view with a certificate
 abbrev pub CertificatesOfKeepersAreRight : Type 0
 CertificatesOfKeepersAreRight =
     (setup : List Constituency) (s t : State) (events : List Event) → All BringsCodes events
-    → IsSetup setup → IsLawfulState setup s → Happen setup (Some s) events (Some t)
+    → IsSetup setup → IsLawfulState setup s → HappensInTurn setup (Some s) events (Some t)
     → (code : List ℕ) (con : Constituency) → constituency_with code setup ≡ Some con
     → (con_state t con.code).certified ≡ true
     → (view : View) × IsView con t view × IsCertificate con view
@@ -73,7 +74,7 @@ CertificatesOfKeepersAreRight =
 abbrev pub RecordsOfKeepersStay : Type 0
 RecordsOfKeepersStay =
     (setup : List Constituency) (s t : State) (events : List Event)
-    → IsLawfulState setup s → Happen setup (Some s) events (Some t)
+    → IsLawfulState setup s → HappensInTurn setup (Some s) events (Some t)
     → (code : List ℕ) (edition : ℕ) (seats : List ℕ) → IsOnRecord s code edition seats
     → IsOnRecord t code edition seats
 
@@ -82,7 +83,7 @@ RecordsOfKeepersStay =
 abbrev pub RecordsOfKeepersAreOfAllotments : Type 0
 RecordsOfKeepersAreOfAllotments =
     (setup : List Constituency) (s t : State) (events : List Event) → All BringsCodes events
-    → IsSetup setup → IsLawfulState setup s → Happen setup (Some s) events (Some t)
+    → IsSetup setup → IsLawfulState setup s → HappensInTurn setup (Some s) events (Some t)
     → (code : List ℕ) (con : Constituency) (edition : ℕ) (seats : List ℕ)
     → constituency_with code setup ≡ Some con
     → IsOnRecord t con.code edition seats
@@ -94,7 +95,7 @@ RecordsOfKeepersAreOfAllotments =
 abbrev pub NoTwoEqualRequestsAct : Type 0
 NoTwoEqualRequestsAct =
     (setup : List Constituency) (s : State) (new : Option State) (events : List Event)
-    → Happen setup (Some s) events new
+    → HappensInTurn setup (Some s) events new
     → (i j : ℕ) (ask other : Ask) (first second : Result Reply Refusal) → i < j
     → slice_get (asks_of events) i ≡ Some ask → slice_get (asks_of events) j ≡ Some other
     → IsSameCommand ask other
@@ -105,16 +106,17 @@ NoTwoEqualRequestsAct =
 abbrev pub ActsAloneHappen : Type 0
 ActsAloneHappen =
     (setup : List Constituency) (s t : State) (events : List Event)
-    → Happen setup (Some s) events (Some t) → Happen setup (Some s) (filter acts events) (Some t)
+    → HappensInTurn setup (Some s) events (Some t)
+    → HappensInTurn setup (Some s) (filter acts events) (Some t)
 
 -- and so it is without some of it
-abbrev pub WhatDoesNotActCanBeLeftOut : Type 0
-WhatDoesNotActCanBeLeftOut =
+abbrev pub EventsThatDoNotActCanBeLeftOut : Type 0
+EventsThatDoNotActCanBeLeftOut =
     (setup : List Constituency) (s t : State) (events : List Event)
-    → Happen setup (Some s) events (Some t) → (keep : ℕ → Bool)
+    → HappensInTurn setup (Some s) events (Some t) → (keep : ℕ → Bool)
     → ((i : ℕ) (event : Event) → slice_get events i ≡ Some event → keep i ≡ false
     → acts event ≡ false)
-    → Happen setup (Some s) (kept_elements keep events) (Some t)
+    → HappensInTurn setup (Some s) (kept_elements keep events) (Some t)
 
 -- the rows of an import lodge nothing when they come again, whatever happened between
 abbrev pub TheSameImportLodgesNothing : Type 0
@@ -122,5 +124,6 @@ TheSameImportLodgesNothing =
     (setup : List Constituency) (rows : List Row) (answered others : List RowAnswer)
     (count again : ImportCount)
     → (old mid later new : Option State) (events : List Event)
-    → Happens setup old (whole_import rows answered count) mid → Happen setup mid events later
+    → Happens setup old (whole_import rows answered count) mid
+    → HappensInTurn setup mid events later
     → Happens setup later (whole_import rows others again) new → again.lodged ≡ 0

@@ -69,7 +69,7 @@ pub fn no_two_equal_requests_act()
 /// same last state. That holds too where only some of it is left out.
 pub fn what_does_not_act_can_be_left_out()
     ensures all { law.ActsAloneHappen }
-    ensures some { law.WhatDoesNotActCanBeLeftOut }
+    ensures some { law.EventsThatDoNotActCanBeLeftOut }
 {}
 
 /// An import lodges nothing when the same rows come again, whatever happened between.

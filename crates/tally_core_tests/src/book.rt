@@ -3,16 +3,11 @@
 use crate::setups::check_fresh;
 use std::alloc::Global;
 use std::test::*;
-use tally_scripts::{
-    ALTERNATING, HARE, LIFE, RECOUNT, RIVERS, TWICE, TWIN_TOWN, VACANCIES, twin_town,
-};
+use tally_scripts::{TWIN_TOWN, setups_and_scripts, twin_town};
 
 // A station of 300 electors; 6 is TooManyVotes.
 const ELECTORS: &str = "lodge s1 p1 150,150 1 = refused 6
 lodge s1 p1 150,150 = lodged 1";
-
-// The method of a setup in which lots alternate.
-const ALTERNATING_LOTS: &str = "dhondt\"\nlot = \"alternating";
 
 // An open constituency with an open station; 10 is NotCertified, 5 BadNote, 3 NoCandidate.
 const OPEN: &str = "lodge s1 p1 100,100 = lodged 1
@@ -87,19 +82,14 @@ draw c1 1 B,A = refused 15
 certify c1 1 = refused 15";
 
 // A method of Twin Town, the number of seats, and a script.
-const SCRIPTS: [(&str, u32, &str); 12] = [
-    ("dhondt", 3, LIFE),
-    ("dhondt", 3, TWICE),
+const SCRIPTS: [(&str, u32, &str); 7] = [
     ("dhondt", 3, ELECTORS),
-    ("dhondt", 3, RECOUNT),
-    (ALTERNATING_LOTS, 3, ALTERNATING),
     ("dhondt", 3, OPEN),
     ("dhondt", 3, LOT),
     ("dhondt", 3, CERTIFIED),
     ("hare", 1, LOT_BY_HARE),
     ("dhondt", 4, DECIDED),
     ("dhondt", 3, NOBODY),
-    ("dhondt", 1, VACANCIES),
 ];
 
 fn check_in_twin_town(alloc: Global, method: &str, seats: u32, script: &str) -> Result<(), Fail> {
@@ -112,7 +102,10 @@ fn scripts_of_commands_have_these_answers(rt: HostRuntime) -> Result<(), Fail> {
     for (method, seats, script) in SCRIPTS {
         check_in_twin_town(rt.alloc(), method, seats, script)?;
     }
-    check_fresh(rt.alloc(), RIVERS, HARE)
+    for (setup, script) in &setups_and_scripts(rt.alloc())? {
+        check_fresh(rt.alloc(), setup.as_str(), script)?;
+    }
+    Ok(())
 }
 
 // A return that is queried and corrected in turn, up to its last revision. 12 is Exhausted.

@@ -3,12 +3,12 @@
 ghost use Rattle.std.specs.Prelude.{◌≡◌, Some, IsTrue};
 ghost use Rattle.tally_returns.specs.Named.{con_named};
 
-use crate::setups::{check, fresh};
+use crate::setups::fresh;
 use std::alloc::Global;
 use std::test::*;
 use tally_core::{Ask, Book, Change, ConView, Keeper, Refusal, Reply, decide_con};
 use tally_rules::Constituency;
-use tally_scripts::{TWIN_TOWN, code, command, told_refusal};
+use tally_scripts::{TWIN_TOWN, check_answers, code, command, text_of_refusal};
 
 fn names(con: &Constituency, ask: &Ask) -> bool
     ensures { IsTrue result → con_named ask.now ≡ Some con.now.code }
@@ -33,10 +33,15 @@ fn decided(
 }
 
 /// What is decided of the command of a line, as text.
-fn told(alloc: Global, con: &Constituency, view: &ConView, line: &str) -> Result<String, Fail> {
+fn text_of_outcome(
+    alloc: Global,
+    con: &Constituency,
+    view: &ConView,
+    line: &str,
+) -> Result<String, Fail> {
     match decided(alloc, con, view, &command(alloc, line)?) {
         Ok(change) => Ok(format!(in alloc; "{change:?}")?),
-        Err(refusal) => told_refusal(alloc, &refusal),
+        Err(refusal) => text_of_refusal(alloc, &refusal),
     }
 }
 
@@ -49,7 +54,7 @@ fn check_lines(
 ) -> Result<(), Fail> {
     for line in lines.lines() {
         let (ask, wanted) = line.split_once(" = ").ok_or("no text")?;
-        if told(alloc, con, view, ask)?.as_str() != wanted {
+        if text_of_outcome(alloc, con, view, ask)?.as_str() != wanted {
             return Err(Fail::from(line));
         }
     }
@@ -71,7 +76,7 @@ fn check_after(
     script: &str,
     lines: &'static str,
 ) -> Result<(), Fail> {
-    check(alloc, book, script)?;
+    check_answers(alloc, book, script)?;
     let view = view_of(book)?;
     let con = book.setup().con(code("c1")?).ok_or("c1 is there")?;
     check_lines(alloc, con, &view, lines)

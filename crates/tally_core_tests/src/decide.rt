@@ -9,7 +9,7 @@ use std::alloc::Global;
 use std::test::*;
 use tally_core::{Ask, Change, Refusal, Return, decide_return};
 use tally_rules::{Code, Constituency, Setup, Station};
-use tally_scripts::{TWIN_TOWN, code, command, setup, told_refusal};
+use tally_scripts::{TWIN_TOWN, code, command, setup, text_of_refusal};
 
 /// Whether a command may be decided: its station is one of the constituency, and the return that
 /// is recorded is lawful there.
@@ -63,7 +63,7 @@ fn carry_out(
             Ok(text)
         }
         Ok(_) => Ok(String::from_str(alloc, "nothing changes")?),
-        Err(refusal) => told_refusal(alloc, &refusal),
+        Err(refusal) => text_of_refusal(alloc, &refusal),
     }
 }
 

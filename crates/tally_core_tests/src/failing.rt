@@ -7,10 +7,7 @@ use std::alloc::Global;
 use std::test::*;
 use tally_core::Keeper;
 use tally_import::{ReturnRows, Sep};
-use tally_scripts::{
-    ALTERNATING, HARE, LIFE, RECOUNT, RIVERS, TWIN_TOWN, VACANCIES, first_wrong_of_run, twin_town,
-    with,
-};
+use tally_scripts::{TWIN_TOWN, first_wrong_of_run, setups_and_scripts};
 
 /// A new keeper that takes so many requests and imports.
 fn frail(alloc: Global, setup: &str, turns: u32) -> Result<Frail, Fail> {
@@ -77,16 +74,8 @@ fn check_each_turn(alloc: Global, setup: &str, script: &str) -> Result<(), Fail>
 #[test]
 fn scripts_with_turns_enough_and_too_few(rt: HostRuntime) -> Result<(), Fail> {
     let alloc = rt.alloc();
-    let one_seat = twin_town(alloc, "dhondt", 1)?;
-    let rule = "base = \"valid\"\nlot = \"alternating\"";
-    let alternating = with(alloc, TWIN_TOWN, "base = \"valid\"", rule)?;
-    for (setup, script) in [
-        (TWIN_TOWN, LIFE),
-        (TWIN_TOWN, RECOUNT),
-        (RIVERS, HARE),
-        (one_seat.as_str(), VACANCIES),
-        (alternating.as_str(), ALTERNATING),
-    ] {
+    for (setup, script) in &setups_and_scripts(alloc)? {
+        let setup = setup.as_str();
         check_wrong(alloc, &mut frail(alloc, setup, u32::MAX)?, script, "")?;
         check_each_turn(alloc, setup, script)?;
     }
@@ -112,17 +101,17 @@ fn imported<K: Keeper>(alloc: Global, keeper: &mut K) -> Result<String, Fail> {
 #[test]
 fn an_import_takes_a_turn(rt: HostRuntime) -> Result<(), Fail> {
     let alloc = rt.alloc();
-    let told = imported(alloc, &mut fresh(alloc, TWIN_TOWN)?)?;
-    assert!(rt; told.as_str() == LODGED, "{told}");
+    let got = imported(alloc, &mut fresh(alloc, TWIN_TOWN)?)?;
+    assert!(rt; got.as_str() == LODGED, "{got}");
     for (turns, wanted, standing) in [
         (0, "Err(Store)", "return s1 = refused 8"),
         (1, LODGED, "return s1 = 1 p1 Received [100, 100] 0 0 "),
     ] {
         let mut keeper = frail(alloc, TWIN_TOWN, turns)?;
-        let told = imported(alloc, &mut keeper)?;
-        assert!(rt; told.as_str() == wanted, "{told}");
-        let told = imported(alloc, &mut keeper)?;
-        assert!(rt; told.as_str() == "Err(Store)", "{told}");
+        let got = imported(alloc, &mut keeper)?;
+        assert!(rt; got.as_str() == wanted, "{got}");
+        let got = imported(alloc, &mut keeper)?;
+        assert!(rt; got.as_str() == "Err(Store)", "{got}");
         check_wrong(alloc, &mut keeper, "return s1 = refused 23", "")?;
         check_wrong(alloc, &mut keeper.book, standing, "")?;
     }

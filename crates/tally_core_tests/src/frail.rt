@@ -21,7 +21,7 @@ pub struct Frail {
 impl Frail {
     /// Takes a turn, or shuts the keeper for good. Answers whether it is shut.
     fn is_shut_now(&mut self) -> bool
-        ensures told { result ≡ self.new.shut }
+        ensures shut { result ≡ self.new.shut }
         ensures stays { self.old.shut ≡ true → self.new.shut ≡ true }
         ensures book { self.new.book ≡ self.old.book }
         ensures clean { self.new.clean ≡ self.old.clean }

@@ -74,9 +74,12 @@ fn held(alloc: Global, candidates: u32, seats: u32, gone: &[u32]) -> Result<Stri
 
 // The candidates and the seats of a list, the places of those who are gone, and of those who hold
 // its seats.
-const HOLDERS: [(u32, u32, &[u32], &str); 6] = [
+const HOLDERS: [(u32, u32, &[u32], &str); 8] = [
     (3, 2, &[1], "[2, 3]"),
     (1, 2, &[], "[1]"),
+    // once all seats are held no further candidate is looked at
+    (4_000_000_000, 1, &[], "[1]"),
+    (4_000_000_000, 2, &[1], "[2, 3]"),
     // after the recount where lots are fixed, and where they alternate
     (2, 2, &[], "[1, 2]"),
     (1, 1, &[1], "[]"),

@@ -10,7 +10,7 @@ use Rattle.std.proofs.lemmas.List.Elements.{All-from_recursion}
 use Rattle.tally_law.specs.Allotment.{Rule, divisors, hare}
 use Rattle.tally_report.specs.Fault.{divisors_fault}
 use Rattle.tally_report.specs.QuotientsText.{quotients_of}
-use Rattle.tally_report.specs.Reports.{IsEnoughFor}
+use Rattle.tally_report.specs.Reports.{IsEnoughFor, IsReport, report_fault}
 use Rattle.tally_report.specs.declared.report.Report.{Report}
 use Rattle.tally_report.specs.declared.report.Report.TheVariants as report
 use Rattle.tally_returns.specs.AskSeen.{AskSeen, ask_seen}
@@ -24,13 +24,12 @@ use Rattle.tally_returns.specs.declared.refusal.Refusal.TheVariants.{NoConstitue
 use Rattle.tally_steps.specs.LawStatements.{ViewsAreLawful}
 use Rattle.tally_steps.specs.LawfulState.{IsLawfulState}
 use Rattle.tally_steps.specs.Outcome.{IsLawfulPast, IsLawfulView, rule_in}
-use Rattle.tally_steps.specs.Step.{IsConStepSeen, after_change, con_shown, no_change}
+use Rattle.tally_steps.specs.Step.{IsConStepSeen, after_change, con_shown}
 use Rattle.tally_keeper.specs.Keeper.{Happens, request}
 use Rattle.tally_keeper.specs.Shown.{AnswersShowCon}
 use Rattle.tally_returns.specs.declared.refusal.Refusal.{Refusal}
 use Rattle.tally_desk.specs.Reports.{IsReportText, IsReportTextBy}
-use Rattle.tally_desk.specs.Shown.{as_con}
-use Rattle.tally_desk.specs.internal.ShownFor.{HasPastIf, ShowsFor, is_past}
+use Rattle.tally_desk.specs.Shown.{HasPastIf, ShowsFor, is_past}
 use Rattle.tally_message.specs.declared.message.Message.{Message}
 use Rattle.tally_asks.specs.Routes.{con_of_target, station_of_target}
 use Rattle.tally_asks.specs.Bodies.{IsBody, IsCommand}
@@ -89,38 +88,38 @@ lawful-bare con view past bare is =
       seats = is.seats;
     })
 
--- what is shown for a report is enough for it
-pub enough-shown : (which : Report) (con : Constituency) (view : View) (past : List PastSeats) → HasPastIf (is_past which) past (Ok view) → IsLawfulView con (record view { past = past }) → IsEnoughFor which con view
-enough-shown report.Tally con view past has lawful = tt
-enough-shown report.Seats con view past has lawful = tt
-enough-shown report.Quotients con view past has lawful = lawful-bare con view past has lawful
-enough-shown report.Awards con view past has lawful = lawful-bare con view past has lawful
-enough-shown report.Quota con view past has lawful = tt
-enough-shown report.Short con view past has lawful = lawful-bare con view past has lawful
-enough-shown report.Holders con view past has lawful = tt
-enough-shown report.Past con view past has lawful = tt
+-- what is shown of a lawful view is lawful, with its certificates or without any
+lawful-shown : (with_past : Bool) (con : Constituency) (view : View) (past : List PastSeats) → HasPastIf with_past past (Ok view) → IsLawfulView con (record view { past = past }) → IsLawfulView con view
+lawful-shown true con view past has lawful = subst (λ (p : List PastSeats). IsLawfulView con (record view { past = p })) (sym has) lawful
+lawful-shown false con view past has lawful = lawful-bare con view past has lawful
+
+-- the fault of a report is that of the whole view
+pub fault-whole : (which : Report) (con : Constituency) (view : View) (past : List PastSeats) → report_fault con view which ≡ report_fault con (record view { past = past }) which
+fault-whole report.Tally con view past = refl
+fault-whole other con view past = refl
 
 -- the quotients are those of the whole view
 same-quotients : (rule : Rule) (con : Constituency) (view : View) (past : List PastSeats) → quotients_of rule con view ≡ quotients_of rule con (record view { past = past })
 same-quotients (divisors nth unit lot_rule) con view past = refl
 same-quotients hare con view past = refl
 
--- and its text is that of the whole view
+-- What a report shows is what it shows of the whole view: the two compute to the same, but for quotients,
+-- which go by the rule, and for the report that shows the certificates.
+pub report-whole : (which : Report) (con : Constituency) (view : View) (past : List PastSeats) (text : List ℕ) → HasPastIf (is_past which) past (Ok view) → IsReport con view which text → IsReport con (record view { past = past }) which text
+report-whole report.Quotients con view past text has is = is ∙ same-quotients (rule_in con) con view past
+report-whole report.Past con view past text has is = subst (λ (p : List PastSeats). IsReport con (record view { past = p }) report.Past text) has is
+report-whole other con view past text has is = is
+
+-- and so is the text that is answered
 pub text-whole : (which : Report) (con : Constituency) (view : View) (past : List PastSeats) (text : List ℕ) → HasPastIf (is_past which) past (Ok view) → IsReportText con view which text → IsReportText con (record view { past = past }) which text
-text-whole report.Tally con view past text has is = is
-text-whole report.Seats con view past text has is = is
 text-whole report.Quotients con view past text has is =
     subst (λ (q : List ℕ). IsReportTextBy (divisors_fault con view) (λ t. t ≡ q) text) (same-quotients (rule_in con) con view past) is
-text-whole report.Awards con view past text has is = is
-text-whole report.Quota con view past text has is = is
-text-whole report.Short con view past text has is = is
-text-whole report.Holders con view past text has is = is
 text-whole report.Past con view past text has is = subst (λ (p : List PastSeats). IsReportText con (record view { past = p }) report.Past text) has is
+text-whole other con view past text has is = is
 
 -- what a request was answered, shown with its own certificates
-pub shown-whole : (setup : List Constituency) (old new : Option State) (con : List ℕ) (which : Report) (r : Result View Refusal) → is_past which ≡ true → Happens setup old (request (ShowCon con) (as_con r)) new → ShowsFor which setup old con r new
-shown-whole setup old new con which (Ok view) past is = (view.past, is, subst (λ b. HasPastIf b view.past (Ok view)) (sym past) refl)
-shown-whole setup old new con which (Err why) past is = ([], is, tt)
+pub shown-whole : (setup : List Constituency) (old new : Option State) (con : List ℕ) (which : Report) (view : View) → is_past which ≡ true → Happens setup old (request (ShowCon con) (Ok (reply.Con view))) new → ShowsFor which setup old con (Ok view) new
+shown-whole setup old new con which view past is = (view.past, is, subst (λ b. HasPastIf b view.past (Ok view)) (sym past) refl)
 
 pub shown-bare : (setup : List Constituency) (old new : Option State) (con : List ℕ) (which : Report) (r : Result View Refusal) → is_past which ≡ false → IfOk r (λ view. view.past ≡ []) → AnswersShowCon setup old con r new → ShowsFor which setup old con r new
 shown-bare setup old new con which (Ok view) past bare is = (is.0, is.1, subst (λ b. HasPastIf b is.0 (Ok view)) (sym past) bare)
@@ -134,8 +133,8 @@ kept-shown setup old new con (Err why) is = tt
 -- what is shown for a report is enough for it, of whichever constituency
 pub enough-for : ViewsAreLawful → (setup : List Constituency) (old new : Option State) (con : List ℕ) (which : Report) (r : Result View Refusal) → IsSetup setup → IfSome old (IsLawfulState setup) → ShowsFor which setup old con r new
     → IfOk r (λ view. (found : Constituency) → constituency_with con setup ≡ Some found → IsEnoughFor which found view)
-enough-for law setup old new con which (Ok view) limits lawful is = λ found there.
-    enough-shown which found view is.0 is.2 (shown-lawful law setup old new con (record view { past = is.0 }) found limits lawful there is.1)
+enough-for law setup old new con which (Ok view) limits lawful is = λ found there needs.
+    lawful-shown (is_past which) found view is.0 is.2 (shown-lawful law setup old new con (record view { past = is.0 }) found limits lawful there is.1)
 enough-for law setup old new con which (Err why) limits lawful is = tt
 
 -- ---- what a path names

@@ -2,7 +2,8 @@
 
 ghost use Rattle.std.specs.Prelude.{◌≡◌, IfSome, Some, Result};
 ghost use Rattle.tally_rules.specs.Setup.{constituency_with};
-ghost use Rattle.tally_returns.specs.declared.refusal.Refusal.TheVariants.{NoConstituency, NoStation};
+ghost use Rattle.tally_returns.specs.declared.refusal.Refusal.TheVariants.{NoConstituency};
+ghost use Rattle.tally_returns.specs.declared.refusal.Refusal.TheVariants.{NoStation};
 ghost use Rattle.tally_returns.specs.declared.refusal.Refusal.{Refusal};
 ghost use Rattle.tally_keeper.specs.StaysKeeper.{StaysKeeper};
 ghost use Rattle.tally_asks.specs.declared.routes.Route.TheVariants as route;

@@ -11,7 +11,7 @@ mod show;
 mod shown;
 
 pub use desk::serve;
-pub use shown::{progress_of, view_of};
+pub use shown::{progress_of, view_for};
 pub use tally_door::{Door, DoorFault, MemoryConn, MemoryDoor, NoClock, TcpDoor};
 pub use tally_message::{Message, MessageFault, read_message};
 pub use tally_serve::Served;

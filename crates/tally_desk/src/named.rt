@@ -1,9 +1,8 @@
 //! What the path of a message names.
 
-ghost use Rattle.std.specs.Prelude.{◌≡◌, ◌≤◌, length, option_map, option_copied, []};
+ghost use Rattle.std.specs.Prelude.{◌≡◌, ◌≤◌, length, option_map, []};
 ghost use Rattle.tally_frac.specs.Limits.{most_lists};
 ghost use Rattle.tally_rules.specs.Constituency as value;
-ghost use Rattle.tally_rules.specs.Setup.{constituency_with, station_with};
 ghost use Rattle.tally_desk.specs.Requests.{con_in_target, station_in_target};
 ghost use Rattle.tally_desk.specs.internal.Named.{lists_of};
 

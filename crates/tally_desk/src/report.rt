@@ -1,6 +1,6 @@
 //! The answers of reports.
 
-ghost use Rattle.std.specs.Prelude.{◌≡◌, IfSome};
+ghost use Rattle.std.specs.Prelude.{IfSome};
 ghost use Rattle.tally_report.specs.Reports.{IsEnoughFor};
 ghost use Rattle.tally_returns.specs.View.{FitsView};
 ghost use Rattle.tally_desk.specs.Reports.{IsReportText};

@@ -5,7 +5,7 @@ ghost use Rattle.tally_asks.specs.Routes.{desk_rows, takes_get};
 ghost use Rattle.tally_answer.specs.Words.{word_text};
 ghost use Rattle.tally_keeper.specs.StaysKeeper.{StaysKeeper};
 ghost use Rattle.tally_desk.specs.internal.Gives.{GivesBy, GivesOn};
-ghost use Rattle.tally_desk.specs.Respond.{ByRoute, IsAnswer, fault_word, other_method};
+ghost use Rattle.tally_desk.specs.Respond.{IsAnswer, fault_word, other_method};
 
 use crate::command::{import, order_on_con, order_on_station};
 use crate::room::Room;

@@ -3,15 +3,13 @@
 ghost use Rattle.std.specs.Prelude.{◌≡◌, Some, IfOk};
 ghost use Rattle.tally_keeper.specs.Keeper.{Happens, request};
 ghost use Rattle.tally_keeper.specs.StaysKeeper.{StaysKeeper};
-ghost use Rattle.tally_steps.specs.Outcome.{IsLawfulView};
 ghost use Rattle.tally_returns.specs.View.{FitsView};
-ghost use Rattle.tally_returns.specs.declared.ask.Ask.TheVariants.{ShowCon, ShowProgress, ShowReturn};
+ghost use Rattle.tally_returns.specs.declared.ask.Ask.TheVariants.{ShowProgress, ShowReturn};
 ghost use Rattle.tally_rules.specs.Constituency as value;
 ghost use Rattle.tally_rules.specs.Setup.{constituency_with};
-ghost use Rattle.tally_desk.specs.Shown.{as_con, as_progress};
+ghost use Rattle.tally_desk.specs.Shown.{ShowsFor, as_progress, is_past};
 ghost use Rattle.tally_report.specs.Reports.{IsEnoughFor};
 ghost use Rattle.tally_desk.specs.internal.Gives.{as_return};
-ghost use Rattle.tally_desk.specs.internal.ShownFor.{ShowsFor, is_past};
 
 use tally_keeper::{Ask, ConView, Keeper, ProgressRow, Refusal, Reply, Return};
 use tally_machine::laws::a_constituency_has_a_view;
@@ -34,32 +32,6 @@ pub(crate) fn return_of<K: Keeper>(keeper: &mut K, station: Code) -> Result<Retu
     }
 }
 
-/// What a constituency has come to. It is shown, and nothing changes.
-pub fn view_of<K: Keeper>(keeper: &mut K, con: Code) -> Result<ConView, Refusal>
-    ensures stays { StaysKeeper K.Keeper keeper.old keeper.new }
-    ensures fits { IfOk result (λ view. (found : value.Constituency)
-        → constituency_with con (K.constituencies keeper.old) ≡ Some found
-        → FitsView found view) }
-    ensures lawful { K.IsTrusted keeper.new → IfOk result (λ view. (found : value.Constituency)
-        → constituency_with con (K.constituencies keeper.old) ≡ Some found
-        → IsLawfulView found view) }
-    ensures shows { K.IsTrusted keeper.new
-        → Happens (K.constituencies keeper.old) (K.content keeper.old)
-        (request (ShowCon con) (as_con result)) (K.content keeper.new) }
-    ensures kept { K.IsTrusted keeper.new
-        → IfOk result (λ _. K.content keeper.new ≡ K.content keeper.old) }
-{
-    // Called for what its contract says: each view of a lawful state is lawful.
-    a_constituency_has_a_view();
-    // Called for what its contract says: a setup is within its limits.
-    let _cons = keeper.setup().cons();
-    match keeper.answer(&Ask::ShowCon { con }) {
-        Ok(Reply::Con(view)) => Ok(view),
-        Ok(_) => unreachable!(),
-        Err(refusal) => Err(refusal),
-    }
-}
-
 /// Whether a report shows certificates on record.
 fn shows_past(which: Report) -> bool
     ensures { result ≡ is_past which }
@@ -72,11 +44,7 @@ fn shows_past(which: Report) -> bool
 
 /// What a constituency has come to, for a report: with its certificates on record only where the
 /// report shows them. Nothing changes.
-pub(crate) fn view_for<K: Keeper>(
-    keeper: &mut K,
-    con: Code,
-    which: Report,
-) -> Result<ConView, Refusal>
+pub fn view_for<K: Keeper>(keeper: &mut K, con: Code, which: Report) -> Result<ConView, Refusal>
     ensures stays { StaysKeeper K.Keeper keeper.old keeper.new }
     ensures fits { IfOk result (λ view. (found : value.Constituency)
         → constituency_with con (K.constituencies keeper.old) ≡ Some found
@@ -89,14 +57,18 @@ pub(crate) fn view_for<K: Keeper>(
     ensures kept { K.IsTrusted keeper.new
         → IfOk result (λ _. K.content keeper.new ≡ K.content keeper.old) }
 {
-    if shows_past(which) {
-        return view_of(keeper, con);
-    }
     // Called for what its contract says: each view of a lawful state is lawful.
     a_constituency_has_a_view();
     // Called for what its contract says: a setup is within its limits.
     let _cons = keeper.setup().cons();
-    keeper.show_con(con)
+    if !shows_past(which) {
+        return keeper.show_con(con);
+    }
+    match keeper.answer(&Ask::ShowCon { con }) {
+        Ok(Reply::Con(view)) => Ok(view),
+        Ok(_) => unreachable!(),
+        Err(refusal) => Err(refusal),
+    }
 }
 
 /// How far each constituency has come. It is shown, and nothing changes.

@@ -19,7 +19,7 @@ use Rattle.tally_steps.specs.Runs.{IsRun, IsSameCommand, is_act}
 use Rattle.tally_steps.specs.Step.{IsAnswered, IsNotAccepted, IsStep, reply_seen}
 use Rattle.tally_keeper.specs.Events.{acts, answers_of, asks_of, lodge_answers, lodges}
 use Rattle.tally_keeper.specs.Import.{RowAnswer, is_lodged}
-use Rattle.tally_keeper.specs.Keeper.{Event, Happen, Happens, failed_import, request, whole_import}
+use Rattle.tally_keeper.specs.Keeper.{Event, HappensInTurn, Happens, failed_import, request, whole_import}
 use Rattle.tally_keeper.specs.Keeper as keeper
 use Rattle.tally_core.specs.LawStatements.{ActsAloneHappen, NoTwoEqualRequestsAct, TheSameImportLodgesNothing, WhatHappensToAKeeperIsARun}
 use Rattle.tally_keeper.specs.Source.{AreAllGiven, Coming, Delivery, IsSudden}
@@ -65,17 +65,17 @@ same-keeps old (Some t) same = sym same
 -- what does not act leaves the state
 idle-keeps : Laws → (setup : List Constituency) (old new : Option State) (event : Event) → Happens setup old event new → acts event ≡ false → Keeps old new
 idle-keeps laws setup (Some s) (Some t) event is idle =
-    sym (subst (λ b. Happen setup (Some s) (cond b (event ∷ []) []) (Some t)) idle (laws.idle setup s t (event ∷ []) (Some t, is, refl)))
+    sym (subst (λ b. HappensInTurn setup (Some s) (cond b (event ∷ []) []) (Some t)) idle (laws.idle setup s t (event ∷ []) (Some t, is, refl)))
 idle-keeps laws setup (Some s) None event is idle = tt
 idle-keeps laws setup None (Some t) event is idle = absurd is
 idle-keeps laws setup None None event is idle = tt
 
 -- a keeper that was shut stays so
-shut-stays : (setup : List Constituency) (events : List Event) (t : State) → Happen setup None events (Some t) → ⊥
+shut-stays : (setup : List Constituency) (events : List Event) (t : State) → HappensInTurn setup None events (Some t) → ⊥
 shut-stays setup [] t is = absurd (let k = is in cc)
 shut-stays setup (event ∷ events) t is = go is.0 is.1 is.2 (shut-stays setup events t)
   where
-    go : (mid : Option State) → Happens setup None event mid → Happen setup mid events (Some t) → (Happen setup None events (Some t) → ⊥) → ⊥
+    go : (mid : Option State) → Happens setup None event mid → HappensInTurn setup mid events (Some t) → (HappensInTurn setup None events (Some t) → ⊥) → ⊥
     go (Some s) first rest later = first
     go None first rest later = later rest
 
@@ -112,12 +112,12 @@ run-many setup s t (a ∷ asks) (r ∷ rs) is = ap (λ n. suc n) (run-many setup
 
 -- where a command acted, the same one later leaves the state
 second-keeps : Laws → (setup : List Constituency) (s : State) (mid later new : Option State) (a b : Ask) (r q : Result Reply Refusal) (events : List Event) → IsSameCommand a b
-    → Happens setup (Some s) (request a r) mid → is_act r ≡ true → Happen setup mid events later → Happens setup later (request b q) new → Keeps later new
+    → Happens setup (Some s) (request a r) mid → is_act r ≡ true → HappensInTurn setup mid events later → Happens setup later (request b q) new → Keeps later new
 second-keeps laws setup s mid None None a b r q events alike first acted between second = tt
 second-keeps laws setup s mid None (Some t) a b r q events alike first acted between second = absurd second
 second-keeps laws setup s None (Some l) new a b r q events alike first acted between second = absurd (shut-stays setup events l between)
 second-keeps laws setup s (Some m) (Some l) new a b r q events alike first acted between second =
-    let whole : Happen setup (Some s) (request a r ∷ (events ++ request b q ∷ [])) new =
+    let whole : HappensInTurn setup (Some s) (request a r ∷ (events ++ request b q ∷ [])) new =
     (Some m, first, happen-append setup events (request b q ∷ []) (Some m) (Some l) new between (new, second, refl)) in
     let n = many (asks_of events) in
     let ask_at : slice_get (asks_of (events ++ request b q ∷ [])) n ≡ Some b = ap (λ l. slice_get l n) (asks-last events b q) ∙ at-last (asks_of events) b in
@@ -160,7 +160,7 @@ all-come coming d rows is all = subst (λ o. IfSome o (λ (coming : Coming). (co
 
 -- where an import was done, the same one later lodges nothing
 import-lodges : Laws → (setup : List Constituency) (old mid later new : Option State) (coming : Coming) (came again : Delivery) (count counted : ImportCount) (events : List Event)
-    → keeper.ImportsComing setup old (Some coming) came (Ok count) mid → Happen setup mid events later → keeper.ImportsComing setup later (Some coming) again (Ok counted) new
+    → keeper.ImportsComing setup old (Some coming) came (Ok count) mid → HappensInTurn setup mid events later → keeper.ImportsComing setup later (Some coming) again (Ok counted) new
     → counted.lodged ≡ 0
 import-lodges laws setup old mid later new coming came again count counted events (known, done) between (known_again, done_again) =
     let rows_are : done_again.0 ≡ done.0 = sym (all-come coming again done_again.0 known_again done_again.2).0 ∙ (all-come coming came done.0 known done.2).0 in
@@ -169,7 +169,7 @@ import-lodges laws setup old mid later new coming came again count counted event
 
 -- and leaves the state
 import-keeps : Laws → (setup : List Constituency) (old mid later new : Option State) (coming : Coming) (came again : Delivery) (count : ImportCount) (q : Result ImportCount ImportFault)
-    → (events : List Event) → keeper.ImportsComing setup old (Some coming) came (Ok count) mid → Happen setup mid events later
+    → (events : List Event) → keeper.ImportsComing setup old (Some coming) came (Ok count) mid → HappensInTurn setup mid events later
     → keeper.ImportsComing setup later (Some coming) again q new → Keeps later new
 import-keeps laws setup old mid later new coming came again count (Err fault) events first between second = failed-keeps laws setup later new (Some coming) again fault second
 import-keeps laws setup old mid later new coming came again count (Ok counted) events first between second =
@@ -359,14 +359,14 @@ changed-shut : (old mid : Option State) → mid ≢ old → Keeps old mid → mi
 changed-shut old None changed keeps = refl
 changed-shut old (Some t) changed keeps = absurd (changed (sym keeps))
 
-shut-none : (setup : List Constituency) (events : List Event) (mid later new : Option State) → mid ≡ None → Happen setup mid events later
+shut-none : (setup : List Constituency) (events : List Event) (mid later new : Option State) → mid ≡ None → HappensInTurn setup mid events later
     → ((t : State) → later ≡ None → new ≡ Some t → ⊥) → Keeps later new
 shut-none setup events mid later None shut between never = tt
 shut-none setup events mid None (Some t) shut between never = absurd (never t refl refl)
-shut-none setup events mid (Some l) (Some t) shut between never = absurd (shut-stays setup events l (subst (λ o. Happen setup o events (Some l)) shut between))
+shut-none setup events mid (Some l) (Some t) shut between never = absurd (shut-stays setup events l (subst (λ o. HappensInTurn setup o events (Some l)) shut between))
 
 commands-acted : Laws → (setup : List Constituency) (old mid later new : Option State) (text : List ℕ) (events : List Event) → AreCommands setup old mid later new text
-    → mid ≢ old → Happen setup mid events later → Keeps later new
+    → mid ≢ old → HappensInTurn setup mid events later → Keeps later new
 commands-acted laws setup old mid later new text events are changed between = go (is_act are.answer) refl
   where
     never : (t : State) → later ≡ None → new ≡ Some t → ⊥
@@ -388,7 +388,7 @@ commands-acted laws setup old mid later new text events are changed between = go
         shut-none setup events mid later new (changed-shut old mid changed (idle-keeps laws setup old mid (request are.ask are.answer) are.first idle)) between never
 
 imports-acted : Laws → (setup : List Constituency) (old mid later new : Option State) (text other : List ℕ) (events : List Event)
-    → AreImports setup old mid later new text other → mid ≢ old → Happen setup mid events later → Keeps later new
+    → AreImports setup old mid later new text other → mid ≢ old → HappensInTurn setup mid events later → Keeps later new
 imports-acted laws setup old mid later new text other events are changed between = go are.outcome are.first
   where
     never : (t : State) → later ≡ None → new ≡ Some t → ⊥
@@ -403,7 +403,7 @@ imports-acted laws setup old mid later new text other events are changed between
     go (Err fault) first = shut-none setup events mid later new (changed-shut old mid changed (failed-keeps laws setup old mid (Some are.coming) are.came fault first)) between never
 
 twice-acted : Laws → (IsImport : Type 0) (setup : List Constituency) (old mid later new : Option State) (text other : List ℕ) (events : List Event)
-    → mid ≢ old → Happen setup mid events later → IsTwice IsImport setup old mid later new text other → Keeps later new
+    → mid ≢ old → HappensInTurn setup mid events later → IsTwice IsImport setup old mid later new text other → Keeps later new
 twice-acted laws IsImport setup old mid later new text other events changed between (inl idle) = idle.0
 twice-acted laws IsImport setup old mid later new text other events changed between (inr (inl are)) = commands-acted laws setup old mid later new text events are.1 changed between
 twice-acted laws IsImport setup old mid later new text other events changed between (inr (inr are)) = imports-acted laws setup old mid later new text other events are changed between
@@ -445,7 +445,7 @@ fault-vain : Laws → (setup : List Constituency) (later new : Option State) (co
 fault-vain laws setup later new coming again fault other second said = (failed-keeps laws setup later new (Some coming) again fault second, inr (inl (import_word fault, said)))
 
 imports-again : Laws → (setup : List Constituency) (old mid later new : Option State) (text other : List ℕ) (events : List Event)
-    → AreImports setup old mid later new text other → text ≢ word_text Unavailable → Happen setup mid events later → IsVain later new other
+    → AreImports setup old mid later new text other → text ≢ word_text Unavailable → HappensInTurn setup mid events later → IsVain later new other
 imports-again laws setup old mid later new text other events are good between =
     go are.outcome are.outcome_again are.first (subst (λ t. t ≢ word_text Unavailable) are.said good) are.second are.said_again
   where
@@ -498,7 +498,7 @@ twice-again laws IsImport setup old mid new text other ok good (inr (inl are)) =
 twice-again laws IsImport setup old mid new text other ok good (inr (inr are)) = (imports-again laws setup old mid mid new text other [] are good refl).0
 
 twice-import : Laws → (IsImport : Type 0) (setup : List Constituency) (old mid later new : Option State) (text other : List ℕ) (events : List Event) → IsImport
-    → text ≢ word_text Unavailable → Happen setup mid events later → IsTwice IsImport setup old mid later new text other → IsVain later new other
+    → text ≢ word_text Unavailable → HappensInTurn setup mid events later → IsTwice IsImport setup old mid later new text other → IsVain later new other
 twice-import laws IsImport setup old mid later new text other events is good between (inl idle) = (idle.0, inr (idle.1 is))
 twice-import laws IsImport setup old mid later new text other events is good between (inr (inl are)) = absurd (are.0 is)
 twice-import laws IsImport setup old mid later new text other events is good between (inr (inr are)) = imports-again laws setup old mid later new text other events are good between
@@ -515,7 +515,7 @@ pub acted-again : Laws → (old mid later new : Office) (message again : Result 
     → IsSame message again → Answers old message text mid → mid.state ≢ old.state → ComesTo mid events later → Answers later again other new → StateStays later new
 acted-again laws old mid later new message again text other events same first changed between second =
     twice-acted laws (IsImportMessage message) old.setup old.state mid.state later.state new.state text other events changed
-    (subst (λ s. Happen s mid.state events later.state) first.0 between.1)
+    (subst (λ s. HappensInTurn s mid.state events later.state) first.0 between.1)
     (answers-twice laws old.setup old.state mid.state later.state new.state message again text other same (λ said. changed said.1) first.1
     (second-answer old.setup later new again other (between.0 ∙ first.0) second))
 
@@ -531,6 +531,6 @@ pub imported-again : Laws → (old mid later new : Office) (m again : Message) (
     → Answers later (Ok again) other new → StateStays later new × (TellsNothingLodged other ⊎ TellsNoImport other)
 imported-again laws old mid later new m again text other events same is first good between second =
     twice-import laws (IsOfImport m) old.setup old.state mid.state later.state new.state text other events is good
-    (subst (λ s. Happen s mid.state events later.state) first.0 between.1)
+    (subst (λ s. HappensInTurn s mid.state events later.state) first.0 between.1)
     (answers-twice laws old.setup old.state mid.state later.state new.state (Ok m) (Ok again) text other same (λ said. good said.0) first.1
     (second-answer old.setup later new (Ok again) other (between.0 ∙ first.0) second))

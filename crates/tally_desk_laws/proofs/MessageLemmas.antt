@@ -16,7 +16,7 @@ use Rattle.tally_returns.specs.declared.ask.Ask.TheVariants as ask
 use Rattle.tally_returns.specs.declared.refusal.Refusal.{Refusal}
 use Rattle.tally_returns.specs.declared.refusal.Refusal.TheVariants.{NoConstituency, NoStation}
 use Rattle.tally_keeper.specs.Events.{BringsCodes}
-use Rattle.tally_keeper.specs.Keeper.{Event, Happen, Happens, failed_import, request, whole_import}
+use Rattle.tally_keeper.specs.Keeper.{Event, HappensInTurn, Happens, failed_import, request, whole_import}
 use Rattle.tally_keeper.specs.Keeper as keeper
 use Rattle.tally_keeper.specs.Source.{Coming, Delivery}
 use Rattle.tally_keeper.specs.declared.import.ImportCount.{ImportCount}
@@ -173,7 +173,7 @@ con-coded on_con.Vacate of body seen is = vacate-coded of body seen is
 
 -- One event came to an office with a setup, or none.
 abbrev pub IsEvent : List Constituency → Option State → Option State → Type 0
-IsEvent setup old new = (event : Option Event) × IfSome event BringsCodes × Happen setup old (option_to_list event) new
+IsEvent setup old new = (event : Option Event) × IfSome event BringsCodes × HappensInTurn setup old (option_to_list event) new
 
 none-came : (setup : List Constituency) (old new : Option State) → new ≡ old → IsEvent setup old new
 none-came setup old new same = (None, tt, same)
@@ -245,8 +245,8 @@ pub answers-came : (old new : Office) (message : Result Message MessageFault) (t
     → (event : Option Event) × IfSome event BringsCodes × ComesTo old (option_to_list event) new
 answers-came old new message text is = let came = answer-came old.setup old.state new.state message text is.1 in (came.0, came.1, (is.0, came.2))
 
-pub happen-append : (setup : List Constituency) (events more : List Event) (old mid new : Option State) → Happen setup old events mid → Happen setup mid more new → Happen setup old (events ++ more) new
-happen-append setup [] more old mid new is rest = subst (λ o. Happen setup o more new) is rest
+pub happen-append : (setup : List Constituency) (events more : List Event) (old mid new : Option State) → HappensInTurn setup old events mid → HappensInTurn setup mid more new → HappensInTurn setup old (events ++ more) new
+happen-append setup [] more old mid new is rest = subst (λ o. HappensInTurn setup o more new) is rest
 happen-append setup (event ∷ events) more old mid new is rest = (is.0, is.1, happen-append setup events more is.0 mid new is.2 rest)
 
 abbrev Came : Office → Office → Type 0
@@ -266,7 +266,7 @@ came-both old mid new first second = (
   (
     second.2.0 ∙ first.2.0,
     happen-append old.setup first.0 second.0 old.state mid.state new.state first.2.1
-        (subst (λ setup. Happen setup mid.state second.0 new.state) first.2.0 second.2.1),
+        (subst (λ setup. HappensInTurn setup mid.state second.0 new.state) first.2.0 second.2.1),
   ),
 )
 

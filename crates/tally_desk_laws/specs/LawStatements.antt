@@ -10,7 +10,7 @@ use Rattle.matchit.specs.Router.{RouteOf}
 use Rattle.tally_rules.specs.Limits.{IsSetup}
 use Rattle.tally_returns.specs.declared.refusal.Refusal.TheVariants.{NoConstituency}
 use Rattle.tally_keeper.specs.Events.{BringsCodes}
-use Rattle.tally_keeper.specs.Keeper.{Event, Happen}
+use Rattle.tally_keeper.specs.Keeper.{Event, HappensInTurn}
 use Rattle.tally_keeper.specs.declared.import.ImportCount.{ImportCount}
 use Rattle.tally_door.specs.Connection.{Connection}
 use Rattle.tally_message.specs.LawStatements.{IsSame, IsSameMessage}
@@ -43,7 +43,8 @@ IsOfImport m =
 -- This came to an office, from whatever callers: requests and imports, one after the other. The
 -- setup stays.
 abbrev pub ComesTo : Office → List Event → Office → Type 0
-ComesTo old events new = (new.setup ≡ old.setup) × Happen old.setup old.state events new.state
+ComesTo old events new =
+    (new.setup ≡ old.setup) × HappensInTurn old.setup old.state events new.state
 
 -- The state is what it was. Nothing is said of an office that was shut by a disk which failed
 -- meanwhile.

@@ -6,20 +6,7 @@ use std::alloc::Global;
 use std::test::*;
 use tally_commands::{Sep, Watch, import_returns};
 use tally_core::Book;
-use tally_scripts::TWIN_TOWN;
-
-const OTHER_STATIONS: &str = r#"
-[[constituency.station]]
-code = "s2"
-electors = 300
-
-[[constituency.station]]
-code = "s3"
-electors = 300
-"#;
-
-const RETURNS: &str =
-    "station,slip,blank,spoiled,A,B\ns1,p1,0,0,10,20\ns2,p2,1,0,x,40\ns3,p3,0,2,50,60\n";
+use tally_scripts::{BAD_RETURNS, MORE_STATIONS, TWIN_TOWN};
 
 const COUNTED: &str = "lodged 2\nsame 0\ndiffers 0\nrefused 0\nbad 1\nfirst 2 0\n";
 
@@ -37,7 +24,13 @@ const OTHER_LISTS: &str = "station,slip,blank,spoiled,B,A\ns2,p2,1,0,30,40\n";
 // A constituency, what is between fields, a text, the status, and the counts or the line of the
 // trouble.
 const IMPORTS: [(&str, Sep, &str, u8, &str); 6] = [
-    ("zz", Sep::Comma, RETURNS, 1, "refused: no_constituency\n"),
+    (
+        "zz",
+        Sep::Comma,
+        BAD_RETURNS,
+        1,
+        "refused: no_constituency\n",
+    ),
     ("c1", Sep::Comma, OTHER_LISTS, 1, "refused: bad_header\n"),
     (
         "c1",
@@ -46,7 +39,7 @@ const IMPORTS: [(&str, Sep, &str, u8, &str); 6] = [
         1,
         "refused: bad_header\n",
     ),
-    ("c1", Sep::Comma, RETURNS, 0, COUNTED),
+    ("c1", Sep::Comma, BAD_RETURNS, 0, COUNTED),
     ("c1", Sep::Semicolon, WITH_SEMICOLONS, 0, ONE_LODGED),
     ("c1", Sep::Comma, AGAIN, 0, ONE_DIFFERS),
 ];
@@ -67,7 +60,7 @@ fn check_import(
 #[test]
 fn imports_are_counted_or_refused(rt: HostRuntime) -> Result<(), Fail> {
     let mut setup = String::from_str(rt.alloc(), TWIN_TOWN)?;
-    setup.push_str(OTHER_STATIONS)?;
+    setup.push_str(MORE_STATIONS)?;
     let mut office = fresh(rt.alloc(), setup.as_str())?;
     for (code, sep, text, status, want) in IMPORTS {
         check_import(rt.alloc(), &mut office, code, sep, text, status, want)?;

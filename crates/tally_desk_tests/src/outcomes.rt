@@ -11,8 +11,8 @@ pub(crate) fn check_trouble(
     status: u8,
     line: &'static str,
 ) -> Result<(), Fail> {
-    let mut told = Vec::new(alloc);
-    if trouble.report(&mut told) == status && told.as_slice() == line.as_bytes() {
+    let mut got = Vec::new(alloc);
+    if trouble.report(&mut got) == status && got.as_slice() == line.as_bytes() {
         return Ok(());
     }
     Err(Fail::from(line))

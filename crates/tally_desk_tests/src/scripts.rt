@@ -5,7 +5,7 @@ use crate::offices::{Office, Stored};
 use std::alloc::Global;
 use std::test::*;
 use tally_core::Book;
-use tally_scripts::twin_town;
+use tally_scripts::{MORE_STATIONS, twin_town};
 
 // Three seats for two lists of 100 votes each, a lot, a vacancy and a recount.
 const RECOUNT: &str =
@@ -41,17 +41,6 @@ POST /station/zz/close x = 404 Not Found|{"refused":1,"word":"no_station"}
 POST /station/s1/close x = 400 Bad Request|{"word":"bad_body"}
 POST /station/s1/close {"rev":1} = 404 Not Found|{"refused":8,"word":"no_return"}
 GET /station/s1 = 404 Not Found|{"refused":8,"word":"no_return"}"#;
-
-// Two more stations.
-const OTHER_STATIONS: &str = r#"
-[[constituency.station]]
-code = "s2"
-electors = 300
-
-[[constituency.station]]
-code = "s3"
-electors = 300
-"#;
 
 // Three returns, the same again, and again with another number in the second row.
 const AGAIN: &str =
@@ -110,8 +99,8 @@ GET /con/c1/past = 200 OK|PAST c1 Twin Town|edition 3|A                   1 Alph
 const SCRIPTS: [(&str, &str, &str, &str); 8] = [
     ("dhondt", "", "", RECOUNT),
     ("dhondt", "", "", REFUSED),
-    ("dhondt", OTHER_STATIONS, "", AGAIN),
-    ("dhondt", OTHER_STATIONS, "", BAD),
+    ("dhondt", MORE_STATIONS, "", AGAIN),
+    ("dhondt", MORE_STATIONS, "", BAD),
     ("dhondt", "", "", OF_OTHER_STATIONS),
     ("dhondt", "", CERTIFIED, BY_DIVISORS),
     ("hare", "", CERTIFIED, BY_QUOTAS),

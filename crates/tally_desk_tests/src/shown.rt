@@ -1,18 +1,12 @@
 //! Reports, and the progress.
 
-use crate::books::{fresh, go_on};
+use crate::books::fresh;
 use crate::outcomes::check_outcome;
 use std::alloc::Global;
 use std::test::*;
 use tally_commands::{Report, constituencies_text, show_progress, show_report};
 use tally_core::{Book, Keeper};
-use tally_scripts::TWIN_TOWN;
-
-// Three seats for two lists of 100 votes each, and a lot by which B is first.
-const CERTIFIED: &str = "lodge s1 p1 100,100 = lodged 1
-close s1 1 = moved 2
-draw c1 1 B,A = edition 2
-certify c1 2 = edition 3";
+use tally_scripts::{CERTIFIED, TWIN_TOWN, check_answers};
 
 const SEATS: &str = "SEATS c1 Twin Town
 edition 3
@@ -57,7 +51,7 @@ fn reports_are_given_or_refused(rt: HostRuntime) -> Result<(), Fail> {
     for report in BEFORE {
         check_report(alloc, &mut office, report)?;
     }
-    go_on(alloc, &mut office, CERTIFIED)?;
+    check_answers(alloc, &mut office, CERTIFIED)?;
     for report in AFTER {
         check_report(alloc, &mut office, report)?;
     }

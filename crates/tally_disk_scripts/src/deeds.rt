@@ -4,41 +4,21 @@ use crate::lines::{answered, push_each, shown_again};
 use crate::looks::push_looked;
 use sqlite::{Alter, Connection};
 use std::alloc::Global;
-use std::io::{self, ErrorKind, Read};
+use std::io::ErrorKind;
 use std::test::Fail;
 use tally_core::{ImportCount, ImportFault, Keeper};
 use tally_import::{ReturnRows, Sep};
-use tally_scripts::{code, first_wrong_of_run};
+use tally_scripts::{Pieces, code, first_wrong_of_run};
 use tally_store::{CreateFault, OpenFault, Store};
 
-/// Gives its text by pieces of so many bytes, and then ends or fails.
-#[derive(Drop)]
-pub(crate) struct Text<'a> {
-    pub(crate) text: &'a [u8],
-    pub(crate) piece: usize,
-    pub(crate) fails: bool,
-}
-
-impl Read for Text<'_> {
-    fn read(&mut self, buf: &mut [u8]) -> io::Result<usize> {
-        if self.fails && self.text.is_empty() {
-            return Err(io::Error::from(ErrorKind::BrokenPipe));
-        }
-        let taken = self.piece.min(buf.len()).min(self.text.len());
-        buf[..taken].copy_from_slice(&self.text[..taken]);
-        self.text = &self.text[taken..];
-        Ok(taken)
-    }
-}
-
-/// Rows of a text, the bytes that a read gives, whether a read fails after it, and what their
-/// import comes to.
+/// Rows of a text, how many bytes a read gives, how a read fails at its end, and what their import
+/// comes to.
 #[derive(Clone, Copy)]
 pub struct Rows<'a> {
     pub text: &'a str,
     pub sep: Sep,
     pub piece: usize,
-    pub fails: bool,
+    pub failure: Option<ErrorKind>,
     pub want: Result<ImportCount, ImportFault>,
 }
 
@@ -79,7 +59,7 @@ pub(crate) enum Left<S: Alter> {
 pub(crate) struct Work<S: Alter> {
     pub(crate) left: Left<S>,
     pub(crate) steps: usize,
-    pub(crate) told: String,
+    pub(crate) shown: String,
 }
 
 /// A connection as a stop leaves it.
@@ -87,7 +67,7 @@ fn stopped<S: Alter + Drop>(alloc: Global, conn: Connection<S>, steps: usize) ->
     Work {
         left: Left::Store(conn.into_store()),
         steps,
-        told: String::new(alloc),
+        shown: String::new(alloc),
     }
 }
 
@@ -96,7 +76,7 @@ fn ended<S: Alter + Drop>(alloc: Global, conn: Connection<S>, steps: usize) -> W
     Work {
         left: Left::Conn(conn),
         steps,
-        told: String::new(alloc),
+        shown: String::new(alloc),
     }
 }
 
@@ -133,7 +113,7 @@ fn create<S: Alter + Drop>(
         Err((conn, CreateFault::Store)) => Ok(stopped(alloc, conn, 0)),
         Err((conn, fault)) => {
             let mut work = ended(alloc, conn, 1);
-            write!(work.told, "{fault}")?;
+            write!(work.shown, "{fault}")?;
             Ok(work)
         }
     }
@@ -155,7 +135,7 @@ fn answer<S: Alter + Drop>(
 pub(crate) fn lodged<K: Keeper>(
     alloc: Global,
     office: &mut K,
-    text: Text<'_>,
+    text: Pieces<'_>,
     sep: Sep,
 ) -> Result<Result<ImportCount, ImportFault>, Fail> {
     let found = office.setup().con(code("c1")?).ok_or("c1")?;
@@ -166,10 +146,10 @@ pub(crate) fn lodged<K: Keeper>(
 
 /// Whether an import of rows comes to what it should. `false` where the store refuses.
 fn imported<K: Keeper>(alloc: Global, office: &mut K, rows: Rows<'_>) -> Result<bool, Fail> {
-    let text = Text {
+    let text = Pieces {
         text: rows.text.as_bytes(),
         piece: rows.piece,
-        fails: rows.fails,
+        failure: rows.failure,
     };
     let came = lodged(alloc, office, text, rows.sep)?;
     if came == rows.want {
@@ -197,11 +177,11 @@ fn run_in<S: Alter + Drop>(
     mut office: Store<S>,
     lines: &str,
 ) -> Result<Work<S>, Fail> {
-    let told = first_wrong_of_run(alloc, &mut office, lines)?;
+    let shown = first_wrong_of_run(alloc, &mut office, lines)?;
     Ok(Work {
         left: Left::Conn(office.close()),
         steps: 1,
-        told,
+        shown,
     })
 }
 
@@ -211,11 +191,11 @@ fn refuse<S: Alter + Drop>(
     lines: &str,
 ) -> Result<Work<S>, Fail> {
     let (steps, _is_all) = answered(alloc, &mut office, lines)?;
-    let told = shown_again(alloc, &mut office)?;
+    let shown = shown_again(alloc, &mut office)?;
     Ok(Work {
         left: Left::Store(office.close().into_store()),
         steps,
-        told,
+        shown,
     })
 }
 
@@ -224,12 +204,12 @@ fn repeat<S: Alter + Drop>(
     mut office: Store<S>,
     lines: &str,
 ) -> Result<Work<S>, Fail> {
-    let mut told = String::new(alloc);
-    let steps = push_each(alloc, &mut told, &mut office, lines)?;
+    let mut shown = String::new(alloc);
+    let steps = push_each(alloc, &mut shown, &mut office, lines)?;
     Ok(Work {
         left: Left::Conn(office.close()),
         steps,
-        told,
+        shown,
     })
 }
 
@@ -271,12 +251,12 @@ fn leave<S: Alter + Drop>(
 }
 
 fn look<S: Alter + Drop>(alloc: Global, conn: Connection<S>) -> Result<Work<S>, Fail> {
-    let mut told = String::new(alloc);
-    let conn = push_looked(alloc, &mut told, conn)?;
+    let mut shown = String::new(alloc);
+    let conn = push_looked(alloc, &mut shown, conn)?;
     Ok(Work {
         left: Left::Conn(conn),
         steps: 1,
-        told,
+        shown,
     })
 }
 

@@ -1,5 +1,5 @@
-//! An office over two files in memory, of which one stops at some call, or refuses one. For tests of
-//! stores.
+//! An office over two files in memory, of which one stops at some call, or refuses one. For tests
+//! of stores.
 #![tactic(auto)]
 
 mod deeds;
@@ -15,6 +15,6 @@ pub use disks::{
     no_contents, stop_after, synced, written,
 };
 pub use faltering::Faltering;
-pub use lines::{RETURNS, push_each};
+pub use lines::push_each;
 pub use looks::{FORMER_TABLES, NO_TABLES, TABLES, wanted};
-pub use runs::{Done, carried_out, contents_after, former_contents, told};
+pub use runs::{Done, carried_out, contents_after, former_contents, shown_by};

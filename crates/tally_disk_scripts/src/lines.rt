@@ -1,19 +1,16 @@
 //! Lines of a script: commands, and imports beside them.
 
-use crate::deeds::{Text, lodged};
+use crate::deeds::lodged;
 use crate::looks::shown;
 use std::alloc::Global;
+use std::io::ErrorKind;
 use std::test::Fail;
 use tally_core::{ImportCount, ImportFault, Keeper};
 use tally_import::Sep;
-use tally_scripts::first_wrong;
-
-/// The returns of the stations s1, s2 and s3 that a line `import` lodges.
-pub const RETURNS: &str =
-    "station,slip,blank,spoiled,A,B\ns1,p1,0,0,10,20\ns2,p2,1,0,30,40\ns3,p3,0,2,50,60\n";
+use tally_scripts::{Pieces, RETURNS, first_wrong};
 
 /// The numbers of rows, or the fault. That of a store is answered as a refusal, by its number.
-fn told(alloc: Global, came: &Result<ImportCount, ImportFault>) -> Result<String, Fail> {
+fn text_of_import(alloc: Global, came: &Result<ImportCount, ImportFault>) -> Result<String, Fail> {
     match came {
         Ok(
             ImportCount {
@@ -30,20 +27,25 @@ fn told(alloc: Global, came: &Result<ImportCount, ImportFault>) -> Result<String
     }
 }
 
-/// What is wrong with the answer to `import = ANSWER`, or to `cut import = ANSWER`, where a read
-/// fails after the rows; or nothing.
+/// What is wrong with the answer to `import = ANSWER`, which lodges the returns of three stations,
+/// or to `cut import = ANSWER`, where a read fails after them; or nothing.
 fn wrong_import<K: Keeper>(alloc: Global, keeper: &mut K, line: &str) -> Result<String, Fail> {
     let (what, wanted) = line.split_once(" = ").ok_or("no answer")?;
-    let text = Text {
+    let failure = if what == "cut import" {
+        Some(ErrorKind::BrokenPipe)
+    } else {
+        None
+    };
+    let text = Pieces {
         text: RETURNS.as_bytes(),
         piece: 4_096,
-        fails: what == "cut import",
+        failure,
     };
-    let told = told(alloc, &lodged(alloc, keeper, text, Sep::Comma)?)?;
-    if told.as_str() == wanted {
+    let shown = text_of_import(alloc, &lodged(alloc, keeper, text, Sep::Comma)?)?;
+    if shown.as_str() == wanted {
         return Ok(String::new(alloc));
     }
-    Ok(format!(in alloc; "{line}, and not {told}")?)
+    Ok(format!(in alloc; "{line}, and not {shown}")?)
 }
 
 /// What is wrong with the answer to a line, or nothing.

@@ -7,7 +7,7 @@ use sqlite_value::value::Value;
 use std::alloc::Global;
 use std::test::Fail;
 use tally_core::{Book, Keeper};
-use tally_scripts::{all_told, setup};
+use tally_scripts::{setup, text_of_answers};
 
 /// A station or a constituency that the setup lacks is refused.
 const SHOWN: &str = "return s1
@@ -32,7 +32,7 @@ pub const TABLES: &str =
 
 /// What a keeper shows: these returns, the constituencies, and the progress, a line each.
 pub(crate) fn shown<K: Keeper>(alloc: Global, keeper: &mut K) -> Result<String, Fail> {
-    all_told(alloc, keeper, SHOWN)
+    text_of_answers(alloc, keeper, SHOWN)
 }
 
 /// Adds a value.

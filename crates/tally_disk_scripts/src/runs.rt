@@ -12,7 +12,7 @@ use std::test::Fail;
 pub struct Done {
     pub files: Disks,
     pub steps: usize,
-    pub told: String,
+    pub shown: String,
 }
 
 // A call over this store costs the prover much, whatever is called. This is the only one.
@@ -21,11 +21,11 @@ fn worked(alloc: Global, conn: Conn, deed: Deed<'_>) -> Result<Work<Stored>, Fai
 }
 
 fn on_connection(alloc: Global, conn: Conn, deed: Deed<'_>) -> Result<Done, Fail> {
-    let Work { left, steps, told } = worked(alloc, conn, deed)?;
+    let Work { left, steps, shown } = worked(alloc, conn, deed)?;
     Ok(Done {
         files: files_of(left),
         steps,
-        told,
+        shown,
     })
 }
 
@@ -36,7 +36,7 @@ pub fn carried_out(alloc: Global, files: Disks, deed: Deed<'_>) -> Result<Done, 
         Err(files) => Ok(Done {
             files,
             steps: 0,
-            told: String::new(alloc),
+            shown: String::new(alloc),
         }),
     }
 }
@@ -52,9 +52,9 @@ fn whole(alloc: Global, contents: &Contents, deed: Deed<'_>) -> Result<Done, Fai
 }
 
 /// What such a deed shows.
-pub fn told(alloc: Global, contents: &Contents, deed: Deed<'_>) -> Result<String, Fail> {
-    let Done { told, .. } = whole(alloc, contents, deed)?;
-    Ok(told)
+pub fn shown_by(alloc: Global, contents: &Contents, deed: Deed<'_>) -> Result<String, Fail> {
+    let Done { shown, .. } = whole(alloc, contents, deed)?;
+    Ok(shown)
 }
 
 /// The contents of the files after it.

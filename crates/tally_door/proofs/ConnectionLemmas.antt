@@ -41,7 +41,7 @@ at_current conns at true ended coming c w x within is found =
 nothing : Connection
 nothing = record { input = []; fails = false; read_failed = false; room = 0; written = [] }
 
--- what lies behind the current connection
+-- what comes after the current connection
 pub passed : (conns : List Connection) (at : ℕ) (connected : Bool) (next : ℕ) → (connected ≡ true → at < length conns) → next ≡ cond connected (at + 1) at
     → ((connections_at conns at connected).ended ++ option_to_list (connections_at conns at connected).current ≡ take next conns) × ((connections_at conns at connected).coming ≡ drop next conns)
 passed conns at true next within is =

@@ -1,7 +1,8 @@
 //! What a door is.
 
 ghost use Rattle.std.specs.Prelude.{◌≡◌, ◌≤◌, Bool, true, Option, length, is_ok, IfOk};
-ghost use Rattle.tally_door.specs.Connection.{Connections, ChangesCurrent, HasRead, HasWritten, TakesNext};
+ghost use Rattle.tally_door.specs.Connection.{Connections, ChangesCurrent, HasRead, HasWritten};
+ghost use Rattle.tally_door.specs.Connection.{TakesNext};
 
 /// Why a door, a read or a write failed.
 #[derive(Clone, Copy, Debug, PartialEq, Eq)]

@@ -26,7 +26,7 @@ use Rattle.tally_tables.specs.Cells.{return_rows, status_number}
 use Rattle.tally_tables.specs.Reading.{status_of}
 use Rattle.tally_tables.specs.declared.views.Statuses.{Statuses}
 use Rattle.tally_entries.specs.Constituencies.{FindsProgressRow, IsKnown}
-use Rattle.tally_entries.specs.internal.Found.{AreWithin, FindsKnown, FindsStatus, FindsStatuses, IsStageAmong, row_with, status_in, with_station}
+use Rattle.tally_entries.specs.internal.Found.{AreWithin, FindsKnownStatuses, FindsStatus, FindsStatuses, IsStageAmong, row_with, status_in, with_station}
 use Rattle.tally_entries.proofs.StageLemmas.{stage-among}
 use Rattle.tally_entries.specs.Statuses.{statuses_in}
 use Rattle.tally_entries.proofs.ReturnLemmas.{heads_keyed}
@@ -121,15 +121,15 @@ statuses_before stations old mid found same finds setup returns held = finds set
 
 -- ---- what is known of a constituency, or was found
 
-pub known_found : (con : Constituency) (known : Option Statuses) (found : Statuses) (s : State) → known ≡ Some found → FindsKnown con known s found
+pub known_found : (con : Constituency) (known : Option Statuses) (found : Statuses) (s : State) → known ≡ Some found → FindsKnownStatuses con known s found
 known_found con known found s is setup returns held rows = subst (IsKnown con returns) is held
 
-pub known_before : (con : Constituency) (known : Option Statuses) (old mid : State) (found : Statuses) → IsUnchanged old mid → FindsKnown con known mid found → FindsKnown con known old found
+pub known_before : (con : Constituency) (known : Option Statuses) (old mid : State) (found : Statuses) → IsUnchanged old mid → FindsKnownStatuses con known mid found → FindsKnownStatuses con known old found
 known_before con known old mid found same finds setup returns held rows = finds setup returns held (subst (λ d. AreRowsOf (return_rows setup) returns (d.trees (tree_of Returns))) (sym same.0.now_is) rows)
 
 -- ---- how far a constituency has come
 
-pub finds_row : (con : Constituency) (code : List ℕ) (known : Option Statuses) (rows : List Row) (s : State) (stage : ℕ × Bool) (statuses : Statuses) (row : ProgressRow) → code ≡ con.code → IsStageAmong con.code rows stage → FindsKnown con known s statuses
+pub finds_row : (con : Constituency) (code : List ℕ) (known : Option Statuses) (rows : List Row) (s : State) (stage : ℕ × Bool) (statuses : Statuses) (row : ProgressRow) → code ≡ con.code → IsStageAmong con.code rows stage → FindsKnownStatuses con known s statuses
     → row ≡ row_with code stage statuses → FindsProgressRow con known rows s row
 finds_row con code known rows s stage statuses row own among counted is setup of there held all returns cons = go (get of.cons con.code) refl there
   where

@@ -36,7 +36,7 @@ use Rattle.tally_tables.specs.declared.views.Statuses.{Statuses}
 use Rattle.tally_tables.proofs.ConLemmas.{IsReadablePast, all_gone_are, all_gone_rows, all_past_again, all_past_rows, standing_row, sums_of_view}
 use Rattle.tally_tables.proofs.ItemLemmas.{IsRead, and_then_some, items_are, map_some, number_is, number_reads, number_rows}
 use Rattle.tally_entries.specs.Constituencies.{FindsView, IsViewWith, with_past_of}
-use Rattle.tally_entries.specs.internal.Found.{AreFound, FindsKnown, IsFoundIf, Rows, view_of_rows}
+use Rattle.tally_entries.specs.internal.Found.{AreRowsFound, FindsKnownStatuses, IsFoundIf, Rows, view_of_rows}
 use Rattle.tally_entries.specs.Statuses.{statuses_in}
 use Rattle.tally_entries.proofs.OrderLemmas.{gone_in_order, gone_keyed, lots_items, numbers_in_order, past_in_order, past_keyed, seats_items, sorted_rise, totals_in_order}
 use Rattle.tally_entries.proofs.ReturnLemmas.{items_keyed}
@@ -131,7 +131,7 @@ one_row : (con : Constituency) (statuses : Statuses) (rows : Rows) (v : View) (r
 one_row con statuses rows v row is read = subst (λ l. view_of_rows con statuses (record { cons = l; tables = rows.tables }) ≡ Some v) is read
 
 module _ (setup : List Constituency) (con : Constituency) (s : Seen) (text : List ℕ) (of : State) (limits : IsConstituency con) (known : constituency_with con.code setup ≡ Some con) (lawful : IsLawfulState setup of) (tables : AreTables setup text of s.now.trees) where
-  view_but_past : (c : ConState) (with_past : Bool) (statuses : Statuses) (rows : Rows) (v : View) → get of.cons con.code ≡ Some c → AreFound with_past con.code s rows → statuses ≡ statuses_in of.returns con.stations → ReadsAs con statuses (row_of con.code c) rows.tables v
+  view_but_past : (c : ConState) (with_past : Bool) (statuses : Statuses) (rows : Rows) (v : View) → get of.cons con.code ≡ Some c → AreRowsFound with_past con.code s rows → statuses ≡ statuses_in of.returns con.stations → ReadsAs con statuses (row_of con.code c) rows.tables v
       → record v { past = past_records c.past } ≡ view_with con c of.returns (tables.given con.code)
   view_but_past c with_past statuses found_here v there found counted read =
       let rows = found_here.tables in
@@ -187,7 +187,7 @@ module _ (setup : List Constituency) (con : Constituency) (s : Seen) (text : Lis
       let both : Some [] ≡ Some v.past = sym (ap (past_of con.code (length con.lists)) none) ∙ read.past in (let e = both in cc)
 
   -- with the certificates on record, or without them
-  view_with_past : (c : ConState) (with_past : Bool) (statuses : Statuses) (rows : Rows) (v : View) → get of.cons con.code ≡ Some c → AreFound with_past con.code s rows → statuses ≡ statuses_in of.returns con.stations → ReadsAs con statuses (row_of con.code c) rows.tables v
+  view_with_past : (c : ConState) (with_past : Bool) (statuses : Statuses) (rows : Rows) (v : View) → get of.cons con.code ≡ Some c → AreRowsFound with_past con.code s rows → statuses ≡ statuses_in of.returns con.stations → ReadsAs con statuses (row_of con.code c) rows.tables v
       → IsViewWith with_past con of v
   view_with_past c with_past statuses rows v there found counted read =
       let stands : con_state of con.code ≡ c = ap (λ o. unwrap_or o opening_con) there in
@@ -207,15 +207,15 @@ module _ (setup : List Constituency) (con : Constituency) (s : Seen) (text : Lis
   held None at some = absurd (true≢false (sym some))
   held (Some c) at some = (c, at)
 
-  is_view : (with_past : Bool) (statuses : Statuses) (rows : Rows) (v : View) → AreFound with_past con.code s rows → statuses ≡ statuses_in of.returns con.stations → view_of_rows con statuses rows ≡ Some v → IsViewWith with_past con of v
+  is_view : (with_past : Bool) (statuses : Statuses) (rows : Rows) (v : View) → AreRowsFound with_past con.code s rows → statuses ≡ statuses_in of.returns con.stations → view_of_rows con statuses rows ≡ Some v → IsViewWith with_past con of v
   is_view with_past statuses rows v found counted read =
       let there = held (get of.cons con.code) refl (lawful.known con.code ∙ ap is_some known) in
       let is : rows.cons ≡ con_rows (con.code, there.0) = found_rows Cons con_rows cons_keyed of.cons con.code s rows.cons there.0 there.1 tables.cons (record { whole = (refl, tt); rising = (tt, tt) }) found.cons in
       let parts = reads_as con statuses (row_of con.code there.0) rows.tables v (one_row con statuses rows v (row_of con.code there.0) is read) in
       view_with_past there.0 with_past statuses rows v there.1 found counted parts
 
-pub finds_view : (setup : List Constituency) (con : Constituency) (known : Option Statuses) (with_past : Bool) (s : Seen) (statuses : Statuses) (rows : Rows) (result : Result View Error) → IsConstituency con → AreFound with_past con.code s rows
-    → FindsKnown con known s statuses → IfOk result (λ view. view_of_rows con statuses rows ≡ Some view) → IfOk result (FindsView setup con known with_past s)
+pub finds_view : (setup : List Constituency) (con : Constituency) (known : Option Statuses) (with_past : Bool) (s : Seen) (statuses : Statuses) (rows : Rows) (result : Result View Error) → IsConstituency con → AreRowsFound with_past con.code s rows
+    → FindsKnownStatuses con known s statuses → IfOk result (λ view. view_of_rows con statuses rows ≡ Some view) → IfOk result (FindsView setup con known with_past s)
 finds_view setup con known with_past s statuses rows (Err e) limits found counted read = tt
 finds_view setup con known with_past s statuses rows (Ok v) limits found counted read = λ text of there lawful true_is tables.
     is_view setup con s text of limits there lawful tables with_past statuses rows v found (counted setup of.returns true_is tables.returns) read

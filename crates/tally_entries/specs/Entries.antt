@@ -6,7 +6,7 @@ use Rattle.sqlite_trees.specs.declared.store.Store.{Ghosts}
 use Rattle.sqlite.specs.declared.error.Error.{Error}
 use Rattle.sqlite.specs.declared.transaction.Transaction.{Transaction}
 use Rattle.sqlite.specs.Held.{state}
-use Rattle.sqlite.specs.State.{State as Seen, HasCleanDisk}
+use Rattle.sqlite.specs.State.{State as Seen, HasCleanDisk, IsUnchanged}
 use Rattle.tally_rows.specs.Rows.{AreRowsOf, others}
 use Rattle.tally_frac.specs.Limits.{most_lists}
 use Rattle.tally_rules.specs.Constituency.{Constituency}
@@ -14,6 +14,7 @@ use Rattle.tally_returns.specs.Return.{StationReturn, Returns}
 use Rattle.tally_schema.specs.Tables.{setup_tree}
 use Rattle.tally_statements.specs.declared.table.KeyedTable.{KeyedTable}
 use Rattle.tally_statements.specs.declared.table.KeyedTable.TheVariants.{Returns as Heads, Counts, Lots, Seats}
+use Rattle.tally_statements.specs.Inside.{IsOpenInside}
 use Rattle.tally_statements.specs.Office.{tree_of, rows_in, IsInside, HasRows}
 use Rattle.tally_tables.specs.Cells.{constituency_of, item_row, numbers_with_places, return_rows, count_rows}
 use Rattle.tally_returns.specs.Lawful.{IsLawfulAt}
@@ -41,6 +42,14 @@ FindsFrom starts g Found old new result =
 abbrev pub Finds : {S X : Type 0} (g : Ghosts S) → (Seen → X → Type 0) → Transaction S
     → Transaction S → Result X Error → Type 0
 Finds g Found old new result = FindsFrom IsInside g Found old new result
+
+-- What holds after a call that changes nothing in the tables of the office, on a connection that is
+-- open, where the disk returned what was written.
+abbrev pub ChangesNothing : {S X : Type 0} (g : Ghosts S) → Transaction S → Transaction S
+    → Result X Error → Type 0
+ChangesNothing g old new result =
+    HasCleanDisk (state g new.conn.now) → IsOpenInside (state g old.conn.now)
+    → OnOk result (IsUnchanged (state g old.conn.now) (state g new.conn.now))
 
 -- ---- returns
 

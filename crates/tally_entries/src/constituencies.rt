@@ -3,15 +3,17 @@
 ghost use Rattle.std.specs.Prelude.{◌≡◌, ◌≤◌, length};
 ghost use Rattle.tally_frac.specs.Limits.{most_lists};
 ghost use Rattle.tally_statements.specs.Office.{Inserts, SetsItem};
-ghost use Rattle.tally_statements.specs.declared.table.KeyedTable.TheVariants.{Cons, Lots, Seats, Totals};
+ghost use Rattle.tally_statements.specs.declared.table.KeyedTable.TheVariants.{Cons, Lots, Seats};
+ghost use Rattle.tally_statements.specs.declared.table.KeyedTable.TheVariants.{Totals};
 ghost use Rattle.tally_statements.specs.declared.table.KeyedTable.TheVariants as table;
 ghost use Rattle.tally_tables.specs.Cells.{con_rows, gone_rows, lot_rows, past_rows, record_rows};
-ghost use Rattle.tally_entries.specs.Constituencies.{Changes, ChangesSums, HasGone, HasLot, HasRecord, HasEdition, Writes, WritesSeats};
+ghost use Rattle.tally_entries.specs.Constituencies.{Changes, ChangesSums, HasGone, HasLot};
+ghost use Rattle.tally_entries.specs.Constituencies.{HasRecord, HasEdition, Writes, WritesSeats};
 ghost use Rattle.tally_entries.specs.internal.Written.{candidate_row};
 ghost use Rattle.tally_entries.specs.Entries.{PutsNumbers};
 ghost use Rattle.tally_entries.specs.internal.Written.{AddsRows};
 ghost use Rattle.tally_entries.specs.internal.Sums.{MovesItem, MovesItems, MovesNumbers};
-ghost use Rattle.tally_statements.specs.Inside.{Acts, Stays};
+ghost use Rattle.tally_statements.specs.Inside.{InDatabase, Stays};
 
 use crate::items::{ItemTable, insert_numbers};
 use sqlite::{Alter, Error, ErrorCode, Transaction};
@@ -26,8 +28,8 @@ use tally_tables::{SPOILED_ITEM, Sums};
 pub fn put_lot<S: Alter>(tx: &mut Transaction<'_, S>, con: &str, lot: &[u32]) -> Result<(), Error>
     requires few { length lot.now ≤ most_lists }
     ensures stays { Stays S.Store tx.old tx.new }
-    ensures put { Acts S.Store (PutsNumbers Lots con.now lot.now) tx.old tx.new result }
-    ensures lots { Acts S.Store (Writes Lots lot_rows con.now (HasLot lot.now))
+    ensures put { InDatabase S.Store (PutsNumbers Lots con.now lot.now) tx.old tx.new result }
+    ensures lots { InDatabase S.Store (Writes Lots lot_rows con.now (HasLot lot.now))
         tx.old tx.new result }
 {
     delete_lot(tx, con)?;
@@ -43,8 +45,8 @@ pub fn put_seats<S: Alter>(
 ) -> Result<(), Error>
     requires few { length seats.now ≤ most_lists }
     ensures stays { Stays S.Store tx.old tx.new }
-    ensures put { Acts S.Store (PutsNumbers Seats con.now seats.now) tx.old tx.new result }
-    ensures seats { Acts S.Store (WritesSeats con.now seats.now) tx.old tx.new result }
+    ensures put { InDatabase S.Store (PutsNumbers Seats con.now seats.now) tx.old tx.new result }
+    ensures seats { InDatabase S.Store (WritesSeats con.now seats.now) tx.old tx.new result }
 {
     delete_seats(tx, con)?;
     insert_numbers(tx, ItemTable::Seats, con, seats)
@@ -60,7 +62,7 @@ pub fn put_con<S: Alter>(
     note: &str,
 ) -> Result<(), Error>
     ensures stays { Stays S.Store tx.old tx.new }
-    ensures written { Acts S.Store
+    ensures written { InDatabase S.Store
         (Changes Cons con_rows con.now (HasEdition edition certified note.now))
         tx.old tx.new result }
 {
@@ -74,7 +76,7 @@ fn insert_candidate<S: Alter>(
     gone: &Gone,
 ) -> Result<(), Error>
     ensures stays { Stays S.Store tx.old tx.new }
-    ensures inserted { Acts S.Store (Inserts table.Gone (candidate_row con.now gone.now))
+    ensures inserted { InDatabase S.Store (Inserts table.Gone (candidate_row con.now gone.now))
         tx.old tx.new result }
 {
     insert_gone(tx, con, gone.list, gone.place, gone.note.as_str())
@@ -83,7 +85,7 @@ fn insert_candidate<S: Alter>(
 /// Adds a candidate of a constituency who is gone.
 pub fn put_gone<S: Alter>(tx: &mut Transaction<'_, S>, con: &str, gone: &Gone) -> Result<(), Error>
     ensures stays { Stays S.Store tx.old tx.new }
-    ensures written { Acts S.Store (Writes table.Gone gone_rows con.now (HasGone gone.now))
+    ensures written { InDatabase S.Store (Writes table.Gone gone_rows con.now (HasGone gone.now))
         tx.old tx.new result }
 {
     insert_candidate(tx, con, gone)
@@ -98,7 +100,8 @@ fn insert_record<S: Alter>(
 ) -> Result<(), Error>
     requires few { length seats.now ≤ most_lists }
     ensures stays { Stays S.Store tx.old tx.new }
-    ensures added { Acts S.Store (AddsRows table.Past (record_rows con.now (edition, seats.now)))
+    ensures added { InDatabase S.Store
+        (AddsRows table.Past (record_rows con.now (edition, seats.now)))
         tx.old tx.new result }
 {
     let mut list = 1u32;
@@ -118,7 +121,7 @@ pub fn put_record<S: Alter>(
 ) -> Result<(), Error>
     requires few { length past.now.seats ≤ most_lists }
     ensures stays { Stays S.Store tx.old tx.new }
-    ensures written { Acts S.Store (Writes table.Past past_rows con.now (HasRecord past.now))
+    ensures written { InDatabase S.Store (Writes table.Past past_rows con.now (HasRecord past.now))
         tx.old tx.new result }
 {
     insert_record(tx, con, past.edition, past.seats.as_slice())
@@ -132,7 +135,7 @@ fn update_sum<S: Alter>(
     n: u64,
 ) -> Result<(), Error>
     ensures stays { Stays S.Store tx.old tx.new }
-    ensures updated { Acts S.Store (SetsItem Totals con.now item n) tx.old tx.new result }
+    ensures updated { InDatabase S.Store (SetsItem Totals con.now item n) tx.old tx.new result }
 {
     let Ok(n) = i64::try_from(n) else {
         return Err(Error::SqliteFailure(ErrorCode::TooBig));
@@ -150,7 +153,7 @@ fn move_sum<S: Alter>(
     n: u64,
 ) -> Result<(), Error>
     ensures stays { Stays S.Store tx.old tx.new }
-    ensures moved { Acts S.Store (MovesItem Totals con.now item by n) tx.old tx.new result }
+    ensures moved { InDatabase S.Store (MovesItem Totals con.now item by n) tx.old tx.new result }
 {
     if by == 0 {
         return Ok(());
@@ -168,7 +171,7 @@ fn move_list_sums<S: Alter>(
     requires few { length votes.now ≤ most_lists }
     requires lists { length by.now ≡ length votes.now }
     ensures stays { Stays S.Store tx.old tx.new }
-    ensures moved { Acts S.Store (MovesNumbers Totals con.now by.now votes.now)
+    ensures moved { InDatabase S.Store (MovesNumbers Totals con.now by.now votes.now)
         tx.old tx.new result }
 {
     let mut item = 1u32;
@@ -189,7 +192,8 @@ fn move_sums<S: Alter>(
     requires few { length sums.now.votes ≤ most_lists }
     requires lists { length by.now.votes ≡ length sums.now.votes }
     ensures stays { Stays S.Store tx.old tx.new }
-    ensures moved { Acts S.Store (MovesItems Totals con.now by.now sums.now) tx.old tx.new result }
+    ensures moved { InDatabase S.Store
+        (MovesItems Totals con.now by.now sums.now) tx.old tx.new result }
 {
     move_sum(tx, con, 0, by.blank, sums.blank)?;
     move_list_sums(tx, con, by.votes.as_slice(), sums.votes.as_slice())?;
@@ -207,7 +211,8 @@ pub fn put_sums<S: Alter>(
     requires few { length sums.now.votes ≤ most_lists }
     requires lists { length by.now.votes ≡ length sums.now.votes }
     ensures stays { Stays S.Store tx.old tx.new }
-    ensures written { Acts S.Store (ChangesSums con.now by.now sums.now) tx.old tx.new result }
+    ensures written { InDatabase S.Store
+        (ChangesSums con.now by.now sums.now) tx.old tx.new result }
 {
     move_sums(tx, con, by, sums)
 }

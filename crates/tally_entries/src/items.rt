@@ -6,7 +6,7 @@ ghost use Rattle.tally_statements.specs.Office.{Inserts, item_cells};
 ghost use Rattle.tally_tables.specs.Cells.{item_row, items_of, numbers_with_places};
 ghost use Rattle.tally_entries.specs.Entries.{keyed_table};
 ghost use Rattle.tally_entries.specs.internal.Written.{AddsRows, SetsCounts, SetsVotes};
-ghost use Rattle.tally_statements.specs.Inside.{Acts, Stays};
+ghost use Rattle.tally_statements.specs.Inside.{InDatabase, Stays};
 ghost use Rattle.tally_statements.specs.declared.table.KeyedTable.TheVariants.{Counts};
 
 use sqlite::{Alter, Error, Transaction};
@@ -31,7 +31,7 @@ fn insert_item<S: Alter>(
     n: u32,
 ) -> Result<(), Error>
     ensures stays { Stays S.Store tx.old tx.new }
-    ensures inserted { Acts S.Store (Inserts (keyed_table table) (item_cells key.now item n))
+    ensures inserted { InDatabase S.Store (Inserts (keyed_table table) (item_cells key.now item n))
         tx.old tx.new result }
 {
     match table {
@@ -50,7 +50,7 @@ pub(crate) fn insert_numbers<S: Alter>(
 ) -> Result<(), Error>
     requires few { length numbers.now ≤ most_lists }
     ensures stays { Stays S.Store tx.old tx.new }
-    ensures added { Acts S.Store (AddsRows (keyed_table table)
+    ensures added { InDatabase S.Store (AddsRows (keyed_table table)
         (map (item_row key.now) (numbers_with_places 1 numbers.now))) tx.old tx.new result }
 {
     let mut item = 1u32;
@@ -69,7 +69,7 @@ pub(crate) fn insert_counts<S: Alter>(
 ) -> Result<(), Error>
     requires few { length counts.now.votes ≤ most_lists }
     ensures stays { Stays S.Store tx.old tx.new }
-    ensures added { Acts S.Store
+    ensures added { InDatabase S.Store
         (AddsRows Counts (map (item_row station.now) (items_of counts.now))) tx.old tx.new result }
 {
     insert_item(tx, ItemTable::Counts, station, 0, counts.blank)?;
@@ -85,7 +85,7 @@ fn update_votes<S: Alter>(
 ) -> Result<(), Error>
     requires few { length votes.now ≤ most_lists }
     ensures stays { Stays S.Store tx.old tx.new }
-    ensures set { Acts S.Store (SetsVotes station.now votes.now) tx.old tx.new result }
+    ensures set { InDatabase S.Store (SetsVotes station.now votes.now) tx.old tx.new result }
 {
     let mut item = 1u32;
     for n in votes {
@@ -103,7 +103,7 @@ pub(crate) fn update_counts<S: Alter>(
 ) -> Result<(), Error>
     requires few { length counts.now.votes ≤ most_lists }
     ensures stays { Stays S.Store tx.old tx.new }
-    ensures set { Acts S.Store (SetsCounts station.now counts.now) tx.old tx.new result }
+    ensures set { InDatabase S.Store (SetsCounts station.now counts.now) tx.old tx.new result }
 {
     update_count(tx, station, 0, counts.blank)?;
     update_votes(tx, station, counts.votes.as_slice())?;

@@ -7,7 +7,7 @@ ghost use Rattle.tally_statements.specs.declared.table.KeyedTable.TheVariants.{R
 ghost use Rattle.tally_tables.specs.Cells.{return_row};
 ghost use Rattle.tally_entries.specs.Entries.{AddsReturn, ChangesReturn, CorrectsReturn};
 ghost use Rattle.tally_entries.specs.internal.Written.{ReplacesHead};
-ghost use Rattle.tally_statements.specs.Inside.{Acts, Stays};
+ghost use Rattle.tally_statements.specs.Inside.{InDatabase, Stays};
 
 use crate::items::{insert_counts, update_counts};
 use sqlite::{Alter, Error, Transaction};
@@ -23,7 +23,7 @@ fn insert_head<S: Alter>(
     standing: &Return,
 ) -> Result<(), Error>
     ensures stays { Stays S.Store tx.old tx.new }
-    ensures inserted { Acts S.Store
+    ensures inserted { InDatabase S.Store
         (Inserts Returns (return_row con.now (station.now, standing.now))) tx.old tx.new result }
 {
     insert_return(
@@ -47,7 +47,7 @@ pub fn add_return<S: Alter>(
 ) -> Result<(), Error>
     requires few { length standing.now.counts.votes ≤ most_lists }
     ensures stays { Stays S.Store tx.old tx.new }
-    ensures added { Acts S.Store (AddsReturn con.now station.now standing.now)
+    ensures added { InDatabase S.Store (AddsReturn con.now station.now standing.now)
         tx.old tx.new result }
 {
     insert_head(tx, con, station, standing)?;
@@ -61,7 +61,8 @@ fn update_head<S: Alter>(
     standing: &Return,
 ) -> Result<(), Error>
     ensures stays { Stays S.Store tx.old tx.new }
-    ensures updated { Acts S.Store (ReplacesHead station.now standing.now) tx.old tx.new result }
+    ensures updated { InDatabase S.Store
+        (ReplacesHead station.now standing.now) tx.old tx.new result }
 {
     update_return(
         tx,
@@ -80,7 +81,8 @@ pub fn change_return<S: Alter>(
     standing: &Return,
 ) -> Result<(), Error>
     ensures stays { Stays S.Store tx.old tx.new }
-    ensures changed { Acts S.Store (ChangesReturn station.now standing.now) tx.old tx.new result }
+    ensures changed { InDatabase S.Store
+        (ChangesReturn station.now standing.now) tx.old tx.new result }
 {
     update_head(tx, station, standing)
 }
@@ -94,7 +96,7 @@ pub fn correct_return<S: Alter>(
 ) -> Result<(), Error>
     requires few { length standing.now.counts.votes ≤ most_lists }
     ensures stays { Stays S.Store tx.old tx.new }
-    ensures corrected { Acts S.Store (CorrectsReturn station.now standing.now)
+    ensures corrected { InDatabase S.Store (CorrectsReturn station.now standing.now)
         tx.old tx.new result }
 {
     update_head(tx, station, standing)?;

@@ -7,9 +7,13 @@ ghost use Rattle.tally_rows.specs.Cells.{number_of};
 ghost use Rattle.tally_rules.specs.Limits.{most_stations};
 ghost use Rattle.tally_statements.specs.Office.{IsFound, ShowsTable};
 ghost use Rattle.tally_tables.specs.Reading.{status_of, sums_of};
-ghost use Rattle.tally_entries.specs.Constituencies.{FindsCertified, FindsProgressRow, FindsSums, FindsView};
-ghost use Rattle.tally_entries.specs.Entries.{Finds, FindsFrom};
-ghost use Rattle.tally_entries.specs.internal.Found.{AreFound, AreWithin, ChangesNothing, FindsKnown, FindsStatus, FindsStatuses, IsStageAmong, certified_in, row_with, status_in, view_of_rows, with_station};
+ghost use Rattle.tally_entries.specs.Constituencies.{FindsCertified, FindsProgressRow, FindsSums};
+ghost use Rattle.tally_entries.specs.Constituencies.{FindsView};
+ghost use Rattle.tally_entries.specs.Entries.{ChangesNothing, Finds, FindsFrom};
+ghost use Rattle.tally_entries.specs.internal.Found.{AreRowsFound, AreWithin, FindsKnownStatuses};
+ghost use Rattle.tally_entries.specs.internal.Found.{FindsStatus, FindsStatuses, IsStageAmong};
+ghost use Rattle.tally_entries.specs.internal.Found.{certified_in, row_with, status_in};
+ghost use Rattle.tally_entries.specs.internal.Found.{view_of_rows, with_station};
 ghost use Rattle.tally_statements.specs.Inside.{IsOpenInside, OnlyReads, StaysFrom};
 
 use sqlite::{Alter, Error, ErrorCode, Row, Transaction};
@@ -119,7 +123,7 @@ fn rows_of_con<S: Alter>(
     with_past: bool,
 ) -> Result<ConRows, Error>
     ensures reads { OnlyReads S.Store tx.old tx.new result }
-    ensures found { Finds S.Store (AreFound with_past con.now) tx.old tx.new result }
+    ensures found { Finds S.Store (AreRowsFound with_past con.now) tx.old tx.new result }
 {
     let (cons, lots) = rows_of_two(tx, KeyedTable::Cons, KeyedTable::Lots, con)?;
     let (seats, gone) = rows_of_two(tx, KeyedTable::Seats, KeyedTable::Gone, con)?;
@@ -231,7 +235,8 @@ fn find_known<S: Alter>(
     known: Option<Statuses>,
 ) -> Result<Statuses, Error>
     ensures stays { StaysFrom IsOpenInside S.Store tx.old tx.new }
-    ensures found { FindsFrom IsOpenInside S.Store (FindsKnown con.now known) tx.old tx.new result }
+    ensures found { FindsFrom IsOpenInside S.Store (FindsKnownStatuses con.now known)
+        tx.old tx.new result }
     ensures same { ChangesNothing S.Store tx.old tx.new result }
 {
     match known {

@@ -27,8 +27,8 @@ le_unless_greater x y h =
       | inr not_greater ↦ not_greater
     ]
 
-not_told_apart : (x y : Fraction) → 1 ≤ x.den → 1 ≤ y.den → ((z : Fraction) → 1 ≤ z.den → IsGreater x z ↔ IsGreater y z) → IsLevel x y
-not_told_apart x y p q h =
+not_distinguished : (x y : Fraction) → 1 ≤ x.den → 1 ≤ y.den → ((z : Fraction) → 1 ≤ z.den → IsGreater x z ↔ IsGreater y z) → IsLevel x y
+not_distinguished x y p q h =
     let not_greater : x.num * y.den ≤ y.num * x.den = le_unless_greater x y (λ g. (h y q).0 g) in
     let not_less : y.num * x.den ≤ x.num * y.den = le_unless_greater y x (λ g. (h x p).1 g) in
     omega arith
@@ -36,7 +36,7 @@ not_told_apart x y p q h =
 pub level-alike : (x y : Fraction) → 1 ≤ x.den → 1 ≤ y.den → IsLevel x y ↔ ((z : Fraction) → 1 ≤ z.den → IsGreater x z ↔ IsGreater y z)
 level-alike x y p q =
     let back : IsLevel x y → IsLevel y x = λ h. omega arith in
-    (λ h z r. (level-greater x y z q h, level-greater y x z p (back h)), not_told_apart x y p q)
+    (λ h z r. (level-greater x y z q h, level-greater y x z p (back h)), not_distinguished x y p q)
 
 pub whole_part-below : (x : Fraction) (n : ℕ) → 1 ≤ x.den → n ≤ whole_part x → n * x.den ≤ x.num
 whole_part-below x n p h = (le-div_iff_mul-le p).0 h

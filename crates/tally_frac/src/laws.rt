@@ -7,8 +7,7 @@ ghost use Rattle.tally_frac.specs.LawStatements.{AreAlike, Chain, IsGreaterWhere
 ghost use Rattle.tally_frac.specs.LawStatements.{IsLessWhereBelow, IsSameInAnyUnit};
 ghost use Rattle.tally_frac.specs.LawStatements.{IsTransitiveAt, of_turned};
 ghost use Rattle.tally_frac.specs.Rank.{Pair, RanksAboveByVotes, TiesByVotes, RanksAbove};
-ghost use Rattle.tally_frac.specs.Rank.{TiesByVotesAndPlace};
-ghost use Rattle.tally_frac.specs.Rank.{RanksAboveTurned, IsWithinLimits};
+ghost use Rattle.tally_frac.specs.Rank.{TiesByVotesAndPlace, RanksAboveTurned, IsWithinLimits};
 ghost use Rattle.tally_frac.specs.Rank.{turned_pair};
 
 use crate::RankKey;

@@ -4,8 +4,8 @@ ghost use Rattle.std.specs.Prelude.{◌≡◌, ◌≤◌, ◌↔◌, Some, IsSom
 ghost use Rattle.std.specs.Cmp.{partial_equiv_from_equiv, po};
 ghost use Rattle.tally_frac.specs.Limits.{greatest_divisor, most_votes};
 ghost use Rattle.tally_frac.specs.Rank.{IsWithinLimits, VotesRankAbove};
-ghost use Rattle.tally_frac.specs.internal.RankOrder.{rank_cmp, same_pair, rank_cmp-total, same_pair-equiv};
-ghost use Rattle.tally_frac.specs.internal.RankOrder.{same_pair-ties};
+ghost use Rattle.tally_frac.specs.internal.RankOrder.{rank_cmp, same_pair, rank_cmp-total};
+ghost use Rattle.tally_frac.specs.internal.RankOrder.{same_pair-equiv, same_pair-ties};
 
 use crate::limits::{GREATEST_DIVISOR, MOST_LISTS, MOST_VOTES};
 use std::cmp::Ordering;

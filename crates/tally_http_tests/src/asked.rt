@@ -1,25 +1,25 @@
 //! Lines of text, `METHOD TARGET = ANSWER` or `ROUTE CODE BODY = ANSWER`.
 
-use crate::bodies::{route_named, told_body};
-use crate::targets::told_target;
+use crate::bodies::{route_named, text_of_body};
+use crate::targets::text_of_target;
 use std::alloc::Global;
 use std::test::Fail;
 
-fn told(alloc: Global, asked: &str) -> Result<String, Fail> {
+fn text_of_asked(alloc: Global, asked: &str) -> Result<String, Fail> {
     let (word, rest) = asked.split_once(" ").ok_or("no target and no code")?;
     match route_named(word) {
-        Some(route) => told_body(alloc, route, rest),
-        None => told_target(alloc, word, rest),
+        Some(route) => text_of_body(alloc, route, rest),
+        None => text_of_target(alloc, word, rest),
     }
 }
 
 fn check(alloc: Global, line: &str) -> Result<(), Fail> {
     let (asked, wanted) = line.split_once(" = ").ok_or("no answer")?;
-    let told = told(alloc, asked)?;
-    if told.as_str() == wanted {
+    let got = text_of_asked(alloc, asked)?;
+    if got.as_str() == wanted {
         return Ok(());
     }
-    Err(Fail::from(format!(in alloc; "{line}, and not {told}")?))
+    Err(Fail::from(format!(in alloc; "{line}, and not {got}")?))
 }
 
 /// Fails at the first of these lines whose answer is another.

@@ -32,7 +32,7 @@ fn ask_on(alloc: Global, route: Route, of: Code, body: &[u8]) -> Result<Option<A
 }
 
 /// The command that a text `CODE BODY` is on a route.
-pub(crate) fn told_body(alloc: Global, route: Route, text: &str) -> Result<String, Fail> {
+pub(crate) fn text_of_body(alloc: Global, route: Route, text: &str) -> Result<String, Fail> {
     let (of, body) = text.split_once(" ").ok_or("no body")?;
     let of = Code::new(of.as_bytes()).ok_or("no code")?;
     match ask_on(alloc, route, of, body.as_bytes())? {

@@ -1,6 +1,6 @@
 //! Groups of lists among which a lot decides.
 
-ghost use Rattle.std.specs.Prelude.{◌+◌, ◌≤◌, IsTrue, sum};
+ghost use Rattle.std.specs.Prelude.{◌≤◌, IsTrue, sum};
 ghost use Rattle.tally_law.specs.Conditions.{AreLimitsKept};
 
 use crate::lines::{cut, number, sums};

@@ -32,7 +32,7 @@ fn code(route: Route, target: &[u8]) -> Option<Code> {
 }
 
 /// What a method and a target ask for: the route, and the code in the target.
-pub(crate) fn told_target(alloc: Global, method: &str, target: &str) -> Result<String, Fail> {
+pub(crate) fn text_of_target(alloc: Global, method: &str, target: &str) -> Result<String, Fail> {
     let Some(route) = route(alloc, target)? else {
         return Ok(String::from_str(alloc, "no route")?);
     };

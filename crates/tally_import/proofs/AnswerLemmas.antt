@@ -97,7 +97,7 @@ pub stop-of-reading : (stop : Stop) (before failed : Bool) → failed ≡ flag_a
 stop-of-reading stopped.TooLong before failed is = tt
 stop-of-reading stopped.Read before failed is = is
 
--- want of memory is one
+-- out of memory is one
 pub memory-of-reading : (fault : CheckFault) (failed : Bool) → fault ≡ Memory → IsOfReading fault failed
 memory-of-reading fault failed is = subst (λ f. IsOfReading f failed) (sym is) tt
 

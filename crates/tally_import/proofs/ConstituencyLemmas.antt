@@ -39,7 +39,7 @@ and-five true true false d e = refl
 and-five true false c d e = refl
 and-five false b c d e = refl
 
--- a record that is long enough, by its names and what is behind them
+-- a record that is long enough, by its names and what follows them
 pub header-names : (lists fields : List (List ℕ)) → 4 ≤ length fields → is_header lists fields ≡ (has_names fields && pointwise same_text (drop 4 fields) lists)
 header-names lists (a ∷ b ∷ c ∷ d ∷ rest) some = and-five (same_text a (codes "station")) (same_text b (codes "slip")) (same_text c (codes "blank")) (same_text d (codes "spoiled")) (pointwise same_text rest lists)
 header-names lists [] some = absurd (omega arith)
@@ -47,7 +47,7 @@ header-names lists (a ∷ []) some = absurd (omega arith)
 header-names lists (a ∷ b ∷ []) some = absurd (omega arith)
 header-names lists (a ∷ b ∷ c ∷ []) some = absurd (omega arith)
 
--- the name at a place, and those behind it
+-- the name at a place, and those after it
 pub names-at : (lists fields : List (List ℕ)) (place : ℕ) → place < length lists → 4 + place < length fields
     → pointwise same_text (drop (4 + place) fields) (drop place lists)
     ≡ (same_text (get_or fields (4 + place) []) (get_or lists place []) && pointwise same_text (drop (4 + (place + 1)) fields) (drop (place + 1) lists))

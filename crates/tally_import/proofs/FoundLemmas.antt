@@ -9,7 +9,7 @@ use Rattle.tally_import.specs.Header.{header_lists}
 use Rattle.tally_import.specs.Check.{Found, check_fault, check_text, records_result, result_at_end, under_header, rows_of_records}
 use Rattle.tally_records.specs.Input.{AreAll}
 use Rattle.tally_import.specs.internal.Progress.{HasTaken}
-use Rattle.tally_import.specs.internal.Rounds.{Finds, Imports, ended_import}
+use Rattle.tally_import.specs.internal.Rounds.{FindsCheckText, ImportsRecords, ended_import}
 use Rattle.tally_import.specs.declared.import.Import.{Import}
 use Rattle.tally_records.specs.declared.end.Stop.{Stop}
 use Rattle.tally_import.specs.declared.check.CheckFault.{CheckFault}
@@ -60,7 +60,7 @@ under-fault header lists records stop fault named (inr stopped) =
 -- an import of all rows, or of those before what stopped the text
 pub Imports-ended : (lists : ℕ) (AreRows : List (List (List ℕ)) → Option Stop → Type 0) (import : Import) (rows : List (List (List ℕ))) (stop : Option Stop)
     → AreRows rows stop → HasTaken (record { lists = lists; rows = rows_of_records lists rows }) import → length rows ≤ row_limit
-    → Imports lists AreRows (ended_import stop import)
+    → ImportsRecords lists AreRows (ended_import stop import)
 Imports-ended lists AreRows import rows None are taken few = (rows, are, taken, few)
 Imports-ended lists AreRows import rows (Some fault) are taken few = inr (rows, Some fault, are, inr (refl, few))
 
@@ -69,7 +69,7 @@ pub Found-rows : (sep : Sep) (text left : Option (List ℕ)) (header : List (Lis
     (AreRows : List (List (List ℕ)) → Option Stop → Type 0)
     → Some lists ≡ header_lists header
     → ((rows : List (List (List ℕ))) (stop : Option Stop) → AreRows rows stop → AreAll sep text left (header ∷ rows) stop)
-    → Imports n AreRows (Err fault)
+    → ImportsRecords n AreRows (Err fault)
     → IfSome text (λ t. (fault ≡ Memory) ⊎ Found sep t left (λ f. f ≡ Err fault))
 Found-rows sep text left header lists n fault AreRows named all (inl memory) = Found-memory sep text left fault memory
 Found-rows sep text left header lists n fault AreRows named all (inr found) =
@@ -79,7 +79,7 @@ Found-rows sep text left header lists n fault AreRows named all (inr found) =
 pub Found-text : (sep : Sep) (text left : Option (List ℕ)) (header : List (List ℕ)) (lists : List (List ℕ)) (rows : List (List (List ℕ))) (result : Result (String Global) CheckFault)
     → Some lists ≡ header_lists header → AreAll sep text left (header ∷ rows) None → length rows ≤ row_limit
     → IfOk result (λ s. string_bytes s ≡ check_text lists (rows_of_records (length lists) rows)) → IfErr result (λ fault. fault ≡ Memory)
-    → IfSome text (λ t. Finds sep t left result)
+    → IfSome text (λ t. FindsCheckText sep t left result)
 Found-text sep None left header lists rows result named all few shown fault = tt
 Found-text sep (Some t) left header lists rows (Ok s) named all few shown fault =
     (all.0, None, all.1, ap (λ r. records_result r None) all.2 ∙ examined-whole (header ∷ rows) header rows lists (string_bytes s) refl named few shown)

@@ -8,16 +8,16 @@ use Rattle.std.proofs.lemmas.List.{append-nil}
 use Rattle.tally_rules.specs.Code.{is_code, code_of}
 use Rattle.tally_import.specs.Header.{same_text, are_distinct_codes, are_lists, header_lists}
 
--- whether a code stands among others
+-- whether a code is among others
 abbrev pub stands_in : List (List ℕ) → List ℕ → Bool
 stands_in seen code = list_any (λ y. same_text y code) seen
 
--- these lists and those that follow, where each is a code that did not stand before
+-- these lists and those that follow, where each is a code that did not occur before
 unfoldable pub lists_from : List (List ℕ) → List (List ℕ) → Option (List (List ℕ))
 lists_from seen [] = Some seen
 lists_from seen (code ∷ rest) = if is_code code && not (stands_in seen code) then lists_from (seen ++ code ∷ []) rest else None
 
--- none of the lists that follow stands among these
+-- none of the lists that follow is among these
 are_new : List (List ℕ) → List (List ℕ) → Bool
 are_new seen rest = list_all (λ x. not (stands_in seen x)) rest
 
@@ -134,7 +134,7 @@ header_lists-named (a ∷ []) some few names = absurd (omega arith)
 header_lists-named (a ∷ b ∷ []) some few names = absurd (omega arith)
 header_lists-named (a ∷ b ∷ c ∷ []) some few names = absurd (omega arith)
 
--- the text at a place, and those behind it
+-- the text at a place, and those after it
 pub drop-at : (fields : List (List ℕ)) (place : ℕ) → place < length fields → drop place fields ≡ get_or fields place [] ∷ drop (place + 1) fields
 drop-at fields place within = rw (add-one place) (drop-cons fields place [] within)
 

@@ -31,7 +31,7 @@ use Rattle.tally_records.proofs.PieceLemmas.{drop-nothing}
 
 -- ---- rows of records
 
--- the row of the record behind the first n
+-- the row of the record after the first n
 pub row-at : {X Y : Type 0} (f : X → Y) (limit n : ℕ) (given : List X) (x : X) (after : List X) → length given ≡ n → n < limit
     → (rest : List Y) × (drop n (map f (take limit (given ++ x ∷ after))) ≡ f x ∷ rest) × (drop (suc n) (map f (take limit (given ++ x ∷ after))) ≡ rest)
 row-at f zero n given x after count within = absurd (omega (arith, within))
@@ -40,20 +40,20 @@ row-at f (suc l) zero (g ∷ given) x after count within = absurd (omega (arith,
 row-at f (suc l) (suc n) [] x after count within = absurd (omega (arith, count))
 row-at f (suc l) (suc n) (g ∷ given) x after count within = row-at f l n given x after (omega (arith, count)) (omega (arith, within))
 
--- no row is left behind all of them
+-- no row is left after all of them
 pub rows-over : {X Y : Type 0} (f : X → Y) (limit n : ℕ) (given : List X) → length given ≤ n → drop n (map f (take limit given)) ≡ []
 rows-over f zero n given count = drop-nothing n
 rows-over f (suc l) n [] count = drop-nothing n
 rows-over f (suc l) zero (g ∷ given) count = absurd (omega (arith, count))
 rows-over f (suc l) (suc n) (g ∷ given) count = rows-over f l n given (omega (arith, count))
 
--- nor behind as many as may come
+-- nor after as many as may come
 pub rows-full : {X Y : Type 0} (f : X → Y) (limit : ℕ) (xs : List X) → drop limit (map f (take limit xs)) ≡ []
 rows-full f zero xs = refl
 rows-full f (suc l) [] = drop-nothing (suc l)
 rows-full f (suc l) (x ∷ xs) = rows-full f l xs
 
--- ---- what comes behind a header
+-- ---- what comes after a header
 
 pub header-coming : (con : Constituency) (header : List (List ℕ)) (records : List (List (List ℕ))) (stop : Option Stop)
     → is_header (list_codes con.lists) header ≡ true → records_coming con (header ∷ records) stop ≡ rows_coming con records stop
@@ -195,7 +195,7 @@ header-bad con r (Some text) left header bad has =
 
 -- ---- the rows at work
 
--- every header and the records behind it that may have been given
+-- every header and the records after it that may have been given
 abbrev pub Step : Option (List ℕ) → Option (List ℕ) → Records → List (List ℕ) → Records → Type 0
 Step old_left left old fields new =
     (text : Option (List ℕ)) (given : List (List (List ℕ))) → HasGiven text old_left given old → HasGiven text left (given ++ fields ∷ []) new
@@ -216,7 +216,7 @@ rows-ended text old_left left con sep old new (Some stop) at over =
     rows-stop con sep text left at.come.0 at.come.1 old.came stop come.good come.count at.within
     (subst (λ s. AreAll s text left (at.come.0 ∷ at.come.1) (Some stop)) at.separator (over text (at.come.0 ∷ at.come.1) come.given))
 
--- a read failed behind the rows
+-- a read failed after the rows
 pub rows-failed : (text old_left left : Option (List ℕ)) (con : Constituency) (sep : Sep) (old : Rows) (stop : Option Stop)
     → IsReadingRows text old_left con sep old → Over old_left left old.records stop
     → ◌≡◌ {A = Result (Option Row) ImportFault} (at_end (option_map import_fault stop)) (Err cause.Read)
@@ -357,7 +357,7 @@ own-same cause.Read own = refl
 own-same cause.Memory own = refl
 own-same cause.Store own = absurd (own refl)
 
--- what still comes is told by how many rows came and how they ended
+-- what still comes is known by how many rows came and how they ended
 pub still-shown : (text left : Option (List ℕ)) (con : Constituency) (sep : Sep) (stage : Stage) → IsAtStage text left con sep stage
     → option_map (coming_at con sep (came_by stage) (ending stage)) text ≡ option_map (still_coming con sep stage) text
 still-shown None left con sep stage at = refl

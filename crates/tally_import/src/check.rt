@@ -1,6 +1,7 @@
 //! The check of a text of returns.
 
-ghost use Rattle.std.specs.Prelude.{◌≡◌, ◌≤◌, Bool, List, [], ◌∷◌, length, ℕ, Some, None, true, Ok, Err, IfErr, IfSome, OnOk};
+ghost use Rattle.std.specs.Prelude.{◌≡◌, ◌≤◌, Bool, List, [], ◌∷◌, length, ℕ, Some, None, true, Ok};
+ghost use Rattle.std.specs.Prelude.{Err, IfErr, IfSome, OnOk};
 ghost use Rattle.std.specs.Io.KnownBytes.{Appends};
 ghost use Rattle.tally_frac.specs.Limits.{most_lists};
 ghost use Rattle.tally_import.specs.Check.{Checks, IsSilent, check_result, no_header};
@@ -8,7 +9,8 @@ ghost use Rattle.tally_import.specs.Header.{header_lists};
 ghost use Rattle.tally_records.specs.Given.{IsReadingOn, TellsTrue};
 ghost use Rattle.tally_records.specs.Watch.{flag_after_stop, has_failed};
 ghost use Rattle.tally_import.specs.declared.check.CheckFault.TheVariants as cause;
-ghost use Rattle.tally_import.specs.internal.Rounds.{AreBehind, Finds, FindsAfter, Imports, IsOfReading, ended_import};
+ghost use Rattle.tally_import.specs.internal.Rounds.{AreRecordsAfter, FindsCheckText, FindsAfter};
+ghost use Rattle.tally_import.specs.internal.Rounds.{ImportsRecords, IsOfReading, ended_import};
 
 use crate::header::lists_of;
 use crate::import::Import;
@@ -140,7 +142,7 @@ fn checked_text<R: Read>(
     sep: Sep,
 ) -> Result<String, CheckFault>
     ensures finds { IfSome (R.remaining reader.old) (λ text.
-        Finds sep text (R.remaining reader.new) result) }
+        FindsCheckText sep text (R.remaining reader.new) result) }
     ensures read { IfErr result (λ fault. IsOfReading fault (has_failed watch.new)) }
     ensures all_read { OnOk result (has_failed watch.new ≡ has_failed watch.old) }
 {
@@ -219,8 +221,8 @@ fn check_rows<R: Read>(
 ) -> Result<Import, CheckFault>
     requires reading { IsReadingOn records.old }
     requires lists { lists ≤ most_lists }
-    ensures imports { Imports lists
-        (AreBehind (R.remaining reader.old) (R.remaining reader.new) records.old) result }
+    ensures imports { ImportsRecords lists
+        (AreRecordsAfter (R.remaining reader.old) (R.remaining reader.new) records.old) result }
     ensures read { (before : Bool) → TellsTrue before records.old (has_failed watch.old)
         → IfErr result (λ fault. IsOfReading fault (has_failed watch.new)) }
     ensures all_read { (before : Bool) → TellsTrue before records.old (has_failed watch.old)

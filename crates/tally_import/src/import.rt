@@ -2,8 +2,7 @@
 
 ghost use Rattle.std.specs.Prelude.{◌≡◌, ◌+◌, ◌≤◌, ◌++◌, List, [], ◌∷◌, length, Some, IfOk, OnOk};
 ghost use Rattle.tally_frac.specs.Limits.{most_lists};
-ghost use Rattle.tally_keeper.specs.Import.{after_row, lodged_counts};
-ghost use Rattle.tally_keeper.specs.Import.{RowAnswer, count_of, or_else};
+ghost use Rattle.tally_keeper.specs.Import.{after_row, lodged_counts, RowAnswer, count_of, or_else};
 ghost use Rattle.tally_keeper.specs.Source.{row_limit};
 ghost use Rattle.tally_returns.specs.Lodge.{lodge};
 ghost use Rattle.tally_keeper.specs.declared.import.Row.{Row};
@@ -33,7 +32,9 @@ pub(crate) struct Import {
 }
 
 impl Import {
-    ghost use Rattle.tally_import.specs.internal.Progress.{HasTaken, IsLodgeAnswer, IsRowAnswer, TableMoves, Taken, lodged_of};
+    ghost use Rattle.tally_import.specs.internal.Progress.{HasTaken, IsHeldLodgeAnswer};
+    ghost use Rattle.tally_import.specs.internal.Progress.{IsRowAnswer, TableMoves, Taken};
+    ghost use Rattle.tally_import.specs.internal.Progress.{lodged_of};
     ghost use Rattle.tally_import.specs.internal.Totals.{AreTotalsOfFew, TotalsRise};
 
     /// An import that has taken no row, of so many lists.
@@ -109,7 +110,7 @@ impl Import {
         requires lists { self.old.lists ≤ most_lists }
         requires totals { AreTotalsOfFew self.old.lists self.old.totals }
         ensures answer { IfOk result
-            (IsLodgeAnswer self.old.lists self.old.returns station slip counts) }
+            (IsHeldLodgeAnswer self.old.lists self.old.returns station slip counts) }
         ensures table { OnOk result (TableMoves self.old.returns self.new.returns
             (λ returns. lodge (every_code self.old.lists) returns station slip counts)) }
         ensures totals { IfOk result (λ answer. TotalsRise self.old.lists self.old.totals

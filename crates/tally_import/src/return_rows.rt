@@ -1,6 +1,7 @@
 //! The returns of a constituency from CSV.
 
-ghost use Rattle.std.specs.Prelude.{◌≡◌, ◌≢◌, ◌≤◌, Bool, true, false, Ok, Err, Option, Some, None, List, ℕ, is_some, option_map, IfOk, IfErr, IfSome, OnOk};
+ghost use Rattle.std.specs.Prelude.{◌≡◌, ◌≤◌, Bool, true, false, Ok, Err, Option, Some, None};
+ghost use Rattle.std.specs.Prelude.{List, ℕ, is_some, option_map, IfOk, IfErr, IfSome, OnOk};
 ghost use Rattle.std.specs.BTreeSet.{contains};
 ghost use Rattle.std.specs.List.{list_any};
 ghost use Rattle.std.specs.Str.{bytes_eq};
@@ -21,7 +22,10 @@ ghost use Rattle.tally_records.specs.declared.separator.Sep.{Sep};
 ghost use Rattle.tally_import.specs.ReturnRowsValue.{HasGivenAll, coming, unread_rows};
 ghost use Rattle.tally_import.specs.internal.NextRow.{AdvancesAny, EndsAgain, FailsLast};
 ghost use Rattle.tally_import.specs.internal.ReturnRowsWithin.{coming-within};
-ghost use Rattle.tally_import.specs.ReturnRows.{Advances, GivesRow, IsAtStage, IsBegun, IsNext, IsReadingRows, IsStarted, IsTrueAt, IsTrueFault, IsTrueResult, came_by, ending, import_fault, is_header, fault_without_header, still_coming, text_coming};
+ghost use Rattle.tally_import.specs.ReturnRows.{Advances, GivesRow, IsAtStage, IsBegun, IsNext};
+ghost use Rattle.tally_import.specs.ReturnRows.{IsReadingRows, IsStarted, IsTrueAt, IsTrueFault};
+ghost use Rattle.tally_import.specs.ReturnRows.{IsTrueResult, came_by, ending, import_fault};
+ghost use Rattle.tally_import.specs.ReturnRows.{is_header, fault_without_header, text_coming};
 
 use crate::header::{FIXED_NAMES, has_fixed_names};
 use crate::row::row_of;

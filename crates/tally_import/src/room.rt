@@ -1,6 +1,7 @@
 //! Appending to a text that has room, which takes no memory.
 
-ghost use Rattle.std.specs.Prelude.{◌≡◌, ◌≤◌, ◌+◌, ◌++◌, Some, length, string_bytes, string_len, string_capacity};
+ghost use Rattle.std.specs.Prelude.{◌≡◌, ◌≤◌, ◌+◌, ◌++◌, Some, length, string_bytes, string_len};
+ghost use Rattle.std.specs.Prelude.{string_capacity};
 ghost use Rattle.tally_import.specs.Check.{count_text, first_text, named_number};
 
 use itoa::Buffer;

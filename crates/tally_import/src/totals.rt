@@ -1,6 +1,7 @@
 //! The totals of returns.
 
-ghost use Rattle.std.specs.Prelude.{◌≡◌, ◌+◌, ◌<◌, ◌^◌, ℕ, true, [], ◌∷◌, length, slice_index, IfOk};
+ghost use Rattle.std.specs.Prelude.{◌≡◌, ◌+◌, ◌<◌, ◌^◌, ℕ, true, [], ◌∷◌, length, slice_index};
+ghost use Rattle.std.specs.Prelude.{IfOk};
 ghost use Rattle.tally_returns.specs.Counts.{are_counts};
 ghost use Rattle.tally_import.specs.internal.Totals.{AreTotals, AreTotalsOfFew, TotalsRise};
 

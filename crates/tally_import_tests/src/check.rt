@@ -1,13 +1,12 @@
 //! Checks of a text from a reader that gives few bytes at a time or fails, and into a writer that
 //! fails. What a text comes to is shown on the program, in `tests/check.py`.
 
-use crate::readers::{Pieces, Room};
+use crate::writers::Room;
 use std::alloc::{AllocError, Global};
 use std::io::ErrorKind;
 use std::test::Fail;
 use tally_import::{CheckFault, Sep, check_csv};
-
-const HEADER: &[u8] = b"station,slip,blank,spoiled,A,B\n";
+use tally_scripts::{HEADER, Pieces};
 
 const RETURNS: &[u8] = b"\
 station,slip,blank,spoiled,A,B
@@ -46,7 +45,7 @@ fn comes_to(
 }
 
 /// Whether a read that fails after this text is answered so, however few bytes come at a time.
-fn fails_behind(alloc: Global, text: &[u8], sep: Sep, fault: CheckFault) -> bool {
+fn fails_after(alloc: Global, text: &[u8], sep: Sep, fault: CheckFault) -> bool {
     for (piece, kind) in [
         (1, ErrorKind::BrokenPipe),
         (2, ErrorKind::Interrupted),
@@ -81,29 +80,29 @@ fn reads_of_few_bytes(rt: HostRuntime) {
 fn a_read_that_fails_at_any_byte(rt: HostRuntime) {
     for came in 0..=RETURNS.len() {
         let front = &RETURNS[..came];
-        assert!(rt; fails_behind(rt.alloc(), front, Sep::Comma, CheckFault::Read));
+        assert!(rt; fails_after(rt.alloc(), front, Sep::Comma, CheckFault::Read));
         // with semicolons the first line is not a header, once its end has come
         let other = if came < HEADER.len() {
             CheckFault::Read
         } else {
             CheckFault::BadHeader
         };
-        assert!(rt; fails_behind(rt.alloc(), front, Sep::Semicolon, other));
+        assert!(rt; fails_after(rt.alloc(), front, Sep::Semicolon, other));
     }
 }
 
 #[test]
-fn a_read_that_fails_behind_20_000_rows(rt: HostRuntime) -> Result<(), Fail> {
+fn a_read_that_fails_after_20_000_rows(rt: HostRuntime) -> Result<(), Fail> {
     let mut text = Vec::new(rt.alloc());
-    text.extend_from_slice(HEADER)?;
+    text.extend_from_slice(HEADER.as_bytes())?;
     for _row in 0..20_000 {
         text.extend_from_slice(b"x\n")?;
     }
     text.push(b'x')?;
     // a row that a read cuts off is not looked at
-    assert!(rt; fails_behind(rt.alloc(), &text, Sep::Comma, CheckFault::Read));
+    assert!(rt; fails_after(rt.alloc(), &text, Sep::Comma, CheckFault::Read));
     text.push(b'\n')?;
-    assert!(rt; fails_behind(rt.alloc(), &text, Sep::Comma, CheckFault::TooLong));
+    assert!(rt; fails_after(rt.alloc(), &text, Sep::Comma, CheckFault::TooLong));
     Ok(())
 }
 

@@ -1,21 +1,15 @@
 //! Reads that fail: what was complete before comes first, and no read is made again.
 
-use crate::setups::{check, fresh};
+use crate::setups::fresh;
 use std::alloc::{AllocError, Global};
 use std::io::ErrorKind;
 use std::test::*;
 use tally_core::{Book, Keeper, RowSource};
 use tally_import::{ReturnRows, Sep, check_csv};
 use tally_rules::Constituency;
-use tally_scripts::{Failing, TWIN_TOWN};
+use tally_scripts::{Failing, TWIN_TOWN, TWO_ROWS_AND_A_PIECE, check_answers, failing_reads};
 
-const HEADER: &str = "station,slip,blank,spoiled,A,B\n";
-
-const RETURNS: &str = "station,slip,blank,spoiled,A,B\ns1,p1,0,0,10,20\n";
-
-/// Two complete rows and a piece of a third.
-const CUT: &str = "station,slip,blank,spoiled,A,B\ns1,p1,0,0,10,20\ns9,p1,0,0,10,20\ns1,p2";
-
+// The rows that `TWO_ROWS_AND_A_PIECE` gives before a read fails.
 const CUT_ROWS: &str = "\
 Ok(Some(Lodge(Lodge { station: \"s1\", slip: \"p1\", counts: Counts { votes: [10, 20], blank: 0, spoiled: 0 } })))
 Ok(Some(Bad))
@@ -67,14 +61,14 @@ fn check_failing(
     wanted: &str,
 ) -> Result<(), Fail> {
     let mut book = fresh(alloc, TWIN_TOWN)?;
-    let told = imported(alloc, &mut book, failing(front, failures, kind, back))?;
-    if told.as_str() != wanted {
-        return Err(Fail::from(told));
+    let got = imported(alloc, &mut book, failing(front, failures, kind, back))?;
+    if got.as_str() != wanted {
+        return Err(Fail::from(got));
     }
-    check(alloc, &mut book, "return s1 = refused 8")?;
-    let told = checked(alloc, failing(front, failures, kind, back))?;
-    if told.as_str() != wanted {
-        return Err(Fail::from(told));
+    check_answers(alloc, &mut book, "return s1 = refused 8")?;
+    let got = checked(alloc, failing(front, failures, kind, back))?;
+    if got.as_str() != wanted {
+        return Err(Fail::from(got));
     }
     Ok(())
 }
@@ -82,18 +76,8 @@ fn check_failing(
 #[test]
 fn reads_that_fail_once_or_for_ever(rt: HostRuntime) -> Result<(), Fail> {
     let alloc = rt.alloc();
-    let rows = "x\n".repeat(alloc, 20_000)?;
-    let full = format!(in alloc; "{HEADER}{rows}x")?;
-    let long = format!(in alloc; "{HEADER}{rows}x\n")?;
-    for (front, back, wanted) in [
-        ("", RETURNS, "Err(Read)"),
-        ("station,sl", "ip,blank,spoiled,A,B\n", "Err(Read)"),
-        ("station,slip\n", "", "Err(BadHeader)"),
-        (CUT, ",0,0,1,1\n", "Err(Read)"),
-        (RETURNS, "", "Err(Read)"),
-        (full.as_str(), "", "Err(Read)"),
-        (long.as_str(), "", "Err(TooLong)"),
-    ] {
+    for (front, back, wanted) in &failing_reads(alloc)? {
+        let front = front.as_str();
         check_failing(alloc, front, 1, ErrorKind::Interrupted, back, wanted)?;
         check_failing(alloc, front, 1, ErrorKind::BrokenPipe, back, wanted)?;
         check_failing(alloc, front, u32::MAX, ErrorKind::Interrupted, back, wanted)?;
@@ -110,7 +94,12 @@ fn push_row(text: &mut String, rows: &mut ReturnRows<Failing<'_>>) -> Result<(),
 fn complete_rows_come_before_a_failed_read(rt: HostRuntime) -> Result<(), Fail> {
     let alloc = rt.alloc();
     let con = constituency(alloc, &fresh(alloc, TWIN_TOWN)?)?;
-    let reader = failing(CUT, 1, ErrorKind::Interrupted, ",0,0,1,1\n");
+    let reader = failing(
+        TWO_ROWS_AND_A_PIECE,
+        1,
+        ErrorKind::Interrupted,
+        ",0,0,1,1\n",
+    );
     let mut rows = ReturnRows::new(alloc, reader, Sep::Comma, con);
     let mut text = String::new(alloc);
     for _row in 0..4 {

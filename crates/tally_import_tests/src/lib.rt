@@ -12,10 +12,10 @@ mod import;
 #[cfg(test)]
 mod imports;
 #[cfg(test)]
-mod readers;
-#[cfg(test)]
 mod return_rows;
 #[cfg(test)]
 mod rows;
 #[cfg(test)]
 mod setups;
+#[cfg(test)]
+mod writers;

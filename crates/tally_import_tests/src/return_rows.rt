@@ -1,12 +1,12 @@
 //! The rows of a text of returns, as text.
 
-use crate::readers::Pieces;
 use std::alloc::{AllocError, Global};
 use std::io::ErrorKind;
 use std::test::Fail;
 use tally_core::RowSource;
 use tally_import::{ReturnRows, Sep};
 use tally_rules::{Constituency, read_setup};
+use tally_scripts::{HEADER, Pieces};
 
 const SETUP: &[u8] = br#"[[profile]]
 code = "d0"
@@ -115,7 +115,7 @@ fn the_first_of_20_000_records_is_given_before_the_text_is_read(
     rt: HostRuntime,
 ) -> Result<(), Fail> {
     let records = LONG_ROW.repeat(rt.alloc(), 20_000)?;
-    let text = format!(in rt.alloc(); "station,slip,blank,spoiled,A,B\n{records}")?;
+    let text = format!(in rt.alloc(); "{HEADER}{records}")?;
     let mut reader = Pieces {
         text: text.as_bytes(),
         piece: 4096,

@@ -2,12 +2,12 @@
 
 ghost use Rattle.tally_keeper.specs.Source.{IsLodgeOrBad};
 
-use crate::setups::{check, fresh};
+use crate::setups::fresh;
 use std::alloc::Global;
 use std::test::*;
 use tally_core::{Ask, Book, ImportFault, Keeper, Row, RowSource};
 use tally_keeper::Given;
-use tally_scripts::{TWIN_TOWN, command};
+use tally_scripts::{TWIN_TOWN, check_answers, command};
 
 /// Gives rows of these commands, the last first; then it ends, or its reads fail.
 #[derive(Drop)]
@@ -99,12 +99,12 @@ fn check_import(
     after: &str,
 ) -> Result<(), Fail> {
     let mut book = fresh(alloc, TWIN_TOWN)?;
-    check(alloc, &mut book, before)?;
-    let told = imported(alloc, &mut book, rows, fails)?;
-    if told.as_str() != wanted {
-        return Err(Fail::from(told));
+    check_answers(alloc, &mut book, before)?;
+    let got = imported(alloc, &mut book, rows, fails)?;
+    if got.as_str() != wanted {
+        return Err(Fail::from(got));
     }
-    check(alloc, &mut book, after)
+    check_answers(alloc, &mut book, after)
 }
 
 const PASSED_OVER: &str =

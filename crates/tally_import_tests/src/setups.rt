@@ -3,19 +3,10 @@
 use std::alloc::Global;
 use std::test::Fail;
 use tally_core::Book;
-use tally_scripts::{first_wrong, setup};
+use tally_scripts::setup;
 
 /// A keeper of the setup of a text, in which no return is recorded.
 pub(crate) fn fresh(alloc: Global, text: &str) -> Result<Book, Fail> {
     let setup = setup(alloc, text)?;
     Ok(Book::new(alloc, setup)?)
-}
-
-/// Fails at the first line of a script that a keeper answers otherwise.
-pub(crate) fn check(alloc: Global, book: &mut Book, script: &str) -> Result<(), Fail> {
-    let wrong = first_wrong(alloc, book, script)?;
-    if wrong.is_empty() {
-        return Ok(());
-    }
-    Err(Fail::from(wrong))
 }

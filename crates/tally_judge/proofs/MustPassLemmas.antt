@@ -13,7 +13,7 @@ use Rattle.tally_rules.specs.Text.{is_note}
 use Rattle.std.specs.Str.{is_utf8}
 use Rattle.tally_rules.specs.ListSet.{has_place}
 use Rattle.tally_law.specs.LotNeed.{IsLotTaken}
-use Rattle.tally_steps.specs.Outcome.{HasSeats, IsLawfulGone, IsLawfulPast, IsLawfulView, MayStand, poll_in, rule_in}
+use Rattle.tally_steps.specs.Outcome.{HasSeats, IsLawfulGone, IsLawfulPast, IsLawfulView, HasLawfulLot, poll_in, rule_in}
 use Rattle.tally_steps.proofs.CertificationLemmas.{group-within}
 use Rattle.tally_steps.proofs.VacancyLemmas.{allotted-sum}
 use Rattle.tally_returns.specs.GoneCandidate.{GoneCandidate}
@@ -44,7 +44,7 @@ all_places : (group : List Bool) (lot : List ℕ) → ((i : ℕ) → i < length 
 all_places group [] h = tt
 all_places group (place ∷ lot) h = (h 0 (omega arith), all_places group lot (λ i low. h (suc i) (omega (arith, low))))
 
-lot_small : (con : Constituency) (v : View) → IsConstituency con → length v.votes ≡ length con.lists → (v.lot ≡ []) ⊎ MayStand con v → AllByRecursion (IsRead number_of) v.lot
+lot_small : (con : Constituency) (v : View) → IsConstituency con → length v.votes ≡ length con.lists → (v.lot ≡ []) ⊎ HasLawfulLot con v → AllByRecursion (IsRead number_of) v.lot
 lot_small con v limits long (inl none) = subst (AllByRecursion (IsRead number_of)) (sym none) tt
 lot_small con v limits long (inr may) = taken may.2
   where

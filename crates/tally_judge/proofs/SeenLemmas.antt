@@ -15,7 +15,7 @@ use Rattle.tally_rules.specs.Constituency.{Constituency}
 use Rattle.tally_rules.specs.Text.{is_note}
 use Rattle.tally_judge.specs.internal.Seen.{HasLawfulFrame, IsCertified, IsLotRight, IsOpen, is_in_range}
 
--- a text is a note that is kept where it may stand as a note
+-- a text is a note that is kept where it may be a note
 pub kept_is : (note : List ℕ) → IsUtf8 note → is_note note ≡ is_kept_note note
 kept_is note text = go (is_note note) (is_utf8 note) (is_utf8-from_IsUtf8 note text)
   where

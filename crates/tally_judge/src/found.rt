@@ -2,8 +2,7 @@
 
 ghost use Rattle.std.specs.Prelude.{◌≡◌, IfOk, option_map};
 ghost use Rattle.tally_ledger.specs.Kept.{view_in};
-ghost use Rattle.tally_tables.specs.Views.{view_with_code, tables_in};
-ghost use Rattle.tally_tables.specs.Views.{views_from};
+ghost use Rattle.tally_tables.specs.Views.{view_with_code, tables_in, views_from};
 ghost use Rattle.tally_judge.specs.internal.Found.{con_counted};
 
 use sqlite::Row;

@@ -12,7 +12,7 @@ use Rattle.tally_returns.specs.declared.reply.LodgeReply.TheVariants.{Lodged, Sa
 use Rattle.tally_steps.proofs.StayLemmas.{Stay, run-stays, lodge-stays, not_lodged-again}
 use Rattle.tally_keeper.specs.Events.{answers_of, asks_of}
 use Rattle.tally_keeper.specs.Import.{RowAnswer, row_answer, after_row, answers, returns_after_import, is_lodged}
-use Rattle.tally_keeper.specs.Keeper.{Event, Happen, Happens, IsImport, whole_import}
+use Rattle.tally_keeper.specs.Keeper.{Event, HappensInTurn, Happens, IsImport, whole_import}
 use Rattle.tally_keeper.specs.declared.import.ImportCount.{ImportCount}
 use Rattle.tally_keeper.specs.declared.import.Row.{Row}
 use Rattle.tally_keeper.specs.declared.import.Row.TheVariants as row
@@ -67,7 +67,7 @@ again-none setup rows answered others count again s mid later t first stay secon
 -- whatever happened between
 pub again-happens : (setup : List Constituency) (rows : List Row) (answered others : List RowAnswer) (count again : ImportCount)
     → (old mid later new : Option State) (events : List Event)
-    → Happens setup old (whole_import rows answered count) mid → Happen setup mid events later → Happens setup later (whole_import rows others again) new
+    → Happens setup old (whole_import rows answered count) mid → HappensInTurn setup mid events later → Happens setup later (whole_import rows others again) new
     → again.lodged ≡ 0
 again-happens setup rows answered others count again None None later new events first between second = absurd first
 again-happens setup rows answered others count again None (Some m) later new events first between second = absurd first

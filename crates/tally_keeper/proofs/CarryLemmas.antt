@@ -117,11 +117,11 @@ IsCarriedOut k code edition decided r new =
 pub carried : (k new : Kept) (code : List ℕ) (edition : ℕ) (change : Change) (decided : ConChange) (r : Result Reply Refusal) → con_change change ≡ Some decided
     → IfOk r (λ reply. IfSome (con_change change) (λ d. answer_seen reply ≡ carried_reply edition d)) → OnOk r (IfSome (con_change change) (λ d. new ≡ with_change k code d))
     → IfErr r (λ e. e ≡ Memory) → OnErr r (new ≡ k) → IsCarriedOut k code edition decided r new
-carried k new code edition change decided (Ok reply) is told done refused stays = inl (
-  ap Ok (subst (λ o. IfSome o (λ d. answer_seen reply ≡ carried_reply edition d)) is told),
+carried k new code edition change decided (Ok reply) is ensured done refused stays = inl (
+  ap Ok (subst (λ o. IfSome o (λ d. answer_seen reply ≡ carried_reply edition d)) is ensured),
   subst (λ o. IfSome o (λ d. new ≡ with_change k code d)) is done,
 )
-carried k new code edition change decided (Err e) is told done refused stays = inr (ap Err refused, stays)
+carried k new code edition change decided (Err e) is ensured done refused stays = inr (ap Err refused, stays)
 
 pub carried-done : (k new : Kept) (code : List ℕ) (con : Constituency) (ask : Ask) (edition : ℕ) (change : Change) (decided : ConChange) (r : Result Reply Refusal) → IsHeld k
     → constituency_with code k.setup ≡ Some con → con_named ask ≡ Some code → edition ≡ (view_in k con).edition → con_change change ≡ Some decided → Decides con (view_in k con) ask (Ok decided)

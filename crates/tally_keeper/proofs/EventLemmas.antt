@@ -20,7 +20,7 @@ use Rattle.tally_steps.proofs.LawLemmas.{run-lawful}
 use Rattle.tally_steps.proofs.RunLemmas.{second-idle}
 use Rattle.tally_keeper.specs.Events.{BringsCodes, acts, answers_of, asks_of, lodge_answers, lodges}
 use Rattle.tally_keeper.specs.Import.{RowAnswer, IsCodedRow, is_lodged}
-use Rattle.tally_keeper.specs.Keeper.{Event, Happen, Happens, IsTaken, failed_import, request, whole_import}
+use Rattle.tally_keeper.specs.Keeper.{Event, HappensInTurn, Happens, IsTaken, failed_import, request, whole_import}
 use Rattle.tally_keeper.specs.declared.import.Row.{Row}
 use Rattle.tally_keeper.specs.declared.import.Row.TheVariants as row
 use Rattle.tally_keeper.proofs.KeeperLemmas.{happen-run, import-run, shut-stays, some-run}
@@ -42,13 +42,13 @@ taken-brings setup s t (request ask r) events code is rest = All-cons BringsCode
 taken-brings setup s t (whole_import rows answered count) events code is rest = All-append BringsCode (lodges rows) (asks_of events) (rows-bring rows is.4) rest
 taken-brings setup s t (failed_import fault) events code is rest = rest
 
-pub happen-brings : (setup : List Constituency) (s t : State) (events : List Event) → All BringsCodes events → Happen setup (Some s) events (Some t) → All BringsCode (asks_of events)
+pub happen-brings : (setup : List Constituency) (s t : State) (events : List Event) → All BringsCodes events → HappensInTurn setup (Some s) events (Some t) → All BringsCode (asks_of events)
 happen-brings setup s t [] codes is = All-nil BringsCode
 happen-brings setup s t (event ∷ events) codes is =
     go is.0 is.1 is.2 (λ next rest. happen-brings setup next t events (All-tail BringsCodes event events codes) rest)
   where
-    go : (mid : Option State) → Happens setup (Some s) event mid → Happen setup mid events (Some t)
-        → ((next : State) → Happen setup (Some next) events (Some t) → All BringsCode (asks_of events))
+    go : (mid : Option State) → Happens setup (Some s) event mid → HappensInTurn setup mid events (Some t)
+        → ((next : State) → HappensInTurn setup (Some next) events (Some t) → All BringsCode (asks_of events))
         → All BringsCode (asks_of (event ∷ events))
     go None step rest later = absurd (shut-stays setup events t rest)
     go (Some next) step rest later = taken-brings setup s next event events (All-head BringsCodes event events codes) step (later next rest)
@@ -56,13 +56,13 @@ happen-brings setup s t (event ∷ events) codes is =
 -- ---- the laws
 
 -- the state stays lawful
-pub happen-lawful : (setup : List Constituency) (s t : State) (events : List Event) → All BringsCodes events → IsSetup setup → IsLawfulState setup s → Happen setup (Some s) events (Some t)
+pub happen-lawful : (setup : List Constituency) (s t : State) (events : List Event) → All BringsCodes events → IsSetup setup → IsLawfulState setup s → HappensInTurn setup (Some s) events (Some t)
     → IsLawfulState setup t
 happen-lawful setup s t events codes ok lawful is =
     run-lawful setup s t (asks_of events) (answers_of events) (happen-brings setup s t events codes is) ok (happen-run setup s t events is) lawful
 
 -- of two equal requests the second does not act where the first did
-pub happen-second-idle : (setup : List Constituency) (s : State) (new : Option State) (events : List Event) → Happen setup (Some s) events new
+pub happen-second-idle : (setup : List Constituency) (s : State) (new : Option State) (events : List Event) → HappensInTurn setup (Some s) events new
     → (i j : ℕ) (ask other : Ask) (first second : Result Reply Refusal) → i < j
     → slice_get (asks_of events) i ≡ Some ask → slice_get (asks_of events) j ≡ Some other → IsSameCommand ask other
     → slice_get (answers_of events) i ≡ Some first → slice_get (answers_of events) j ≡ Some second → is_act first ≡ true → is_act second ≡ false
@@ -98,20 +98,20 @@ taken-idle setup s t (whole_import rows answered count) is idle =
 taken-idle setup s t (failed_import fault) is idle = is
 
 -- where something that does not act is left out, what happens goes on from the same state
-pub happen-acting : (setup : List Constituency) (s t : State) (events : List Event) → Happen setup (Some s) events (Some t) → Happen setup (Some s) (filter acts events) (Some t)
+pub happen-acting : (setup : List Constituency) (s t : State) (events : List Event) → HappensInTurn setup (Some s) events (Some t) → HappensInTurn setup (Some s) (filter acts events) (Some t)
 happen-acting setup s t [] is = is
 happen-acting setup s t (event ∷ events) is = go is.0 is.1 is.2 (λ next rest. happen-acting setup next t events rest) (acts event) refl
   where
-    go : (mid : Option State) → Happens setup (Some s) event mid → Happen setup mid events (Some t)
-        → ((next : State) → Happen setup (Some next) events (Some t) → Happen setup (Some next) (filter acts events) (Some t))
-        → (b : Bool) → acts event ≡ b → Happen setup (Some s) (cond b (event ∷ filter acts events) (filter acts events)) (Some t)
+    go : (mid : Option State) → Happens setup (Some s) event mid → HappensInTurn setup mid events (Some t)
+        → ((next : State) → HappensInTurn setup (Some next) events (Some t) → HappensInTurn setup (Some next) (filter acts events) (Some t))
+        → (b : Bool) → acts event ≡ b → HappensInTurn setup (Some s) (cond b (event ∷ filter acts events) (filter acts events)) (Some t)
     go None step rest later b acted = absurd (shut-stays setup events t rest)
     go (Some next) step rest later true acted = (Some next, step, later next rest)
-    go (Some next) step rest later false idle = subst (λ m. Happen setup (Some m) (filter acts events) (Some t)) (taken-idle setup s next event step idle) (later next rest)
+    go (Some next) step rest later false idle = subst (λ m. HappensInTurn setup (Some m) (filter acts events) (Some t)) (taken-idle setup s next event step idle) (later next rest)
 
-pub happen-kept : (setup : List Constituency) (s t : State) (events : List Event) → Happen setup (Some s) events (Some t) → (keep : ℕ → Bool)
+pub happen-kept : (setup : List Constituency) (s t : State) (events : List Event) → HappensInTurn setup (Some s) events (Some t) → (keep : ℕ → Bool)
     → ((i : ℕ) (event : Event) → slice_get events i ≡ Some event → keep i ≡ false → acts event ≡ false)
-    → Happen setup (Some s) (kept_elements keep events) (Some t)
+    → HappensInTurn setup (Some s) (kept_elements keep events) (Some t)
 happen-kept setup s t [] is keep idle = is
 happen-kept setup s t (event ∷ events) is keep idle =
     go is.0 is.1 is.2
@@ -120,9 +120,9 @@ happen-kept setup s t (event ∷ events) is keep idle =
     left : List Event
     left = kept_elements (λ i. keep (i + 1)) events
 
-    go : (mid : Option State) → Happens setup (Some s) event mid → Happen setup mid events (Some t)
-        → ((next : State) → Happen setup (Some next) events (Some t) → Happen setup (Some next) left (Some t))
-        → (b : Bool) → keep 0 ≡ b → Happen setup (Some s) (cond b (event ∷ left) left) (Some t)
+    go : (mid : Option State) → Happens setup (Some s) event mid → HappensInTurn setup mid events (Some t)
+        → ((next : State) → HappensInTurn setup (Some next) events (Some t) → HappensInTurn setup (Some next) left (Some t))
+        → (b : Bool) → keep 0 ≡ b → HappensInTurn setup (Some s) (cond b (event ∷ left) left) (Some t)
     go None step rest later b there = absurd (shut-stays setup events t rest)
     go (Some next) step rest later true there = (Some next, step, later next rest)
-    go (Some next) step rest later false out = subst (λ m. Happen setup (Some m) left (Some t)) (taken-idle setup s next event step (idle 0 event refl out)) (later next rest)
+    go (Some next) step rest later false out = subst (λ m. HappensInTurn setup (Some m) left (Some t)) (taken-idle setup s next event step (idle 0 event refl out)) (later next rest)

@@ -46,7 +46,7 @@ use Rattle.tally_steps.proofs.LawfulViewLemmas.{certified-seats, drawn-open}
 use Rattle.tally_steps.proofs.LifeLemmas.{after_put-returns}
 use Rattle.tally_steps.proofs.ReturnStepLemmas.{open-station, opening-lawful, put-placed, return-step-lawful}
 use Rattle.tally_ledger.specs.Kept.{Kept, opening_kept, seats_in, state_in, view_in, with_change}
-use Rattle.tally_keeper.specs.internal.Held.{IsHeld, IsLodged, IsMoved, with_state}
+use Rattle.tally_keeper.specs.internal.Held.{IsHeld, CarriesOutLodge, IsMoved, with_state}
 
 -- ---- the seats that are kept of a constituency
 
@@ -123,7 +123,7 @@ lodge-open limits found slip counts r is = go (first_refusal (counts_checks limi
     go None None ok = refl
     go None (Some standing) ok = absurd (again (pointwise nat_eq standing.slip slip && same_counts standing.counts counts) standing.rev (Differs standing.rev) ok)
 
--- where a return is put, its constituency is not certified, or the one that stood was not closed
+-- where a return is put, its constituency is not certified, or the one before was not closed
 put-open : (limits : StationLimits) (certified : Bool) (found : Option StationReturn) (ask : Ask) (r : StationReturn)
     → return_change (Some limits) certified found ask ≡ Ok (PutReturn r) → (certified ≡ false) ⊎ (closed_now found ≡ false)
 put-open limits certified found (Lodge code slip counts) r is = inr (lodge-open limits found slip counts r is)
@@ -267,7 +267,7 @@ pub moved-held : (k new : Kept) (ask : Ask) (r : Result Reply Refusal) → Bring
 moved-held k new ask r brings held (inl done) = subst IsHeld (sym done.1) (held-return k ask brings held)
 moved-held k new ask r brings held (inr not_accepted) = subst IsHeld (sym not_accepted.1) held
 
-pub lodged-held : (k new : Kept) (station slip : List ℕ) (counts : VoteCounts) (r : Result Reply Refusal) → is_code slip ≡ true → IsHeld k → IsLodged k station slip counts r new → IsHeld new
+pub lodged-held : (k new : Kept) (station slip : List ℕ) (counts : VoteCounts) (r : Result Reply Refusal) → is_code slip ≡ true → IsHeld k → CarriesOutLodge k station slip counts r new → IsHeld new
 lodged-held k new station slip counts r code held (inl done) = subst IsHeld (sym done.1) (held-lodge k station slip counts code held)
 lodged-held k new station slip counts r code held (inr not_accepted) = subst IsHeld (sym not_accepted.1) held
 
@@ -329,7 +329,7 @@ change-right k con (Close station rev) decided is decides = absurd decides
 change-right k con (ShowReturn station) decided is decides = absurd decides
 change-right k con ShowProgress decided is decides = absurd decides
 
--- what is put at a key where it stood
+-- to put at a key what it has already changes nothing
 insert-same : (m : fin.FinMap code_cmp ConState) (code : List ℕ) → is_some (fin.get m code) ≡ true → fin.insert m code (unwrap_or (fin.get m code) opening_con) ≡ m
 insert-same m code there =
     fin.same_map nat_list_cmp_total (fin.slice_cmp-IsAntisymmetric fin.nat_cmp-IsAntisymmetric) (fin.insert m code (unwrap_or (fin.get m code) opening_con)) m

@@ -13,18 +13,18 @@ use Rattle.tally_returns.specs.declared.reply.LodgeReply.TheVariants.{Lodged, Sa
 use Rattle.tally_returns.specs.declared.reply.Reply.{Reply}
 use Rattle.tally_keeper.specs.Events.{answers_of, as_answer, asks_of, lodge_answers, lodges}
 use Rattle.tally_keeper.specs.Import.{RowAnswer, answers, count_of, returns_after_import}
-use Rattle.tally_keeper.specs.Keeper.{Event, Happen, Happens, IsImport, IsNotTaken, IsTaken, Runs, failed_import, request, requests, whole_import}
+use Rattle.tally_keeper.specs.Keeper.{Event, HappensInTurn, Happens, IsImport, IsNotTaken, IsTaken, Runs, failed_import, request, requests, whole_import}
 use Rattle.tally_keeper.specs.declared.import.ImportCount.{ImportCount}
 use Rattle.tally_keeper.specs.declared.import.Row.{Row}
 use Rattle.tally_keeper.specs.declared.import.Row.TheVariants as row
 use Rattle.tally_keeper.proofs.HeldLemmas.{lodge-step}
 
 -- a keeper that was shut stays so
-pub shut-stays : (setup : List Constituency) (events : List Event) (t : State) → Happen setup None events (Some t) → ⊥
+pub shut-stays : (setup : List Constituency) (events : List Event) (t : State) → HappensInTurn setup None events (Some t) → ⊥
 shut-stays setup [] t is = cc
 shut-stays setup (event ∷ events) t is = go is.0 is.1 is.2 (shut-stays setup events t)
   where
-    go : (mid : Option State) → Happens setup None event mid → Happen setup mid events (Some t) → (Happen setup None events (Some t) → ⊥) → ⊥
+    go : (mid : Option State) → Happens setup None event mid → HappensInTurn setup mid events (Some t) → (HappensInTurn setup None events (Some t) → ⊥) → ⊥
     go (Some s) step rest later = step
     go None step rest later = later rest
 
@@ -78,41 +78,41 @@ passed-run setup s t (request ask r) events is rest = (s, inr (is, refl), rest)
 passed-run setup s t (whole_import rows answered count) events is rest = absurd is
 passed-run setup s t (failed_import fault) events is rest = rest
 
-pub happen-run : (setup : List Constituency) (s t : State) (events : List Event) → Happen setup (Some s) events (Some t) → IsRun setup s (asks_of events) (answers_of events) t
+pub happen-run : (setup : List Constituency) (s t : State) (events : List Event) → HappensInTurn setup (Some s) events (Some t) → IsRun setup s (asks_of events) (answers_of events) t
 happen-run setup s t [] is = cc
 happen-run setup s t (event ∷ events) is = go is.0 is.1 is.2 (λ next rest. happen-run setup next t events rest)
   where
-    go : (mid : Option State) → Happens setup (Some s) event mid → Happen setup mid events (Some t)
-        → ((next : State) → Happen setup (Some next) events (Some t) → IsRun setup next (asks_of events) (answers_of events) t)
+    go : (mid : Option State) → Happens setup (Some s) event mid → HappensInTurn setup mid events (Some t)
+        → ((next : State) → HappensInTurn setup (Some next) events (Some t) → IsRun setup next (asks_of events) (answers_of events) t)
         → IsRun setup s (asks_of (event ∷ events)) (answers_of (event ∷ events)) t
     go (Some next) step rest later = taken-run setup s next t event events step (later next rest)
     go None step rest later = absurd (shut-stays setup events t rest)
 
 -- a keeper that was shut takes nothing: the state stays
-idle-run : (setup : List Constituency) (s : State) (events : List Event) → Happen setup None events None → IsRun setup s (asks_of events) (answers_of events) s
+idle-run : (setup : List Constituency) (s : State) (events : List Event) → HappensInTurn setup None events None → IsRun setup s (asks_of events) (answers_of events) s
 idle-run setup s [] is = refl
 idle-run setup s (event ∷ events) is = go is.0 is.1 is.2 (idle-run setup s events)
   where
-    go : (mid : Option State) → Happens setup None event mid → Happen setup mid events None
-        → (Happen setup None events None → IsRun setup s (asks_of events) (answers_of events) s)
+    go : (mid : Option State) → Happens setup None event mid → HappensInTurn setup mid events None
+        → (HappensInTurn setup None events None → IsRun setup s (asks_of events) (answers_of events) s)
         → IsRun setup s (asks_of (event ∷ events)) (answers_of (event ∷ events)) s
     go (Some next) step rest later = absurd step
     go None step rest later = passed-run setup s s event events step (later rest)
 
 -- what happened to a keeper that a failed disk shut: what met the failure has left the state
-pub shut-run : (setup : List Constituency) (s : State) (events : List Event) → Happen setup (Some s) events None
+pub shut-run : (setup : List Constituency) (s : State) (events : List Event) → HappensInTurn setup (Some s) events None
     → (t : State) × IsRun setup s (asks_of events) (answers_of events) t
 shut-run setup s [] is = cc
 shut-run setup s (event ∷ events) is = go is.0 is.1 is.2 (λ next rest. shut-run setup next events rest)
   where
-    go : (mid : Option State) → Happens setup (Some s) event mid → Happen setup mid events None
-        → ((next : State) → Happen setup (Some next) events None → (t : State) × IsRun setup next (asks_of events) (answers_of events) t)
+    go : (mid : Option State) → Happens setup (Some s) event mid → HappensInTurn setup mid events None
+        → ((next : State) → HappensInTurn setup (Some next) events None → (t : State) × IsRun setup next (asks_of events) (answers_of events) t)
         → (t : State) × IsRun setup s (asks_of (event ∷ events)) (answers_of (event ∷ events)) t
     go (Some next) step rest later = let end = later next rest in (end.0, taken-run setup s next end.0 event events step end.1)
     go None step rest later = (s, passed-run setup s s event events step (idle-run setup s events rest))
 
 -- in any case
-pub some-run : (setup : List Constituency) (s : State) (new : Option State) (events : List Event) → Happen setup (Some s) events new
+pub some-run : (setup : List Constituency) (s : State) (new : Option State) (events : List Event) → HappensInTurn setup (Some s) events new
     → (t : State) × IsRun setup s (asks_of events) (answers_of events) t
 some-run setup s (Some t) events is = (t, happen-run setup s t events is)
 some-run setup s None events is = shut-run setup s events is

@@ -12,7 +12,7 @@ use Rattle.tally_returns.specs.declared.refusal.Refusal.TheVariants.{Differs}
 use Rattle.tally_returns.specs.declared.reply.LodgeReply.{LodgeReply}
 use Rattle.tally_returns.specs.declared.reply.LodgeReply.TheVariants.{Lodged, Same}
 
--- a return is lodged only where none stood
+-- a return is lodged only where none was recorded
 pub lodged-none : (stations : Stations) (m : Returns) (station slip : List ℕ) (counts : VoteCounts) (rev : ℕ)
     → lodge_answer stations m station slip counts ≡ Ok (Lodged rev) → get m station ≡ None
 lodged-none stations m station slip counts rev is = go (stations station) (get m station) refl is

@@ -6,7 +6,7 @@ use Rattle.tally_returns.specs.State.{State}
 use Rattle.tally_returns.specs.declared.ask.Ask.{Ask}
 use Rattle.tally_returns.specs.declared.refusal.Refusal.{Refusal}
 use Rattle.tally_returns.specs.declared.reply.Reply.{Reply}
-use Rattle.tally_keeper.specs.Keeper.{Event, Happen, Happens, Runs, request, requests}
+use Rattle.tally_keeper.specs.Keeper.{Event, HappensInTurn, Happens, Runs, request, requests}
 
 requests_push : (asks : List Ask) (rs : List (Result Reply Refusal)) (ask : Ask) (r : Result Reply Refusal) → length rs ≡ length asks
     → requests (asks ++ ask ∷ []) (rs ++ r ∷ []) ≡ requests asks rs ++ request ask r ∷ []
@@ -17,7 +17,7 @@ requests_push (a ∷ asks) (x ∷ rs) ask r count = ap (λ l. request a x ∷ l)
 
 module _ (setup : List Constituency) where
   happen_push : (old mid new : Option State) (events : List Event) (event : Event)
-      → Happen setup old events mid → Happens setup mid event new → Happen setup old (events ++ event ∷ []) new
+      → HappensInTurn setup old events mid → Happens setup mid event new → HappensInTurn setup old (events ++ event ∷ []) new
   happen_push old mid new [] event h s = (new, subst (λ m. Happens setup m event new) h s, refl)
   happen_push old mid new (e ∷ events) event h s = (h.0, h.1, happen_push h.0 mid new events event h.2 s)
 
@@ -25,7 +25,7 @@ module _ (setup : List Constituency) where
       → Runs setup old asks rs mid → Happens setup mid (request ask r) new → Runs setup old (asks ++ ask ∷ []) (rs ++ r ∷ []) new
   runs_push old mid new asks rs ask r h s = (
     omega (arith, h.0, length-append rs (r ∷ []), length-append asks (ask ∷ [])),
-    subst (λ events. Happen setup old events new) (sym (requests_push asks rs ask r h.0)) (happen_push old mid new (requests asks rs) (request ask r) h.1 s),
+    subst (λ events. HappensInTurn setup old events new) (sym (requests_push asks rs ask r h.0)) (happen_push old mid new (requests asks rs) (request ask r) h.1 s),
   )
 
   pub runs_more : (old mid new : Option State) (asks : List Ask) (rs : List (Result Reply Refusal)) (i : ℕ) (ask : Ask) (r : Result Reply Refusal)

@@ -33,7 +33,7 @@ use Rattle.tally_returns.specs.declared.reply.Reply.TheVariants.{Moved}
 use Rattle.tally_returns.proofs.ClosedLemmas.{station_with-con}
 use Rattle.tally_returns.proofs.DecideLemmas.{passed-first, passed-rest}
 use Rattle.tally_ledger.specs.Kept.{Kept, state_in, view_in, with_no_lot}
-use Rattle.tally_keeper.specs.internal.Held.{IsAnsweredInMemory, IsHeld, IsLodged, IsMoved, is_query, moves_return, with_state}
+use Rattle.tally_keeper.specs.internal.Held.{IsAnsweredInMemory, IsHeld, CarriesOutLodge, IsMoved, is_query, moves_return, with_state}
 use Rattle.tally_steps.proofs.DecisionLemmas.{certified-found, changed-step, con_of-found, decided-named, decided-none}
 use Rattle.tally_keeper.proofs.HeldLemmas.{lodge-step}
 
@@ -65,7 +65,7 @@ decided-found setup s ask station con place named is =
     ∙ ap (λ limits. return_change limits (is_certified setup s station) (fin.get s.returns station) ask) (limits-known setup station con place is)
     ∙ ap (λ b. return_change (Some (limits_of con place)) b (fin.get s.returns station) ask) (certified-found setup s station con place is)
 
--- a refusal is want of memory or another
+-- a refusal is out of memory or another
 pub memory-or : (e : Refusal) → (e ≡ Memory) ⊎ (e ≢ Memory)
 memory-or NoStation = inr (λ (same : NoStation ≡ Memory). cc)
 memory-or BadCounts = inr (λ (same : BadCounts ≡ Memory). cc)
@@ -93,7 +93,7 @@ memory-or Store = inr (λ (same : Store ≡ Memory). cc)
 
 -- ---- commands that move a return
 
--- What a keeper looked up of the station that a command names: where it stands, whether its constituency is certified, and its return.
+-- What a keeper looked up of the station that a command names: its place, whether its constituency is certified, and its return.
 pub record IsLookedUp (k : Kept) (station : List ℕ) (con : Constituency) (place : Station) (certified : Bool) (found : Option StationReturn) : Type 0 where
   pub place_is : station_with station k.setup ≡ Some (con, place)
   pub certified_is : certified ≡ (con_state (state_in k) con.code).certified
@@ -160,19 +160,19 @@ moved-refused k ask station con place certified found e looked named is = go (me
     go (inr other) = moved-err k ask e (looked_up-decided k ask station con place certified found looked named ∙ is other)
 
 -- a command that moves a return changes nothing else
-told-put : (ask : Ask) (found : Option StationReturn) (d : Change) (a : Answer) → moves_return ask ≡ true → answer_to_change ask found d ≡ Some a → ((r : StationReturn) → d ≢ change.PutReturn r) → ⊥
-told-put ask found (change.PutReturn r) a moves is never = never r refl
-told-put (Query code rev note) found d a moves is never = cc
-told-put (Correct code rev slip counts) found d a moves is never = cc
-told-put (Close code rev) found d a moves is never = cc
-told-put ask found d a moves is never = cc
+reported-put : (ask : Ask) (found : Option StationReturn) (d : Change) (a : Answer) → moves_return ask ≡ true → answer_to_change ask found d ≡ Some a → ((r : StationReturn) → d ≢ change.PutReturn r) → ⊥
+reported-put ask found (change.PutReturn r) a moves is never = never r refl
+reported-put (Query code rev note) found d a moves is never = cc
+reported-put (Correct code rev slip counts) found d a moves is never = cc
+reported-put (Close code rev) found d a moves is never = cc
+reported-put ask found d a moves is never = cc
 
 pub moves-put : (k : Kept) (ask : Ask) (station : List ℕ) (con : Constituency) (place : Station) (certified : Bool) (found : Option StationReturn) (other : Change)
     → IsLookedUp k station con place certified found → station_named ask ≡ Some station → moves_return ask ≡ true → return_change (Some (limits_of con place)) certified found ask ≡ Ok other
     → ((r : StationReturn) → other ≢ change.PutReturn r) → ⊥
 moves-put k ask station con place certified found other looked named moves is never =
     let by = changed-step k.setup (state_in k) ask station other named (looked_up-decided k ask station con place certified found looked named ∙ is) in
-    told-put ask (fin.get k.returns station) other by.0 moves by.1 never
+    reported-put ask (fin.get k.returns station) other by.0 moves by.1 never
 
 -- a return that is put
 abbrev pub with_put : Kept → List ℕ → StationReturn → Kept
@@ -270,15 +270,15 @@ first-lawful stations m station slip counts rev code is = go (stations station) 
     go None there ok = cc
     go (Some limits) there ok = (limits, there, at limits (first_refusal (counts_checks limits counts)) (fin.get m station) refl ok)
 
-pub lodged-setup : (k new : Kept) (station slip : List ℕ) (counts : VoteCounts) (r : Result Reply Refusal) → IsLodged k station slip counts r new → new.setup ≡ k.setup
+pub lodged-setup : (k new : Kept) (station slip : List ℕ) (counts : VoteCounts) (r : Result Reply Refusal) → CarriesOutLodge k station slip counts r new → new.setup ≡ k.setup
 lodged-setup k new station slip counts r (inl done) = ap (λ (x : Kept). x.setup) done.1
 lodged-setup k new station slip counts r (inr not_accepted) = ap (λ (x : Kept). x.setup) not_accepted.1
 
 -- a Lodge is answered as the office answers it
 pub lodged-answered : (k new : Kept) (ask : Ask) (station slip : List ℕ) (counts : VoteCounts) (r : Result Reply Refusal)
-    → ask ≡ Lodge station slip counts → IsLodged k station slip counts r new → IsAnsweredInMemory k.setup (state_in k) ask r (state_in new)
+    → ask ≡ Lodge station slip counts → CarriesOutLodge k station slip counts r new → IsAnsweredInMemory k.setup (state_in k) ask r (state_in new)
 lodged-answered k new ask station slip counts r is h = subst (λ a. IsAnsweredInMemory k.setup (state_in k) a r (state_in new)) (sym is) (go h)
   where
-    go : IsLodged k station slip counts r new → IsAnsweredInMemory k.setup (state_in k) (Lodge station slip counts) r (state_in new)
+    go : CarriesOutLodge k station slip counts r new → IsAnsweredInMemory k.setup (state_in k) (Lodge station slip counts) r (state_in new)
     go (inl done) = inl (done.0, ap state_in done.1 ∙ sym (lodge-step k.setup (state_in k) station slip counts))
     go (inr not_accepted) = inr (not_accepted.0, ap state_in not_accepted.1)

@@ -11,7 +11,7 @@ use Rattle.tally_keeper.specs.internal.Held.{IsHeld}
 use Rattle.tally_keeper.specs.Import.{RowAnswer, IsBelow, IsCodedRow, row_answer, after_row, answers, returns_after_import, count_of, count_with_row}
 use Rattle.tally_keeper.specs.Given.{with_given}
 use Rattle.tally_keeper.specs.Keeper.{IsImportFault, IsImportOf, IsOwnFault}
-use Rattle.tally_keeper.specs.Source.{AreAllGiven, AreGiven, Coming, Delivery, GaveAll, IsSudden, IsWithin, GivesNext, SourceAt, ends_by, row_limit}
+use Rattle.tally_keeper.specs.Source.{AreAllGiven, AreGiven, Coming, Delivery, GaveAll, IsSudden, IsWithinRowLimit, GivesNext, SourceAt, ends_by, row_limit}
 use Rattle.tally_keeper.specs.declared.import.ImportCount.{ImportCount}
 use Rattle.tally_keeper.specs.declared.import.Row.{Row}
 use Rattle.tally_keeper.specs.declared.import.Row.TheVariants as row
@@ -21,7 +21,7 @@ use Rattle.tally_keeper.proofs.HeldLemmas.{held-lodge}
 use Rattle.tally_keeper.proofs.ImportLemmas.{count_of-below, count_of-push}
 use Rattle.tally_keeper.proofs.RowsLemmas.{imported-push, answers-push, length-answers}
 
--- what a source answers to a call, how it stands before it and after it
+-- what a source answers to a call, its state before it and after it
 abbrev pub GivesAt : SourceAt → Result (Option Row) ImportFault → SourceAt → Type 0
 GivesAt left r next = GivesNext left.coming r next.coming × (next.given ≡ with_given left.given r) × (next.ended ≡ ends_by r)
 
@@ -172,13 +172,13 @@ own-last d fault gave own = (gave.0, (gave.1.0, all d.start.coming gave.1.3), in
     all None are = tt
     all (Some coming) are = ([], are.0 ∙ sym (append-nil gave.0))
 
--- one row more than the limit comes only of a source of which nothing is known
+-- one row more than the limit comes only of a source of unknown content
 pub SoFar-many : (stations : Stations) (old now : Returns) (all left : SourceAt) (count : ImportCount) (many : ℕ)
-    → SoFar stations old now all left count many → many ≡ row_limit + 1 → IfSome all.coming IsWithin → IsImportFault (record { start = all; finish = left }) TooLong
+    → SoFar stations old now all left count many → many ≡ row_limit + 1 → IfSome all.coming IsWithinRowLimit → IsImportFault (record { start = all; finish = left }) TooLong
 SoFar-many stations old now all left count many h over within =
     (h.rows, given-so_far stations old now all left left count many h refl, inr (inr (refl, h.many_are ∙ over, none all.coming h.taken within)))
   where
-    none : (known : Option Coming) → AreTaken known h.rows left.coming → IfSome known IsWithin → known ≡ None
+    none : (known : Option Coming) → AreTaken known h.rows left.coming → IfSome known IsWithinRowLimit → known ≡ None
     none None taken within = refl
     none (Some known) taken within = absurd (omega (arith, over, within.0, h.many_are, ap length taken.2, length-append h.rows taken.0))
 

@@ -53,10 +53,10 @@ Happens setup None event (Some t) = ⊥
 Happens setup None event None = IsNotTaken event
 
 -- one thing after the other
-abbrev pub Happen : List Constituency → Option State → List Event → Option State → Type 0
-Happen setup old [] new = new ≡ old
-Happen setup old (event ∷ events) new =
-    (mid : Option State) × Happens setup old event mid × Happen setup mid events new
+abbrev pub HappensInTurn : List Constituency → Option State → List Event → Option State → Type 0
+HappensInTurn setup old [] new = new ≡ old
+HappensInTurn setup old (event ∷ events) new =
+    (mid : Option State) × Happens setup old event mid × HappensInTurn setup mid events new
 
 -- ---- requests
 
@@ -69,7 +69,8 @@ requests (ask ∷ asks) [] = []
 -- requests one after the other, all of them answered
 abbrev pub Runs : List Constituency → Option State → List Ask → List (Result Reply Refusal)
     → Option State → Type 0
-Runs setup old asks rs new = (length rs ≡ length asks) × Happen setup old (requests asks rs) new
+Runs setup old asks rs new =
+    (length rs ≡ length asks) × HappensInTurn setup old (requests asks rs) new
 
 -- ---- imports
 

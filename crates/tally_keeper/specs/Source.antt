@@ -43,8 +43,8 @@ GivesNext old (Err fault) new =
     ⊎ (IfSome old (λ coming. (coming.rows ≡ []) × (coming.fault ≡ Some fault)) × (new ≡ old)))
 
 -- a source gives at most so many rows, and then its end or a fault of its own
-abbrev pub IsWithin : Coming → Type 0
-IsWithin coming = (length coming.rows ≤ row_limit) × (coming.fault ≢ Some Store)
+abbrev pub IsWithinRowLimit : Coming → Type 0
+IsWithinRowLimit coming = (length coming.rows ≤ row_limit) × (coming.fault ≢ Some Store)
 
 -- ---- the end
 

@@ -37,7 +37,8 @@ pub struct ImportCount {
 }
 
 impl ImportCount {
-    ghost use Rattle.tally_keeper.specs.Import.{RowAnswer, IsBelow, count_of, count_with_row, note_at, or_else, with_refusal};
+    ghost use Rattle.tally_keeper.specs.Import.{RowAnswer, IsBelow, count_of, count_with_row};
+    ghost use Rattle.tally_keeper.specs.Import.{note_at, or_else, with_refusal};
 
     /// The count of no row.
     pub fn new() -> ImportCount

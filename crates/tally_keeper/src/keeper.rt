@@ -19,15 +19,6 @@ use crate::source::{ImportFault, RowSource};
 use tally_returns::{Ask, ConView, Refusal, Reply};
 use tally_rules::{Code, Setup};
 
-/// A view without its certificates on record.
-fn without_past(view: ConView) -> ConView
-    ensures { result ≡ record view { past = [] } }
-{
-    let mut shown = view;
-    shown.past.clear();
-    shown
-}
-
 /// Keeps the office's state, in memory or in a database.
 pub trait Keeper {
     /// The constituencies of its setup.
@@ -77,7 +68,7 @@ pub trait Keeper {
         ensures store { IfErr result (λ e. e ≡ refusal.Store → HasDatabase self.old) }
     {
         match self.answer(&Ask::ShowCon { con }) {
-            Ok(Reply::Con(view)) => Ok(without_past(view)),
+            Ok(Reply::Con(view)) => Ok(view.without_past()),
             Ok(_) => unreachable!(),
             Err(refusal) => Err(refusal),
         }

@@ -3,7 +3,8 @@
 ghost use Rattle.std.specs.Prelude.{◌≡◌, List, Option, Some, IfOk, IfSome};
 ghost use Rattle.tally_keeper.specs.Given.{with_given};
 ghost use Rattle.tally_keeper.specs.declared.import.Row.{Row};
-ghost use Rattle.tally_keeper.specs.Source.{Coming, Ending, GivesNext, IsLodgeOrBad, IsWithin, at_end, ends_by};
+ghost use Rattle.tally_keeper.specs.Source.{Coming, Ending, GivesNext, IsLodgeOrBad};
+ghost use Rattle.tally_keeper.specs.Source.{IsWithinRowLimit, at_end, ends_by};
 ghost use Rattle.tally_keeper.specs.declared.source.ImportFault.{ImportFault};
 
 use crate::import::Row;
@@ -75,5 +76,5 @@ pub trait RowSource {
         ensures again { (fault : Option ImportFault) → ended self.old ≡ Some fault
             → (result ≡ at_end fault) × (self.new ≡ self.old) };
 
-    ghost within: { (source : Self) → IfSome (coming source) IsWithin };
+    ghost within: { (source : Self) → IfSome (coming source) IsWithinRowLimit };
 }

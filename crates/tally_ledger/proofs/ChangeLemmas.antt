@@ -16,7 +16,7 @@ use Rattle.tally_returns.specs.Return.{Returns}
 use Rattle.tally_returns.specs.State.{ConState, con_state, opening_con}
 use Rattle.tally_returns.specs.View.{View, gone_candidates, past_records, view_with}
 use Rattle.tally_ledger.specs.Kept.{AreEarlier, Kept, seats_after, state_in, view_in, with_change, with_no_lot}
-use Rattle.tally_ledger.specs.internal.Rows.{IsTallied, Views, con_of, cons_of, gone_by_places, past_of, row_of, seats_of, with_gone, with_reopening, with_view}
+use Rattle.tally_ledger.specs.internal.Rows.{IsTallied, Views, con_of, cons_of, gone_by_places, past_by_edition, progress_row_of, seats_of, with_gone, with_reopening, with_view}
 use Rattle.tally_ledger.proofs.GoneLemmas.{gone-stays, gone_of-insert, key_of}
 use Rattle.tally_ledger.proofs.PastLemmas.{AreBefore, past-stays, past_of-insert}
 use Rattle.tally_ledger.proofs.SetupLemmas.{Has, con-found, con-only}
@@ -156,12 +156,12 @@ gone-kept setup returns views code g tallied known none =
 pub held-earlier : (setup : List Constituency) (returns : Returns) (views : Views) (code : List ℕ) (edition : ℕ) → IsTallied setup returns views
     → AreEarlier (con_state (record { returns = returns; cons = cons_of views }) code).past edition → (view : View) → get views code ≡ Some view → AreBefore edition view.past
 held-earlier setup returns views code edition tallied earlier view there =
-    let seen : view.past ≡ past_records (past_of view.past) = ap (λ (v : View). v.past) (tallied.seen code view there).2 in
+    let seen : view.past ≡ past_records (past_by_edition view.past) = ap (λ (v : View). v.past) (tallied.seen code view there).2 in
     subst (AreBefore edition) (sym seen) (subst (λ (c : ConState). AreEarlier c.past edition) (con_state-is returns views code view there) earlier)
 
 pub reopening-seen : (returns : Returns) (note : List ℕ) (past : PastSeats) (view : View) → AreBefore past.edition view.past → KeepsSeen returns (with_reopening note past) view
 reopening-seen returns note past view before con seen =
-    let records : view.past ≡ past_records (past_of view.past) = ap (λ (v : View). v.past) seen in
+    let records : view.past ≡ past_records (past_by_edition view.past) = ap (λ (v : View). v.past) seen in
     λ i. record (seen i) { edition = view.edition + 1; certified = false; note = note; seats = []; past = past-stays past view.past records before i }
 
 pub reopening-kept : (setup : List Constituency) (returns : Returns) (views : Views) (code note : List ℕ) (past : PastSeats) → IsTallied setup returns views → IsSome (constituency_with code setup)
@@ -170,7 +170,7 @@ pub reopening-kept : (setup : List Constituency) (returns : Returns) (views : Vi
 reopening-kept setup returns views code note past tallied known earlier =
     kept-changed setup returns views code (open_again note past) (with_reopening note past) tallied known
     (λ view there.
-    let records : view.past ≡ past_records (past_of view.past) = ap (λ (v : View). v.past) (tallied.seen code view there).2 in
+    let records : view.past ≡ past_records (past_by_edition view.past) = ap (λ (v : View). v.past) (tallied.seen code view there).2 in
     let before = held-earlier setup returns views code past.edition tallied earlier view there in
     λ i. record (con_of view) { edition = view.edition + 1; certified = false; note = note; past = past_of-insert past view.past records before i })
     (λ view there. seats_of-changed views code (with_reopening note past) view [] there refl)
@@ -197,14 +197,14 @@ view-is setup returns views code tallied = by_found (get views code) refl
         ap Some seen.2 ∙ (λ i. Some (view_with seen.0 (sym state i) returns (sym seats i))) ∙ sym (ap (option_map (view_in (kept setup returns views))) seen.1)
 
 pub row-is : (setup : List Constituency) (returns : Returns) (views : Views) (con : Constituency) (view : View) → IsSetup setup → IsTallied setup returns views → Has con setup
-    → get views con.code ≡ Some view → row_of con.code view ≡ progress_row (state_in (kept setup returns views)) con
+    → get views con.code ≡ Some view → progress_row_of con.code view ≡ progress_row (state_in (kept setup returns views)) con
 row-is setup returns views con view limits tallied has there =
     let seen = tallied.seen con.code view there in
     let found : constituency_with con.code setup ≡ Some con = con-only setup con limits has in
     let same : seen.0 ≡ con = cc in
     let is : IsSeen con returns view = subst (λ (c : Constituency). IsSeen c returns view) same seen.2 in
     let state = con_state-is returns views con.code view there in
-    ap (row_of con.code) is ∙ (λ i. record (progress_row (state_in (kept setup returns views)) con) { edition = (sym state i).edition; certified = (sym state i).certified })
+    ap (progress_row_of con.code) is ∙ (λ i. record (progress_row (state_in (kept setup returns views)) con) { edition = (sym state i).edition; certified = (sym state i).certified })
 
 -- each constituency of the setup is held
 pub held-has : (setup : List Constituency) (returns : Returns) (views : Views) (con : Constituency) → IsSetup setup → IsTallied setup returns views → Has con setup → IsSome (get views con.code)

@@ -54,7 +54,7 @@ back : (es : List (List ℕ × List ℕ)) → ArePairs es → map entry_of (map 
 back [] pairs = refl
 back (e ∷ es) pairs = λ i. (sym pairs.0 i, e.1) ∷ back es pairs.1 i
 
--- how a candidate's key stands to another
+-- how a candidate's key compares with another
 abbrev IsOrder : GoneCandidate → GoneCandidate → Ordering → Type 0
 IsOrder g h Less = is_before h g ≡ false
 IsOrder g h Equal = Unit {0}

@@ -10,7 +10,7 @@ use Rattle.std.proofs.lemmas.Cmp.{nat_cmp_total, ranked}
 use Rattle.std.proofs.lemmas.List.{map-append}
 use Rattle.tally_returns.specs.PastSeats.{PastSeats}
 use Rattle.tally_returns.specs.View.{past_record, past_records}
-use Rattle.tally_ledger.specs.internal.Rows.{past_of}
+use Rattle.tally_ledger.specs.internal.Rows.{past_by_edition}
 use Rattle.tally_ledger.proofs.MapLemmas.{rows-insert}
 
 abbrev entry_of : PastSeats → ℕ × List ℕ
@@ -20,7 +20,7 @@ entry_of p = (p.edition, p.seats)
 abbrev pub AreBefore : ℕ → List PastSeats → Type 0
 AreBefore edition past = All (λ (p : PastSeats). p.edition < edition) past
 
--- an entry with a later key stands at the end
+-- an entry with a later key is at the end
 put-last : (k : ℕ) (seats : List ℕ) (es : List (ℕ × List ℕ)) → AreBefore k (map past_record es) → put nat_cmp k seats es ≡ es ++ (k, seats) ∷ []
 put-last k seats [] before = refl
 put-last k seats (e ∷ es) before =
@@ -38,19 +38,19 @@ back [] = refl
 back (e ∷ es) = ap (λ rest. e ∷ rest) (back es)
 
 -- one more, of a later edition
-pub past-insert : (p : PastSeats) (past : List PastSeats) → past ≡ past_records (past_of past) → AreBefore p.edition past
-    → past ++ p ∷ [] ≡ past_records (insert (past_of past) p.edition p.seats)
+pub past-insert : (p : PastSeats) (past : List PastSeats) → past ≡ past_records (past_by_edition past) → AreBefore p.edition past
+    → past ++ p ∷ [] ≡ past_records (insert (past_by_edition past) p.edition p.seats)
 past-insert p past is before =
-    ap (λ ps. ps ++ p ∷ []) is ∙ sym (map-append past_record (entries (past_of past)) ((p.edition, p.seats) ∷ []))
-    ∙ ap (map past_record) (sym (put-last p.edition p.seats (entries (past_of past)) (subst (AreBefore p.edition) is before)))
-    ∙ ap (map past_record) (sym (entries-insert nat_cmp_total (past_of past) p.edition p.seats))
+    ap (λ ps. ps ++ p ∷ []) is ∙ sym (map-append past_record (entries (past_by_edition past)) ((p.edition, p.seats) ∷ []))
+    ∙ ap (map past_record) (sym (put-last p.edition p.seats (entries (past_by_edition past)) (subst (AreBefore p.edition) is before)))
+    ∙ ap (map past_record) (sym (entries-insert nat_cmp_total (past_by_edition past) p.edition p.seats))
 
-pub past_of-insert : (p : PastSeats) (past : List PastSeats) → past ≡ past_records (past_of past) → AreBefore p.edition past
-    → past_of (past ++ p ∷ []) ≡ insert (past_of past) p.edition p.seats
+pub past_of-insert : (p : PastSeats) (past : List PastSeats) → past ≡ past_records (past_by_edition past) → AreBefore p.edition past
+    → past_by_edition (past ++ p ∷ []) ≡ insert (past_by_edition past) p.edition p.seats
 past_of-insert p past is before =
     rows-insert nat_cmp_total nat_cmp-IsAntisymmetric (λ (r : PastSeats). r.edition) (λ r. r.seats) past_record past (past ++ p ∷ []) p.edition p.seats
-    (past-insert p past is before) (back (entries (insert (past_of past) p.edition p.seats)))
+    (past-insert p past is before) (back (entries (insert (past_by_edition past) p.edition p.seats)))
 
-pub past-stays : (p : PastSeats) (past : List PastSeats) → past ≡ past_records (past_of past) → AreBefore p.edition past
-    → past ++ p ∷ [] ≡ past_records (past_of (past ++ p ∷ []))
+pub past-stays : (p : PastSeats) (past : List PastSeats) → past ≡ past_records (past_by_edition past) → AreBefore p.edition past
+    → past ++ p ∷ [] ≡ past_records (past_by_edition (past ++ p ∷ []))
 past-stays p past is before = past-insert p past is before ∙ sym (ap past_records (past_of-insert p past is before))

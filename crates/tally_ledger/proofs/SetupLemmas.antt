@@ -27,7 +27,7 @@ bytes_apart q k ne = go (bytes_eq q k) refl
 pub bytes_flipped : (q k : List ℕ) → bytes_eq q k ≡ false → bytes_eq k q ≡ false
 bytes_flipped q k apart = bytes_apart k q (λ is. let e : false ≡ true = sym apart ∙ bytes_same q k (sym is) in absurd cc)
 
--- x stands in the list
+-- x is in the list
 abbrev pub Has : {X : Type 0} → X → List X → Type 0
 Has x [] = ⊥
 Has x (y ∷ ys) = (y ≡ x) ⊎ Has x ys

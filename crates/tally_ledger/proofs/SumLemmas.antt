@@ -209,7 +209,7 @@ view-moved con c old new seats standing add moves = by_closed (is_closed standin
       spoiled = open-moved (λ (n : VoteCounts). n.spoiled) con.stations old new standing add moves still i;
     })
 
--- where the return stands at no station of the constituency, all is as it was
+-- where the return is of no station of the constituency, all is as it was
 pub view-same : (con : Constituency) (c : ConState) (old new : Returns) (seats : List ℕ) → ((g : Option StationReturn → ℕ) → total g old con.stations ≡ total g new con.stations)
     → view_with con c old seats ≡ view_with con c new seats
 view-same con c old new seats same = λ i. record (view_with con c old seats) {

@@ -213,7 +213,7 @@ tallied-moved setup con old new views standing add limits has tallied lawful mov
 
 -- ---- a return is put or taken out
 
--- the return that stood can be counted no longer
+-- the return that was recorded can be counted no longer
 pub former-can : (setup : List Constituency) (m : Returns) (views : Views) (code : List ℕ) (con : Constituency) (station : Station) → IsSetup setup → IsTallied setup m views
     → station_with code setup ≡ Some (con, station) → (former : Option StationReturn) → former ≡ get m code
     → ForSome former (λ standing. ForSome (get views con.code) (λ view. CanCount view standing false))

@@ -1,9 +1,11 @@
 //! Returns, and what constituencies have come to.
 
-ghost use Rattle.std.specs.Prelude.{◌≡◌, ◌<◌, ◌+◌, ◌^◌, ◌∷◌, [], Some, None, OnOk, OnErr, IfOk, IsSome, option_map, string_bytes};
+ghost use Rattle.std.specs.Prelude.{◌≡◌, ◌<◌, ◌+◌, ◌^◌, ◌∷◌, [], Some, None, OnOk, OnErr, IfOk};
+ghost use Rattle.std.specs.Prelude.{IsSome, option_map, string_bytes};
 ghost use Rattle.std.specs.FinMap.{get, insert, remove};
 ghost use Rattle.std.specs.Option.{option_copied};
-ghost use Rattle.tally_ledger.specs.Kept.{AreEarlier, opening_kept, state_in, view_in, with_change, with_no_lot};
+ghost use Rattle.tally_ledger.specs.Kept.{AreEarlier, opening_kept, state_in, view_in, with_change};
+ghost use Rattle.tally_ledger.specs.Kept.{with_no_lot};
 ghost use Rattle.tally_steps.specs.Step.{certified_with, gone_for_good, lot_set, open_again};
 ghost use Rattle.tally_returns.specs.Lawful.{IsLawfulAt};
 ghost use Rattle.tally_returns.specs.Progress.{progress};
@@ -34,7 +36,8 @@ pub struct Ledger {
 
 impl Model for Ledger {
     ghost use Rattle.tally_ledger.specs.Kept.{Kept};
-    ghost use Rattle.tally_ledger.specs.internal.Rows.{IsTallied, cons_of, returns_of, seats_of, views_of};
+    ghost use Rattle.tally_ledger.specs.internal.Rows.{IsTallied, cons_of, returns_of, seats_of};
+    ghost use Rattle.tally_ledger.specs.internal.Rows.{views_of};
     ghost use Rattle.tally_ledger.specs.internal.KeptCode.{kept_code};
 
     ghost Value = { Kept };

@@ -3,7 +3,8 @@
 ghost use Rattle.std.specs.Prelude.{◌≡◌, OnErr, OnOk, false};
 ghost use Rattle.std.specs.FinMap.{get, insert, remove};
 ghost use Rattle.std.specs.Option.{ForSome};
-ghost use Rattle.tally_ledger.specs.internal.Rows.{IsTallied, cons_of, returns_of, seats_of, views_of, without_former};
+ghost use Rattle.tally_ledger.specs.internal.Rows.{IsTallied, cons_of, returns_of, seats_of};
+ghost use Rattle.tally_ledger.specs.internal.Rows.{views_of, without_former};
 ghost use Rattle.tally_ledger.specs.internal.Sums.{CanCount};
 ghost use Rattle.tally_returns.specs.Lawful.{IsLawfulAt};
 

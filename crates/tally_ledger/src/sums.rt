@@ -2,7 +2,9 @@
 
 ghost use Rattle.std.specs.Prelude.{◌≡◌, ◌≤◌, length};
 ghost use Rattle.tally_ledger.specs.Sums.{CanMove, moved_sum};
-ghost use Rattle.tally_ledger.specs.internal.Sums.{CanCount, CanCountOne, CanMoveCounts, CanMoveEach, moved_sums, with_counts, with_return_counted, with_status};
+ghost use Rattle.tally_ledger.specs.internal.Sums.{CanCount, CanCountOne, CanMoveCounts};
+ghost use Rattle.tally_ledger.specs.internal.Sums.{CanMoveEach, moved_sums, with_counts};
+ghost use Rattle.tally_ledger.specs.internal.Sums.{with_return_counted, with_status};
 ghost use Rattle.tally_rules.specs.Limits.{most_stations};
 
 use tally_returns::{ConView, Counts, Return, Status};

@@ -1,11 +1,14 @@
 //! What is seen of constituencies, in a tree.
 
-ghost use Rattle.std.specs.Prelude.{◌≡◌, ◌<◌, ◌+◌, ◌^◌, [], IfOk, OnErr, OnOk, false, true, string_bytes};
-ghost use Rattle.std.specs.FinMap.{empty, get};
+ghost use Rattle.std.specs.Prelude.{◌≡◌, ◌<◌, ◌+◌, ◌^◌, [], IfOk, OnErr, OnOk, false, true};
+ghost use Rattle.std.specs.Prelude.{string_bytes};
+ghost use Rattle.std.specs.FinMap.{get};
 ghost use Rattle.std.specs.Option.{ForSome, option_copied};
-ghost use Rattle.tally_ledger.specs.internal.Rows.{gone_place, opening_view, opening_views, row_of, views_of, with_certificate, with_gone, with_lot, with_one_gone, with_reopening, with_view};
+ghost use Rattle.tally_ledger.specs.internal.Rows.{gone_place, opening_view, opening_views};
+ghost use Rattle.tally_ledger.specs.internal.Rows.{progress_row_of, views_of, with_certificate};
+ghost use Rattle.tally_ledger.specs.internal.Rows.{with_gone, with_lot, with_one_gone};
+ghost use Rattle.tally_ledger.specs.internal.Rows.{with_reopening, with_view};
 ghost use Rattle.tally_ledger.specs.internal.Sums.{CanCount, with_return_counted};
-ghost use Rattle.tally_returns.specs.View.{View};
 ghost use Rattle.tally_rules.specs.Limits.{IsSetup};
 
 use crate::sums::count_return;
@@ -172,7 +175,7 @@ fn gone_place(gone: &[Gone], candidate: &Gone) -> usize
 
 /// How far a constituency has come.
 pub(crate) fn progress_row(con: Code, view: &ConView) -> ProgressRow
-    ensures { result ≡ row_of con view.now }
+    ensures { result ≡ progress_row_of con view.now }
 {
     ProgressRow {
         con,

@@ -536,7 +536,7 @@ no_usage (Some p) e =
     let wants = both_parts _ _ (both_parts _ _ e).1 in
     both_false _ _ (needs_named (report_of p.1) wants.0)
 
--- such words are refused for that, or for want of memory
+-- such words have that fault, or the answer is out of memory
 pub lacks_con_alone : (words : List Text) (fault : LineFault) → LacksCon words → IsRefusal words fault → (fault ≡ NoCon) ⊎ (fault ≡ Memory)
 lacks_con_alone words (Usage e) lacks refusal =
     let kinds : usage_kinds words ≡ [] = rw (lacks.1, no_usage _ lacks.2) refl in

@@ -1,13 +1,18 @@
 //! The command line.
 
-ghost use Rattle.std.specs.Prelude.{◌≡◌, ◌≤◌, IfOk, IfErr, Some, true, false, codes, is_some, map, option_map, string_bytes};
+ghost use Rattle.std.specs.Prelude.{◌≡◌, ◌≤◌, IfOk, IfErr, Some, true, false, codes, is_some, map};
+ghost use Rattle.std.specs.Prelude.{option_map, string_bytes};
 ghost use Rattle.clap.specs.Words.{app_of, first_of, kind_of, new_app, rule_of};
 ghost use Rattle.clap.specs.declared.builder.command.Command.TheViews.{out-Command};
 ghost use Rattle.clap.specs.declared.error.ErrorKind.TheVariants.{InvalidValue};
-ghost use Rattle.tally_line.specs.Line.{GivesLine, IsRefusal, IsLineWithinLimits, check_app, import_app, import_line, is_set, line_of, line_of_command};
-ghost use Rattle.tally_line.specs.Line.{new_line, new_office_app, number_given, number_rule, office_app, semicolon_rule, sep_given};
-ghost use Rattle.tally_line.specs.Line.{serve_app, serve_line, show_app, show_line, shown_named, value_rule, wanted_rule, with_commands, with_csv};
-ghost use Rattle.tally_line.specs.internal.Arguments.{IsCommandFault, IsShowFault, given_rows, has, has_arguments, has_count, has_port};
+ghost use Rattle.tally_line.specs.Line.{GivesLine, IsRefusal, IsLineWithinLimits, check_app};
+ghost use Rattle.tally_line.specs.Line.{import_app, import_line, is_set, line_of, line_of_command};
+ghost use Rattle.tally_line.specs.Line.{new_line, new_office_app, number_given, number_rule};
+ghost use Rattle.tally_line.specs.Line.{office_app, semicolon_rule, sep_given};
+ghost use Rattle.tally_line.specs.Line.{serve_app, serve_line, show_app, show_line, shown_named};
+ghost use Rattle.tally_line.specs.Line.{value_rule, wanted_rule, with_commands, with_csv};
+ghost use Rattle.tally_line.specs.internal.Arguments.{IsCommandFault, IsShowFault, given_rows, has};
+ghost use Rattle.tally_line.specs.internal.Arguments.{has_arguments, has_count, has_port};
 
 use crate::help;
 use clap::builder::ValueParser;

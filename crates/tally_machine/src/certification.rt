@@ -1,10 +1,12 @@
 //! What is decided of a command on a constituency.
 
-ghost use Rattle.std.specs.Prelude.{◌≡◌, ◌≢◌, ◌≤◌, ℕ, false, Ok, Err, IfOk, IfErr, OnOk, Some, None};
-ghost use Rattle.std.specs.Prelude.{length, slice_index_or, string_bytes};
+ghost use Rattle.std.specs.Prelude.{◌≡◌, ◌≢◌, ◌≤◌, ℕ, false, Ok, Err, IfOk, IfErr, OnOk, Some};
+ghost use Rattle.std.specs.Prelude.{None, length, slice_index_or, string_bytes};
+ghost use Rattle.tally_frac.specs.Limits.{most_lists};
 ghost use Rattle.tally_allot.specs.AllotFault.{IsFaultOf};
-ghost use Rattle.tally_steps.specs.Certification.{Certifies, Draws, IsCertifyRefusal, IsDrawRefusal};
-ghost use Rattle.tally_steps.specs.Certification.{count_checks, drawn_places, list_places, reopen_result};
+ghost use Rattle.tally_steps.specs.Certification.{Certifies, Draws, IsCertifyRefusal};
+ghost use Rattle.tally_steps.specs.Certification.{IsDrawRefusal, count_checks, drawn_places};
+ghost use Rattle.tally_steps.specs.Certification.{list_places, reopen_result};
 ghost use Rattle.tally_returns.specs.Checks.{first_refusal};
 ghost use Rattle.tally_steps.specs.Outcome.{IsOutcome, allotted, rule_in, poll_in};
 ghost use Rattle.tally_returns.specs.View.{FitsView};
@@ -162,7 +164,7 @@ fn drawn_places(
 ) -> Result<Vec<u32>, Refusal>
     requires { (l : ℕ) → length con.now.lists ≤ l →
         slice_index_or group.now l false ≡ false }
-    ensures marks { length group.now ≡ 60 }
+    ensures marks { length group.now ≡ most_lists }
     ensures places { IfOk result (λ places.
         drawn_places group.now (list_places con.now order.now) ≡ Ok places.items) }
     ensures refused { IfErr result (λ refusal.

@@ -1,7 +1,9 @@
 //! The laws of the office's steps and runs. The functions do nothing: each contract is a law.
 
-ghost use Rattle.tally_law.specs.LawStatements.{AllotmentsAreUnique, AllotmentsExist, EachOrderGivesAChoice};
-ghost use Rattle.tally_law.specs.LawStatements.{GroupsAreOfOneNumberOfVotes, NoLotIsNeededWhereVotesDecide, VotesDecideOrALotIsNeeded};
+ghost use Rattle.tally_law.specs.LawStatements.{AllotmentsAreUnique, AllotmentsExist};
+ghost use Rattle.tally_law.specs.LawStatements.{EachOrderGivesAChoice, GroupsAreOfOneNumberOfVotes};
+ghost use Rattle.tally_law.specs.LawStatements.{NoLotIsNeededWhereVotesDecide};
+ghost use Rattle.tally_law.specs.LawStatements.{VotesDecideOrALotIsNeeded};
 ghost use Rattle.tally_steps.specs.Decisions as decision;
 ghost use Rattle.tally_steps.specs.LawStatements as law;
 ghost use Rattle.tally_steps.specs.Records as records;

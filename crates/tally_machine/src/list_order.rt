@@ -1,10 +1,10 @@
 //! The lists that codes name, and the order of a lot.
 
-ghost use Rattle.std.specs.Prelude.{◌≡◌, ◌≤◌, ℕ, false, IfOk, option_map, length, slice_index_or};
+ghost use Rattle.std.specs.Prelude.{◌≡◌, ◌≤◌, ℕ, false, IfOk, option_map, slice_index_or};
 ghost use Rattle.std.specs.List.{list_all};
 ghost use Rattle.tally_rules.specs.ListSet.{has_place};
-ghost use Rattle.tally_steps.specs.Certification.{are_distinct, list_found, list_places, marked_places_from};
-ghost use Rattle.tally_steps.specs.Certification.{names_group};
+ghost use Rattle.tally_steps.specs.Certification.{are_distinct, list_found, list_places};
+ghost use Rattle.tally_steps.specs.Certification.{marked_places_from, names_group};
 ghost use Rattle.tally_steps.specs.Holders.{is_among};
 
 use std::alloc::{AllocError, Global};

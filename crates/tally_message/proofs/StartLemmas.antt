@@ -179,7 +179,7 @@ reads_on a b c first second = (
   second.2 ∙ ap (λ (t : Connection). let same : Connection = record t { input = c.input; read_failed = c.read_failed } in same) first.2,
 )
 
--- what came was put behind what was there, so it is no longer than both
+-- what came was put after what was there, so it is no longer than both
 pub no_longer : (old input buf left : List ℕ) → old ++ input ≡ buf ++ left → length input ≤ length buf + length left
 no_longer old input buf left same =
     omega (arith, sym (length-append old input) ∙ ap length same ∙ length-append buf left)

@@ -1,11 +1,12 @@
 //! What a head's fields say of the length of its body.
 
-ghost use Rattle.std.specs.Prelude.{◌≡◌, ◌≤◌, true, List, ℕ, length, map, None, is_some, codes, bytes_eq, All, IfOk, IfErr};
+ghost use Rattle.std.specs.Prelude.{◌≡◌, true, length, map, None, is_some, All, IfOk, IfErr};
 ghost use Rattle.std.specs.Char.{is_ascii_digit};
 ghost use Rattle.std.specs.List.{list_all, list_any};
 ghost use Rattle.std.specs.Str.{str_eq_ignore_ascii_case};
 ghost use Rattle.httparse.specs.Spans.{IsHeaderWithin, header_bytes};
-ghost use Rattle.tally_message.specs.Message.{is_field_named, single_value, is_content_length, content_length, announced_length};
+ghost use Rattle.tally_message.specs.Message.{is_field_named, single_value, is_content_length};
+ghost use Rattle.tally_message.specs.Message.{content_length, announced_length};
 ghost use Rattle.tally_message.specs.internal.Fields.{SeenAs, values_in};
 ghost use Rattle.tally_message.specs.declared.message.MessageFault.TheVariants.{BadLength};
 

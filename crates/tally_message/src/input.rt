@@ -24,7 +24,7 @@ pub(crate) fn read_more<D: Door>(door: &mut D, room: &mut [u8], count: &mut usiz
     ensures connected { D.connected door.new ≡ true }
     ensures more { result ≡ Bytes → count.old < count.new }
     ensures within { count.new ≤ length room.new }
-    ensures behind { count.old ≤ count.new }
+    ensures further { count.old ≤ count.new }
     ensures kept { take count.old room.new ≡ take count.old room.old }
     ensures taken { ChangesCurrent (D.known door.old) (D.known door.new)
         (TakesAtMost (length room.old - count.old)) }

@@ -2,11 +2,13 @@
 //! `?`, since the `?` of an enum that holds a text (`Trouble`) has no proof yet.
 
 ghost use Rattle.std.specs.Prelude.{◌≡◌, false, IfErr, IfOk};
-ghost use Rattle.tally_commands.specs.Trouble.{IsTroubleOfDatabase, IsTroubleOfMaking, IsTroubleOfOpening};
+ghost use Rattle.tally_commands.specs.Trouble.{IsTroubleOfDatabase, IsTroubleOfMaking};
+ghost use Rattle.tally_commands.specs.Trouble.{IsTroubleOfOpening};
 
 use sqlite::{Alter, Connection, Error, ErrorCode, FileFrom, FileStore, Wary};
 use std::fs::{self, File};
 use std::io::{self, ErrorKind};
+use std::net::{Ipv4Addr, TcpListener};
 use tally_program::{Offices, Trouble, is_memory};
 use tally_store::Store;
 
@@ -19,7 +21,7 @@ type FileConnection = Connection<FileStore<FileFrom<Wary>>>;
 /// The office's state in such a database.
 type Office = Store<FileStore<FileFrom<Wary>>>;
 
-/// The offices of this machine: a path is that of a database.
+/// The offices of this machine: a path is that of a database, a port is one on 127.0.0.1.
 pub struct Databases;
 
 impl Offices for Databases {
@@ -33,6 +35,13 @@ impl Offices for Databases {
 
     fn make_office(&self, rt: &HostRuntime, path: &str, text: &[u8]) -> Result<Office, Trouble> {
         make_office(rt, path, text)
+    }
+
+    fn listen(&self, rt: &HostRuntime, port: u16) -> Result<TcpListener, Trouble> {
+        match TcpListener::bind(rt, (Ipv4Addr::LOCALHOST, port)) {
+            Ok(listener) => Ok(listener),
+            Err(_) => Err(Trouble::Port),
+        }
     }
 
     fn close_office(&self, rt: &HostRuntime, path: &str, office: Office) -> bool {

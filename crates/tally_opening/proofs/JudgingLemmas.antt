@@ -138,5 +138,5 @@ on_some (Some x) f h = f h
 
 -- numbers of rows are those of the tables that answered them
 pub numbers_judged : (setup : List Constituency) (seen : Seen) (rows : RowsInOrder) (known : BTreeMap (List ℕ) Statuses) → IsSetup setup → ShowsOffice seen rows → HasNumbersOfRows setup rows (numbers_of known) → CountsTables known setup seen.now
-numbers_judged setup seen rows known limits shown told text s lawful tables =
-    told s lawful (rows_of_tables setup s limits lawful text (with_setup text seen) rows (office_with text seen rows shown) tables)
+numbers_judged setup seen rows known limits shown ensured text s lawful tables =
+    ensured s lawful (rows_of_tables setup s limits lawful text (with_setup text seen) rows (office_with text seen rows shown) tables)

@@ -117,11 +117,11 @@ opened_today setup old new schema stored judged sound settled was_open before = 
 
 -- why today's tables are not opened
 pub fault_today : (old : Seen) (fault : OpenFault) → old.now.schema ≡ office_schema → has_former_tables old.now.schema ≡ true → has_table old.now.schema (codes "past") ≡ true → IsTodayFault old.now fault → IsOpenFault old.now fault
-fault_today old NoTables schema names past told = absurd (told.0 refl)
-fault_today old (Setup fault) schema names past told = (told.0, inl (schema, told.1), told.2.0, told.2.1)
-fault_today old Memory schema names past told = tt
-fault_today old Store schema names past told = tt
-fault_today old BadTables schema names past told = (λ setup text s lawful found. no_state told setup text s lawful found.0 found.1, λ text known. no_text told text known, inl schema, lacks)
+fault_today old NoTables schema names past ensured = absurd (ensured.0 refl)
+fault_today old (Setup fault) schema names past ensured = (ensured.0, inl (schema, ensured.1), ensured.2.0, ensured.2.1)
+fault_today old Memory schema names past ensured = tt
+fault_today old Store schema names past ensured = tt
+fault_today old BadTables schema names past ensured = (λ setup text s lawful found. no_state ensured setup text s lawful found.0 found.1, λ text known. no_text ensured text known, inl schema, lacks)
   where
     lacks : LacksTable old.now → ⊥
     lacks (inl missing) = true≢false (sym names ∙ missing)
@@ -132,7 +132,7 @@ fault_today old BadTables schema names past told = (λ setup text s lawful found
 
     no_state : Told → (setup : List Constituency) (text : List ℕ) (s : State) → IsLawfulState setup s → setup_of_text text ≡ Ok setup
         → ((old.now.schema ≡ office_schema) × AreTables setup text s old.now.trees) ⊎ ((old.now.schema ≡ former_schema) × AreFormerTables setup text s old.now.trees) → ⊥
-    no_state told setup text s lawful reads (inr found) = forms_differ (sym schema ∙ found.0)
+    no_state ensured setup text s lawful reads (inr found) = forms_differ (sym schema ∙ found.0)
     no_state (inl none) setup text s lawful reads (inl found) = none.0 text found.1.setup_is
     no_state (inr unlawful) setup text s lawful reads (inl found) =
         let stored = unlawful.1 in
@@ -142,7 +142,7 @@ fault_today old BadTables schema names past told = (λ setup text s lawful found
         unlawful.2 text s (subst (λ c. IsLawfulState c s) is lawful) (subst (λ c. AreTables c text s (trees_with text old.now.trees)) is here)
 
     no_text : Told → (text : List ℕ) → IsOfKnownVersion text old.now → IsOk (setup_of_text text)
-    no_text told text (inr known) = absurd (forms_differ (sym schema ∙ known.0))
+    no_text ensured text (inr known) = absurd (forms_differ (sym schema ∙ known.0))
     no_text (inl none) text (inl known) = absurd (none.0 text known.1)
     no_text (inr unlawful) text (inl known) =
         let stored = unlawful.1 in
@@ -153,23 +153,23 @@ fault_today old BadTables schema names past told = (λ setup text s lawful found
 -- why tables of version 1 are not opened
 pub fault_former : (old : Seen) (fault : OpenFault) → old.now.schema ≡ former_schema → has_former_tables old.now.schema ≡ true → has_table old.now.schema (codes "past") ≡ false → IsFormerFault old.now fault
     → IsOpenFault old.now fault
-fault_former old NoTables schema names past told = inr (past, told.1, told.2)
-fault_former old (Setup fault) schema names past told = (told.0, inr (schema, told.1), told.2.0, told.2.1)
-fault_former old Memory schema names past told = tt
-fault_former old Store schema names past told = tt
-fault_former old BadTables schema names past told = (λ setup text s lawful found. no_state told setup text s lawful found.0 found.1, λ text known. no_text told text known, inr schema, λ missing. lacks told missing)
+fault_former old NoTables schema names past ensured = inr (past, ensured.1, ensured.2)
+fault_former old (Setup fault) schema names past ensured = (ensured.0, inr (schema, ensured.1), ensured.2.0, ensured.2.1)
+fault_former old Memory schema names past ensured = tt
+fault_former old Store schema names past ensured = tt
+fault_former old BadTables schema names past ensured = (λ setup text s lawful found. no_state ensured setup text s lawful found.0 found.1, λ text known. no_text ensured text known, inr schema, λ missing. lacks ensured missing)
   where
     Told : Type 0
     Told = (Lacks (HasStoredRow old.now) former_version × Lacks (HasStoredRow old.now) version) ⊎ AreFormerOfNone old.now
 
     lacks : Told → LacksTable old.now → ⊥
-    lacks told (inl missing) = true≢false (sym names ∙ missing)
+    lacks ensured (inl missing) = true≢false (sym names ∙ missing)
     lacks (inl none) (inr missing) = none.1 missing.1 missing.2
     lacks (inr unlawful) (inr missing) = let k : version ≡ former_version = (one_row version former_version missing.1 unlawful.text old.now.trees missing.2 unlawful.row).0 in omega (arith, k)
 
     no_state : Told → (setup : List Constituency) (text : List ℕ) (s : State) → IsLawfulState setup s → setup_of_text text ≡ Ok setup
         → ((old.now.schema ≡ office_schema) × AreTables setup text s old.now.trees) ⊎ ((old.now.schema ≡ former_schema) × AreFormerTables setup text s old.now.trees) → ⊥
-    no_state told setup text s lawful reads (inl found) = forms_differ (sym found.0 ∙ schema)
+    no_state ensured setup text s lawful reads (inl found) = forms_differ (sym found.0 ∙ schema)
     no_state (inl none) setup text s lawful reads (inr found) = none.0 text found.1.0
     no_state (inr unlawful) setup text s lawful reads (inr found) =
         let own = (one_row former_version former_version text unlawful.text old.now.trees found.1.0 unlawful.row).1 in
@@ -177,7 +177,7 @@ fault_former old BadTables schema names past told = (λ setup text s lawful foun
         unlawful.none s (subst (λ c. IsLawfulState c s) is lawful) (subst (λ c. AreTables c unlawful.text s (tables_taken_over unlawful.text old.now.trees)) is (subst (λ t. AreTables setup t s (tables_taken_over t old.now.trees)) own found.1.1))
 
     no_text : Told → (text : List ℕ) → IsOfKnownVersion text old.now → IsOk (setup_of_text text)
-    no_text told text (inl known) = absurd (forms_differ (sym known.0 ∙ schema))
+    no_text ensured text (inl known) = absurd (forms_differ (sym known.0 ∙ schema))
     no_text (inl none) text (inr known) = absurd (none.0 text known.1)
     no_text (inr unlawful) text (inr known) = is_text unlawful.text text unlawful.setup (one_row former_version former_version text unlawful.text old.now.trees known.1 unlawful.row).1 unlawful.reads
 
@@ -199,18 +199,18 @@ setup_opened setup old new opened = (opened.text, known opened.found.found.1, op
 -- ---- the numbers of returns
 
 pub numbers_today : (setup : List Constituency) (old : Seen) (known : BTreeMap (List ℕ) Statuses) → old.now.schema ≡ office_schema → CountsTables known setup old.now → CountsFound known setup old.now
-numbers_today setup old known schema told text s lawful found = go found.1
+numbers_today setup old known schema ensured text s lawful found = go found.1
   where
     go : ((old.now.schema ≡ office_schema) × AreTables setup text s old.now.trees) ⊎ ((old.now.schema ≡ former_schema) × AreFormerTables setup text s old.now.trees) → HasNumbers setup s (numbers_of known)
-    go (inl is) = told text s lawful (same_tables setup text s _ _ (same_back _ _ (stored_same old.now.trees text is.1.setup_is)) is.1)
+    go (inl is) = ensured text s lawful (same_tables setup text s _ _ (same_back _ _ (stored_same old.now.trees text is.1.setup_is)) is.1)
     go (inr is) = absurd (forms_differ (sym schema ∙ is.0))
 
 pub numbers_former : (setup : List Constituency) (old : Seen) (known : BTreeMap (List ℕ) Statuses) → old.now.schema ≡ former_schema → CountsFormer known setup old.now → CountsFound known setup old.now
-numbers_former setup old known schema told text s lawful found = go found.1
+numbers_former setup old known schema ensured text s lawful found = go found.1
   where
     go : ((old.now.schema ≡ office_schema) × AreTables setup text s old.now.trees) ⊎ ((old.now.schema ≡ former_schema) × AreFormerTables setup text s old.now.trees) → HasNumbers setup s (numbers_of known)
     go (inl is) = absurd (forms_differ (sym is.0 ∙ schema))
-    go (inr is) = told text s lawful is.1
+    go (inr is) = ensured text s lawful is.1
 
 -- ---- what calls answered
 

@@ -99,26 +99,26 @@ stored_shown number setup seen answer shown is = record { text = is.0; reads = i
 pub fault_as : (number : ℕ) (HasRow HasOther : ℕ → List ℕ → Type 0) (Unlawful Otherwise : Type 0) (fault : OpenFault) → ((n : ℕ) (text : List ℕ) → HasRow n text → HasOther n text)
     → ((text : List ℕ) → HasOther number text → HasRow number text) → ((text : List ℕ) → HasOther version text → HasRow version text) → (Unlawful → Otherwise) → IsTablesFault number HasRow Unlawful fault
     → IsTablesFault number HasOther Otherwise fault
-fault_as number HasRow HasOther Unlawful Otherwise NoTables other back today so told = (told.0, told.1, other version told.1 told.2)
+fault_as number HasRow HasOther Unlawful Otherwise NoTables other back today so ensured = (ensured.0, ensured.1, other version ensured.1 ensured.2)
 fault_as number HasRow HasOther Unlawful Otherwise BadTables other back today so (inl none) = inl (λ text row. none.0 text (back text row), λ text row. none.1 text (today text row))
 fault_as number HasRow HasOther Unlawful Otherwise BadTables other back today so (inr unlawful) = inr (so unlawful)
-fault_as number HasRow HasOther Unlawful Otherwise (Setup fault) other back today so told = (told.0, other number told.0 told.1, told.2)
-fault_as number HasRow HasOther Unlawful Otherwise Memory other back today so told = (told.0, other number told.0 told.1, told.2)
-fault_as number HasRow HasOther Unlawful Otherwise Store other back today so told = (told.0, other number told.0 told.1, told.2)
+fault_as number HasRow HasOther Unlawful Otherwise (Setup fault) other back today so ensured = (ensured.0, other number ensured.0 ensured.1, ensured.2)
+fault_as number HasRow HasOther Unlawful Otherwise Memory other back today so ensured = (ensured.0, other number ensured.0 ensured.1, ensured.2)
+fault_as number HasRow HasOther Unlawful Otherwise Store other back today so ensured = (ensured.0, other number ensured.0 ensured.1, ensured.2)
 
 -- of the rows that are shown, and of the table
 pub fault_shown : (number : ℕ) (seen : Seen) (answer : List Row) (fault : OpenFault) → nat_lt number (2 ^ 32) ≡ true → ShowsSetup seen answer → IsShownFault number answer fault → IsSetupFault number seen.now fault
-fault_shown number seen answer fault fits shown told =
+fault_shown number seen answer fault fits shown ensured =
     fault_as number (HasShownRow answer) (HasStoredRow seen.now) ⊥ ⊥ fault (λ n text is. row_stored n text seen answer shown is) (λ text row. row_shown number text seen answer fits shown row)
-    (λ text row. row_shown version text seen answer refl shown row) (λ none. none) told
+    (λ text row. row_shown version text seen answer refl shown row) (λ none. none) ensured
 
 -- of the table `setup`, and of all tables
 pub fault_stored : (number : ℕ) (db : Database) (fault : OpenFault) → IsSetupFault number db fault → IsJudgedFault number db fault
-fault_stored number db fault told = fault_as number (HasStoredRow db) (HasStoredRow db) ⊥ (AreOfNoStored number db) fault (λ n text row. row) (λ text row. row) (λ text row. row) (λ none. absurd none) told
+fault_stored number db fault ensured = fault_as number (HasStoredRow db) (HasStoredRow db) ⊥ (AreOfNoStored number db) fault (λ n text row. row) (λ text row. row) (λ text row. row) (λ none. absurd none) ensured
 
 pub or_fails : (IsFault : OpenFault → Type 0) (fault : OpenFault) → IsFault fault → OrFails IsFault fault
-or_fails IsFault NoTables told = told
-or_fails IsFault BadTables told = told
-or_fails IsFault (Setup fault) told = told
-or_fails IsFault Memory told = tt
-or_fails IsFault Store told = tt
+or_fails IsFault NoTables ensured = ensured
+or_fails IsFault BadTables ensured = ensured
+or_fails IsFault (Setup fault) ensured = ensured
+or_fails IsFault Memory ensured = tt
+or_fails IsFault Store ensured = tt

@@ -19,7 +19,7 @@ use Rattle.tally_statements.specs.Office.{PutsSetup as SetsSetup, IsInside, tree
 use Rattle.tally_tables.specs.TablesOfState.{AreTables, version}
 use Rattle.tally_opening.specs.Crash.{LeavesTakenOver}
 use Rattle.tally_opening.specs.Open.{AreFormerTables, HasSetup, IsOpened, IsTakenOver, former_version, tables_taken_over}
-use Rattle.tally_opening.specs.internal.Opening.{AddsPast, AreFormerOfNone, AreOfNoStored, CountsFormer, CountsTables, HasSetupRow, HasStoredRow, IsFormerFault, IsJudged, IsJudgedFault, IsReady, IsTablesFault, IsTaken, trees_with}
+use Rattle.tally_opening.specs.internal.Opening.{AddsPast, AreFormerOfNone, AreOfNoStored, CountsFormer, CountsTables, HasSetupRow, HasStoredRow, IsFormerFault, IsJudged, IsJudgedFault, IsReady, IsTablesFault, AreTablesTakenOver, trees_with}
 use Rattle.tally_faults.specs.declared.fault.OpenFault.{OpenFault}
 use Rattle.tally_opening.proofs.JudgingLemmas.{tables_still}
 use Rattle.tally_opening.proofs.OpenedLemmas.{AreSame, beside_setup, forms_differ, same_back, same_tables}
@@ -67,21 +67,21 @@ over_same text old mid past = record { setup = refl; tables = λ t. sym (beside_
 
 -- the numbers of the tables with an empty `past` are those of the tables of version 1
 numbers_before : (setup : List Constituency) (old mid : Seen) (known : BTreeMap (List ℕ) Statuses) → AddsPast old mid → CountsTables known setup mid.now → CountsFormer known setup old.now
-numbers_before setup old mid known past told text s lawful tables =
-    told text s lawful (same_tables setup text s _ _ (same_back _ _ (over_same text old mid past)) tables.1)
+numbers_before setup old mid known past ensured text s lawful tables =
+    ensured text s lawful (same_tables setup text s _ _ (same_back _ _ (over_same text old mid past)) tables.1)
 
-pub numbers_each : (r : Result (Result (List Constituency) OpenFault) Error) (old mid : Seen) (known : BTreeMap (List ℕ) Statuses) → AddsPast old mid → IfOk r (λ told. IfOk told (λ setup. CountsTables known setup mid.now))
-    → IfOk r (λ told. IfOk told (λ setup. CountsFormer known setup old.now))
-numbers_each (Ok (Ok setup)) old mid known past told = numbers_before setup old mid known past told
-numbers_each (Ok (Err fault)) old mid known past told = tt
-numbers_each (Err e) old mid known past told = tt
+pub numbers_each : (r : Result (Result (List Constituency) OpenFault) Error) (old mid : Seen) (known : BTreeMap (List ℕ) Statuses) → AddsPast old mid → IfOk r (λ ensured. IfOk ensured (λ setup. CountsTables known setup mid.now))
+    → IfOk r (λ ensured. IfOk ensured (λ setup. CountsFormer known setup old.now))
+numbers_each (Ok (Ok setup)) old mid known past ensured = numbers_before setup old mid known past ensured
+numbers_each (Ok (Err fault)) old mid known past ensured = tt
+numbers_each (Err e) old mid known past ensured = tt
 
 -- why they are not taken over
 pub fault_judged : (old mid : Seen) (fault : OpenFault) → AddsPast old mid → IsJudgedFault former_version mid.now fault → IsFormerFault old.now fault
-fault_judged old mid fault past told =
+fault_judged old mid fault past ensured =
     or_fails (IsTablesFault former_version (HasStoredRow old.now) (AreFormerOfNone old.now)) fault
     (fault_as former_version (HasStoredRow mid.now) (HasStoredRow old.now) (AreOfNoStored former_version mid.now) (AreFormerOfNone old.now) fault (λ n text row. sym past.setup ∙ row) (λ text row. past.setup ∙ row)
-    (λ text row. past.setup ∙ row) none told)
+    (λ text row. past.setup ∙ row) none ensured)
   where
     none : AreOfNoStored former_version mid.now → AreFormerOfNone old.now
     none unlawful = record {
@@ -100,7 +100,7 @@ ready_inside setup old new ready = record { schema = ready.past.has.schema; soun
 pub ready_row : (setup : List Constituency) (old new : Seen) (h : IsReady setup old new) → HasSetup former_version h.stored.text new.now.trees
 ready_row setup old new h = h.past.setup ∙ h.stored.row
 
-pub taken : (setup : List Constituency) (old mid new : Seen) (h : IsReady setup old mid) → SetsSetup version h.stored.text mid new → IsTaken setup old new
+pub taken : (setup : List Constituency) (old mid new : Seen) (h : IsReady setup old mid) → SetsSetup version h.stored.text mid new → AreTablesTakenOver setup old new
 taken setup old mid new h set = record {
   state = (h.judged.one h.stored.text).state;
   text = h.stored.text;
@@ -121,7 +121,7 @@ taken setup old mid new h set = record {
 
 -- ---- the commit
 
-pub opened_former : (setup : List Constituency) (old last new : Seen) → old.now.schema ≡ former_schema → IsTaken setup old last → new.now ≡ last.now → new.committed ≡ last.now → IsOpened setup old new
+pub opened_former : (setup : List Constituency) (old last new : Seen) → old.now.schema ≡ former_schema → AreTablesTakenOver setup old last → new.now ≡ last.now → new.committed ≡ last.now → IsOpened setup old new
 opened_former setup old last new schema h now committed = record {
   state = h.state;
   text = h.text;
@@ -141,7 +141,7 @@ opened_former setup old last new schema h now committed = record {
     alone other lawful (inl found) = absurd (forms_differ (sym found.0 ∙ schema))
     alone other lawful (inr found) = h.alone other lawful found.1
 
-pub leaves_taken : (setup : List Constituency) (old last : Seen) (db : Trees) → old.now.schema ≡ former_schema → IsTaken setup old last → db ≡ last.now.trees → LeavesTakenOver old.now db
+pub leaves_taken : (setup : List Constituency) (old last : Seen) (db : Trees) → old.now.schema ≡ former_schema → AreTablesTakenOver setup old last → db ≡ last.now.trees → LeavesTakenOver old.now db
 leaves_taken setup old last db schema h is = record {
   former = schema;
   setup = setup;
@@ -154,19 +154,19 @@ leaves_taken setup old last db schema h is = record {
 
 -- ---- what calls answered
 
-pub ready_each : (r : Result (Result (List Constituency) OpenFault) Error) (old mid new : Seen) → AddsPast old mid → OnOk r (IsUnchanged mid new) → IfOk r (λ told. IfOk told (λ setup. HasSetupRow former_version setup mid.now))
-    → IfOk r (λ told. IfOk told (λ setup. IsJudged setup mid.now)) → IfOk r (λ told. IfOk told (λ setup. IsReady setup old new))
+pub ready_each : (r : Result (Result (List Constituency) OpenFault) Error) (old mid new : Seen) → AddsPast old mid → OnOk r (IsUnchanged mid new) → IfOk r (λ ensured. IfOk ensured (λ setup. HasSetupRow former_version setup mid.now))
+    → IfOk r (λ ensured. IfOk ensured (λ setup. IsJudged setup mid.now)) → IfOk r (λ ensured. IfOk ensured (λ setup. IsReady setup old new))
 ready_each (Ok (Ok setup)) old mid new past same stored judged = ready setup old mid new past same stored judged
 ready_each (Ok (Err fault)) old mid new past same stored judged = tt
 ready_each (Err e) old mid new past same stored judged = tt
 
-pub fault_each : (r : Result (Result (List Constituency) OpenFault) Error) (old mid : Seen) → AddsPast old mid → IfOk r (λ told. IfErr told (IsJudgedFault former_version mid.now)) → IfOk r (λ told. IfErr told (IsFormerFault old.now))
-fault_each (Ok (Ok setup)) old mid past told = tt
-fault_each (Ok (Err fault)) old mid past told = fault_judged old mid fault past told
-fault_each (Err e) old mid past told = tt
+pub fault_each : (r : Result (Result (List Constituency) OpenFault) Error) (old mid : Seen) → AddsPast old mid → IfOk r (λ ensured. IfErr ensured (IsJudgedFault former_version mid.now)) → IfOk r (λ ensured. IfErr ensured (IsFormerFault old.now))
+fault_each (Ok (Ok setup)) old mid past ensured = tt
+fault_each (Ok (Err fault)) old mid past ensured = fault_judged old mid fault past ensured
+fault_each (Err e) old mid past ensured = tt
 
 -- what was taken over of a database that is as it was
-pub taken_now : (setup : List Constituency) (old bare last : Seen) → bare.now ≡ old.now → IsTaken setup bare last → IsTaken setup old last
+pub taken_now : (setup : List Constituency) (old bare last : Seen) → bare.now ≡ old.now → AreTablesTakenOver setup bare last → AreTablesTakenOver setup old last
 taken_now setup old bare last same h = record {
   state = h.state;
   text = h.text;

@@ -46,8 +46,8 @@ counts_after old last new same undone = record {
 
 -- a call that counted no change where it answered
 pub counts_nothing : {X E : Type 0} (r : Result X E) (old new : Seen) → (HasCleanDisk new → IfOk r (λ _. KeepsCounts old new)) → OnOk r (CountsNothing old new)
-counts_nothing (Ok x) old new told = λ _ clean. told clean
-counts_nothing (Err e) old new told = tt
+counts_nothing (Ok x) old new ensured = λ _ clean. ensured clean
+counts_nothing (Err e) old new ensured = tt
 
 on_err : {X E P : Type 0} (r : Result X E) → P → OnErr r P
 on_err (Ok x) p = tt

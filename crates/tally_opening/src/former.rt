@@ -10,7 +10,7 @@ ghost use Rattle.tally_opening.specs.Crash.{EndsWhole, LeavesTakenOver};
 ghost use Rattle.tally_opening.specs.Open.{IsOpened};
 ghost use Rattle.tally_opening.specs.internal.Ending.{IsSettled};
 ghost use Rattle.tally_opening.specs.internal.Opening.{CountsFormer, IsFormerFault, IsReady};
-ghost use Rattle.tally_opening.specs.internal.Opening.{IsTaken, SeesFormer};
+ghost use Rattle.tally_opening.specs.internal.Opening.{AreTablesTakenOver, SeesFormer};
 
 use crate::making::VERSION;
 use crate::opening::{judge_stored, open_fault_of};
@@ -48,7 +48,7 @@ fn take_over<S: Alter>(
     known: &mut BTreeMap<Code, Statuses>,
 ) -> Result<Result<Setup, OpenFault>, Error>
     ensures stays { StaysFrom (HasFirstTables 8) S.Store tx.old tx.new }
-    ensures taken { SeesFormer S.Store (Yields IsTaken) tx.old tx.new result }
+    ensures taken { SeesFormer S.Store (Yields AreTablesTakenOver) tx.old tx.new result }
     ensures fault { SeesFormer S.Store (Rejects IsFormerFault) tx.old tx.new result }
     ensures numbers { SeesFormer S.Store (Accepts (CountsFormer known.new)) tx.old tx.new result }
 {

@@ -4,7 +4,7 @@ ghost use Rattle.std.specs.Prelude.{◌≡◌, ◌∷◌, [], false, IsTrue, OnO
 ghost use Rattle.sqlite.specs.Held.{state};
 ghost use Rattle.tally_rules.specs.Limits.{IsSetup};
 ghost use Rattle.tally_schema.specs.Tables.{schema_with};
-ghost use Rattle.tally_statements.specs.Inside.{Acts, Stays};
+ghost use Rattle.tally_statements.specs.Inside.{InDatabase, Stays};
 ghost use Rattle.tally_opening.specs.Calls.{OnDisk, Yields};
 ghost use Rattle.tally_opening.specs.Crash.{EndsWhole};
 ghost use Rattle.tally_opening.specs.internal.Ending.{IsSettled};
@@ -27,7 +27,8 @@ fn insert_list_totals<S: Alter>(
     lists: u32,
 ) -> Result<(), Error>
     ensures stays { Stays S.Store tx.old tx.new }
-    ensures added { Acts S.Store (Totalled (no_list_rows con.now lists)) tx.old tx.new result }
+    ensures added { InDatabase S.Store
+        (Totalled (no_list_rows con.now lists)) tx.old tx.new result }
 {
     for list in 0..lists {
         insert_total(tx, con, list + 1, 0)?;
@@ -38,7 +39,8 @@ fn insert_list_totals<S: Alter>(
 /// Adds the sums of a constituency without returns.
 fn insert_totals<S: Alter>(tx: &mut Transaction<'_, S>, con: &str, lists: u32) -> Result<(), Error>
     ensures stays { Stays S.Store tx.old tx.new }
-    ensures added { Acts S.Store (Totalled (no_vote_rows con.now lists)) tx.old tx.new result }
+    ensures added { InDatabase S.Store
+        (Totalled (no_vote_rows con.now lists)) tx.old tx.new result }
 {
     insert_total(tx, con, 0, 0)?;
     insert_list_totals(tx, con, lists)?;
@@ -48,7 +50,7 @@ fn insert_totals<S: Alter>(tx: &mut Transaction<'_, S>, con: &str, lists: u32) -
 /// Adds the rows of a constituency that opens.
 fn insert_opening<S: Alter>(tx: &mut Transaction<'_, S>, con: &Constituency) -> Result<(), Error>
     ensures stays { Stays S.Store tx.old tx.new }
-    ensures opened { Acts S.Store (Opened (con.now ∷ [])) tx.old tx.new result }
+    ensures opened { InDatabase S.Store (Opened (con.now ∷ [])) tx.old tx.new result }
 {
     insert_con(tx, con.code.as_str(), 1, false, "")?;
     insert_totals(tx, con.code.as_str(), con.lists.len() as u32)
@@ -60,7 +62,7 @@ fn insert_openings<S: Alter>(
     cons: &[Constituency],
 ) -> Result<(), Error>
     ensures stays { Stays S.Store tx.old tx.new }
-    ensures opened { Acts S.Store (Opened cons.now) tx.old tx.new result }
+    ensures opened { InDatabase S.Store (Opened cons.now) tx.old tx.new result }
 {
     for con in cons {
         insert_opening(tx, con)?;
@@ -75,7 +77,7 @@ fn make_office<S: Alter>(
     text: &str,
 ) -> Result<(), Error>
     ensures stays { Stays S.Store tx.old tx.new }
-    ensures made { Acts S.Store (Made setup.now text.now) tx.old tx.new result }
+    ensures made { InDatabase S.Store (Made setup.now text.now) tx.old tx.new result }
     ensures limits { OnOk result (IsSetup setup.now) }
 {
     create_tables(tx)?;

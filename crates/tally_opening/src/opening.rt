@@ -149,7 +149,7 @@ pub(crate) fn open_today<S: Alter>(
     let judged = judge_stored(alloc, &mut tx, VERSION, known);
     tx.rollback();
     match judged {
-        Ok(told) => told,
+        Ok(answer) => answer,
         Err(error) => Err(open_fault_of(&error)),
     }
 }

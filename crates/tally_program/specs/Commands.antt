@@ -6,8 +6,8 @@ use Rattle.tally_commands.specs.Served.{IsServedText, listening_line}
 use Rattle.tally_commands.specs.Reported.{IsReported}
 use Rattle.tally_commands.specs.Trouble.{IsTroubleOfOpening, trouble_line, trouble_status}
 use Rattle.tally_commands.specs.declared.trouble.Trouble.{Trouble}
-use Rattle.tally_commands.specs.declared.trouble.Trouble.TheVariants.{Write}
-use Rattle.tally_program.specs.Troubles.{IsTroubleOfEnding, IsTroubleOfServe, IsTroubleOfServing}
+use Rattle.tally_commands.specs.declared.trouble.Trouble.TheVariants.{Memory, Port, Write}
+use Rattle.tally_program.specs.Troubles.{IsTroubleOfEnding, IsTroubleOfServe}
 
 -- any text, where it takes the office to say more
 abbrev pub IsAnyText : List ℕ → Type 0
@@ -30,8 +30,8 @@ streams input output errors = record { input = input; output = output; errors = 
 
 -- ---- how a command ends
 
--- Where it is done, one text of a kind was written whole; with the trouble `write`, a prefix of one;
--- with any other trouble the output is as it was.
+-- Where it is done, one text of a kind was written whole; with the trouble `write`, a prefix of
+-- one; with any other trouble the output is as it was.
 abbrev pub IsWritten : {W : Type 0} → Bytes W → (List ℕ → Type 0) → W → W
     → Result (Unit {0}) Trouble → Type 0
 IsWritten held IsText old new (Ok done) =
@@ -75,19 +75,33 @@ abbrev pub outcome_of : Course → Result (Unit {0}) Trouble
 outcome_of (NotListening t) = Err t
 outcome_of (Listened outcome) = outcome
 
--- what opening an office came to: it is open, or it is not, for this trouble
+-- what a server opens: the office at a path, and a port to listen on
+pub data Resource : Type 0 where
+  AtPath : List ℕ → Resource
+  AtPort : ℕ → Resource
+
+-- what opening one came to: it is open, or it is not, for this trouble
 abbrev pub Opening : Type 1
 Opening = Result (Unit {0}) Trouble → Type 0
 
-abbrev pub opening_of : {Office : Type 0} → Result Office Trouble → Result (Unit {0}) Trouble
-opening_of (Ok office) = Ok tt
+abbrev pub opening_of : {Opened : Type 0} → Result Opened Trouble → Result (Unit {0}) Trouble
+opening_of (Ok opened) = Ok tt
 opening_of (Err t) = Err t
 
+-- Why a server whose office is open does not listen: it is out of memory; or it cannot listen on
+-- its port, which is what opening the port came to.
+abbrev pub IsTroubleOfListening : Opening → Trouble → Type 0
+IsTroubleOfListening Listens t = (t ≡ Memory) ⊎ ((t ≡ Port) × Listens (Err t))
+
 -- The trouble of a server that does not listen yet is the one for which its office was not opened,
--- or one of serving. One that listened has opened its office, and its trouble is of its ending.
-abbrev pub IsCourse : Opening → Course → Type 0
-IsCourse Opens (NotListening t) = (IsTroubleOfOpening t × Opens (Err t)) ⊎ IsTroubleOfServing t
-IsCourse Opens (Listened outcome) = Opens (Ok tt) × IfErr outcome IsTroubleOfEnding
+-- or memory, or the one for which its port was not opened once its office was. One that listened
+-- has opened its office and its port, and its trouble is of its ending.
+abbrev pub IsCourse : Opening → Opening → Course → Type 0
+IsCourse Opens Listens (NotListening t) =
+    (IsTroubleOfOpening t × Opens (Err t)) ⊎ (t ≡ Memory)
+    ⊎ (Opens (Ok tt) × (t ≡ Port) × Listens (Err t))
+IsCourse Opens Listens (Listened outcome) =
+    Opens (Ok tt) × Listens (Ok tt) × IfErr outcome IsTroubleOfEnding
 
 -- What a server says before it reports how it ended: where it listens, once it does, or a prefix of
 -- it; and nothing where it does not listen yet.
@@ -97,23 +111,24 @@ SaysWhere reported port count old new (Listened outcome) =
     IsReported (reported old) (reported new) (listening_line port count)
 
 -- A server took a course, and this is its outcome.
-pub record TakesCourse {E : Type 0} (Opens : Opening) (reported : Bytes E) (port count : ℕ)
-    (old new : E)
+pub record TakesCourse {E : Type 0} (Opens Listens : Opening) (reported : Bytes E)
+    (port count : ℕ) (old new : E)
     (outcome : Result (Unit {0}) Trouble) : Type 0 where
   pub course : Course
   pub is : outcome ≡ outcome_of course
-  pub named : IsCourse Opens course
+  pub named : IsCourse Opens Listens course
   pub says : SaysWhere reported port count old new course
 
 -- The same as of a command, of a server of so many connections at a port, which says where it
 -- listens before it reports how it ended.
-pub record EndsServer {R W E : Type 0} (Opens : Opening) (held : Bytes W) (reported : Bytes E)
+pub record EndsServer {R W E : Type 0} (Opens Listens : Opening)
+    (held : Bytes W) (reported : Bytes E)
     (port count : ℕ) (old new : Streams R W E) (status : ℕ) : Type 0 where
   pub outcome : Result (Unit {0}) Trouble
   pub named : IfErr outcome IsTroubleOfServe
   pub written : IsWritten held (IsServedText count) old.output new.output outcome
   pub said : E
-  pub takes : TakesCourse Opens reported port count old.errors said outcome
+  pub takes : TakesCourse Opens Listens reported port count old.errors said outcome
   pub errors : IsOutcomeReported reported said new.errors outcome
   pub gives : status ≡ command_status outcome
   pub unread : new.input ≡ old.input

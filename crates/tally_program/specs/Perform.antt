@@ -9,7 +9,7 @@ use Rattle.tally_commands.specs.Reported.{IsReported}
 use Rattle.tally_commands.specs.Trouble.{check_trouble}
 use Rattle.tally_commands.specs.declared.trouble.Trouble.{Trouble}
 use Rattle.tally_line.specs.Line.{CheckSeen, ImportSeen, LacksCon, LineSeen, NewSeen, ServeSeen, ShowSeen, line_of}
-use Rattle.tally_program.specs.Commands.{Bytes, EndsCommand, EndsServer, IsAnyText, IsOutcomeReported, Opening, Streams, command_status}
+use Rattle.tally_program.specs.Commands.{AtPath, AtPort, Bytes, EndsCommand, EndsServer, IsAnyText, IsOutcomeReported, Opening, Resource, Streams, command_status}
 use Rattle.tally_program.specs.Troubles.{IsTroubleOfImport, IsTroubleOfNew, IsTroubleOfShow}
 
 -- ---- checks
@@ -68,9 +68,9 @@ not_text_line = codes "error: the arguments are not all UTF-8 text\n"
 
 -- ---- command lines
 
--- What becomes of what the words ask for, where opening the office at a path came to what `Opens`
+-- What becomes of what the words ask for, where opening an office or a port came to what `Opens`
 -- says. A check may be out of memory before it begins.
-abbrev pub PerformsLine : {R W E : Type 0} → (List ℕ → Opening) → Bytes R → Bytes W → Bytes E
+abbrev pub PerformsLine : {R W E : Type 0} → (Resource → Opening) → Bytes R → Bytes W → Bytes E
     → List (List ℕ) → Option LineSeen → Streams R W E → Streams R W E → ℕ → Type 0
 PerformsLine Opens left held reported words (Some (CheckSeen sep)) old new status =
     EndsCheck left held reported sep old new status
@@ -82,12 +82,12 @@ PerformsLine Opens left held reported words (Some (ImportSeen db con csv sep)) o
 PerformsLine Opens left held reported words (Some (ShowSeen db name con)) old new status =
     EndsCommand held reported IsAnyText IsTroubleOfShow old new status
 PerformsLine Opens left held reported words (Some (ServeSeen db port count)) old new status =
-    EndsServer (Opens db) held reported port count old new status
+    EndsServer (Opens (AtPath db)) (Opens (AtPort port)) held reported port count old new status
 PerformsLine Opens left held reported words None old new status =
     RefusesLine reported words old new status
 
 -- What the program does for these words, its name first.
-abbrev pub Performs : {R W E : Type 0} → (List ℕ → Opening) → Bytes R → Bytes W → Bytes E
+abbrev pub Performs : {R W E : Type 0} → (Resource → Opening) → Bytes R → Bytes W → Bytes E
     → List (List ℕ) → Streams R W E → Streams R W E → ℕ → Type 0
 Performs Opens left held reported words =
     PerformsLine Opens left held reported words (line_of words)

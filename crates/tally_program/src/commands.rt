@@ -1,28 +1,30 @@
 //! What each command over an office does. Errors are matched and returned, and not passed on by
 //! `?`, since the `?` of an enum that holds a text (`Trouble`) has no proof yet.
 
-ghost use Rattle.std.specs.Prelude.{◌≡◌, ◌≤◌, [], IfErr, IfOk, OnErr, OnOk, Err, false, true, is_some, option_map};
-ghost use Rattle.std.specs.Prelude.{string_bytes, string_capacity, string_len};
+ghost use Rattle.std.specs.Prelude.{◌≡◌, ◌≤◌, [], IfErr, IfOk, OnErr, OnOk, Err, Ok, false, true};
+ghost use Rattle.std.specs.Prelude.{is_some, option_map, string_bytes, string_capacity, string_len};
 ghost use Rattle.tally_keeper.specs.StaysKeeper.{StaysKeeper};
 ghost use Rattle.tally_records.specs.Watch.{NotesNothing, has_failed};
-ghost use Rattle.tally_desk.specs.Respond.{office};
+ghost use Rattle.tally_desk.specs.Respond.{office_of};
 ghost use Rattle.tally_commands.specs.Imported.{IsCountText};
 ghost use Rattle.tally_commands.specs.Made.{IsMadeText, constituencies_text};
 ghost use Rattle.tally_commands.specs.Served.{IsServedText, listening_line};
 ghost use Rattle.tally_commands.specs.Reported.{IsReported};
-ghost use Rattle.tally_program.specs.Commands.{IsAnyText, IsWritten, TakesCourse};
-ghost use Rattle.tally_program.specs.internal.Served.{IsToldOfServing};
-ghost use Rattle.tally_program.specs.Troubles.{IsTroubleOfEnding, IsTroubleOfImport, IsTroubleOfImporting, IsTroubleOfNew};
-ghost use Rattle.tally_program.specs.Troubles.{IsTroubleOfServe, IsTroubleOfServing, IsTroubleOfShow};
+ghost use Rattle.tally_program.specs.Commands.{AtPath, AtPort, IsAnyText, IsTroubleOfListening};
+ghost use Rattle.tally_program.specs.Commands.{IsWritten, TakesCourse};
+ghost use Rattle.tally_program.specs.internal.Served.{IsReportOfServing};
+ghost use Rattle.tally_program.specs.Troubles.{IsTroubleOfEnding, IsTroubleOfImport};
+ghost use Rattle.tally_program.specs.Troubles.{IsTroubleOfImporting, IsTroubleOfNew};
+ghost use Rattle.tally_program.specs.Troubles.{IsTroubleOfServe, IsTroubleOfShow};
 ghost use Rattle.tally_commands.specs.Trouble.{IsTroubleOfReport};
-ghost use Rattle.tally_program.specs.internal.Worked.{IsFileImported, IsFileTrouble, IsShown, IsShowTrouble};
+ghost use Rattle.tally_program.specs.internal.Worked.{IsFileImported, IsFileTrouble, IsTextShown};
+ghost use Rattle.tally_program.specs.internal.Worked.{IsShowTrouble};
 
 use crate::files::{open_file, read_setup_text};
 use crate::offices::Offices;
 use std::alloc::Global;
 use std::fs::File;
 use std::io::Write;
-use std::net::{Ipv4Addr, TcpListener};
 use tally_commands::{
     CONSTITUENCIES_ROOM, LISTENING_ROOM, Report, SERVED_ROOM, Sep, Trouble, Watch,
     constituencies_text, has_con, import_returns, listening_text, served_text, show_progress,
@@ -209,7 +211,7 @@ fn show_in<K: Keeper>(
     ensures stays { StaysKeeper K.Keeper keeper.old keeper.new }
     ensures named { IfErr result IsTroubleOfReport }
     ensures shown { K.IsTrusted keeper.new → IfOk result (λ text.
-        IsShown (K.constituencies keeper.old) (K.content keeper.old) report
+        IsTextShown (K.constituencies keeper.old) (K.content keeper.old) report
         (option_map (λ c. c.now) con.entry) (string_bytes text) (K.content keeper.new)) }
     ensures trouble { K.IsTrusted keeper.new → IfErr result (λ trouble.
         IsShowTrouble (K.constituencies keeper.old) (K.content keeper.old) report
@@ -236,21 +238,22 @@ pub fn serve_office<O: Offices, W: Write, E: Write>(
 ) -> Result<(), Trouble>
     ensures written { IsWritten W.contents (IsServedText count) output.old output.new result }
     ensures named { IfErr result IsTroubleOfServe }
-    ensures takes { TakesCourse (O.Opens offices.now db.now) E.contents port count
-        errors.old errors.new result }
+    ensures takes { TakesCourse (O.Opens offices.now (AtPath db.now))
+        (O.Opens offices.now (AtPort port)) E.contents port count errors.old errors.new result }
 {
     let mut office = match offices.open_office(rt, db) {
         Ok(office) => office,
         Err(unopened) => return Err(unopened),
     };
-    let outcome = serve_on(rt, &mut office, port, count, errors);
+    let outcome = serve_on(rt, offices, &mut office, port, count, errors);
     close_and_print(rt, offices, db, office, outcome, output)
 }
 
 /// Listens, says so, serves, and answers how many connections were answered and how many failed.
 /// The room of these lines is reserved before: nothing takes memory for them once it listens.
-fn serve_on<K: Keeper, E: Write>(
+fn serve_on<O: Offices, K: Keeper, E: Write>(
     rt: &HostRuntime,
+    offices: &O,
     keeper: &mut K,
     port: u16,
     count: u32,
@@ -258,7 +261,8 @@ fn serve_on<K: Keeper, E: Write>(
 ) -> Result<String, Trouble>
     ensures trusted { K.IsTrusted keeper.new → K.IsTrusted keeper.old }
     ensures text { IfOk result (λ text. IsServedText count (string_bytes text)) }
-    ensures named { IfErr result IsTroubleOfServing }
+    ensures listens { OnOk result (O.Opens offices.now (AtPort port) (Ok tt)) }
+    ensures named { IfErr result (IsTroubleOfListening (O.Opens offices.now (AtPort port))) }
     ensures unserved { IfErr result (λ trouble. keeper.new ≡ keeper.old) }
     ensures said { OnOk result (IsReported (E.contents errors.old) (E.contents errors.new)
         (listening_line port count)) }
@@ -272,8 +276,9 @@ fn serve_on<K: Keeper, E: Write>(
         Ok(listening) => listening,
         Err(trouble) => return Err(trouble),
     };
-    let Ok(listener) = TcpListener::bind(rt, (Ipv4Addr::LOCALHOST, port)) else {
-        return Err(Trouble::Port);
+    let listener = match offices.listen(rt, port) {
+        Ok(listener) => listener,
+        Err(trouble) => return Err(trouble),
     };
     tell(listening.as_str(), errors);
     let mut door = TcpDoor::timed(listener, rt);
@@ -308,10 +313,9 @@ fn serve_through<K: Keeper, D: Door>(
     requires room { SERVED_ROOM ≤ string_capacity line }
     ensures trusted { K.IsTrusted keeper.new → K.IsTrusted keeper.old }
     ensures text { IsServedText count (string_bytes result) }
-    ensures served { IsToldOfServing (K.IsTrusted keeper.new) count
+    ensures served { IsReportOfServing (K.IsTrusted keeper.new) count
         (D.known door.old) (D.known door.new)
-        (office (K.constituencies keeper.old) (K.content keeper.old))
-        (office (K.constituencies keeper.new) (K.content keeper.new)) (string_bytes result) }
+        (office_of K.Keeper keeper.old) (office_of K.Keeper keeper.new) (string_bytes result) }
 {
     let served = serve(alloc, keeper, door, count);
     served_text(&mut line, served.answered, served.failed);

@@ -96,10 +96,7 @@ fn report_fault<E: Write>(fault: LineFault, errors: &mut E) -> u8
             tell("missing --con\n", errors);
             USAGE
         }
-        LineFault::Memory => {
-            tell("failed: memory\n", errors);
-            FAILED
-        }
+        LineFault::Memory => Trouble::Memory.report(errors),
     }
 }
 
@@ -112,10 +109,7 @@ pub fn report_start<E: Write>(error: &io::Error, errors: &mut E) -> u8
         × IsReported (E.contents errors.old) (E.contents errors.new) not_text_line }
 {
     match error.kind() {
-        ErrorKind::OutOfMemory => {
-            tell("failed: memory\n", errors);
-            FAILED
-        }
+        ErrorKind::OutOfMemory => Trouble::Memory.report(errors),
         _ => {
             tell("error: the arguments are not all UTF-8 text\n", errors);
             USAGE

@@ -16,9 +16,9 @@ fn words_of(alloc: Global, line: &str) -> Result<Vec<String>, AllocError> {
 }
 
 /// What words ask for, or why they ask for nothing.
-fn told(alloc: Global, words: &[String]) -> Result<String, AllocError> {
+fn text_of_words(alloc: Global, words: &[String]) -> Result<String, AllocError> {
     match read_line(alloc, words) {
-        Ok(line) => told_line(alloc, &line),
+        Ok(line) => text_of_line(alloc, &line),
         Err(LineFault::Usage(error)) => {
             let kind = error.kind();
             format!(in alloc; "{kind:?}")
@@ -28,15 +28,15 @@ fn told(alloc: Global, words: &[String]) -> Result<String, AllocError> {
     }
 }
 
-fn told_line(alloc: Global, line: &Line) -> Result<String, AllocError> {
+fn text_of_line(alloc: Global, line: &Line) -> Result<String, AllocError> {
     match line {
         Line::Check { sep } => {
-            let sep = told_sep(*sep);
+            let sep = text_of_sep(*sep);
             format!(in alloc; "check {sep}")
         }
         Line::New { db, setup } => format!(in alloc; "new {db} {setup}"),
         Line::Import { db, con, csv, sep } => {
-            let sep = told_sep(*sep);
+            let sep = text_of_sep(*sep);
             format!(in alloc; "import {db} {con} {csv} {sep}")
         }
         Line::Show {
@@ -44,7 +44,7 @@ fn told_line(alloc: Global, line: &Line) -> Result<String, AllocError> {
             report,
             con: Some(con),
         } => {
-            let report = told_report(alloc, *report)?;
+            let report = text_of_report(alloc, *report)?;
             format!(in alloc; "show {db} {report} {con}")
         }
         Line::Show {
@@ -52,21 +52,21 @@ fn told_line(alloc: Global, line: &Line) -> Result<String, AllocError> {
             report,
             con: None,
         } => {
-            let report = told_report(alloc, *report)?;
+            let report = text_of_report(alloc, *report)?;
             format!(in alloc; "show {db} {report}")
         }
         Line::Serve { db, port, count } => format!(in alloc; "serve {db} {port} {count}"),
     }
 }
 
-fn told_report(alloc: Global, report: Option<Report>) -> Result<String, AllocError> {
+fn text_of_report(alloc: Global, report: Option<Report>) -> Result<String, AllocError> {
     match report {
         Some(which) => format!(in alloc; "{which:?}"),
         None => "Progress".to_string(alloc),
     }
 }
 
-fn told_sep(sep: Sep) -> &'static str {
+fn text_of_sep(sep: Sep) -> &'static str {
     match sep {
         Sep::Comma => "comma",
         Sep::Semicolon => "semicolon",
@@ -77,11 +77,11 @@ fn told_sep(sep: Sep) -> &'static str {
 fn wrong_in(alloc: Global, line: &str) -> Result<Option<String>, Fail> {
     let (words, wanted) = line.split_once(" = ").ok_or("no answer")?;
     let words = words_of(alloc, words)?;
-    let told = told(alloc, words.as_slice())?;
-    if told.as_str() == wanted {
+    let got = text_of_words(alloc, words.as_slice())?;
+    if got.as_str() == wanted {
         return Ok(None);
     }
-    Ok(Some(format!(in alloc; "{line}, and not {told}")?))
+    Ok(Some(format!(in alloc; "{line}, and not {got}")?))
 }
 
 /// The first of these lines whose words ask for something else, with that.
@@ -189,7 +189,7 @@ fn command_lines_that_are_answered_with_a_text(rt: HostRuntime) -> Result<(), Fa
 
 #[test]
 fn no_words_are_answered_with_help(rt: HostRuntime) -> Result<(), Fail> {
-    let told = told(rt.alloc(), &[])?;
-    assert!(rt; told.as_str() == "DisplayHelpOnMissingArgumentOrSubcommand");
+    let got = text_of_words(rt.alloc(), &[])?;
+    assert!(rt; got.as_str() == "DisplayHelpOnMissingArgumentOrSubcommand");
     Ok(())
 }

@@ -6,6 +6,7 @@ ghost use Rattle.tally_commands.specs.Trouble.{IsTroubleOfMaking};
 
 use crate::checks::check;
 use std::fs;
+use std::net::TcpListener;
 use std::test::Fail;
 use tally_core::Book;
 use tally_program::{DONE, FAILED, Offices, REFUSED, Trouble, USAGE};
@@ -35,6 +36,10 @@ impl Offices for InMemory {
             "full" => Err(Trouble::NotEmpty),
             _ => office_of(rt, text),
         }
+    }
+
+    fn listen(&self, _rt: &HostRuntime, _port: u16) -> Result<TcpListener, Trouble> {
+        Err(Trouble::Port)
     }
 
     fn close_office(&self, _rt: &HostRuntime, path: &str, _office: Book) -> bool {
@@ -96,7 +101,7 @@ const DONE_LINES: [(&str, &str); 4] = [
 ];
 
 // Lines of which nothing is written on the output, and what is reported on standard error.
-const TOLD_LINES: &str = "office show --db in --report tally = missing --con
+const REPORTED_LINES: &str = "office show --db in --report tally = missing --con
 office show --db in --report tally --con zz = refused: no_constituency
 office show --db in --report seats --con c1 = refused: not_certified
 office show --db nowhere --report progress = refused: no_tables
@@ -106,16 +111,18 @@ office import --db in --con zz --csv nowhere.csv = refused: no_constituency
 office import --db in --con c1 --csv nowhere.csv = failed: file
 office import --db nowhere --con c1 --csv offices.csv = refused: no_tables
 office import --db unclosed --con c1 --csv offices.csv = failed: store
+office serve --db nowhere --port 8080 --count 1 = refused: no_tables
+office serve --db in --port 8080 --count 1 = failed: port
 office new --db in --setup nowhere.toml = failed: file
 office new --db in --setup offices.csv = refused: not_toml
 office new --db full --setup offices.toml = refused: not_empty
 office new --db unclosed --setup offices.toml = failed: store";
 
 /// The exit status of what is reported.
-fn status_of(told: &str) -> u8 {
-    if told.starts_with("refused: ") {
+fn status_of(reported: &str) -> u8 {
+    if reported.starts_with("refused: ") {
         REFUSED
-    } else if told.starts_with("failed: ") {
+    } else if reported.starts_with("failed: ") {
         FAILED
     } else {
         USAGE
@@ -123,10 +130,10 @@ fn status_of(told: &str) -> u8 {
 }
 
 /// Fails where a line `WORDS = WHAT IS REPORTED` comes to something else.
-fn check_told(rt: &HostRuntime, line: &'static str) -> Result<(), Fail> {
-    let (words, told) = line.split_once(" = ").ok_or("nothing is told")?;
-    let errors = format!(in rt.alloc(); "{told}\n")?;
-    check(rt, words, "", status_of(told), "", errors.as_str())
+fn check_reported(rt: &HostRuntime, line: &'static str) -> Result<(), Fail> {
+    let (words, wanted) = line.split_once(" = ").ok_or("no report is wanted")?;
+    let errors = format!(in rt.alloc(); "{wanted}\n")?;
+    check(rt, words, "", status_of(wanted), "", errors.as_str())
 }
 
 #[test]
@@ -136,8 +143,8 @@ fn command_lines_over_an_office(rt: HostRuntime) -> Result<(), Fail> {
     for (line, output) in DONE_LINES {
         check(&rt, line, "", DONE, output, "")?;
     }
-    for line in TOLD_LINES.lines() {
-        check_told(&rt, line)?;
+    for line in REPORTED_LINES.lines() {
+        check_reported(&rt, line)?;
     }
     fs::remove_file(&rt, "offices.toml")?;
     fs::remove_file(&rt, "offices.csv")?;

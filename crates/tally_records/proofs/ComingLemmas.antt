@@ -1,4 +1,4 @@
--- The records of a text, by a piece of it and what may come behind.
+-- The records of a text, by a piece of it and what may come after.
 use Rattle.std.proofs.Common.{◌≡◌, ◌<◌, ◌≤◌, ◌+◌, ◌++◌, ◌∷◌, ◌∙◌, ℕ, zero, suc, List, [], Bool, true, false, Option, Some, None, length, drop, refl, sym, ap, subst, arith, add-one, length-append, length-drop, append_assoc, ◌-◌}
 use Rattle.std.specs.Prelude.{◌==◌, ◌&&◌, ◌⊎◌, if◌then◌else◌}
 use Rattle.std.proofs.Common.{inl, inr}
@@ -70,7 +70,7 @@ unmarked c (d ∷ e ∷ ys) line = go (is_bom c d e) refl
     go true is = (ys, behind ys line, λ rest. ap (λ m. if m then ys ++ rest else c ∷ d ∷ e ∷ (ys ++ rest)) is)
     go false is = (c ∷ d ∷ e ∷ ys, line, λ rest. ap (λ m. if m then ys ++ rest else c ∷ d ∷ e ∷ (ys ++ rest)) is)
 
--- a text with a field begun behind it has a record
+-- a text with a field begun after it has a record
 pub some-record : (sep : Sep) (xs : List ℕ) → HasFirst (records (config sep) (strip_bom (xs ++ separator sep ∷ [])))
 unfolding strip_bom
 some-record sep [] = all-found sep st.StartRecord [] refl
@@ -119,7 +119,7 @@ length-without_last [] = refl
 length-without_last (a ∷ []) = refl
 length-without_last (a ∷ b ∷ rows) = omega (arith, length-without_last (b ∷ rows))
 
--- a record of a piece that another one follows is complete, whatever comes behind the piece
+-- a record of a piece that another one follows is complete, whatever comes after the piece
 pub gives : (sep : Sep) (piece : List ℕ) (k : ℕ) (a b : List (List ℕ)) (more : List (List (List ℕ))) (rest : List ℕ) (stop : Option Stop)
     → ends_line piece ≡ true → drop k (records (config sep) (strip_bom (piece ++ separator sep ∷ []))) ≡ a ∷ b ∷ more
     → drop k (complete_records sep (piece ++ rest) stop) ≡ a ∷ drop (k + 1) (complete_records sep (piece ++ rest) stop)
@@ -144,7 +144,7 @@ gives sep (c ∷ ys) k a b more rest (Some stop) line is =
     (without_last-drop k _ ∙ ap without_last (ap (λ t. drop k (records (config sep) t)) text
     ∙ passed.5 (rest ++ separator sep ∷ []) ∙ one.5 (rest ++ separator sep ∷ []) ∙ ap (λ l. a ∷ l) behind))
 
--- what is left of a text behind a piece that was given
+-- what is left of a text after a piece that was given
 pub anew : (sep : Sep) (c : ℕ) (ys : List ℕ) (k : ℕ) (rest : List ℕ) (stop : Option Stop)
     → ends_line (c ∷ ys) ≡ true → drop k (records (config sep) (strip_bom ((c ∷ ys) ++ separator sep ∷ []))) ≡ nothing ∷ []
     → drop k (complete_records sep ((c ∷ ys) ++ rest) stop) ≡ complete_records sep (10 ∷ rest) stop
@@ -162,7 +162,7 @@ anew sep c ys k rest (Some stop) line is =
     ∙ all-anew sep k st.StartRecord base.0 refl base.1 rows (rest ++ separator sep ∷ [])
     ∙ sym (all-line sep (rest ++ separator sep ∷ [])) ∙ ap (records (config sep)) (sym (strip-line (rest ++ separator sep ∷ []))))
 
--- behind the records that were given of a piece there is one more in a longer one
+-- after the records that were given of a piece there is one more in a longer one
 pub more-behind : (sep : Sep) (piece : List ℕ) (k : ℕ) (a : List (List ℕ)) (rest : List ℕ)
     → ends_line piece ≡ true → drop k (records (config sep) (strip_bom (piece ++ separator sep ∷ []))) ≡ a ∷ []
     → k < length (records (config sep) (strip_bom ((piece ++ rest) ++ separator sep ∷ [])))

@@ -1,4 +1,4 @@
--- What is left of records behind those that were passed over.
+-- What is left of records after those that were passed over.
 use Rattle.std.proofs.Common.{◌≡◌, ◌≤◌, ◌<◌, ◌+◌, ◌∷◌, ◌∙◌, ℕ, List, [], length, drop, get_or, sym, ap, arith, add-one, length-drop}
 use Rattle.std.proofs.Math.Seq.{drop-cons}
 

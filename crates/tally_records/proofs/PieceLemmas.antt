@@ -77,7 +77,7 @@ next_record-behind cfg s fields field (c ∷ rest) p e =
         (c ∷ [], ap (λ r. c ∷ r.2) is)
     in_text false e later = let behind = later e in (c ∷ behind.0, ap (λ l. c ∷ l) behind.1)
 
--- A record in front of another one is the first of the text whatever follows; behind it stand these bytes.
+-- A record before another one is the first of the text whatever follows; after it come these bytes.
 abbrev pub Steps : Config → State → List ℕ → ℕ → List (List ℕ) → List (List (List ℕ)) → Type 0
 Steps cfg s ys d a others = (s2 : State) × (zs : List ℕ) × (ends_at_end s2 ≡ false) × (ends_line ys ≡ true → ends_line zs ≡ true)
     × (all cfg s2 (zs ++ d ∷ []) ≡ others) × ((rest : List ℕ) → all cfg s (ys ++ rest) ≡ a ∷ all cfg s2 (zs ++ rest))
@@ -124,7 +124,7 @@ all-steps cfg s ys d a b more between is = go (next_record cfg s [] [] (ys ++ d 
         cc no
     go (Some p) e = left p p.2 refl e
 
--- Behind so many records of a text these bytes stand, whatever follows.
+-- After so many records of a text these bytes come, whatever follows.
 abbrev pub Passes : Config → State → List ℕ → ℕ → ℕ → List (List (List ℕ)) → Type 0
 Passes cfg s ys d k others = (s2 : State) × (zs : List ℕ) × (ends_at_end s2 ≡ false) × (ends_line ys ≡ true → ends_line zs ≡ true)
     × (all cfg s2 (zs ++ d ∷ []) ≡ others) × ((rest : List ℕ) → drop k (all cfg s (ys ++ rest)) ≡ all cfg s2 (zs ++ rest))
@@ -148,7 +148,7 @@ all-passes cfg (suc k) s ys d a more between is =
 
 -- ---- the records of a returns' text
 
--- with a field begun behind it each text has a record
+-- with a field begun after it each text has a record
 next-found : (sep : Sep) (s : State) (fields : List (List ℕ)) (field xs : List ℕ)
     → next_record (config sep) s fields field (xs ++ separator sep ∷ []) ≡ None → ⊥
 unfolding next_record
@@ -258,7 +258,7 @@ no-quote (x ∷ []) field c d e = let last : (field ++ c ∷ []) ++ d ∷ [] ≡
     some (y ∷ xs) c same = cc same
 no-quote (x ∷ y ∷ fields) field c d e = omega (arith, ap length e, length-append fields (((field ++ c ∷ []) ++ d ∷ []) ∷ []))
 
--- Behind a line end that a separator would begin nothing behind the machine begins anew.
+-- After a line end after which a separator would begin nothing the machine begins again.
 abbrev pub BeginsAnew : Sep → State → List (List ℕ) → List ℕ → List ℕ → Type 0
 BeginsAnew sep s fields field xs = (rest : List ℕ) → next_record (config sep) s fields field (xs ++ rest) ≡ next_record (config sep) st.StartRecord [] [] rest
 
@@ -386,7 +386,7 @@ at-line-end sep s fields field p c line plain e last none = go (line-end c line)
     go (inr is) = subst (λ b. BeginsAnew sep s fields field (b ∷ [])) (sym is)
         (at-feed sep s fields field p plain (subst (λ b. next_record (config sep) s fields field (b ∷ separator sep ∷ []) ≡ Some p) is e) last none)
 
--- So it does behind all bytes that end with a line, where a separator behind them begins nothing and no record ended in them.
+-- So it does after all bytes that end with a line, where a separator after them begins nothing and no record ended in them.
 anew-inside : (sep : Sep) (s : State) (fields : List (List ℕ)) (field : List ℕ) (p : Read) (c : ℕ) (ys : List ℕ)
     → ends_line (c ∷ ys) ≡ true → is_plain s ≡ true → next_record (config sep) s fields field (c ∷ (ys ++ separator sep ∷ [])) ≡ Some p → p.2 ≡ [] → p.0 ≡ nothing
     → BeginsAnew sep s fields field (c ∷ ys)
@@ -430,7 +430,7 @@ next-between sep st.AfterCr (c ∷ rest) between = go (c == 10) refl
     go true is = let same = eqb-true _ _ is in rw same refl
     go false is = rw is refl
 
--- Behind a piece that ends with a line, and all of whose records but one that a separator begins were passed over, the text begins anew.
+-- After a piece that ends with a line, and all of whose records but one that a separator begins were passed over, the text begins again.
 pub all-anew : (sep : Sep) (k : ℕ) (s : State) (ys : List ℕ)
     → ends_at_end s ≡ false → ends_line ys ≡ true → drop k (all (config sep) s (ys ++ separator sep ∷ [])) ≡ nothing ∷ []
     → (rest : List ℕ) → drop k (all (config sep) s (ys ++ rest)) ≡ all (config sep) st.StartRecord rest
@@ -502,7 +502,7 @@ ends_line-take (c ∷ d ∷ bytes) (suc n) within line = ends_line-take (d ∷ b
 pub ends_line-found : (bytes : List ℕ) (n : ℕ) → n < length bytes → is_line_end (get_or bytes n 0) ≡ true → ends_line (take (n + 1) bytes) ≡ true
 ends_line-found bytes n within line = ap (λ j. ends_line (take j bytes)) (add-one n) ∙ ends_line-take bytes n within line
 
--- the last line ends where no byte behind ends one
+-- the last line ends where no byte after it ends one
 pub last-line : (bytes : List ℕ) (n size : ℕ) → ((k : ℕ) → n ≤ k → k < length bytes → is_line_end (get_or bytes k 0) ≡ false)
     → size ≤ length bytes → ends_line (take size bytes) ≡ true → size ≤ n
 last-line bytes n zero none within line = omega arith

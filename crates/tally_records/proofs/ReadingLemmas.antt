@@ -9,7 +9,7 @@ use Rattle.csv.specs.Reading.{ReadRecord, ReadsNext, NextIs, pending_of, records
 use Rattle.csv.specs.declared.parser.Config.{Config}
 use Rattle.csv.specs.declared.parser.State.{State}
 use Rattle.csv.specs.declared.reader.Reader.{Reader}
-use Rattle.tally_records.specs.internal.Reading.{unread_bytes, rows_in, rows_left, IsReading}
+use Rattle.tally_records.specs.internal.Reading.{unread_bytes, records_read_from, rows_left, IsReading}
 use Rattle.tally_records.proofs.RecordLemmas.{next_record-after, next_record-takes, records_from-enough}
 
 Rows : Config → State → Option (List ℕ) → List (List (List ℕ))
@@ -62,7 +62,7 @@ between-next : (cfg : Config) (s s2 : State) (before after : Option (List ℕ)) 
 between-next cfg s s2 None after fields some reads = cc
 between-next cfg s s2 (Some xs) after fields some reads = between-after cfg s s2 xs after fields reads
 
-rows-same : (cfg : Config) (new : Reader Text) (left : Option (List ℕ)) → new.config ≡ cfg → Rows cfg new.state left ≡ rows_in new left
+rows-same : (cfg : Config) (new : Reader Text) (left : Option (List ℕ)) → new.config ≡ cfg → Rows cfg new.state left ≡ records_read_from new left
 unfolding Rows
 rows-same cfg new None same = refl
 rows-same cfg new (Some ys) same = ap (λ c. records_from c (length ys + 1) new.state ys) (sym same)
@@ -70,7 +70,7 @@ rows-same cfg new (Some ys) same = ap (λ c. records_from c (length ys + 1) new.
 left-next : (old new : Reader Text) (before : Option (List ℕ)) (found : Bool) (fields : List (List ℕ))
     → IsSome before → ends_at_end old.state ≡ false → new.config ≡ old.config
     → ReadsNext old.config old.state before (unread_bytes new) found fields new.state
-    → rows_in old before ≡ (if found then fields ∷ rows_left new else [])
+    → records_read_from old before ≡ (if found then fields ∷ rows_left new else [])
 left-next old new None found fields some between same reads = cc
 left-next old new (Some xs) found fields some between same reads =
     rows-next old.config old.state new.state xs (unread_bytes new) found fields between reads
@@ -94,7 +94,7 @@ pub IsReading-next : (old new : Reader Text) (fields : List (List ℕ))
 IsReading-next old new fields h first flexible reads =
     let next = reads-unread old new true fields reads in
     record {
-      as_it_stands = reads.3 ∙ h.as_it_stands;
+      untrimmed = reads.3 ∙ h.untrimmed;
       ready = inl first;
       any_length = flexible ∙ h.any_length;
       source = some-after old.config old.state new.state (unread_bytes old) (unread_bytes new) true fields h.source next;

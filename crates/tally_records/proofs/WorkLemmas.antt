@@ -31,7 +31,7 @@ abbrev pub given_record : Bool → List (List ℕ) → List (List ℕ) → List 
 given_record true ahead fields = fields
 given_record false ahead fields = ahead
 
--- what comes is this record and what comes behind it
+-- what comes is this record and what comes after it
 gives-next : (sep : Sep) (end : Option End) (bytes : List ℕ) (piece k : ℕ) (ahead fields : List (List ℕ)) (left : List (List (List ℕ))) (more : List ℕ) (stop : Option Stop)
     → IsPiece end bytes piece
     → drop k (piece_rows sep end (take piece bytes)) ≡ (if is_whole end then fields ∷ left else ahead ∷ fields ∷ left)
@@ -125,11 +125,11 @@ HasGiven-all (Some t) left given r end spent is has =
 pub bytes_of-open : (r : Work) → r.end ≡ None → r.held.bytes.items ≡ bytes_of r
 bytes_of-open r goes = ap (λ end. bytes_at end r.held r.last.value) (sym goes)
 
--- parts, and one more behind them
+-- parts, and one more after them
 pub joined-more : (parts : List (Vec ℕ Global)) (part : Vec ℕ Global) → bytes_of_parts (parts ++ part ∷ []) ≡ bytes_of_parts parts ++ part.items
 joined-more parts part = sym (flat_map_more (λ (p : Vec ℕ Global). p.items) [] parts part)
 
--- what came behind nothing, and what came behind that
+-- what came after nothing, and what came after that
 pub Fills-on : (old_left left new_left : Option (List ℕ)) (taken more most : ℕ) (bytes came : List ℕ) (end : Option End)
     → Fills old_left left [] taken bytes more None → Fills left new_left [] more came most end
     → Fills old_left new_left [] taken (bytes ++ came) most end

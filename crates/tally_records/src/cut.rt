@@ -1,9 +1,12 @@
 //! Where an input is cut into pieces.
 
-ghost use Rattle.std.specs.Prelude.{◌≡◌, ◌≤◌, ◌<◌, ◌++◌, ◌∷◌, [], None, true, drop, take, length, IfOk};
+ghost use Rattle.std.specs.Prelude.{◌≡◌, ◌≤◌, ◌<◌, ◌++◌, ◌∷◌, [], None, true, drop, take, length};
+ghost use Rattle.std.specs.Prelude.{IfOk};
 ghost use Rattle.csv.specs.Records.{fields_of};
 ghost use Rattle.tally_records.specs.Separator.{separator};
-ghost use Rattle.tally_records.specs.internal.Pieces.{EndsNoLineAfter, HasNothingAfter, IsGivenPiece, ends_line, is_line_end, is_whole, nothing, piece_rows, text_of_piece};
+ghost use Rattle.tally_records.specs.internal.Pieces.{EndsNoLineAfter, HasNothingAfter};
+ghost use Rattle.tally_records.specs.internal.Pieces.{IsGivenPiece, ends_line, is_line_end};
+ghost use Rattle.tally_records.specs.internal.Pieces.{is_whole, nothing, piece_rows, text_of_piece};
 ghost use Rattle.tally_records.specs.internal.Text.{bytes_left};
 
 use crate::end::End;

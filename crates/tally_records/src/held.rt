@@ -1,6 +1,7 @@
 //! The bytes of an input that are still needed.
 
-ghost use Rattle.std.specs.Prelude.{◌≡◌, ◌+◌, ◌<◌, ◌≤◌, ◌∷◌, [], drop, length, vec_len, IfOk, OnOk, None, Some};
+ghost use Rattle.std.specs.Prelude.{◌≡◌, ◌+◌, ◌<◌, ◌≤◌, ◌∷◌, [], drop, length, vec_len, IfOk, OnOk};
+ghost use Rattle.std.specs.Prelude.{None, Some};
 
 use crate::end::{End, Stop};
 use crate::watch::Watch;
@@ -32,7 +33,8 @@ pub(crate) struct Held {
 }
 
 impl Held {
-    ghost use Rattle.tally_records.specs.internal.Pieces.{Ends, Fills, FillsHeld, HoldsAllThatCame, HoldsMore, HoldsNoMore};
+    ghost use Rattle.tally_records.specs.internal.Pieces.{Ends, Fills, FillsHeld, HoldsAllThatCame};
+    ghost use Rattle.tally_records.specs.internal.Pieces.{HoldsMore, HoldsNoMore};
     ghost use Rattle.tally_records.specs.internal.Text.{bytes_of_parts};
     ghost use Rattle.tally_records.specs.Given.{IfEnded, IfNotEnded};
     ghost use Rattle.tally_records.specs.Watch.{NotesEnd};

@@ -3,7 +3,7 @@
 ghost use Rattle.std.specs.Prelude.{◌≡◌, ◌≤◌, true, drop, length, IfOk};
 ghost use Rattle.csv.specs.Records.{fields_of};
 ghost use Rattle.tally_records.specs.internal.Pieces.{text_rows};
-ghost use Rattle.tally_records.specs.internal.Reading.{GivesRow, IsReading, rows_left};
+ghost use Rattle.tally_records.specs.internal.Reading.{GivesNextRecord, IsReading, rows_left};
 ghost use Rattle.tally_records.specs.internal.Text.{bytes_left};
 
 use crate::separator::Sep;
@@ -54,7 +54,7 @@ pub(crate) fn next_record(
 ) -> Result<bool, AllocError>
     requires { IsReading reader.old }
     ensures reading { IfOk result (λ found. found ≡ true → IsReading reader.new) }
-    ensures record { IfOk result (GivesRow reader.old reader.new (fields_of into.new)) }
+    ensures record { IfOk result (GivesNextRecord reader.old reader.new (fields_of into.new)) }
 {
     let Ok(found) = reader.read_byte_record(into) else {
         return Err(AllocError);

@@ -34,7 +34,8 @@ impl Model for Records {
 }
 
 impl Records {
-    ghost use Rattle.tally_records.specs.Given.{GaveAllRecords, GivesRecord, HasGiven, IfEnded, IfNotEnded, IsReadingOn, TellsTrue, sep_of};
+    ghost use Rattle.tally_records.specs.Given.{GaveAllRecords, GivesRecord, HasGiven, IfEnded};
+    ghost use Rattle.tally_records.specs.Given.{IfNotEnded, IsReadingOn, TellsTrue, sep_of};
     ghost use Rattle.tally_records.specs.Watch.{TellsEnd, has_failed};
 
     /// The records of an input, whose first piece is read.

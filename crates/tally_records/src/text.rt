@@ -16,7 +16,7 @@ use std::io::{Cursor, Read};
 #[derive(Drop)]
 pub(crate) struct Text {
     front: Cursor<Vec<u8>>,
-    behind: Box<VecDeque<Vec<u8>>>,
+    later: Box<VecDeque<Vec<u8>>>,
 }
 
 impl Text {
@@ -24,14 +24,14 @@ impl Text {
     pub(crate) fn new(
         alloc: Global,
         front: Vec<u8>,
-        behind: VecDeque<Vec<u8>>,
+        later: VecDeque<Vec<u8>>,
     ) -> Result<Text, AllocError>
         ensures { IfOk result (λ text.
-            bytes_left text ≡ front.items ++ bytes_of_parts behind.items) }
+            bytes_left text ≡ front.items ++ bytes_of_parts later.items) }
     {
         Ok(Text {
             front: Cursor::new(front),
-            behind: Box::new(alloc, behind)?,
+            later: Box::new(alloc, later)?,
         })
     }
 
@@ -48,7 +48,7 @@ impl Text {
     {
         let mut part = Vec::new(alloc);
         part.push(byte)?;
-        self.behind.push_back(part)?;
+        self.later.push_back(part)?;
         Ok(())
     }
 }
@@ -63,7 +63,7 @@ impl Read for Text {
     {
         let mut count = self.front.read(buf)?;
         while count == 0 && !buf.is_empty() {
-            let Some(next) = self.behind.pop_front() else {
+            let Some(next) = self.later.pop_front() else {
                 break;
             };
             self.front = Cursor::new(next);

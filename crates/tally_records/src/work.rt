@@ -1,6 +1,7 @@
 //! The records of an input at work, with one piece of it in memory.
 
-ghost use Rattle.std.specs.Prelude.{◌≡◌, ◌≤◌, ◌<◌, ◌+◌, ◌++◌, [], length, Some, None, Bool, true, false, IfOk, OnOk};
+ghost use Rattle.std.specs.Prelude.{◌≡◌, ◌≤◌, ◌<◌, ◌+◌, ◌++◌, [], length, Some, None, Bool, true};
+ghost use Rattle.std.specs.Prelude.{false, IfOk, OnOk};
 ghost use Rattle.csv.specs.Records.{fields_of};
 
 use crate::cut::{ended_itself, given_size, last_text, piece_size, piece_text};
@@ -42,7 +43,11 @@ pub(crate) struct Work {
 }
 
 impl Work {
-    ghost use Rattle.tally_records.specs.internal.Pieces.{Begun, GaveAllAt, GivesOfPiece, GivesRecordAt, HasGivenAt, HoldsAllThatCame, IsBegunIn, IsWorking, IsSpent, KeepsGiven, TakesUp, TellsTrueAt, bytes_of, left_size};
+    ghost use Rattle.tally_records.specs.internal.Pieces.{Begun, GaveAllAt, GivesOfPiece};
+    ghost use Rattle.tally_records.specs.internal.Pieces.{GivesRecordAt, HasGivenAt};
+    ghost use Rattle.tally_records.specs.internal.Pieces.{HoldsAllThatCame, IsBegunIn, IsWorking};
+    ghost use Rattle.tally_records.specs.internal.Pieces.{IsSpent, KeepsGiven, TakesUp};
+    ghost use Rattle.tally_records.specs.internal.Pieces.{TellsTrueAt, bytes_of, left_size};
     ghost use Rattle.tally_records.specs.internal.Text.{bytes_of_parts};
     ghost use Rattle.tally_records.specs.Given.{IfEnded, IfNotEnded};
     ghost use Rattle.tally_records.specs.Watch.{NotesEnd, TellsEnd, has_failed};

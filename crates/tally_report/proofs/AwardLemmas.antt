@@ -60,7 +60,7 @@ module _ (groups : GroupsAreOfOneNumberOfVotes) (never_both : NoLotIsNeededWhere
       taken.3
       )
 
-  -- and it stands where one is needed
+  -- and there is one where one is needed
   lot-stands : 1 ≤ con.seats → IsLotTaken (rule_in con) (poll_in con view) con.seats view.lot → IsLotNeeded (rule_in con) (poll_in con view) con.seats → view.lot ≢ []
   lot-stands some (inl taken) needed none = never_both con.profile view.votes view.blank con.seats taken.0 needed
   lot-stands some (inr taken) needed none =

@@ -7,7 +7,7 @@ use Rattle.std.proofs.lemmas.List.{append-nil, get_or-map, get_or-replicate, get
 use Rattle.std.proofs.lemmas.List.Elements.{filter-append}
 use Rattle.std.proofs.lemmas.Grind.{get_or-set_at, replicate_next}
 use Rattle.tally_returns.specs.GoneCandidate.{GoneCandidate}
-use Rattle.tally_report.specs.internal.GoneByList.{AreByList, IsOneMore, places_in}
+use Rattle.tally_report.specs.internal.GoneByList.{AreByList, IsOneMore, places_of_list}
 
 -- of nobody there are none
 pub none_gone : (all : List GoneCandidate) (n : ℕ) (places : List (List ℕ)) → places ≡ replicate n [] → AreByList (take 0 all) n places
@@ -16,20 +16,20 @@ none_gone all n places is =
     rw is none
 
 -- those of a list are found at its place
-pub gone_at : (gone : List GoneCandidate) (n l : ℕ) (places : List (List ℕ)) → AreByList gone n places → l < n → get_or places l [] ≡ places_in gone (l + 1)
+pub gone_at : (gone : List GoneCandidate) (n l : ℕ) (places : List (List ℕ)) → AreByList gone n places → l < n → get_or places l [] ≡ places_of_list gone (l + 1)
 gone_at gone n l places are lt = are.each l lt
 
 of-one : (g : GoneCandidate) (b : Bool) → map (λ (x : GoneCandidate). x.place) (if b then g ∷ [] else []) ≡ (if b then g.place ∷ [] else [])
 of-one g true = refl
 of-one g false = refl
 
-places-more : (gone : List GoneCandidate) (g : GoneCandidate) (list : ℕ) → places_in (gone ++ g ∷ []) list ≡ places_in gone list ++ (if g.list == list then g.place ∷ [] else [])
+places-more : (gone : List GoneCandidate) (g : GoneCandidate) (list : ℕ) → places_of_list (gone ++ g ∷ []) list ≡ places_of_list gone list ++ (if g.list == list then g.place ∷ [] else [])
 places-more gone g list =
     let keeps : GoneCandidate → Bool = λ x. x.list == list in
     let place : GoneCandidate → ℕ = λ x. x.place in
     ap (map place) (filter-append keeps gone (g ∷ []))
     ∙ map-append place (filter keeps gone) (filter keeps (g ∷ []))
-    ∙ ap (λ ps. places_in gone list ++ ps) (of-one g (g.list == list))
+    ∙ ap (λ ps. places_of_list gone list ++ ps) (of-one g (g.list == list))
 
 one-more : (gone : List GoneCandidate) (g : GoneCandidate) (n : ℕ) (old new : List (List ℕ)) → AreByList gone n old → IsOneMore g.list g.place old new → AreByList (gone ++ g ∷ []) n new
 one-more gone g n old new are more = record {
@@ -63,7 +63,7 @@ not_listed list place old out = record {
     apart l lt e (inl none) = absurd (omega (arith, e, none))
     apart l lt e (inr past) = absurd (omega (arith, e, past, lt))
 
--- a place goes behind those of its list
+-- a place goes after those of its list
 pub listed_at : (list place : ℕ) (old : List (List ℕ)) → 1 ≤ list → list ≤ length old → IsOneMore list place old (slice_set old (list - 1) (get_or old (list - 1) [] ++ place ∷ []))
 listed_at list place old some few = record {
   count = length-set old (list - 1) (get_or old (list - 1) [] ++ place ∷ []);

@@ -1,6 +1,5 @@
 -- The reports of a constituency: their names, the text of each, and where it is not given.
-use Rattle.std.specs.Prelude.{◌≡◌, ℕ, List, [], ◌∷◌, Option, Some, None, bytes_eq, codes}
-use Rattle.std.specs.List.{find}
+use Rattle.std.specs.Prelude.{◌≡◌, ℕ, Bool, true, false, if◌then◌else◌, IsTrue, List, Option, Some, None, bytes_eq, codes}
 use Rattle.tally_rules.specs.Constituency.{Constituency}
 use Rattle.tally_returns.specs.View.{View}
 use Rattle.tally_steps.specs.Outcome.{IsLawfulView}
@@ -19,26 +18,18 @@ use Rattle.tally_report.specs.declared.report.Report.TheVariants as report
 
 -- ---- names
 
--- the name of a report, in a route and on the command line
-abbrev pub report_name : Report → List ℕ
-report_name report.Tally = codes "tally"
-report_name report.Seats = codes "seats"
-report_name report.Quotients = codes "quotients"
-report_name report.Awards = codes "awards"
-report_name report.Quota = codes "quota"
-report_name report.Short = codes "short"
-report_name report.Holders = codes "holders"
-report_name report.Past = codes "past"
-
--- each report once
-abbrev pub reports : List Report
-reports =
-    report.Tally ∷ report.Seats ∷ report.Quotients ∷ report.Awards
-    ∷ report.Quota ∷ report.Short ∷ report.Holders ∷ report.Past ∷ []
-
--- the report of a name, where there is one
+-- the report of a name on the command line
 abbrev pub report_named : List ℕ → Option Report
-report_named name = find (λ which. bytes_eq (report_name which) name) reports
+report_named name =
+    if bytes_eq name (codes "tally") then Some report.Tally
+    else if bytes_eq name (codes "seats") then Some report.Seats
+    else if bytes_eq name (codes "quotients") then Some report.Quotients
+    else if bytes_eq name (codes "awards") then Some report.Awards
+    else if bytes_eq name (codes "quota") then Some report.Quota
+    else if bytes_eq name (codes "short") then Some report.Short
+    else if bytes_eq name (codes "holders") then Some report.Holders
+    else if bytes_eq name (codes "past") then Some report.Past
+    else None
 
 -- ---- texts
 
@@ -53,17 +44,17 @@ IsReport con view report.Short text = IsShortText con view text
 IsReport con view report.Holders text = text ≡ holders_text con view
 IsReport con view report.Past text = text ≡ past_text con view
 
+-- whether the text of a report is exact only on a view that a lawful state has
+abbrev pub needs_lawful : Report → Bool
+needs_lawful report.Quotients = true
+needs_lawful report.Awards = true
+needs_lawful report.Short = true
+needs_lawful other = false
+
 -- What has to be known of a view that fits its constituency, for the text of a report to be exact:
--- nothing; or, for quotients, awards and votes short, that a lawful state has it.
+-- that a lawful state has it, if the report needs that, or else nothing.
 abbrev pub IsEnoughFor : Report → Constituency → View → Type 0
-IsEnoughFor report.Tally con view = Unit {0}
-IsEnoughFor report.Seats con view = Unit {0}
-IsEnoughFor report.Quotients con view = IsLawfulView con view
-IsEnoughFor report.Awards con view = IsLawfulView con view
-IsEnoughFor report.Quota con view = Unit {0}
-IsEnoughFor report.Short con view = IsLawfulView con view
-IsEnoughFor report.Holders con view = Unit {0}
-IsEnoughFor report.Past con view = Unit {0}
+IsEnoughFor which con view = IsTrue (needs_lawful which) → IsLawfulView con view
 
 -- Why a report is not given: the constituency is not certified, or its seats are allotted by
 -- another rule.

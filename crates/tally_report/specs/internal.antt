@@ -1,4 +1,3 @@
 -- What only proofs speak of.
-pub mod EnoughViews
 pub mod Awards
 pub mod GoneByList

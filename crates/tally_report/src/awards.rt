@@ -1,6 +1,7 @@
 //! The seats in the order of their award.
 
-ghost use Rattle.std.specs.Prelude.{◌≡◌, ◌≢◌, ℕ, ◌<◌, true, ◌++◌, IfOk, IfErr, OnOk, length, slice_index_or, string_bytes};
+ghost use Rattle.std.specs.Prelude.{◌≡◌, ◌≢◌, ℕ, ◌<◌, true, ◌++◌, IfOk, IfErr, OnOk, length};
+ghost use Rattle.std.specs.Prelude.{slice_index_or, string_bytes};
 ghost use Rattle.tally_rules.specs.declared.profile.Method.TheVariants.{Hare as by_hare};
 ghost use Rattle.tally_allot.specs.Awards.{AreAwardsBy};
 ghost use Rattle.tally_allot.specs.declared.award.Award.{Award as award_type};

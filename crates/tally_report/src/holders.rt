@@ -1,13 +1,15 @@
 //! Who holds the seats.
 
-ghost use Rattle.std.specs.Prelude.{◌≡◌, ℕ, ◌<◌, ◌≤◌, ◌++◌, IfOk, OnOk, [], length, map, replicate, slice_index, slice_index_or, string_bytes};
+ghost use Rattle.std.specs.Prelude.{◌≡◌, ℕ, ◌<◌, ◌≤◌, ◌++◌, IfOk, OnOk, [], length, map, replicate};
+ghost use Rattle.std.specs.Prelude.{slice_index, slice_index_or, string_bytes};
 ghost use Rattle.std.specs.List.{flat_map, repeat};
 ghost use Rattle.tally_steps.specs.Holders.{holders};
 ghost use Rattle.tally_returns.specs.View.{FitsView};
 ghost use Rattle.tally_report.specs.Fault.{IsRefused, seats_fault};
 ghost use Rattle.tally_report.specs.Columns.{list_lines};
 ghost use Rattle.tally_report.specs.internal.GoneByList.{AreByList, IsOneMore};
-ghost use Rattle.tally_report.specs.HoldersText.{empty_line, holder_line, holder_lines, holders_text, seat_lines};
+ghost use Rattle.tally_report.specs.HoldersText.{empty_line, holder_line, holder_lines};
+ghost use Rattle.tally_report.specs.HoldersText.{holders_text, seat_lines};
 
 use crate::column::{CODE_WIDTH, push_heading, push_left, push_number};
 use crate::fault::ReportFault;

@@ -22,7 +22,7 @@ pub use past::past_text;
 pub use progress::progress_text;
 pub use quota::quota_text;
 pub use quotients::quotients_text;
-pub use report::{REPORTS, Report, report_text};
+pub use report::{Report, report_text};
 pub use seats::seats_text;
 pub use short::short_text;
 pub use tally::tally_text;

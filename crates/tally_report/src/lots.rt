@@ -1,6 +1,7 @@
 //! What is known of lots, by which the votes of a certificate allot its seats.
 
-ghost use Rattle.tally_law.specs.LawStatements.{GroupsAreOfOneNumberOfVotes, NoLotIsNeededWhereVotesDecide};
+ghost use Rattle.tally_law.specs.LawStatements.{GroupsAreOfOneNumberOfVotes};
+ghost use Rattle.tally_law.specs.LawStatements.{NoLotIsNeededWhereVotesDecide};
 
 use tally_allot::laws;
 

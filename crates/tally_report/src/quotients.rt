@@ -7,7 +7,8 @@ ghost use Rattle.tally_steps.specs.Outcome.{IsLawfulView};
 ghost use Rattle.tally_returns.specs.View.{FitsView};
 ghost use Rattle.tally_report.specs.Fault.{IsRefused, divisors_fault};
 ghost use Rattle.tally_report.specs.Columns.{list_lines};
-ghost use Rattle.tally_report.specs.QuotientsText.{most, quotient_column, quotients_by, quotients_line, quotients_text};
+ghost use Rattle.tally_report.specs.QuotientsText.{most, quotient_column, quotients_by};
+ghost use Rattle.tally_report.specs.QuotientsText.{quotients_line, quotients_text};
 ghost use Rattle.tally_report.specs.declared.fault.ReportFault.TheVariants.{Memory};
 ghost use Rattle.tally_rules.specs.Threshold.{eligible_lists};
 

@@ -3,7 +3,7 @@
 ghost use Rattle.std.specs.Prelude.{◌≡◌, IfOk, string_bytes};
 ghost use Rattle.tally_returns.specs.View.{FitsView};
 ghost use Rattle.tally_report.specs.Fault.{IsRefused};
-ghost use Rattle.tally_report.specs.Reports.{IsEnoughFor, IsReport, report_fault, report_name, report_named};
+ghost use Rattle.tally_report.specs.Reports.{IsEnoughFor, IsReport, report_fault, report_named};
 
 use crate::{
     ReportFault, awards_text, holders_text, past_text, quota_text, quotients_text, seats_text,
@@ -34,40 +34,22 @@ pub enum Report {
     Past,
 }
 
-/// Each report once.
-pub const REPORTS: [Report; 8] = [
-    Report::Tally,
-    Report::Seats,
-    Report::Quotients,
-    Report::Awards,
-    Report::Quota,
-    Report::Short,
-    Report::Holders,
-    Report::Past,
-];
-
 impl Report {
-    /// The report's name, in a route and on the command line.
-    pub fn name(self) -> &'static str
-        ensures { result.now ≡ report_name self }
-    {
-        match self {
-            Report::Tally => "tally",
-            Report::Seats => "seats",
-            Report::Quotients => "quotients",
-            Report::Awards => "awards",
-            Report::Quota => "quota",
-            Report::Short => "short",
-            Report::Holders => "holders",
-            Report::Past => "past",
-        }
-    }
-
-    /// The report of a name, where there is one.
+    /// The report of a name on the command line.
     pub fn named(name: &str) -> Option<Report>
         ensures { result ≡ report_named name.now }
     {
-        REPORTS.iter().copied().find(|which| which.name() == name)
+        match name {
+            "tally" => Some(Report::Tally),
+            "seats" => Some(Report::Seats),
+            "quotients" => Some(Report::Quotients),
+            "awards" => Some(Report::Awards),
+            "quota" => Some(Report::Quota),
+            "short" => Some(Report::Short),
+            "holders" => Some(Report::Holders),
+            "past" => Some(Report::Past),
+            _ => None,
+        }
     }
 }
 
@@ -79,8 +61,7 @@ pub fn report_text(
     which: Report,
 ) -> Result<String, ReportFault>
     requires { FitsView con.now view.now }
-    // The text of five reports is exact on every view that fits, and that of the others on one of a
-    // lawful state.
+    // Unless the report needs a view of a lawful state, its text is exact on every view that fits.
     ensures text { IfOk result (λ text. IsEnoughFor which con.now view.now
         → IsReport con.now view.now which (string_bytes text)) }
     ensures fault { IsRefused (report_fault con.now view.now which) result }

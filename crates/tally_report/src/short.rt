@@ -1,13 +1,15 @@
 //! How many votes each list is short of one more seat.
 
-ghost use Rattle.std.specs.Prelude.{◌≡◌, ◌≢◌, true, ◌++◌, IfOk, IfErr, OnOk, None, length, slice_index_or, string_bytes};
+ghost use Rattle.std.specs.Prelude.{◌≡◌, ◌≢◌, true, ◌++◌, IfOk, IfErr, OnOk, None, length};
+ghost use Rattle.std.specs.Prelude.{slice_index_or, string_bytes};
 ghost use Rattle.tally_rules.specs.Threshold.{eligible_lists};
 ghost use Rattle.tally_rules.specs.declared.profile.Method.TheVariants.{Hare as by_hare};
 ghost use Rattle.tally_steps.specs.Outcome.{IsLawfulView};
 ghost use Rattle.tally_returns.specs.View.{FitsView};
 ghost use Rattle.tally_report.specs.Fault.{IsRefused, divisors_fault};
 ghost use Rattle.tally_report.specs.Columns.{list_lines};
-ghost use Rattle.tally_report.specs.ShortText.{AreVotesShortIn, IsShortText, short_columns, short_line, votes_column};
+ghost use Rattle.tally_report.specs.ShortText.{AreVotesShortIn, IsShortText, short_columns};
+ghost use Rattle.tally_report.specs.ShortText.{short_line, votes_column};
 ghost use Rattle.tally_report.specs.declared.fault.ReportFault.TheVariants.{Memory};
 
 use crate::column::{CODE_WIDTH, push_heading, push_left, push_number};

@@ -1,11 +1,12 @@
 //! The votes of a constituency.
 
-ghost use Rattle.std.specs.Prelude.{◌≡◌, ◌≤◌, ◌<◌, ◌*◌, ◌++◌, IfOk, IfErr, OnOk, length, slice_index, sum, string_bytes};
+ghost use Rattle.std.specs.Prelude.{◌≡◌, ◌≤◌, ◌<◌, ◌*◌, ◌++◌, IfOk, IfErr, OnOk, sum, string_bytes};
 ghost use Rattle.tally_frac.specs.Limits.{most_votes};
 ghost use Rattle.tally_rules.specs.Threshold.{IsWithinVotes, base_of, eligible_lists};
 ghost use Rattle.tally_returns.specs.View.{FitsView};
 ghost use Rattle.tally_report.specs.Columns.{list_lines, right_cell};
-ghost use Rattle.tally_report.specs.TallyText.{hundredths, share, tally_columns, tally_line, tally_text, valid_line};
+ghost use Rattle.tally_report.specs.TallyText.{hundredths, share, tally_columns, tally_line};
+ghost use Rattle.tally_report.specs.TallyText.{tally_text, valid_line};
 ghost use Rattle.tally_report.specs.declared.fault.ReportFault.TheVariants.{Memory};
 
 use crate::column::{CODE_WIDTH, push_heading, push_left, push_number};

@@ -27,7 +27,7 @@ pub(crate) fn poll_of(alloc: Global, line: &str) -> Result<Poll, AllocError> {
     let (seats, blank) = terms.split_once(" ").unwrap_or((terms, ""));
     let (rule, lots) = rule.split_once("/").unwrap_or((rule, "fixed"));
     let profile = Profile {
-        method: method(rule),
+        method: Method::named(rule).unwrap_or(Method::Hare),
         threshold: number(threshold),
         base: Base::Valid,
         lot: lot_rule(lots),
@@ -40,15 +40,6 @@ pub(crate) fn poll_of(alloc: Global, line: &str) -> Result<Poll, AllocError> {
         votes,
         lot: numbers(alloc, lot)?,
     })
-}
-
-fn method(rule: &str) -> Method {
-    match rule {
-        "dhondt" => Method::DHondt,
-        "sainte-lague" => Method::SainteLague,
-        "modified-sainte-lague" => Method::ModifiedSainteLague,
-        _ => Method::Hare,
-    }
 }
 
 fn lot_rule(lots: &str) -> LotRule {

@@ -79,7 +79,7 @@ const FAULTS: &str = "\
 2 `seats` is missing
 3 `seats` has a wrong value
 4 `list` is over its limit
-5 the code `s1` stands twice
+5 the code `s1` occurs twice
 6 no such profile
 7 out of memory
 ";

@@ -120,7 +120,7 @@ pub(crate) fn check_text(
     text: &Result<String, ReportFault>,
     want: &'static str,
 ) -> Result<(), Fail> {
-    let told = match text {
+    let got = match text {
         Ok(text) => text.as_str(),
         Err(fault) => match fault.number() {
             1 => "fault 1",
@@ -128,7 +128,7 @@ pub(crate) fn check_text(
             _ => "out of memory",
         },
     };
-    if told == want {
+    if got == want {
         return Ok(());
     }
     Err(Fail::from(want))

@@ -58,11 +58,143 @@ awards modified-sainte-lague 0 2 0: 53 24 23 = \
 [Award { list: 1, k: 1, num: 265, den: 7 }, Award { list: 1, k: 2, num: 265, den: 15 }]";
 
 // Votes in the proportion of whole numbers of seats, a thousand votes a seat: each rule gives these
-// seats.
+// seats. Then as many lists and seats as there may be: twenty lists have fifteen seats and forty
+// have five. By D'Hondt each last seat has the quotient 1,000, and one seat more takes a thousand
+// votes, with which a list has more than those of five. By Sainte-Laguë the lowest last seat is a
+// fifteenth, with 15,000 / 29: a sixteenth takes 31 times as many, 16,035, and a sixth 11 times,
+// 5,690. Hare's quota is 1,000.
 const PROPORTIONS: &str = "\
 allot dhondt 0 120 0: 60000 32000 14000 11000 2000 1000 = [60, 32, 14, 11, 2, 1]
 allot sainte-lague 0 120 0: 60000 32000 14000 11000 2000 1000 = [60, 32, 14, 11, 2, 1]
-allot hare 0 120 0: 60000 32000 14000 11000 2000 1000 = [60, 32, 14, 11, 2, 1]";
+allot hare 0 120 0: 60000 32000 14000 11000 2000 1000 = [60, 32, 14, 11, 2, 1]
+allot dhondt 0 500 0: 15000 15000 15000 15000 15000 15000 15000 15000 15000 15000 15000 15000 \
+15000 15000 15000 15000 15000 15000 15000 15000 5000 5000 5000 5000 5000 5000 5000 5000 5000 \
+5000 5000 5000 5000 5000 5000 5000 5000 5000 5000 5000 5000 5000 5000 5000 5000 5000 5000 5000 \
+5000 5000 5000 5000 5000 5000 5000 5000 5000 5000 5000 5000 = [15, 15, 15, 15, 15, 15, 15, 15, \
+15, 15, 15, 15, 15, 15, 15, 15, 15, 15, 15, 15, 5, 5, 5, 5, 5, 5, 5, 5, 5, 5, 5, 5, 5, 5, 5, 5, \
+5, 5, 5, 5, 5, 5, 5, 5, 5, 5, 5, 5, 5, 5, 5, 5, 5, 5, 5, 5, 5, 5, 5, 5]
+need dhondt 0 500 0: 15000 15000 15000 15000 15000 15000 15000 15000 15000 15000 15000 15000 \
+15000 15000 15000 15000 15000 15000 15000 15000 5000 5000 5000 5000 5000 5000 5000 5000 5000 \
+5000 5000 5000 5000 5000 5000 5000 5000 5000 5000 5000 5000 5000 5000 5000 5000 5000 5000 5000 \
+5000 5000 5000 5000 5000 5000 5000 5000 5000 5000 5000 5000 = no lot
+allot sainte-lague 0 500 0: 15000 15000 15000 15000 15000 15000 15000 15000 15000 15000 15000 \
+15000 15000 15000 15000 15000 15000 15000 15000 15000 5000 5000 5000 5000 5000 5000 5000 5000 \
+5000 5000 5000 5000 5000 5000 5000 5000 5000 5000 5000 5000 5000 5000 5000 5000 5000 5000 5000 \
+5000 5000 5000 5000 5000 5000 5000 5000 5000 5000 5000 5000 5000 = [15, 15, 15, 15, 15, 15, 15, \
+15, 15, 15, 15, 15, 15, 15, 15, 15, 15, 15, 15, 15, 5, 5, 5, 5, 5, 5, 5, 5, 5, 5, 5, 5, 5, 5, 5, \
+5, 5, 5, 5, 5, 5, 5, 5, 5, 5, 5, 5, 5, 5, 5, 5, 5, 5, 5, 5, 5, 5, 5, 5, 5]
+need sainte-lague 0 500 0: 15000 15000 15000 15000 15000 15000 15000 15000 15000 15000 15000 \
+15000 15000 15000 15000 15000 15000 15000 15000 15000 5000 5000 5000 5000 5000 5000 5000 5000 \
+5000 5000 5000 5000 5000 5000 5000 5000 5000 5000 5000 5000 5000 5000 5000 5000 5000 5000 5000 \
+5000 5000 5000 5000 5000 5000 5000 5000 5000 5000 5000 5000 5000 = no lot
+allot modified-sainte-lague 0 500 0: 15000 15000 15000 15000 15000 15000 15000 15000 15000 15000 \
+15000 15000 15000 15000 15000 15000 15000 15000 15000 15000 5000 5000 5000 5000 5000 5000 5000 \
+5000 5000 5000 5000 5000 5000 5000 5000 5000 5000 5000 5000 5000 5000 5000 5000 5000 5000 5000 \
+5000 5000 5000 5000 5000 5000 5000 5000 5000 5000 5000 5000 5000 5000 = [15, 15, 15, 15, 15, 15, \
+15, 15, 15, 15, 15, 15, 15, 15, 15, 15, 15, 15, 15, 15, 5, 5, 5, 5, 5, 5, 5, 5, 5, 5, 5, 5, 5, \
+5, 5, 5, 5, 5, 5, 5, 5, 5, 5, 5, 5, 5, 5, 5, 5, 5, 5, 5, 5, 5, 5, 5, 5, 5, 5, 5]
+need modified-sainte-lague 0 500 0: 15000 15000 15000 15000 15000 15000 15000 15000 15000 15000 \
+15000 15000 15000 15000 15000 15000 15000 15000 15000 15000 5000 5000 5000 5000 5000 5000 5000 \
+5000 5000 5000 5000 5000 5000 5000 5000 5000 5000 5000 5000 5000 5000 5000 5000 5000 5000 5000 \
+5000 5000 5000 5000 5000 5000 5000 5000 5000 5000 5000 5000 5000 5000 = no lot
+allot hare 0 500 0: 15000 15000 15000 15000 15000 15000 15000 15000 15000 15000 15000 15000 \
+15000 15000 15000 15000 15000 15000 15000 15000 5000 5000 5000 5000 5000 5000 5000 5000 5000 \
+5000 5000 5000 5000 5000 5000 5000 5000 5000 5000 5000 5000 5000 5000 5000 5000 5000 5000 5000 \
+5000 5000 5000 5000 5000 5000 5000 5000 5000 5000 5000 5000 = [15, 15, 15, 15, 15, 15, 15, 15, \
+15, 15, 15, 15, 15, 15, 15, 15, 15, 15, 15, 15, 5, 5, 5, 5, 5, 5, 5, 5, 5, 5, 5, 5, 5, 5, 5, 5, \
+5, 5, 5, 5, 5, 5, 5, 5, 5, 5, 5, 5, 5, 5, 5, 5, 5, 5, 5, 5, 5, 5, 5, 5]
+need hare 0 500 0: 15000 15000 15000 15000 15000 15000 15000 15000 15000 15000 15000 15000 15000 \
+15000 15000 15000 15000 15000 15000 15000 5000 5000 5000 5000 5000 5000 5000 5000 5000 5000 5000 \
+5000 5000 5000 5000 5000 5000 5000 5000 5000 5000 5000 5000 5000 5000 5000 5000 5000 5000 5000 \
+5000 5000 5000 5000 5000 5000 5000 5000 5000 5000 = no lot
+right 15 15 15 15 15 15 15 15 15 15 15 15 15 15 15 15 15 15 15 15 5 5 5 5 5 5 5 5 5 5 5 5 5 5 5 \
+5 5 5 5 5 5 5 5 5 5 5 5 5 5 5 5 5 5 5 5 5 5 5 5 5: dhondt 0 500 0: 15000 15000 15000 15000 15000 \
+15000 15000 15000 15000 15000 15000 15000 15000 15000 15000 15000 15000 15000 15000 15000 5000 \
+5000 5000 5000 5000 5000 5000 5000 5000 5000 5000 5000 5000 5000 5000 5000 5000 5000 5000 5000 \
+5000 5000 5000 5000 5000 5000 5000 5000 5000 5000 5000 5000 5000 5000 5000 5000 5000 5000 5000 \
+5000
+wrong 14 15 15 15 15 15 15 15 15 15 15 15 15 15 15 15 15 15 15 15 5 5 5 5 5 5 5 5 5 5 5 5 5 5 5 \
+5 5 5 5 5 5 5 5 5 5 5 5 5 5 5 5 5 5 5 5 5 5 5 5 6: dhondt 0 500 0: 15000 15000 15000 15000 15000 \
+15000 15000 15000 15000 15000 15000 15000 15000 15000 15000 15000 15000 15000 15000 15000 5000 \
+5000 5000 5000 5000 5000 5000 5000 5000 5000 5000 5000 5000 5000 5000 5000 5000 5000 5000 5000 \
+5000 5000 5000 5000 5000 5000 5000 5000 5000 5000 5000 5000 5000 5000 5000 5000 5000 5000 5000 \
+5000
+right 15 15 15 15 15 15 15 15 15 15 15 15 15 15 15 15 15 15 15 15 5 5 5 5 5 5 5 5 5 5 5 5 5 5 5 \
+5 5 5 5 5 5 5 5 5 5 5 5 5 5 5 5 5 5 5 5 5 5 5 5 5: hare 0 500 0: 15000 15000 15000 15000 15000 \
+15000 15000 15000 15000 15000 15000 15000 15000 15000 15000 15000 15000 15000 15000 15000 5000 \
+5000 5000 5000 5000 5000 5000 5000 5000 5000 5000 5000 5000 5000 5000 5000 5000 5000 5000 5000 \
+5000 5000 5000 5000 5000 5000 5000 5000 5000 5000 5000 5000 5000 5000 5000 5000 5000 5000 5000 \
+5000
+wrong 14 15 15 15 15 15 15 15 15 15 15 15 15 15 15 15 15 15 15 15 5 5 5 5 5 5 5 5 5 5 5 5 5 5 5 \
+5 5 5 5 5 5 5 5 5 5 5 5 5 5 5 5 5 5 5 5 5 5 5 5 6: hare 0 500 0: 15000 15000 15000 15000 15000 \
+15000 15000 15000 15000 15000 15000 15000 15000 15000 15000 15000 15000 15000 15000 15000 5000 \
+5000 5000 5000 5000 5000 5000 5000 5000 5000 5000 5000 5000 5000 5000 5000 5000 5000 5000 5000 \
+5000 5000 5000 5000 5000 5000 5000 5000 5000 5000 5000 5000 5000 5000 5000 5000 5000 5000 5000 \
+5000
+short dhondt 0 500 0: 15000 15000 15000 15000 15000 15000 15000 15000 15000 15000 15000 15000 \
+15000 15000 15000 15000 15000 15000 15000 15000 5000 5000 5000 5000 5000 5000 5000 5000 5000 \
+5000 5000 5000 5000 5000 5000 5000 5000 5000 5000 5000 5000 5000 5000 5000 5000 5000 5000 5000 \
+5000 5000 5000 5000 5000 5000 5000 5000 5000 5000 5000 5000 = [Some(1000), Some(1000), \
+Some(1000), Some(1000), Some(1000), Some(1000), Some(1000), Some(1000), Some(1000), Some(1000), \
+Some(1000), Some(1000), Some(1000), Some(1000), Some(1000), Some(1000), Some(1000), Some(1000), \
+Some(1000), Some(1000), Some(1000), Some(1000), Some(1000), Some(1000), Some(1000), Some(1000), \
+Some(1000), Some(1000), Some(1000), Some(1000), Some(1000), Some(1000), Some(1000), Some(1000), \
+Some(1000), Some(1000), Some(1000), Some(1000), Some(1000), Some(1000), Some(1000), Some(1000), \
+Some(1000), Some(1000), Some(1000), Some(1000), Some(1000), Some(1000), Some(1000), Some(1000), \
+Some(1000), Some(1000), Some(1000), Some(1000), Some(1000), Some(1000), Some(1000), Some(1000), \
+Some(1000), Some(1000)]
+short sainte-lague 0 500 0: 15000 15000 15000 15000 15000 15000 15000 15000 15000 15000 15000 \
+15000 15000 15000 15000 15000 15000 15000 15000 15000 5000 5000 5000 5000 5000 5000 5000 5000 \
+5000 5000 5000 5000 5000 5000 5000 5000 5000 5000 5000 5000 5000 5000 5000 5000 5000 5000 5000 \
+5000 5000 5000 5000 5000 5000 5000 5000 5000 5000 5000 5000 5000 = [Some(1035), Some(1035), \
+Some(1035), Some(1035), Some(1035), Some(1035), Some(1035), Some(1035), Some(1035), Some(1035), \
+Some(1035), Some(1035), Some(1035), Some(1035), Some(1035), Some(1035), Some(1035), Some(1035), \
+Some(1035), Some(1035), Some(690), Some(690), Some(690), Some(690), Some(690), Some(690), \
+Some(690), Some(690), Some(690), Some(690), Some(690), Some(690), Some(690), Some(690), \
+Some(690), Some(690), Some(690), Some(690), Some(690), Some(690), Some(690), Some(690), \
+Some(690), Some(690), Some(690), Some(690), Some(690), Some(690), Some(690), Some(690), \
+Some(690), Some(690), Some(690), Some(690), Some(690), Some(690), Some(690), Some(690), \
+Some(690), Some(690)]
+quotas hare 0 500 0: 15000 15000 15000 15000 15000 15000 15000 15000 15000 15000 15000 15000 \
+15000 15000 15000 15000 15000 15000 15000 15000 5000 5000 5000 5000 5000 5000 5000 5000 5000 \
+5000 5000 5000 5000 5000 5000 5000 5000 5000 5000 5000 5000 5000 5000 5000 5000 5000 5000 5000 \
+5000 5000 5000 5000 5000 5000 5000 5000 5000 5000 5000 5000 = [QuotaRow { list: 1, whole: 15, \
+rem: 0, extra: false }, QuotaRow { list: 2, whole: 15, rem: 0, extra: false }, QuotaRow { list: \
+3, whole: 15, rem: 0, extra: false }, QuotaRow { list: 4, whole: 15, rem: 0, extra: false }, \
+QuotaRow { list: 5, whole: 15, rem: 0, extra: false }, QuotaRow { list: 6, whole: 15, rem: 0, \
+extra: false }, QuotaRow { list: 7, whole: 15, rem: 0, extra: false }, QuotaRow { list: 8, \
+whole: 15, rem: 0, extra: false }, QuotaRow { list: 9, whole: 15, rem: 0, extra: false }, \
+QuotaRow { list: 10, whole: 15, rem: 0, extra: false }, QuotaRow { list: 11, whole: 15, rem: 0, \
+extra: false }, QuotaRow { list: 12, whole: 15, rem: 0, extra: false }, QuotaRow { list: 13, \
+whole: 15, rem: 0, extra: false }, QuotaRow { list: 14, whole: 15, rem: 0, extra: false }, \
+QuotaRow { list: 15, whole: 15, rem: 0, extra: false }, QuotaRow { list: 16, whole: 15, rem: 0, \
+extra: false }, QuotaRow { list: 17, whole: 15, rem: 0, extra: false }, QuotaRow { list: 18, \
+whole: 15, rem: 0, extra: false }, QuotaRow { list: 19, whole: 15, rem: 0, extra: false }, \
+QuotaRow { list: 20, whole: 15, rem: 0, extra: false }, QuotaRow { list: 21, whole: 5, rem: 0, \
+extra: false }, QuotaRow { list: 22, whole: 5, rem: 0, extra: false }, QuotaRow { list: 23, \
+whole: 5, rem: 0, extra: false }, QuotaRow { list: 24, whole: 5, rem: 0, extra: false }, \
+QuotaRow { list: 25, whole: 5, rem: 0, extra: false }, QuotaRow { list: 26, whole: 5, rem: 0, \
+extra: false }, QuotaRow { list: 27, whole: 5, rem: 0, extra: false }, QuotaRow { list: 28, \
+whole: 5, rem: 0, extra: false }, QuotaRow { list: 29, whole: 5, rem: 0, extra: false }, \
+QuotaRow { list: 30, whole: 5, rem: 0, extra: false }, QuotaRow { list: 31, whole: 5, rem: 0, \
+extra: false }, QuotaRow { list: 32, whole: 5, rem: 0, extra: false }, QuotaRow { list: 33, \
+whole: 5, rem: 0, extra: false }, QuotaRow { list: 34, whole: 5, rem: 0, extra: false }, \
+QuotaRow { list: 35, whole: 5, rem: 0, extra: false }, QuotaRow { list: 36, whole: 5, rem: 0, \
+extra: false }, QuotaRow { list: 37, whole: 5, rem: 0, extra: false }, QuotaRow { list: 38, \
+whole: 5, rem: 0, extra: false }, QuotaRow { list: 39, whole: 5, rem: 0, extra: false }, \
+QuotaRow { list: 40, whole: 5, rem: 0, extra: false }, QuotaRow { list: 41, whole: 5, rem: 0, \
+extra: false }, QuotaRow { list: 42, whole: 5, rem: 0, extra: false }, QuotaRow { list: 43, \
+whole: 5, rem: 0, extra: false }, QuotaRow { list: 44, whole: 5, rem: 0, extra: false }, \
+QuotaRow { list: 45, whole: 5, rem: 0, extra: false }, QuotaRow { list: 46, whole: 5, rem: 0, \
+extra: false }, QuotaRow { list: 47, whole: 5, rem: 0, extra: false }, QuotaRow { list: 48, \
+whole: 5, rem: 0, extra: false }, QuotaRow { list: 49, whole: 5, rem: 0, extra: false }, \
+QuotaRow { list: 50, whole: 5, rem: 0, extra: false }, QuotaRow { list: 51, whole: 5, rem: 0, \
+extra: false }, QuotaRow { list: 52, whole: 5, rem: 0, extra: false }, QuotaRow { list: 53, \
+whole: 5, rem: 0, extra: false }, QuotaRow { list: 54, whole: 5, rem: 0, extra: false }, \
+QuotaRow { list: 55, whole: 5, rem: 0, extra: false }, QuotaRow { list: 56, whole: 5, rem: 0, \
+extra: false }, QuotaRow { list: 57, whole: 5, rem: 0, extra: false }, QuotaRow { list: 58, \
+whole: 5, rem: 0, extra: false }, QuotaRow { list: 59, whole: 5, rem: 0, extra: false }, \
+QuotaRow { list: 60, whole: 5, rem: 0, extra: false }]";
 
 // The last of three seats is in question between two lists of 100 votes, and the last of four
 // between three, all of which a lot has to name; the one seat between two of 50 votes.

@@ -343,7 +343,7 @@ reopened_carried setup text s con view ask note key standing edition old new kno
 pub change_carried : (setup : List Constituency) (con : Constituency) (view : View) (change : Change) (decided : ConChange) (old new : Seen) (r : Result Reply Error) → con_change change ≡ Some decided
     → CarriesDecided setup con view decided old new r → CarriesChange setup con view change old new r
 change_carried setup con view change decided old new r is carries clean inside =
-    IfOk-weaker r _ _ (λ reply done text s other told lawful seen was.
-    let both : Some decided ≡ Some other = sym is ∙ told in
+    IfOk-weaker r _ _ (λ reply done text s other ensured lawful seen was.
+    let both : Some decided ≡ Some other = sym is ∙ ensured in
     let same : decided ≡ other = cc in
     subst (λ (d : ConChange). IsChangeCarriedOut setup text s con (with_past_of con s view) d reply new) same (done text s lawful seen was)) (carries clean inside)

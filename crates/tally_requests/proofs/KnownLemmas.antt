@@ -49,7 +49,7 @@ use Rattle.tally_entries.specs.Constituencies.{IsKnown}
 use Rattle.tally_entries.specs.Statuses.{statuses_in}
 use Rattle.tally_requests.specs.internal.Found.{MovesTo}
 use Rattle.tally_requests.specs.Known.{AreKnown, ForgetsNone, Known, known_of}
-use Rattle.tally_requests.specs.internal.Counting.{after_command, known_after_lodge, known_after_lodge_in, known_after_move, known_after_row, after_status, has_status, one_less_if, one_more_if, status_after, with_changed, with_known, with_move}
+use Rattle.tally_requests.specs.internal.Counting.{after_command, known_after_lodge, known_after_lodge_in, known_after_move, known_after_row, after_status, has_status, one_less_if, one_more_if, status_after, with_statuses_changed, with_known, with_move}
 use Rattle.tally_requests.proofs.FoundLemmas.{IsFound, IsPut, found-decided, put-decided}
 use Rattle.tally_requests.proofs.LodgedLemmas.{shown-stays}
 use Rattle.tally_requests.proofs.TotalLemmas.{total-replaced}
@@ -59,10 +59,10 @@ use Rattle.tally_requests.proofs.TotalLemmas.{total-replaced}
 pub written : (t u : BTreeMap (List ℕ) Statuses) (k : List ℕ) (v : Statuses) (f : Statuses → Statuses) (w : Statuses) → Some v ≡ tree.get code_cmp t k → w ≡ f v
     → WritesThrough code_cmp (code_cmp k) t w u → known_of u ≡ with_known (known_of t) k f
 written t u k v f w there is writes =
-    tree-insert t u k w (writes.3 (subst IsSome there refl)) ∙ ap (insert (known_of t) k) is ∙ sym (ap (with_changed (known_of t) k f) (get-tree t k ∙ sym there))
+    tree-insert t u k w (writes.3 (subst IsSome there refl)) ∙ ap (insert (known_of t) k) is ∙ sym (ap (with_statuses_changed (known_of t) k f) (get-tree t k ∙ sym there))
 
 pub not_written : (t u : BTreeMap (List ℕ) Statuses) (k : List ℕ) (f : Statuses → Statuses) → None ≡ tree.get code_cmp t k → u ≡ t → known_of u ≡ with_known (known_of t) k f
-not_written t u k f none same = ap known_of same ∙ sym (ap (with_changed (known_of t) k f) (get-tree t k ∙ sym none))
+not_written t u k f none same = ap known_of same ∙ sym (ap (with_statuses_changed (known_of t) k f) (get-tree t k ∙ sym none))
 
 get-with_known : (known : Known) (k : List ℕ) (f : Statuses → Statuses) (q : List ℕ) → get (with_known known k f) q ≡ cond (eq_by_cmp code_cmp q k) (option_map f (get known q)) (get known q)
 get-with_known known k f q = by_found (get known k) refl
@@ -75,7 +75,7 @@ get-with_known known k f q = by_found (get known k) refl
     none true tied there = let at : get known q ≡ None = ap (get known) (tied-same q k tied) ∙ there in at ∙ sym (ap (option_map f) at)
     none false apart there = refl
 
-    by_found : (found : Option Statuses) → get known k ≡ found → get (with_changed known k f found) q ≡ cond (eq_by_cmp code_cmp q k) (option_map f (get known q)) (get known q)
+    by_found : (found : Option Statuses) → get known k ≡ found → get (with_statuses_changed known k f found) q ≡ cond (eq_by_cmp code_cmp q k) (option_map f (get known q)) (get known q)
     by_found None there = none (eq_by_cmp code_cmp q k) refl there
     by_found (Some v) there = get-insert nat_list_cmp_total known k (f v) q ∙ some v (eq_by_cmp code_cmp q k) refl there
 

@@ -44,13 +44,13 @@ module _ (con : Constituency) (view : View) (past : List PastSeats) where
       same-check (first_refusal (count_checks view edition)) (ByOutcome con view gives) (ByOutcome con (record view { past = past }) gives) r
       (λ by. (by.0, same-outcome by.0 by.1, by.2))
 
-  wrong-lot : (gives : Outcome → Result (List ℕ) Refusal) (told : Refusal) (r : Result (List ℕ) Refusal) → ByOutcomeOrWrongLot con view gives told r → ByOutcomeOrWrongLot con (record view { past = past }) gives told r
-  wrong-lot gives told r (inl by) = inl (by.0, same-outcome by.0 by.1, by.2)
-  wrong-lot gives told r (inr wrong) = inr wrong
+  wrong-lot : (gives : Outcome → Result (List ℕ) Refusal) (ensured : Refusal) (r : Result (List ℕ) Refusal) → ByOutcomeOrWrongLot con view gives ensured r → ByOutcomeOrWrongLot con (record view { past = past }) gives ensured r
+  wrong-lot gives ensured r (inl by) = inl (by.0, same-outcome by.0 by.1, by.2)
+  wrong-lot gives ensured r (inr wrong) = inr wrong
 
-  same-refusal : (edition : ℕ) (gives : Outcome → Result (List ℕ) Refusal) (told refusal : Refusal) → IsCountRefusal con view edition gives told refusal → IsCountRefusal con (record view { past = past }) edition gives told refusal
-  same-refusal edition gives told refusal is = λ other.
-      same-check (first_refusal (count_checks view edition)) (ByOutcomeOrWrongLot con view gives told) (ByOutcomeOrWrongLot con (record view { past = past }) gives told) (Err refusal) (wrong-lot gives told (Err refusal)) (is other)
+  same-refusal : (edition : ℕ) (gives : Outcome → Result (List ℕ) Refusal) (ensured refusal : Refusal) → IsCountRefusal con view edition gives ensured refusal → IsCountRefusal con (record view { past = past }) edition gives ensured refusal
+  same-refusal edition gives ensured refusal is = λ other.
+      same-check (first_refusal (count_checks view edition)) (ByOutcomeOrWrongLot con view gives ensured) (ByOutcomeOrWrongLot con (record view { past = past }) gives ensured) (Err refusal) (wrong-lot gives ensured (Err refusal)) (is other)
 
   pub decides-whole : (ask : Ask) (decided : Result ConChange Refusal) → Decides con view ask decided → Decides con (record view { past = past }) ask decided
   decides-whole (Draw code edition order) decided is = (is.0, same-count edition (lot_in_view con view order.items) is.0 is.1, is.2)

@@ -12,7 +12,7 @@ use Rattle.tally_steps.specs.LawfulState.{IsLawfulState}
 use Rattle.tally_ledger.specs.Kept.{Kept}
 use Rattle.tally_keeper.specs.Import.{IsBelow, IsCodedRow, RowAnswer, after_row, count_of, count_with_row, row_answer}
 use Rattle.tally_keeper.specs.Keeper.{IsImportFault, IsOwnFault}
-use Rattle.tally_keeper.specs.Source.{GaveAll, IsWithin, SourceAt, row_limit}
+use Rattle.tally_keeper.specs.Source.{GaveAll, IsWithinRowLimit, SourceAt, row_limit}
 use Rattle.tally_keeper.specs.declared.import.ImportCount.{ImportCount}
 use Rattle.tally_keeper.specs.declared.import.Row.{Row}
 use Rattle.tally_keeper.specs.declared.source.ImportFault.{ImportFault}
@@ -56,7 +56,7 @@ came-fault all left next many fault was given = SoFar-fault no_stations empty wa
 pub came-own : (all left next : SourceAt) (many : ℕ) (r : Row) (fault : ImportFault) → Came all left many → GivesAt left (Ok (Some r)) next → IsOwnFault fault → IsImportFault (record { start = all; finish = next }) fault
 came-own all left next many r fault was given own = SoFar-own no_stations empty was.1 all left next was.0 many r fault was.2 given own
 
-pub came-many : (all left : SourceAt) (many : ℕ) → Came all left many → many ≡ row_limit + 1 → IfSome all.coming IsWithin → IsImportFault (record { start = all; finish = left }) TooLong
+pub came-many : (all left : SourceAt) (many : ℕ) → Came all left many → many ≡ row_limit + 1 → IfSome all.coming IsWithinRowLimit → IsImportFault (record { start = all; finish = left }) TooLong
 came-many all left many was over within = SoFar-many no_stations empty was.1 all left was.0 many was.2 over within
 
 -- so many answers were counted

@@ -12,6 +12,6 @@ use Rattle.tally_requests.specs.Requests.{WritesOnlyActs}
 
 -- what was done after a call that only reads
 pub unwritten-then : (old mid new : Seen) (r : Result (Result Reply Refusal) Error) → (HasCleanDisk new → HasCleanDisk mid) → (HasCleanDisk mid → IsInside old → IsUnchanged old mid) → WritesOnlyActs mid new r → WritesOnlyActs old new r
-unwritten-then old mid new r early reads told clean at =
+unwritten-then old mid new r early reads ensured clean at =
     let same = reads (early clean) at.0 in
-    IfOk-weaker r _ _ (λ a writes none. unchanged_then old mid new same (writes none)) (told clean (inside_still old mid same at.0, same.0.is_open))
+    IfOk-weaker r _ _ (λ a writes none. unchanged_then old mid new same (writes none)) (ensured clean (inside_still old mid same at.0, same.0.is_open))

@@ -1,9 +1,10 @@
 -- What a request or an import does to the tables of an office, in a transaction.
-use Rattle.std.specs.Prelude.{◌≡◌, false, ℕ, List, Some, Result, IfOk, OnOk}
+use Rattle.std.specs.Prelude.{◌≡◌, false, ℕ, List, Some, Result, IfErr, IfOk, OnOk}
 use Rattle.std.specs.BTreeMap.{BTreeMap}
 use Rattle.sqlite_trees.specs.declared.store.Store.{Ghosts}
 use Rattle.sqlite.specs.declared.error.Error.{Error}
 use Rattle.sqlite.specs.declared.transaction.Transaction.{Transaction}
+use Rattle.sqlite.specs.Held.{state}
 use Rattle.sqlite.specs.State.{State as Seen, HasCleanDisk, IsUnchanged}
 use Rattle.tally_rules.specs.Constituency.{Constituency}
 use Rattle.tally_returns.specs.State.{State}
@@ -14,11 +15,11 @@ use Rattle.tally_steps.specs.Kinds.{IsReplyTo}
 use Rattle.tally_steps.specs.LawfulState.{IsLawfulState}
 use Rattle.tally_steps.specs.Runs.{is_act}
 use Rattle.tally_steps.specs.Step.{IsAnswered}
-use Rattle.tally_keeper.specs.Keeper.{IsImportOf}
-use Rattle.tally_keeper.specs.Source.{Delivery}
+use Rattle.tally_keeper.specs.Keeper.{IsImportFault, IsImportOf}
+use Rattle.tally_keeper.specs.Source.{Delivery, GaveAll}
 use Rattle.tally_keeper.specs.declared.import.ImportCount.{ImportCount}
 use Rattle.tally_keeper.specs.declared.source.ImportFault.{ImportFault}
-use Rattle.tally_statements.specs.Inside.{Acts, IsOpenInside}
+use Rattle.tally_statements.specs.Inside.{InDatabase, IsOpenInside}
 use Rattle.tally_statements.specs.Office.{IsInside}
 use Rattle.tally_tables.specs.TablesOfState.{AreTables}
 use Rattle.tally_tables.specs.declared.views.Statuses.{Statuses}
@@ -70,10 +71,10 @@ pub record AnswersIn {S : Type 0} (g : Ghosts S) (setup : List Constituency) (as
     (before after : BTreeMap (List ℕ) Statuses) (old new : Transaction S)
     (result : Result (Result Reply Refusal) Error) : Type 0 where
   pub kind : IfOk result (λ r. IfOk r (IsReplyTo setup ask))
-  pub step : Acts g (CarriesOutKnown setup (known_of before) ask) old new result
-  pub known : Acts g (KeepsKnown setup (known_of before) (known_of after) ask) old new result
+  pub step : InDatabase g (CarriesOutKnown setup (known_of before) ask) old new result
+  pub known : InDatabase g (KeepsKnown setup (known_of before) (known_of after) ask) old new result
   pub forgets : OnOk result (ForgetsNone (known_of before) (known_of after))
-  pub unwritten : Acts g WritesOnlyActs old new result
+  pub unwritten : InDatabase g WritesOnlyActs old new result
 
 -- All rows that a source gave were lodged as in this state, and the tables are those of the state
 -- after that.
@@ -99,3 +100,16 @@ ImportsRows setup d before after old new result =
     → IfOk result (λ count. (text : List ℕ) (s : State) → IsLawfulState setup s
     → AreTables setup text s old.now.trees
     → IsImportedKnown setup text s d before after count new)
+
+-- What a call does that lodges the rows of a source in the tables of an office. With a count, these
+-- are all rows that the source gave until its end, and nothing is forgotten of what was known. A
+-- fault is the one with which the source ended, or the keeper's own. Both hold whatever the tables
+-- are.
+pub record LodgesRows {S : Type 0} (g : Ghosts S) (setup : List Constituency) (d : Delivery)
+    (before after : BTreeMap (List ℕ) Statuses) (old new : Transaction S)
+    (result : Result ImportCount ImportFault) : Type 0 where
+  pub imported : ImportsRows setup d (known_of before) (known_of after)
+      (state g old.conn.now) (state g new.conn.now) result
+  pub gave : OnOk result (GaveAll d)
+  pub fault : IfErr result (IsImportFault d)
+  pub forgets : OnOk result (ForgetsNone (known_of before) (known_of after))

@@ -6,3 +6,4 @@ pub mod Changes
 pub mod Moves
 pub mod Sums
 pub mod Counting
+pub mod Answering

@@ -4,13 +4,16 @@ ghost use Rattle.std.specs.Prelude.{◌≡◌, ◌≢◌, ◌≤◌, Ok, Some, I
 ghost use Rattle.tally_frac.specs.Limits.{most_lists};
 ghost use Rattle.tally_steps.specs.Kinds.{IsReplyTo};
 ghost use Rattle.tally_steps.specs.Runs.{is_act};
-ghost use Rattle.tally_steps.specs.Step.{Decides, IsConDecision, certified_with, gone_for_good, lot_set, open_again};
+ghost use Rattle.tally_steps.specs.Step.{Decides, IsConDecision, certified_with, gone_for_good};
+ghost use Rattle.tally_steps.specs.Step.{lot_set, open_again};
 ghost use Rattle.tally_returns.specs.Named.{con_named};
 ghost use Rattle.tally_returns.specs.View.{FitsView};
 ghost use Rattle.tally_returns.specs.declared.change.Change.TheVariants.{Same};
 ghost use Rattle.tally_rules.specs.Setup.{constituency_with};
-ghost use Rattle.tally_requests.specs.internal.Changes.{CarriesDecided, HasWrittenLot, HasWrittenRecord, HasWrittenSeats, WritesSo};
-ghost use Rattle.tally_statements.specs.Inside.{Acts, Stays, StaysInside};
+ghost use Rattle.tally_requests.specs.internal.Changes.{CarriesDecided, HasWrittenLot};
+ghost use Rattle.tally_requests.specs.internal.Changes.{HasWrittenRecord, HasWrittenSeats};
+ghost use Rattle.tally_requests.specs.internal.Changes.{WritesSo};
+ghost use Rattle.tally_statements.specs.Inside.{InDatabase, Stays, StaysInside};
 ghost use Rattle.tally_requests.specs.internal.Changes.{CarriesChange};
 
 use sqlite::{Alter, Error, Transaction};
@@ -34,7 +37,7 @@ pub(crate) fn carry_out<S: Alter>(
     requires changes { change ≢ Same }
     ensures stays { StaysInside S.Store tx.old tx.new }
     ensures kind { IfOk result (IsReplyTo setup.now ask.now) }
-    ensures carried_out { Acts S.Store (CarriesChange setup.now con.now view.now change)
+    ensures carried_out { InDatabase S.Store (CarriesChange setup.now con.now view.now change)
         tx.old tx.new result }
     ensures acts { IfOk result (λ reply. is_act (Ok reply) ≡ true) }
 {
@@ -63,7 +66,8 @@ fn set_lot<S: Alter>(
     requires decided { Decides con.now view.now ask.now (Ok (lot_set lot.now)) }
     ensures stays { Stays S.Store tx.old tx.new }
     ensures kind { IfOk result (IsReplyTo setup.now ask.now) }
-    ensures carried_out { Acts S.Store (CarriesDecided setup.now con.now view.now (lot_set lot.now))
+    ensures carried_out { InDatabase S.Store
+        (CarriesDecided setup.now con.now view.now (lot_set lot.now))
         tx.old tx.new result }
     ensures acts { IfOk result (λ reply. is_act (Ok reply) ≡ true) }
 {
@@ -85,7 +89,7 @@ fn write_lot<S: Alter>(
 ) -> Result<(), Error>
     requires few { length lot.now ≤ most_lists }
     ensures stays { Stays S.Store tx.old tx.new }
-    ensures written { Acts S.Store (WritesSo con.now
+    ensures written { InDatabase S.Store (WritesSo con.now
         (HasWrittenLot con.now edition certified note.now lot.now)) tx.old tx.new result }
 {
     put_con(tx, con, edition, certified, note)?;
@@ -106,7 +110,7 @@ fn set_certified<S: Alter>(
     requires decided { Decides con.now view.now ask.now (Ok (certified_with seats.now)) }
     ensures stays { Stays S.Store tx.old tx.new }
     ensures kind { IfOk result (IsReplyTo setup.now ask.now) }
-    ensures carried_out { Acts S.Store (CarriesDecided setup.now con.now view.now
+    ensures carried_out { InDatabase S.Store (CarriesDecided setup.now con.now view.now
         (certified_with seats.now)) tx.old tx.new result }
     ensures acts { IfOk result (λ reply. is_act (Ok reply) ≡ true) }
 {
@@ -131,7 +135,7 @@ fn set_reopened<S: Alter>(
     requires decided { Decides con.now view.now ask.now (Ok (open_again note.now past.now)) }
     ensures stays { Stays S.Store tx.old tx.new }
     ensures kind { IfOk result (IsReplyTo setup.now ask.now) }
-    ensures carried_out { Acts S.Store (CarriesDecided setup.now con.now view.now
+    ensures carried_out { InDatabase S.Store (CarriesDecided setup.now con.now view.now
         (open_again note.now past.now)) tx.old tx.new result }
     ensures acts { IfOk result (λ reply. is_act (Ok reply) ≡ true) }
 {
@@ -151,7 +155,7 @@ fn write_seats<S: Alter>(
 ) -> Result<(), Error>
     requires few { length seats.now ≤ most_lists }
     ensures stays { Stays S.Store tx.old tx.new }
-    ensures written { Acts S.Store (WritesSo con.now
+    ensures written { InDatabase S.Store (WritesSo con.now
         (HasWrittenSeats con.now edition certified note.now seats.now)) tx.old tx.new result }
 {
     put_con(tx, con, edition, certified, note)?;
@@ -168,7 +172,7 @@ fn write_record<S: Alter>(
 ) -> Result<(), Error>
     requires few { length past.now.seats ≤ most_lists }
     ensures stays { Stays S.Store tx.old tx.new }
-    ensures written { Acts S.Store (WritesSo con.now
+    ensures written { InDatabase S.Store (WritesSo con.now
         (HasWrittenRecord con.now edition note.now past.now)) tx.old tx.new result }
 {
     write_seats(tx, con, edition, false, note, &[])?;
@@ -190,7 +194,7 @@ fn set_gone<S: Alter>(
     requires decided { Decides con.now view.now ask.now (Ok (gone_for_good gone.now next)) }
     ensures stays { Stays S.Store tx.old tx.new }
     ensures kind { IfOk result (IsReplyTo setup.now ask.now) }
-    ensures carried_out { Acts S.Store (CarriesDecided setup.now con.now view.now
+    ensures carried_out { InDatabase S.Store (CarriesDecided setup.now con.now view.now
         (gone_for_good gone.now next)) tx.old tx.new result }
     ensures acts { IfOk result (λ reply. is_act (Ok reply) ≡ true) }
 {

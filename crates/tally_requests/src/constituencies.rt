@@ -1,20 +1,20 @@
 //! Requests on a constituency, and the one that shows how far constituencies have come.
 
-ghost use Rattle.std.specs.Prelude.{◌≡◌, Some, IfOk, OnOk};
+ghost use Rattle.std.specs.Prelude.{◌≡◌, Some, OnOk};
 ghost use Rattle.sqlite.specs.Held.{state};
-ghost use Rattle.tally_steps.specs.Kinds.{IsReplyTo};
 ghost use Rattle.tally_steps.specs.Step.{IsConDecision};
 ghost use Rattle.tally_returns.specs.Named.{con_named};
 ghost use Rattle.tally_returns.specs.View.{FitsView};
 ghost use Rattle.tally_returns.specs.declared.ask.Ask.TheVariants.{ShowProgress};
 ghost use Rattle.tally_rules.specs.Limits.{IsSetup};
 ghost use Rattle.tally_rules.specs.Setup.{constituency_with};
-ghost use Rattle.tally_entries.specs.Entries.{Finds};
-ghost use Rattle.tally_entries.specs.internal.Found.{ChangesNothing};
-ghost use Rattle.tally_statements.specs.Inside.{Acts, StaysInside};
+ghost use Rattle.tally_entries.specs.Entries.{ChangesNothing, Finds};
+ghost use Rattle.tally_statements.specs.Inside.{StaysInside};
 ghost use Rattle.tally_requests.specs.Known.{ForgetsNone, known_of};
-ghost use Rattle.tally_requests.specs.Requests.{AnswersIn, WritesOnlyActs};
-ghost use Rattle.tally_requests.specs.internal.Seen.{CarriesOutSeen, FindsKnown, FindsProgress, LooksUp, shows_con};
+ghost use Rattle.tally_requests.specs.Requests.{AnswersIn};
+ghost use Rattle.tally_requests.specs.internal.Answering.{AnswersSo};
+ghost use Rattle.tally_requests.specs.internal.Seen.{CarriesOutSeen, FindsKnown, FindsProgress};
+ghost use Rattle.tally_requests.specs.internal.Seen.{LooksUp, shows_con};
 
 use crate::changes::carry_out;
 use crate::known::{known_at, remember, statuses_of_row};
@@ -79,10 +79,8 @@ fn answer_seen<S: Alter>(
     requires named { con_named ask.now ≡ Some con.now.code }
     requires fits { FitsView con.now view }
     ensures stays { StaysInside S.Store tx.old tx.new }
-    ensures kind { IfOk result (λ r. IfOk r (IsReplyTo setup.now ask.now)) }
-    ensures step { Acts S.Store (CarriesOutSeen setup.now con.now view ask.now)
-        tx.old tx.new result }
-    ensures unwritten { Acts S.Store WritesOnlyActs tx.old tx.new result }
+    ensures answers { AnswersSo S.Store setup.now ask.now
+        (CarriesOutSeen setup.now con.now view ask.now) tx.old tx.new result }
 {
     match decide_con(alloc, con, &view, ask) {
         Ok(change) => carry_out_or_show(tx, setup, con, view, ask, change),
@@ -105,10 +103,8 @@ fn carry_out_or_show<S: Alter>(
     requires fits { FitsView con.now view }
     requires decided { IsConDecision con.now view ask.now change }
     ensures stays { StaysInside S.Store tx.old tx.new }
-    ensures kind { IfOk result (λ r. IfOk r (IsReplyTo setup.now ask.now)) }
-    ensures step { Acts S.Store (CarriesOutSeen setup.now con.now view ask.now)
-        tx.old tx.new result }
-    ensures unwritten { Acts S.Store WritesOnlyActs tx.old tx.new result }
+    ensures answers { AnswersSo S.Store setup.now ask.now
+        (CarriesOutSeen setup.now con.now view ask.now) tx.old tx.new result }
 {
     match change {
         Change::Same => Ok(Ok(Reply::Con(view))),

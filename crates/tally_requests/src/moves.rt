@@ -2,9 +2,11 @@
 
 ghost use Rattle.std.specs.Prelude.{◌≡◌, ◌≢◌, ◌≤◌, length};
 ghost use Rattle.tally_frac.specs.Limits.{most_lists};
-ghost use Rattle.tally_returns.specs.declared.returns.Status.TheVariants.{Closed, Corrected, Queried};
-ghost use Rattle.tally_statements.specs.Inside.{Acts, StaysInside};
-ghost use Rattle.tally_requests.specs.internal.Moves.{PutsMoved, Uncounts, with_queried, with_standing};
+ghost use Rattle.tally_returns.specs.declared.returns.Status.TheVariants.{Closed, Corrected};
+ghost use Rattle.tally_returns.specs.declared.returns.Status.TheVariants.{Queried};
+ghost use Rattle.tally_statements.specs.Inside.{InDatabase, StaysInside};
+ghost use Rattle.tally_requests.specs.internal.Moves.{PutsMoved, Uncounts, with_queried};
+ghost use Rattle.tally_requests.specs.internal.Moves.{with_standing};
 
 use crate::sums::move_sums;
 use sqlite::{Alter, Error, Transaction};
@@ -27,7 +29,7 @@ pub(crate) fn put_queried<S: Alter>(
     requires queried { standing.now.status ≡ Queried }
     requires same_counts { before.now.counts ≡ standing.now.counts }
     ensures stays { StaysInside S.Store tx.old tx.new }
-    ensures put { Acts S.Store (PutsMoved (with_queried con.now station standing.now) con.now
+    ensures put { InDatabase S.Store (PutsMoved (with_queried con.now station standing.now) con.now
         station before.now) tx.old tx.new result }
 {
     uncount(alloc, tx, con, before)?;
@@ -44,7 +46,7 @@ fn uncount<S: Alter>(
 ) -> Result<(), Error>
     requires few { length con.now.lists ≤ most_lists }
     ensures stays { StaysInside S.Store tx.old tx.new }
-    ensures uncounted { Acts S.Store (Uncounts con.now before.now) tx.old tx.new result }
+    ensures uncounted { InDatabase S.Store (Uncounts con.now before.now) tx.old tx.new result }
 {
     match before.status {
         Status::Closed => move_sums(alloc, tx, con, &before.counts, false),
@@ -65,7 +67,7 @@ pub(crate) fn put_corrected<S: Alter>(
     requires corrected { standing.now.status ≡ Corrected }
     requires lists { length standing.now.counts.votes ≡ length con.now.lists }
     ensures stays { StaysInside S.Store tx.old tx.new }
-    ensures put { Acts S.Store (PutsMoved (with_standing station standing.now) con.now station
+    ensures put { InDatabase S.Store (PutsMoved (with_standing station standing.now) con.now station
         before.now) tx.old tx.new result }
 {
     correct_return(tx, station.as_str(), standing)
@@ -85,7 +87,7 @@ pub(crate) fn put_closed<S: Alter>(
     requires closed { standing.now.status ≡ Closed }
     requires same_counts { before.now.counts ≡ standing.now.counts }
     ensures stays { StaysInside S.Store tx.old tx.new }
-    ensures put { Acts S.Store (PutsMoved (with_standing station standing.now) con.now station
+    ensures put { InDatabase S.Store (PutsMoved (with_standing station standing.now) con.now station
         before.now) tx.old tx.new result }
 {
     move_sums(alloc, tx, con, &standing.counts, true)?;

@@ -3,7 +3,6 @@
 ghost use Rattle.std.specs.Prelude.{◌≡◌, ◌≤◌, length, Some, Ok, IfOk, OnOk, true};
 ghost use Rattle.tally_frac.specs.Limits.{most_lists};
 ghost use Rattle.tally_keeper.specs.internal.Held.{moves_return};
-ghost use Rattle.tally_steps.specs.Kinds.{IsReplyTo};
 ghost use Rattle.tally_returns.specs.Decide.{return_change_at};
 ghost use Rattle.tally_returns.specs.Named.{station_named};
 ghost use Rattle.tally_returns.specs.Return.{first_return};
@@ -11,12 +10,15 @@ ghost use Rattle.tally_returns.specs.declared.ask.Ask.TheVariants.{ShowReturn};
 ghost use Rattle.tally_rules.specs.Limits.{IsSetup};
 ghost use Rattle.tally_rules.specs.Setup.{station_with};
 ghost use Rattle.tally_entries.specs.Entries.{AddsReturn, Finds, FindsReturn};
-ghost use Rattle.tally_requests.specs.internal.Found.{CarriesOutFound, IsLawfulIfFound, MovesTo, after_move};
-ghost use Rattle.tally_statements.specs.Inside.{Acts, OnlyReads, Stays, StaysInside};
-ghost use Rattle.tally_requests.specs.internal.Lodging.{DecidesLodge, IsFewIfLodged, WritesOnlyLodged};
+ghost use Rattle.tally_requests.specs.internal.Found.{CarriesOutFound, IsLawfulIfFound, MovesTo};
+ghost use Rattle.tally_requests.specs.internal.Found.{after_move};
+ghost use Rattle.tally_statements.specs.Inside.{InDatabase, OnlyReads, Stays, StaysInside};
+ghost use Rattle.tally_requests.specs.internal.Lodging.{DecidesLodge, IsFewIfLodged};
+ghost use Rattle.tally_requests.specs.internal.Lodging.{WritesOnlyLodged};
 ghost use Rattle.tally_requests.specs.internal.Moves.{PutsMoved};
 ghost use Rattle.tally_requests.specs.internal.Counting.{CountsLodge};
-ghost use Rattle.tally_requests.specs.Requests.{AnswersIn, WritesOnlyActs};
+ghost use Rattle.tally_requests.specs.Requests.{AnswersIn};
+ghost use Rattle.tally_requests.specs.internal.Answering.{AnswersSo};
 ghost use Rattle.tally_requests.specs.internal.Found.{CarriesOut};
 ghost use Rattle.tally_requests.specs.internal.Lodging.{Lodges};
 
@@ -44,10 +46,11 @@ pub(crate) fn lodge<S: Alter>(
     counts: &Counts,
 ) -> Result<Result<LodgeReply, Refusal>, Error>
     ensures stays { StaysInside S.Store tx.old tx.new }
-    ensures lodged { Acts S.Store (Lodges setup.now station slip counts.now) tx.old tx.new result }
+    ensures lodged { InDatabase S.Store
+        (Lodges setup.now station slip counts.now) tx.old tx.new result }
     ensures limits { OnOk result (IsSetup setup.now) }
     ensures known { CountsLodge setup.now station known.old known.new result }
-    ensures unwritten { Acts S.Store WritesOnlyLodged tx.old tx.new result }
+    ensures unwritten { InDatabase S.Store WritesOnlyLodged tx.old tx.new result }
 {
     let Some((con, place)) = setup.station(station) else {
         return Ok(Err(Refusal::NoStation));
@@ -78,7 +81,7 @@ fn decide_first<S: Alter>(
     requires known { station_with station setup.now ≡ Some (con.now, place.now) }
     requires limits { IsSetup setup.now }
     ensures reads { OnlyReads S.Store tx.old tx.new result }
-    ensures decided { Acts S.Store (DecidesLodge setup.now station slip counts.now)
+    ensures decided { InDatabase S.Store (DecidesLodge setup.now station slip counts.now)
         tx.old tx.new result }
     ensures few { IfOk result (IsFewIfLodged counts.now) }
 {
@@ -98,7 +101,8 @@ fn put_first<S: Alter>(
 ) -> Result<(), Error>
     requires few { length counts.now.votes ≤ most_lists }
     ensures stays { Stays S.Store tx.old tx.new }
-    ensures added { Acts S.Store (AddsReturn con.now.code station (first_return slip counts.now))
+    ensures added { InDatabase S.Store
+        (AddsReturn con.now.code station (first_return slip counts.now))
         tx.old tx.new result }
 {
     let first = Return::lodged(alloc, slip, counts.try_copy(alloc)?);
@@ -186,10 +190,8 @@ fn move_found<S: Alter>(
     requires moves { moves_return ask.now ≡ true }
     requires lawful { IsLawfulIfFound con.now place.now found }
     ensures stays { StaysInside S.Store tx.old tx.new }
-    ensures kind { IfOk result (λ r. IfOk r (IsReplyTo setup.now ask.now)) }
-    ensures step { Acts S.Store (CarriesOutFound setup.now con.now station certified found ask.now)
-        tx.old tx.new result }
-    ensures unwritten { Acts S.Store WritesOnlyActs tx.old tx.new result }
+    ensures answers { AnswersSo S.Store setup.now ask.now
+        (CarriesOutFound setup.now con.now station certified found ask.now) tx.old tx.new result }
 {
     match decide_at(alloc, con, place, certified, found.as_ref(), ask) {
         Ok(change) => put_next(
@@ -218,10 +220,8 @@ fn put_next<S: Alter>(
     requires moves { moves_return ask.now ≡ true }
     requires decided { return_change_at con.now place.now certified found ask.now ≡ Ok change }
     ensures stays { StaysInside S.Store tx.old tx.new }
-    ensures kind { IfOk result (λ r. IfOk r (IsReplyTo setup.now ask.now)) }
-    ensures step { Acts S.Store (CarriesOutFound setup.now con.now station certified found ask.now)
-        tx.old tx.new result }
-    ensures unwritten { Acts S.Store WritesOnlyActs tx.old tx.new result }
+    ensures answers { AnswersSo S.Store setup.now ask.now
+        (CarriesOutFound setup.now con.now station certified found ask.now) tx.old tx.new result }
 {
     let Change::PutReturn(standing) = change else {
         unreachable!()
@@ -244,7 +244,7 @@ fn put_moved<S: Alter>(
     requires few { length con.now.lists ≤ most_lists }
     requires moves { MovesTo con.now ask.now before.now standing.now }
     ensures stays { StaysInside S.Store tx.old tx.new }
-    ensures put { Acts S.Store (PutsMoved (after_move con.now station ask.now standing.now)
+    ensures put { InDatabase S.Store (PutsMoved (after_move con.now station ask.now standing.now)
         con.now station before.now) tx.old tx.new result }
 {
     match ask {
@@ -263,9 +263,8 @@ pub(crate) fn show_return<S: Alter>(
     station: Code,
 ) -> Result<Result<Reply, Refusal>, Error>
     ensures stays { StaysInside S.Store tx.old tx.new }
-    ensures kind { IfOk result (λ r. IfOk r (IsReplyTo setup.now (ShowReturn station))) }
-    ensures step { Acts S.Store (CarriesOut setup.now (ShowReturn station)) tx.old tx.new result }
-    ensures unwritten { Acts S.Store WritesOnlyActs tx.old tx.new result }
+    ensures answers { AnswersSo S.Store setup.now (ShowReturn station)
+        (CarriesOut setup.now (ShowReturn station)) tx.old tx.new result }
 {
     if setup.station(station).is_none() {
         return Ok(Err(Refusal::NoStation));

@@ -1,18 +1,16 @@
 //! The rows of a source, lodged.
 
-ghost use Rattle.std.specs.Prelude.{◌≡◌, ◌↔◌, Some, IfErr, OnOk, true};
+ghost use Rattle.std.specs.Prelude.{◌≡◌, ◌↔◌, Some, IfErr, true};
 ghost use Rattle.sqlite.specs.Held.{state};
 ghost use Rattle.tally_keeper.specs.Delivery.{delivery};
 ghost use Rattle.tally_keeper.specs.Import.{IsCodedRow};
-ghost use Rattle.tally_keeper.specs.Keeper.{IsImportFault, IsOwnFault};
-ghost use Rattle.tally_keeper.specs.Source.{GaveAll};
+ghost use Rattle.tally_keeper.specs.Keeper.{IsOwnFault};
 ghost use Rattle.tally_keeper.specs.declared.import.Row.{Row};
 ghost use Rattle.tally_rules.specs.Code.{is_code};
 ghost use Rattle.tally_statements.specs.Inside.{StaysInside};
 ghost use Rattle.tally_requests.specs.Inside.{StaysInState};
-ghost use Rattle.tally_requests.specs.Known.{ForgetsNone, known_of};
 ghost use Rattle.tally_requests.specs.internal.Counting.{CountsLodge, CountsRow};
-ghost use Rattle.tally_requests.specs.Requests.{ImportsRows};
+ghost use Rattle.tally_requests.specs.Requests.{LodgesRows};
 ghost use Rattle.tally_requests.specs.internal.Lodging.{Lodges, TakesRow};
 
 use crate::returns::lodge;
@@ -36,12 +34,8 @@ pub fn take_rows<S: Alter, R: RowSource>(
     source: &mut R,
 ) -> Result<ImportCount, ImportFault>
     ensures stays { StaysInState setup.now S.Store tx.old tx.new }
-    ensures imported { ImportsRows setup.now (delivery R.RowSource source.old source.new)
-        (known_of known.old) (known_of known.new)
-        (state S.Store tx.old.conn.now) (state S.Store tx.new.conn.now) result }
-    ensures gave { OnOk result (GaveAll (delivery R.RowSource source.old source.new)) }
-    ensures fault { IfErr result (IsImportFault (delivery R.RowSource source.old source.new)) }
-    ensures forgets { OnOk result (ForgetsNone (known_of known.old) (known_of known.new)) }
+    ensures lodges { LodgesRows S.Store setup.now (delivery R.RowSource source.old source.new)
+        known.old known.new tx.old tx.new result }
 {
     // Called for what its contract says: the setup is within its limits.
     let _cons = setup.cons();

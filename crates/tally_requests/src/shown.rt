@@ -54,15 +54,7 @@ pub fn show_con_in<S: Alter>(
     };
     let view = find_view(alloc, tx, setup, con, known_at(known, con.code), false)?;
     remember(known, con.code, statuses_of(&view))?;
-    Ok(Ok(without_past(view)))
-}
-
-/// A view without its certificates on record. Where they were not read it has none, but that is
-/// known only of the tables of a lawful state.
-fn without_past(view: ConView) -> ConView
-    ensures { result ≡ record view { past = [] } }
-{
-    let mut shown = view;
-    shown.past.clear();
-    shown
+    // Where certificates were not read the view has none, but that is known only of a lawful
+    // state.
+    Ok(Ok(view.without_past()))
 }

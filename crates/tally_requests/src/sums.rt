@@ -2,7 +2,7 @@
 
 ghost use Rattle.std.specs.Prelude.{◌≡◌, ◌≤◌, OnSome, SomeIff, length, true, false};
 ghost use Rattle.tally_frac.specs.Limits.{most_lists};
-ghost use Rattle.tally_statements.specs.Inside.{Acts, StaysInside};
+ghost use Rattle.tally_statements.specs.Inside.{InDatabase, StaysInside};
 ghost use Rattle.tally_requests.specs.internal.Moves.{MovesSums};
 ghost use Rattle.tally_ledger.specs.Sums.{CanMove, moved_sum};
 ghost use Rattle.tally_ledger.specs.internal.Sums.{moved_sums};
@@ -29,7 +29,7 @@ pub(crate) fn move_sums<S: Alter>(
 ) -> Result<(), Error>
     requires few { length con.now.lists ≤ most_lists }
     ensures stays { StaysInside S.Store tx.old tx.new }
-    ensures moved { Acts S.Store (MovesSums con.now counts.now add) tx.old tx.new result }
+    ensures moved { InDatabase S.Store (MovesSums con.now counts.now add) tx.old tx.new result }
 {
     let sums = find_sums(alloc, tx, con.code.as_str())?;
     if sums.votes.len() != con.lists.len() {

@@ -42,7 +42,7 @@ apart-untied q code apart = go (eq_by_cmp code_cmp q code) refl
     go true tied = absurd (apart (tied-same q code tied))
     go false untied = refl
 
--- what was put at a key, and at another one what stood there
+-- what was put at a key, and at another one what was there
 pub get-put : {X : Type 0} (m : fin.FinMap code_cmp X) (code : List ℕ) (x : X) → fin.get (fin.insert m code x) code ≡ Some x
 get-put m code x = fin.get-insert nat_list_cmp_total m code x code ∙ ap (λ b. cond b (Some x) (fin.get m code)) (same-tied code code refl)
 
@@ -79,7 +79,7 @@ pairs-first R x xs pairs k d within = pairs 0 (suc k) d (omega arith) (omega ari
 pairs-rest : {X : Type 0} (R : X → X → Type 0) (x : X) (xs : List X) → AllPairs R (x ∷ xs) → AllPairs R xs
 pairs-rest R x xs pairs i j d below within = pairs (suc i) (suc j) d (omega arith) (omega arith)
 
--- where codes differ, the one found behind the first is found in the whole
+-- where codes differ, the one found after the first is found in the whole
 behind-found : {X : Type 0} (f : X → List ℕ) (code : List ℕ) (x : X) (xs : List X) (y : X) → AreDistinct (map f (x ∷ xs))
     → find (λ z. bytes_eq code (f z)) xs ≡ Some y → find (λ z. bytes_eq code (f z)) (x ∷ xs) ≡ Some y
 behind-found f code x xs y distinct is = go (bytes_eq code (f x)) refl
@@ -129,7 +129,7 @@ station_with-con setup code con station is_setup = own-con setup code con statio
 abbrev place_code : Constituency × Station → List ℕ
 place_code place = place.1.code
 
--- a station found in a constituency is found there first, where others come behind
+-- a station found in a constituency is found there first, where others come after it
 first-in : (code : List ℕ) (c : Constituency) (station : Station) (stations : List Station) (more : List (Constituency × Station))
     → station_of code stations ≡ Some station → place_with code (places c stations ++ more) ≡ Some (c, station)
 first-in code c station [] more is = cc
@@ -141,7 +141,7 @@ first-in code c station (x ∷ stations) more is = go (bytes_eq code x.code) is 
     go true some later = let same : x ≡ station = cc in ap (λ (y : Station). Some (c, y)) same
     go false some later = later some
 
--- a place found behind the stations of a constituency is found in the whole, where codes differ
+-- a place found after the stations of a constituency is found in the whole, where codes differ
 behind-in : (code : List ℕ) (c : Constituency) (stations : List Station) (more : List (Constituency × Station)) (place : Constituency × Station)
     → AreDistinct (map place_code (places c stations ++ more)) → place_with code more ≡ Some place → place_with code (places c stations ++ more) ≡ Some place
 behind-in code c [] more place distinct is = is

@@ -51,7 +51,7 @@ first_refusal-append_some [] ys e some = cc
 first_refusal-append_some (None ∷ xs) ys e some = first_refusal-append_some xs ys e some
 first_refusal-append_some (Some refusal ∷ xs) ys e some = some
 
--- a return that moves does not stand at the last revision
+-- a return that moves is not at the last revision
 pub move-not_last : (certified : Bool) (standing : StationReturn) (rev : ℕ) (may_start : Status → Bool)
     → first_refusal (move_checks certified (Some standing) rev may_start) ≡ None → not (standing.rev == last_revision) ≡ true
 move-not_last certified standing rev may_start none = go (not certified) (standing.rev == rev) (not (standing.rev == last_revision)) none
@@ -75,7 +75,7 @@ pub move-rises : (certified : Bool) (standing : StationReturn) (rev : ℕ) (may_
     → standing.rev ≤ last_revision → first_refusal (move_checks certified (Some standing) rev may_start) ≡ None → standing.rev < last_revision
 move-rises certified standing rev may_start few none = not-last standing.rev few (move-not_last certified standing rev may_start none)
 
--- the note of a command may be kept, and may stand
+-- a text that is a note may be kept as one
 pub kept-note : {Z : Type 0} (note : String Z) → is_note (string_bytes note) ≡ true → is_kept_note (string_bytes note) ≡ true
 kept-note note is = and_from (is_note (string_bytes note)) (is_utf8 (string_bytes note)) is (is_utf8-from_IsUtf8 (string_bytes note) (IsUtf8-string_bytes note))
 

@@ -4,12 +4,15 @@ ghost use Rattle.std.specs.Prelude.{◌≡◌, ◌≤◌, ◌∷◌, [], Ok, IfO
 ghost use Rattle.std.specs.Option.{ForSome, option_copied};
 ghost use Rattle.tally_rules.specs.Text.{is_note};
 ghost use Rattle.tally_returns.specs.Checks.{check, first_refusal, refused_or};
-ghost use Rattle.tally_returns.specs.Decide.{IsDecidedMove, IsUnlessMemory, return_change_at, return_change_named};
+ghost use Rattle.tally_returns.specs.Decide.{IsDecidedMove, IsUnlessMemory, return_change_at};
+ghost use Rattle.tally_returns.specs.Decide.{return_change_named};
 ghost use Rattle.tally_returns.specs.Decide.{limits_named, limits_of, lodge_change, station_in};
-ghost use Rattle.tally_returns.specs.Lawful.{IsLawful, IsLawfulWhereNamed, PutsLawful, PutsLawfulWhereNamed};
+ghost use Rattle.tally_returns.specs.Lawful.{IsLawful, IsLawfulWhereNamed, PutsLawful};
+ghost use Rattle.tally_returns.specs.Lawful.{PutsLawfulWhereNamed};
 ghost use Rattle.tally_returns.specs.Lodge.{reply_at_station};
 ghost use Rattle.tally_returns.specs.declared.change.Change.TheVariants.{Same};
-ghost use Rattle.tally_returns.specs.Moves.{closed_return, corrected_return, last_revision, may_close, may_correct, may_query};
+ghost use Rattle.tally_returns.specs.Moves.{closed_return, corrected_return, last_revision};
+ghost use Rattle.tally_returns.specs.Moves.{may_close, may_correct, may_query};
 ghost use Rattle.tally_returns.specs.Moves.{move_checks, queried_return};
 ghost use Rattle.tally_returns.specs.declared.refusal.Refusal.TheVariants.{BadNote, NoReturn};
 

@@ -4,7 +4,8 @@ ghost use Rattle.std.specs.Prelude.{◌≡◌, ◌≤◌, IfErr, OnOk, None, Som
 ghost use Rattle.std.specs.Option.{option_copied};
 ghost use Rattle.tally_frac.specs.Limits.{most_lists};
 ghost use Rattle.tally_returns.specs.Checks.{first_refusal};
-ghost use Rattle.tally_returns.specs.Lodge.{reply_where_recorded, counts_checks, reply_at_station, limits_for};
+ghost use Rattle.tally_returns.specs.Lodge.{reply_where_recorded, counts_checks, reply_at_station};
+ghost use Rattle.tally_returns.specs.Lodge.{limits_for};
 
 use crate::counts::Counts;
 use crate::refusal::Refusal;

@@ -2,7 +2,9 @@
 
 ghost use Rattle.std.specs.Prelude.{◌≡◌, ◌≢◌, ◌<◌, IfOk, IfErr, OnOk, Some, None};
 ghost use Rattle.tally_returns.specs.Checks.{first_refusal};
-ghost use Rattle.tally_returns.specs.Moves.{last_revision, may_close, may_correct, may_query, move_checks, queried_return, corrected_return, closed_return};
+ghost use Rattle.tally_returns.specs.Moves.{last_revision, may_close, may_correct, may_query};
+ghost use Rattle.tally_returns.specs.Moves.{move_checks, queried_return, corrected_return};
+ghost use Rattle.tally_returns.specs.Moves.{closed_return};
 
 use crate::counts::Counts;
 use crate::refusal::Refusal;

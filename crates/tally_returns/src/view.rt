@@ -1,6 +1,6 @@
 //! What is seen of a constituency.
 
-ghost use Rattle.std.specs.Prelude.{◌≡◌, All, IfOk, IsTrue};
+ghost use Rattle.std.specs.Prelude.{◌≡◌, [], All, IfOk, IsTrue};
 ghost use Rattle.tally_returns.specs.View.{FitsView, HasEachList, is_before};
 ghost use Rattle.tally_rules.specs.Threshold.{IsWithinVotes};
 
@@ -158,6 +158,15 @@ impl ConView {
             && self.edition <= LAST_EDITION
             && self.closed <= self.stations
             && are_within(&self.votes, self.blank)
+    }
+
+    /// The view without its certificates on record.
+    pub fn without_past(self) -> ConView
+        ensures { result ≡ record self { past = [] } }
+    {
+        let mut shown = self;
+        shown.past.clear();
+        shown
     }
 
     /// A copy with the same content.

@@ -39,7 +39,7 @@ pub length-not_empty : (n : ℕ) → (n == 0) ≡ false → 1 ≤ n
 length-not_empty zero e = cc
 length-not_empty (suc n) e = omega arith
 
--- a text of 1 to 16 characters is a code where each of them may stand in one
+-- a text of 1 to 16 characters is a code where each of them may occur in one
 pub is_code-within : (text : List ℕ) → 1 ≤ length text → length text ≤ 16 → is_code text ≡ list_all is_code_character text
 is_code-within text some few =
     ap (λ b. (b && nat_le (length text) 16) && list_all is_code_character text) (le-leb 1 (length text) some)

@@ -1,4 +1,4 @@
--- Codes in order: where each stands, and that they differ.
+-- Codes in order: the place of each, and that they differ.
 use Rattle.std.proofs.Common.{◌≡◌, ◌≢◌, ◌<◌, ℕ, zero, suc, Bool, true, false, cond, List, [], ◌∷◌, ◌++◌, length, map, Option, Some, None, option_map, is_some, arith, refl, ap, ◌∙◌, sym, get_or}
 use Rattle.std.specs.Prelude.{◌||◌}
 use Rattle.std.specs.List.{slice_get, find}
@@ -13,7 +13,7 @@ use Rattle.tally_rules.specs.Code.{code_cmp}
 use Rattle.tally_rules.specs.Codes.{is_among_codes, AreDistinct}
 use Rattle.tally_rules.specs.internal.Index.{index_of, IsIndex}
 
--- a code added at the end is at the place behind the others, unless it was there
+-- a code added at the end is at the place after the others, unless it was there
 pub index_of-push : (q code : List ℕ) (codes : List (List ℕ)) → index_of q (codes ++ code ∷ []) ≡ option_or (index_of q codes) (cond (bytes_eq q code) (Some (length codes)) None)
 index_of-push q code [] = by_case (bytes_eq q code)
   where

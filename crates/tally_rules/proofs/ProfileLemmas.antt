@@ -6,7 +6,7 @@ use Rattle.std.specs.Option.{option_and_then}
 use Rattle.std.specs.Str.{bytes_eq}
 use Rattle.tally_rules.specs.internal.Index.{index_of}
 
--- what a code stands with is at the code's place
+-- what comes with a code is at the code's place
 pub lookup-index_of : {X : Type 0} (q : List ℕ) (xs : List (List ℕ × X)) → lookup (bytes_eq q) xs ≡ option_map (λ (x : List ℕ × X). x.1) (option_and_then (slice_get xs) (index_of q (map (λ (x : List ℕ × X). x.0) xs)))
 lookup-index_of q [] = refl
 lookup-index_of {X} q (x ∷ xs) = by_case (bytes_eq q x.0) (index_of q (map (λ (y : List ℕ × X). y.0) xs)) (lookup-index_of q xs)

@@ -78,7 +78,7 @@ constituency_with-place cons codes stations places index q = find-index_of (λ (
 abbrev pub station_at_index : List Constituency → List StationPlace → ℕ → Option (Constituency × Station)
 station_at_index cons places i = option_and_then (station_at cons) (slice_get places i)
 
--- the station of a code is the one whose place stands at the code's place
+-- the station of a code is the one whose place is recorded at the code's place
 pub station_with-place : (cons : List Constituency) (codes stations : List (List ℕ)) (places : List StationPlace) → IsIndexed cons codes stations places → (q : List ℕ) → station_with q cons ≡ option_and_then (station_at_index cons places) (index_of q stations)
 station_with-place cons codes stations places index q =
     find-index_of (λ (p : Constituency × Station). p.1.code) q (all_stations cons)

@@ -2,10 +2,10 @@ pub mod internal
 pub mod Code
 pub mod Codes
 pub mod Constituency
-pub mod DivisorRule
 pub mod Fault
 pub mod Limits
 pub mod ListSet
+pub mod Method
 pub mod Reading
 pub mod Setup
 pub mod Text

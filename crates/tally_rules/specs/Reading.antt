@@ -18,6 +18,7 @@ use Rattle.tally_rules.specs.Fault.{Fault, not_toml, missing, bad_value, over_li
 use Rattle.tally_rules.specs.Fault.{unknown_profile}
 use Rattle.tally_rules.specs.Limits.{most_candidates, most_constituencies, most_electors}
 use Rattle.tally_rules.specs.Limits.{most_profiles, most_stations}
+use Rattle.tally_rules.specs.Method.{method_named}
 use Rattle.tally_rules.specs.Setup.{constituency_codes, all_station_codes}
 use Rattle.tally_rules.specs.Text.{is_name}
 use Rattle.tally_rules.specs.declared.constituency.Station.{Station}
@@ -26,8 +27,6 @@ use Rattle.tally_rules.specs.declared.profile.Base.TheVariants.{Valid, Lists}
 use Rattle.tally_rules.specs.declared.profile.LotRule.{LotRule}
 use Rattle.tally_rules.specs.declared.profile.LotRule.TheVariants.{Fixed, Alternating}
 use Rattle.tally_rules.specs.declared.profile.Method.{Method}
-use Rattle.tally_rules.specs.declared.profile.Method.TheVariants.{DHondt, SainteLague}
-use Rattle.tally_rules.specs.declared.profile.Method.TheVariants.{ModifiedSainteLague, Hare}
 use Rattle.tally_rules.specs.declared.profile.Profile.{Profile}
 
 -- one step after another, as far as the first fault
@@ -84,14 +83,6 @@ read_name entry = do
   name_from (codes "name") value
 
 -- `method`
-abbrev pub method_named : List ℕ → Option Method
-method_named word =
-    if bytes_eq word (codes "dhondt") then Some DHondt
-    else if bytes_eq word (codes "sainte-lague") then Some SainteLague
-    else if bytes_eq word (codes "modified-sainte-lague") then Some ModifiedSainteLague
-    else if bytes_eq word (codes "hare") then Some Hare
-    else None
-
 unfoldable pub read_method : Data → Result Method Fault
 read_method entry = do
   word ← read_text (codes "method") entry

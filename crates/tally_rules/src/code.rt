@@ -31,8 +31,7 @@ impl Model for Code {
     ghost use Rattle.std.specs.Prelude.{◌≡◌, ◌≤◌, ◌-◌, ◌++◌, ℕ, List, true, length, take, drop};
     ghost use Rattle.std.specs.Prelude.{replicate};
     ghost use Rattle.std.proofs.Common.{arith, length-take-le};
-    ghost use Rattle.tally_rules.specs.Code.{padded-take};
-    ghost use Rattle.tally_rules.specs.Code.{is_code};
+    ghost use Rattle.tally_rules.specs.Code.{is_code, padded-take};
 
     ghost Value = { List ℕ };
 

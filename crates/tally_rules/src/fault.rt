@@ -23,7 +23,7 @@ pub enum SetupFault {
     #[error("`{0}` is over its limit")]
     OverLimit(&'static str),
     /// 5: a code occurs twice where codes have to differ.
-    #[error("the code `{0}` stands twice")]
+    #[error("the code `{0}` occurs twice")]
     Duplicate(Code),
     /// 6: a constituency names a profile that does not exist.
     #[error("no such profile")]

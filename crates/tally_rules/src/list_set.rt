@@ -1,8 +1,7 @@
 //! Sets of lists.
 
-ghost use Rattle.std.specs.Prelude.{◌≡◌, ℕ, ◌-◌, ◌<◌, ◌≤◌, ◌↔◌, IsTrue, List, Bool, false, true};
-ghost use Rattle.std.specs.Prelude.{length, replicate};
-ghost use Rattle.std.specs.Prelude.{slice_index_or, slice_set};
+ghost use Rattle.std.specs.Prelude.{◌≡◌, ℕ, ◌-◌, ◌<◌, ◌↔◌, IsTrue, List, Bool, false, true};
+ghost use Rattle.std.specs.Prelude.{length, replicate, slice_index_or, slice_set};
 ghost use Rattle.tally_frac.specs.Limits.{most_lists};
 ghost use Rattle.tally_rules.specs.ListSet.{has_place};
 

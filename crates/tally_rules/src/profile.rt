@@ -1,7 +1,7 @@
 //! Profiles: how the seats of a constituency are allotted.
 
 ghost use Rattle.std.specs.Prelude.{◌≡◌, ◌↔◌, None};
-ghost use Rattle.tally_rules.specs.DivisorRule.{divisor_rule_of};
+ghost use Rattle.tally_rules.specs.Method.{divisor_rule_of, method_named};
 ghost use Rattle.tally_rules.specs.declared.profile.Method.TheVariants.{Hare as by_hare};
 
 use tally_frac::DivisorRule;
@@ -20,6 +20,19 @@ pub enum Method {
 }
 
 impl Method {
+    /// The method of a word of a setup, such as `modified-sainte-lague`.
+    pub fn named(word: &str) -> Option<Method>
+        ensures { result ≡ method_named word.now }
+    {
+        match word {
+            "dhondt" => Some(Method::DHondt),
+            "sainte-lague" => Some(Method::SainteLague),
+            "modified-sainte-lague" => Some(Method::ModifiedSainteLague),
+            "hare" => Some(Method::Hare),
+            _ => None,
+        }
+    }
+
     /// The divisor rule, and `None` for Hare's method, which has no divisors.
     pub fn divisor_rule(&self) -> Option<DivisorRule>
         ensures rule { result ≡ divisor_rule_of self.now }

@@ -103,14 +103,10 @@ fn station_places(alloc: Global, cons: &[Constituency]) -> Result<Vec<StationPla
     Ok(places)
 }
 
-fn push_places(
-    places: &mut Vec<StationPlace>,
-    con: usize,
-    stations: usize,
-) -> Result<(), AllocError>
-    ensures { IfOk result (λ _. places.new.items ≡ places.old.items ++ places_in con stations) }
+fn push_places(places: &mut Vec<StationPlace>, con: usize, count: usize) -> Result<(), AllocError>
+    ensures { IfOk result (λ _. places.new.items ≡ places.old.items ++ places_in con count) }
 {
-    for station in 0..stations {
+    for station in 0..count {
         places.push(StationPlace { con, station })?;
     }
     Ok(())

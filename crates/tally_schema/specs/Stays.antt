@@ -24,6 +24,6 @@ Stays g old new = StaysFrom (λ _. ⊤) g old new
 
 -- What a call does to the database of its transaction: how the state before the call, the one after
 -- it and the answer belong together.
-abbrev pub Acts : {S X : Type 0} (g : Ghosts S) → (Seen → Seen → Result X Error → Type 0)
+abbrev pub InDatabase : {S X : Type 0} (g : Ghosts S) → (Seen → Seen → Result X Error → Type 0)
     → Transaction S → Transaction S → Result X Error → Type 0
-Acts g Act old new result = Act (state g old.conn.now) (state g new.conn.now) result
+InDatabase g Act old new result = Act (state g old.conn.now) (state g new.conn.now) result

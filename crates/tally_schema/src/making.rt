@@ -2,7 +2,7 @@
 
 ghost use Rattle.std.specs.Prelude.{◌≡◌};
 ghost use Rattle.tally_schema.specs.Made.{RunsStatement, Makes, MakesDatabase, MakesPast};
-ghost use Rattle.tally_schema.specs.Stays.{Acts, Stays};
+ghost use Rattle.tally_schema.specs.Stays.{InDatabase, Stays};
 ghost use Rattle.tally_schema.specs.internal.Texts.{create_returns_text};
 
 use sqlite::{Alter, Error, Transaction};
@@ -10,7 +10,7 @@ use sqlite::{Alter, Error, Transaction};
 /// Runs a text that has no parameters.
 fn run<S: Alter>(tx: &mut Transaction<'_, S>, sql: &str) -> Result<(), Error>
     ensures stays { Stays S.Store tx.old tx.new }
-    ensures ran { Acts S.Store (RunsStatement sql.now) tx.old tx.new result }
+    ensures ran { InDatabase S.Store (RunsStatement sql.now) tx.old tx.new result }
 {
     tx.execute(sql, &[])?;
     Ok(())
@@ -19,7 +19,7 @@ fn run<S: Alter>(tx: &mut Transaction<'_, S>, sql: &str) -> Result<(), Error>
 /// Makes the table `setup`.
 fn create_setup<S: Alter>(tx: &mut Transaction<'_, S>) -> Result<(), Error>
     ensures stays { Stays S.Store tx.old tx.new }
-    ensures made { Acts S.Store (Makes 0 1) tx.old tx.new result }
+    ensures made { InDatabase S.Store (Makes 0 1) tx.old tx.new result }
 {
     run(
         tx,
@@ -40,7 +40,7 @@ fn returns_text() -> &'static str
 /// Makes the table `returns`.
 fn create_returns<S: Alter>(tx: &mut Transaction<'_, S>) -> Result<(), Error>
     ensures stays { Stays S.Store tx.old tx.new }
-    ensures made { Acts S.Store (Makes 1 2) tx.old tx.new result }
+    ensures made { InDatabase S.Store (Makes 1 2) tx.old tx.new result }
 {
     run(tx, returns_text())
 }
@@ -48,7 +48,7 @@ fn create_returns<S: Alter>(tx: &mut Transaction<'_, S>) -> Result<(), Error>
 /// Makes the table `counts`.
 fn create_counts<S: Alter>(tx: &mut Transaction<'_, S>) -> Result<(), Error>
     ensures stays { Stays S.Store tx.old tx.new }
-    ensures made { Acts S.Store (Makes 2 3) tx.old tx.new result }
+    ensures made { InDatabase S.Store (Makes 2 3) tx.old tx.new result }
 {
     run(
         tx,
@@ -60,7 +60,7 @@ fn create_counts<S: Alter>(tx: &mut Transaction<'_, S>) -> Result<(), Error>
 /// Makes the table `cons`.
 fn create_cons<S: Alter>(tx: &mut Transaction<'_, S>) -> Result<(), Error>
     ensures stays { Stays S.Store tx.old tx.new }
-    ensures made { Acts S.Store (Makes 3 4) tx.old tx.new result }
+    ensures made { InDatabase S.Store (Makes 3 4) tx.old tx.new result }
 {
     run(
         tx,
@@ -72,7 +72,7 @@ fn create_cons<S: Alter>(tx: &mut Transaction<'_, S>) -> Result<(), Error>
 /// Makes the table `lots`.
 fn create_lots<S: Alter>(tx: &mut Transaction<'_, S>) -> Result<(), Error>
     ensures stays { Stays S.Store tx.old tx.new }
-    ensures made { Acts S.Store (Makes 4 5) tx.old tx.new result }
+    ensures made { InDatabase S.Store (Makes 4 5) tx.old tx.new result }
 {
     run(
         tx,
@@ -84,7 +84,7 @@ fn create_lots<S: Alter>(tx: &mut Transaction<'_, S>) -> Result<(), Error>
 /// Makes the table `seats`.
 fn create_seats<S: Alter>(tx: &mut Transaction<'_, S>) -> Result<(), Error>
     ensures stays { Stays S.Store tx.old tx.new }
-    ensures made { Acts S.Store (Makes 5 6) tx.old tx.new result }
+    ensures made { InDatabase S.Store (Makes 5 6) tx.old tx.new result }
 {
     run(
         tx,
@@ -96,7 +96,7 @@ fn create_seats<S: Alter>(tx: &mut Transaction<'_, S>) -> Result<(), Error>
 /// Makes the table `gone`.
 fn create_gone<S: Alter>(tx: &mut Transaction<'_, S>) -> Result<(), Error>
     ensures stays { Stays S.Store tx.old tx.new }
-    ensures made { Acts S.Store (Makes 6 7) tx.old tx.new result }
+    ensures made { InDatabase S.Store (Makes 6 7) tx.old tx.new result }
 {
     run(
         tx,
@@ -108,7 +108,7 @@ fn create_gone<S: Alter>(tx: &mut Transaction<'_, S>) -> Result<(), Error>
 /// Makes the table `totals`.
 fn create_totals<S: Alter>(tx: &mut Transaction<'_, S>) -> Result<(), Error>
     ensures stays { Stays S.Store tx.old tx.new }
-    ensures made { Acts S.Store (Makes 7 8) tx.old tx.new result }
+    ensures made { InDatabase S.Store (Makes 7 8) tx.old tx.new result }
 {
     run(
         tx,
@@ -120,8 +120,8 @@ fn create_totals<S: Alter>(tx: &mut Transaction<'_, S>) -> Result<(), Error>
 /// Makes the table `past` beside those of version 1, and leaves their rows as they are.
 pub fn create_past<S: Alter>(tx: &mut Transaction<'_, S>) -> Result<(), Error>
     ensures stays { Stays S.Store tx.old tx.new }
-    ensures made { Acts S.Store (Makes 8 9) tx.old tx.new result }
-    ensures past { Acts S.Store MakesPast tx.old tx.new result }
+    ensures made { InDatabase S.Store (Makes 8 9) tx.old tx.new result }
+    ensures past { InDatabase S.Store MakesPast tx.old tx.new result }
 {
     run(
         tx,
@@ -133,7 +133,7 @@ pub fn create_past<S: Alter>(tx: &mut Transaction<'_, S>) -> Result<(), Error>
 /// Makes `setup`, `returns` and `counts`.
 fn create_return_tables<S: Alter>(tx: &mut Transaction<'_, S>) -> Result<(), Error>
     ensures stays { Stays S.Store tx.old tx.new }
-    ensures made { Acts S.Store (Makes 0 3) tx.old tx.new result }
+    ensures made { InDatabase S.Store (Makes 0 3) tx.old tx.new result }
 {
     create_setup(tx)?;
     create_returns(tx)?;
@@ -143,7 +143,7 @@ fn create_return_tables<S: Alter>(tx: &mut Transaction<'_, S>) -> Result<(), Err
 /// Makes `cons`, `lots` and `seats`.
 fn create_seat_tables<S: Alter>(tx: &mut Transaction<'_, S>) -> Result<(), Error>
     ensures stays { Stays S.Store tx.old tx.new }
-    ensures made { Acts S.Store (Makes 3 6) tx.old tx.new result }
+    ensures made { InDatabase S.Store (Makes 3 6) tx.old tx.new result }
 {
     create_cons(tx)?;
     create_lots(tx)?;
@@ -153,7 +153,7 @@ fn create_seat_tables<S: Alter>(tx: &mut Transaction<'_, S>) -> Result<(), Error
 /// Makes `gone` and `totals`.
 fn create_sum_tables<S: Alter>(tx: &mut Transaction<'_, S>) -> Result<(), Error>
     ensures stays { Stays S.Store tx.old tx.new }
-    ensures made { Acts S.Store (Makes 6 8) tx.old tx.new result }
+    ensures made { InDatabase S.Store (Makes 6 8) tx.old tx.new result }
 {
     create_gone(tx)?;
     create_totals(tx)
@@ -162,7 +162,7 @@ fn create_sum_tables<S: Alter>(tx: &mut Transaction<'_, S>) -> Result<(), Error>
 /// Makes the eight tables of version 1, in a database without tables.
 pub fn create_former_tables<S: Alter>(tx: &mut Transaction<'_, S>) -> Result<(), Error>
     ensures stays { Stays S.Store tx.old tx.new }
-    ensures made { Acts S.Store (Makes 0 8) tx.old tx.new result }
+    ensures made { InDatabase S.Store (Makes 0 8) tx.old tx.new result }
 {
     create_return_tables(tx)?;
     create_seat_tables(tx)?;
@@ -172,8 +172,8 @@ pub fn create_former_tables<S: Alter>(tx: &mut Transaction<'_, S>) -> Result<(),
 /// Makes the nine tables of the office, without rows, in a database without tables.
 pub fn create_tables<S: Alter>(tx: &mut Transaction<'_, S>) -> Result<(), Error>
     ensures stays { Stays S.Store tx.old tx.new }
-    ensures made { Acts S.Store (Makes 0 9) tx.old tx.new result }
-    ensures sound { Acts S.Store MakesDatabase tx.old tx.new result }
+    ensures made { InDatabase S.Store (Makes 0 9) tx.old tx.new result }
+    ensures sound { InDatabase S.Store MakesDatabase tx.old tx.new result }
 {
     create_former_tables(tx)?;
     create_past(tx)

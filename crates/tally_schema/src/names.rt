@@ -2,7 +2,8 @@
 
 ghost use Rattle.std.specs.Prelude.{◌≡◌, codes};
 ghost use Rattle.std.specs.List.{list_any};
-ghost use Rattle.tally_schema.specs.Made.{is_table_aside, has_table, has_name, has_former_tables, takes_office_name};
+ghost use Rattle.tally_schema.specs.Made.{is_table_aside, has_table, has_name, has_former_tables};
+ghost use Rattle.tally_schema.specs.Made.{takes_office_name};
 
 use sqlite_schema::names::same_name;
 use sqlite_schema::schema::{Schema, View};

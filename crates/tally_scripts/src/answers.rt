@@ -6,28 +6,28 @@ use std::test::Fail;
 use tally_keeper::{Ask, ConView, Keeper, ListSet, ProgressRow, Refusal, Reply, Return, run};
 
 /// What is answered, as text: a word for it, and its numbers.
-pub fn told(alloc: Global, answer: &Result<Reply, Refusal>) -> Result<String, Fail> {
+pub fn text_of_answer(alloc: Global, answer: &Result<Reply, Refusal>) -> Result<String, Fail> {
     match answer {
-        Ok(reply) => told_reply(alloc, reply),
-        Err(refusal) => told_refusal(alloc, refusal),
+        Ok(reply) => text_of_reply(alloc, reply),
+        Err(refusal) => text_of_refusal(alloc, refusal),
     }
 }
 
-fn told_reply(alloc: Global, reply: &Reply) -> Result<String, Fail> {
+fn text_of_reply(alloc: Global, reply: &Reply) -> Result<String, Fail> {
     match reply {
         Reply::Lodged { rev } => Ok(format!(in alloc; "lodged {rev}")?),
         Reply::Same { rev } => Ok(format!(in alloc; "same {rev}")?),
         Reply::Moved { rev } => Ok(format!(in alloc; "moved {rev}")?),
-        Reply::Return(standing) => told_return(alloc, standing),
+        Reply::Return(standing) => text_of_return(alloc, standing),
         Reply::Edition { edition } => Ok(format!(in alloc; "edition {edition}")?),
         Reply::Vacated { next } => Ok(format!(in alloc; "vacated {next:?}")?),
-        Reply::Con(view) => told_view(alloc, view),
-        Reply::Progress(rows) => told_progress(alloc, rows),
+        Reply::Con(view) => text_of_view(alloc, view),
+        Reply::Progress(rows) => text_of_progress(alloc, rows),
     }
 }
 
 /// The revision, slip, status, votes, blank and spoiled votes, and the note.
-fn told_return(alloc: Global, standing: &Return) -> Result<String, Fail> {
+fn text_of_return(alloc: Global, standing: &Return) -> Result<String, Fail> {
     let Return {
         rev,
         slip,
@@ -44,7 +44,7 @@ fn told_return(alloc: Global, standing: &Return) -> Result<String, Fail> {
 /// Whether it is certified, the edition, how many returns are received, queried, corrected, and
 /// closed, of how many stations; the votes, the blank and the spoiled ones, the lot, the seats; the
 /// note of the last reopening; and who is gone, in the order of lists and places.
-fn told_now(alloc: Global, view: &ConView) -> Result<String, Fail> {
+fn text_of_numbers(alloc: Global, view: &ConView) -> Result<String, Fail> {
     let certified = if view.certified { "certified" } else { "open" };
     let mut text = format!(in alloc; "{certified} {}", view.edition)?;
     write!(text, " {} {}", view.received, view.queried)?;
@@ -65,15 +65,15 @@ fn told_now(alloc: Global, view: &ConView) -> Result<String, Fail> {
 }
 
 /// The same, and the edition and the seats of each certificate that was reopened.
-fn told_view(alloc: Global, view: &ConView) -> Result<String, Fail> {
-    let mut text = told_now(alloc, view)?;
+fn text_of_view(alloc: Global, view: &ConView) -> Result<String, Fail> {
+    let mut text = text_of_numbers(alloc, view)?;
     for past in &view.past {
         write!(text, " past {} {:?}", past.edition, past.seats)?;
     }
     Ok(text)
 }
 
-fn told_progress(alloc: Global, rows: &[ProgressRow]) -> Result<String, Fail> {
+fn text_of_progress(alloc: Global, rows: &[ProgressRow]) -> Result<String, Fail> {
     let mut text = String::from_str(alloc, "progress")?;
     for row in rows {
         push_row(&mut text, *row)?;
@@ -92,15 +92,15 @@ fn push_row(text: &mut String, row: ProgressRow) -> Result<(), Fail> {
 }
 
 /// What a refusal says, or its number.
-pub fn told_refusal(alloc: Global, refusal: &Refusal) -> Result<String, Fail> {
+pub fn text_of_refusal(alloc: Global, refusal: &Refusal) -> Result<String, Fail> {
     match refusal {
         Refusal::WrongStatus { status } => Ok(format!(in alloc; "status {status:?}")?),
         Refusal::Stale { now } => Ok(format!(in alloc; "stale {now}")?),
         Refusal::Differs { rev } => Ok(format!(in alloc; "differs {rev}")?),
         Refusal::NotAllClosed { left } => Ok(format!(in alloc; "left {left}")?),
-        Refusal::LotWrongGroup { group } => told_group(alloc, "no order of", group),
+        Refusal::LotWrongGroup { group } => text_of_group(alloc, "no order of", group),
         Refusal::LotMissing { group, seats } => {
-            let mut text = told_group(alloc, "lot of", group)?;
+            let mut text = text_of_group(alloc, "lot of", group)?;
             write!(text, " for {seats}")?;
             Ok(text)
         }
@@ -109,7 +109,7 @@ pub fn told_refusal(alloc: Global, refusal: &Refusal) -> Result<String, Fail> {
 }
 
 /// The places of a group after a text.
-fn told_group(alloc: Global, front: &str, group: &ListSet) -> Result<String, Fail> {
+fn text_of_group(alloc: Global, front: &str, group: &ListSet) -> Result<String, Fail> {
     let mut text = String::from_str(alloc, front)?;
     for place in 1..=60u32 {
         if group.has(place) {
@@ -126,26 +126,26 @@ fn answered<K: Keeper>(alloc: Global, keeper: &mut K, line: &str) -> Result<Stri
     let answer = keeper.answer(&ask);
     if let Ask::ShowCon { con } = ask {
         let shown = keeper.show_con(con);
-        if without_past(alloc, &answer)?.as_str() != told_shown(alloc, &shown)?.as_str() {
+        if without_past(alloc, &answer)?.as_str() != text_of_shown(alloc, &shown)?.as_str() {
             return Err(Fail::from("shown otherwise without certificates on record"));
         }
     }
-    told(alloc, &answer)
+    text_of_answer(alloc, &answer)
 }
 
 /// What a ShowCon was answered, without the certificates on record.
 fn without_past(alloc: Global, answer: &Result<Reply, Refusal>) -> Result<String, Fail> {
     match answer {
-        Ok(Reply::Con(view)) => told_now(alloc, view),
-        _ => told(alloc, answer),
+        Ok(Reply::Con(view)) => text_of_numbers(alloc, view),
+        _ => text_of_answer(alloc, answer),
     }
 }
 
 /// What was shown of a constituency, with whatever certificates on record it has.
-fn told_shown(alloc: Global, shown: &Result<ConView, Refusal>) -> Result<String, Fail> {
+fn text_of_shown(alloc: Global, shown: &Result<ConView, Refusal>) -> Result<String, Fail> {
     match shown {
-        Ok(view) => told_view(alloc, view),
-        Err(refusal) => told_refusal(alloc, refusal),
+        Ok(view) => text_of_view(alloc, view),
+        Err(refusal) => text_of_refusal(alloc, refusal),
     }
 }
 
@@ -153,20 +153,33 @@ fn told_shown(alloc: Global, shown: &Result<ConView, Refusal>) -> Result<String,
 pub fn first_wrong<K: Keeper>(alloc: Global, keeper: &mut K, script: &str) -> Result<String, Fail> {
     for line in script.lines() {
         let (ask, wanted) = line.split_once(" = ").ok_or("no answer")?;
-        let told = answered(alloc, keeper, ask)?;
-        if told.as_str() != wanted {
-            return Ok(format!(in alloc; "{line}, and not {told}")?);
+        let got = answered(alloc, keeper, ask)?;
+        if got.as_str() != wanted {
+            return Ok(format!(in alloc; "{line}, and not {got}")?);
         }
     }
     Ok(String::new(alloc))
 }
 
+/// Fails at the first of these lines whose answer is another.
+pub fn check_answers<K: Keeper>(alloc: Global, keeper: &mut K, script: &str) -> Result<(), Fail> {
+    let wrong = first_wrong(alloc, keeper, script)?;
+    if wrong.is_empty() {
+        return Ok(());
+    }
+    Err(Fail::from(wrong))
+}
+
 /// What a keeper answers to the commands of these lines in one run, a line each.
-pub fn all_told<K: Keeper>(alloc: Global, keeper: &mut K, lines: &str) -> Result<String, Fail> {
+pub fn text_of_answers<K: Keeper>(
+    alloc: Global,
+    keeper: &mut K,
+    lines: &str,
+) -> Result<String, Fail> {
     let asks = commands(alloc, lines)?;
     let mut text = String::new(alloc);
     for answer in &run(alloc, keeper, &asks)? {
-        text.push_str(told(alloc, answer)?.as_str())?;
+        text.push_str(text_of_answer(alloc, answer)?.as_str())?;
         text.push_str("\n")?;
     }
     Ok(text)
@@ -190,9 +203,9 @@ fn first_other(
 ) -> Result<String, Fail> {
     for (place, line) in script.lines().enumerate() {
         let (_ask, wanted) = line.split_once(" = ").ok_or("no answer")?;
-        let told = told(alloc, answers.get(place).ok_or("an answer is missing")?)?;
-        if told.as_str() != wanted {
-            return Ok(format!(in alloc; "{line}, and not {told}")?);
+        let got = text_of_answer(alloc, answers.get(place).ok_or("an answer is missing")?)?;
+        if got.as_str() != wanted {
+            return Ok(format!(in alloc; "{line}, and not {got}")?);
         }
     }
     Ok(String::new(alloc))

@@ -1,14 +1,23 @@
-//! Scripts of commands and their answers as lines of text, for the tests of keepers.
+//! Scripts of commands and their answers as lines of text, and texts of returns, for the tests of
+//! keepers.
 #![tactic(auto)]
 
 mod answers;
 mod commands;
 mod readers;
+mod returns;
 mod scripts;
 mod setups;
 
-pub use answers::{all_told, first_wrong, first_wrong_of_run, told, told_refusal};
+pub use answers::{
+    check_answers, first_wrong, first_wrong_of_run, text_of_answer, text_of_answers,
+    text_of_refusal,
+};
 pub use commands::{command, counts};
-pub use readers::Failing;
-pub use scripts::{ALTERNATING, HARE, LIFE, RECOUNT, RIVERS, TWICE, VACANCIES};
-pub use setups::{TWIN_TOWN, code, number, setup, twin_town, with};
+pub use readers::{Failing, Pieces};
+pub use returns::{
+    ALL_LODGED, BAD_RETURNS, CUT_RETURNS, HEADER, NONE_LODGED, QUOTED_RETURNS, RETURNS,
+    TWO_ROWS_AND_A_PIECE, failing_reads, import_count, with_bad_rows,
+};
+pub use scripts::{CERTIFIED, RECOUNT, TWICE, setups_and_scripts};
+pub use setups::{MORE_STATIONS, TWIN_TOWN, code, number, setup, twin_town};

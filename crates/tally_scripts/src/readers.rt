@@ -1,6 +1,29 @@
-//! A reader whose reads fail.
+//! Readers whose reads give few bytes, or fail.
 
 use std::io::{self, ErrorKind, Read};
+
+/// Gives its text in pieces of so many bytes, and then ends or fails.
+#[derive(Drop)]
+pub struct Pieces<'a> {
+    /// What is still to come.
+    pub text: &'a [u8],
+    /// How many bytes a read gives at most.
+    pub piece: usize,
+    /// How each read fails at the end.
+    pub failure: Option<ErrorKind>,
+}
+
+impl Read for Pieces<'_> {
+    fn read(&mut self, buf: &mut [u8]) -> io::Result<usize> {
+        if let (true, Some(kind)) = (self.text.is_empty(), self.failure) {
+            return Err(io::Error::from(kind));
+        }
+        let taken = self.piece.min(buf.len()).min(self.text.len());
+        buf[..taken].copy_from_slice(&self.text[..taken]);
+        self.text = &self.text[taken..];
+        Ok(taken)
+    }
+}
 
 /// Gives a text; then so many reads fail; then, where it is read again, it gives another text and
 /// ends.

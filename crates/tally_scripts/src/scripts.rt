@@ -1,7 +1,11 @@
 //! Scripts: commands, each with what is answered to it.
 
+use crate::setups::twin_town;
+use std::alloc::Global;
+use std::test::Fail;
+
 /// 8 is NoReturn, 1 NoStation, 4 BadCounts, 5 BadNote.
-pub const LIFE: &str = "close s1 1 = refused 8
+const LIFE: &str = "close s1 1 = refused 8
 return s1 = refused 8
 lodge zz p1 1,1 = refused 1
 lodge s1 p1 1,1,1 = refused 4
@@ -13,9 +17,9 @@ correct s1 1 p2 1,1 = status Received
 query s1 1 sum = moved 2
 show c1 = open 1 0 1 0 0/1 [0, 0] 0 0 [] []
 close s1 2 = status Queried
-correct s1 2 p2 1,1 3 2 = moved 3
+correct s1 2 p2 1,1 = moved 3
 show c1 = open 1 0 0 1 0/1 [0, 0] 0 0 [] []
-return s1 = 3 p2 Corrected [1, 1] 3 2 sum";
+return s1 = 3 p2 Corrected [1, 1] 0 0 sum";
 
 /// Commands that are given again, and the progress: of one station nothing is received, queried or
 /// corrected, and one return is closed.
@@ -24,6 +28,12 @@ lodge s1 p1 100,100 = same 1
 close s1 1 = moved 2
 close s1 1 = stale 2
 progress = progress c1 1: 0 0 0 1 1 false";
+
+/// Three seats for two lists of 100 votes each, and a lot by which B is first.
+pub const CERTIFIED: &str = "lodge s1 p1 100,100 = lodged 1
+close s1 1 = moved 2
+draw c1 1 B,A = edition 2
+certify c1 2 = edition 3";
 
 /// 9 is Certified, 10 NotCertified, 16 LotStands, 20 AlreadyGone, 21 NotHolder.
 pub const RECOUNT: &str = "lodge s1 p1 100,100 3 2 = lodged 1
@@ -60,7 +70,7 @@ lodge s1 p2 120,120 4 1 = same 5";
 
 /// The same where lots alternate: a lot is turned round for second seats, so that by the lot B, A
 /// the third seat is A's.
-pub const ALTERNATING: &str = "lodge s1 p1 100,100 = lodged 1
+const ALTERNATING: &str = "lodge s1 p1 100,100 = lodged 1
 certify c1 1 = left 1
 close s1 1 = moved 2
 close s1 1 = stale 2
@@ -90,7 +100,7 @@ lodge s1 p2 120,120 = same 5";
 
 /// D has less than a twentieth. Of 999 votes of the others A has 2 quotas and 2 over, B 1 and 501,
 /// C 1 and 496: the fifth seat is B's. Of 1,000, B and C have 1 quota and 500 over: a lot decides.
-pub const HARE: &str = "lodge r1 p1 200,150,150,10 3 1 = lodged 1
+const HARE: &str = "lodge r1 p1 200,150,150,10 3 1 = lodged 1
 lodge r2 q1 200,150,149,10 4 2 = lodged 1
 close r1 1 = moved 2
 certify h 1 = left 1
@@ -122,7 +132,7 @@ show h = open 6 0 1 0 1/2 [200, 150, 150, 10] 5 0 [] [] again 1.1 moved 2.1 died
 certify zz 1 = refused 2";
 
 /// 1 seat; 2 is NoConstituency, 3 NoCandidate.
-pub const VACANCIES: &str = "lodge s1 p1 100,50 = lodged 1
+const VACANCIES: &str = "lodge s1 p1 100,50 = lodged 1
 close s1 1 = moved 2
 certify c1 1 = edition 2
 vacate c1 A 1 moved = vacated Some(2)
@@ -132,7 +142,7 @@ vacate c2 A 1 moved = refused 2
 show c1 = certified 2 0 0 0 1/1 [100, 50] 0 0 [] [1, 0] 1.1 moved 1.2 moved";
 
 /// Hare with a threshold of 5 per cent of the valid votes; 5 seats.
-pub const RIVERS: &str = r#"[[profile]]
+const RIVERS: &str = r#"[[profile]]
 code = "h5"
 method = "hare"
 threshold = 500
@@ -172,3 +182,25 @@ electors = 1000
 code = "r2"
 electors = 1000
 "#;
+
+// The method of a setup in which lots alternate.
+const ALTERNATING_LOTS: &str = "dhondt\"\nlot = \"alternating";
+
+// A method of Twin Town, the number of seats, and a script.
+const IN_TWIN_TOWN: [(&str, u32, &str); 5] = [
+    ("dhondt", 3, LIFE),
+    ("dhondt", 3, TWICE),
+    ("dhondt", 3, RECOUNT),
+    ("dhondt", 1, VACANCIES),
+    (ALTERNATING_LOTS, 3, ALTERNATING),
+];
+
+/// Setups as text, each with a script.
+pub fn setups_and_scripts(alloc: Global) -> Result<Vec<(String, &'static str)>, Fail> {
+    let mut scripts = Vec::new(alloc);
+    for (method, seats, script) in IN_TWIN_TOWN {
+        scripts.push((twin_town(alloc, method, seats)?, script))?;
+    }
+    scripts.push((String::from_str(alloc, RIVERS)?, HARE))?;
+    Ok(scripts)
+}

@@ -32,13 +32,24 @@ code = "s1"
 electors = 300
 "#;
 
+/// Two more stations of it.
+pub const MORE_STATIONS: &str = r#"
+[[constituency.station]]
+code = "s2"
+electors = 300
+
+[[constituency.station]]
+code = "s3"
+electors = 300
+"#;
+
 /// The setup of a text.
 pub fn setup(alloc: Global, text: &str) -> Result<Setup, Fail> {
     let setup = read_setup(alloc, text.as_bytes());
     Ok(setup.ok().ok_or("a setup")?)
 }
 
-/// The setup above by another rule, and with another number of seats.
+/// Twin Town by another method, and with another number of seats.
 pub fn twin_town(alloc: Global, method: &str, seats: u32) -> Result<String, Fail> {
     let setup = with(alloc, TWIN_TOWN, "dhondt", method)?;
     let seats = format!(in alloc; "seats = {seats}")?;
@@ -46,8 +57,8 @@ pub fn twin_town(alloc: Global, method: &str, seats: u32) -> Result<String, Fail
 }
 
 /// A text with another piece in the place of this one.
-pub fn with(alloc: Global, text: &str, piece: &str, other: &str) -> Result<String, Fail> {
-    let (front, back) = text.split_once(piece).ok_or("the piece stands there")?;
+fn with(alloc: Global, text: &str, piece: &str, other: &str) -> Result<String, Fail> {
+    let (front, back) = text.split_once(piece).ok_or("the piece is not there")?;
     Ok(format!(in alloc; "{front}{other}{back}")?)
 }
 

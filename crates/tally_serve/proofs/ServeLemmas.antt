@@ -4,7 +4,7 @@ use Rattle.std.proofs.Math.Seq.{take-add}
 use Rattle.std.proofs.lemmas.List.{append-nil, drop-drop}
 use Rattle.tally_door.specs.Connection.{Connection, Connections}
 use Rattle.tally_serve.specs.Serving.{Answering, IsExchange, Serves, one_if}
-use Rattle.tally_serve.specs.internal.Next.{IsNext}
+use Rattle.tally_serve.specs.internal.Next.{IsNextConnection}
 
 serves_push : {C : Type 0} (A : Answering C) (old mid new : C) (cs ds : List Connection) (c d : Connection) (whole : Bool) (k : ℕ)
     → Serves A old cs ds k mid → IsExchange A mid c whole d new → Serves A old (cs ++ c ∷ []) (ds ++ d ∷ []) (k + one_if whole) new
@@ -32,11 +32,11 @@ last_piece all i is =
 
 pub serves_more : {C : Type 0} (A : Answering C) (T : Type 0) (old mid new : C) (front all ended : List Connection) (i k : ℕ) (whole : Bool) (before after : Connections)
     → before.ended ++ option_to_list before.current ≡ front ++ ended → before.coming ≡ drop i all → (T → Serves A old (take i all) ended k mid)
-    → IsNext (before.ended ++ option_to_list before.current) before.coming after whole (λ c d. T → IsExchange A mid c whole d new) (new ≡ mid)
+    → IsNextConnection (before.ended ++ option_to_list before.current) before.coming after whole (λ c d. T → IsExchange A mid c whole d new) (new ≡ mid)
     → IsMore A T old new front all (i + 1) (k + one_if whole) after
 serves_more {C} A T old mid new front all ended i k whole before after done coming serves next = go before.coming coming next
   where
-    go : (l : List Connection) → l ≡ drop i all → IsNext (before.ended ++ option_to_list before.current) l after whole (λ c d. T → IsExchange A mid c whole d new) (new ≡ mid)
+    go : (l : List Connection) → l ≡ drop i all → IsNextConnection (before.ended ++ option_to_list before.current) l after whole (λ c d. T → IsExchange A mid c whole d new) (new ≡ mid)
         → IsMore A T old new front all (i + 1) (k + one_if whole) after
     go [] is (none, now, kept) =
         let piece = last_piece all i (sym is) in

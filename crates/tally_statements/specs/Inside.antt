@@ -5,7 +5,7 @@ use Rattle.sqlite.specs.declared.error.Error.{Error}
 use Rattle.sqlite.specs.declared.transaction.Transaction.{Transaction}
 use Rattle.sqlite.specs.Held.{state}
 use Rattle.sqlite.specs.State.{State as Seen, HasCleanDisk, IsUnchanged}
-pub use Rattle.tally_schema.specs.Stays.{Acts, Stays, StaysFrom}
+pub use Rattle.tally_schema.specs.Stays.{InDatabase, Stays, StaysFrom}
 use Rattle.tally_statements.specs.Office.{IsInside}
 
 -- what a call keeps in one in which the office's tables are open

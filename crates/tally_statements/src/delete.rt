@@ -1,6 +1,6 @@
 //! DELETE of the rows of a constituency.
 
-ghost use Rattle.tally_statements.specs.Inside.{Acts, Stays};
+ghost use Rattle.tally_statements.specs.Inside.{InDatabase, Stays};
 ghost use Rattle.tally_statements.specs.Office.{Deletes};
 ghost use Rattle.tally_statements.specs.declared.table.KeyedTable.TheVariants.{Lots, Seats};
 
@@ -10,7 +10,7 @@ use sqlite::{Alter, Error, Transaction, params};
 /// Takes out the lot of a constituency.
 pub fn delete_lot<S: Alter>(tx: &mut Transaction<'_, S>, con: &str) -> Result<(), Error>
     ensures stays { Stays S.Store tx.old tx.new }
-    ensures deleted { Acts S.Store (Deletes Lots con.now) tx.old tx.new result }
+    ensures deleted { InDatabase S.Store (Deletes Lots con.now) tx.old tx.new result }
 {
     run(tx, "DELETE FROM lots WHERE con = ?1", params![con])
 }
@@ -18,7 +18,7 @@ pub fn delete_lot<S: Alter>(tx: &mut Transaction<'_, S>, con: &str) -> Result<()
 /// Takes out the seats of a constituency.
 pub fn delete_seats<S: Alter>(tx: &mut Transaction<'_, S>, con: &str) -> Result<(), Error>
     ensures stays { Stays S.Store tx.old tx.new }
-    ensures deleted { Acts S.Store (Deletes Seats con.now) tx.old tx.new result }
+    ensures deleted { InDatabase S.Store (Deletes Seats con.now) tx.old tx.new result }
 {
     run(tx, "DELETE FROM seats WHERE con = ?1", params![con])
 }

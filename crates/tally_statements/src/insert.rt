@@ -1,9 +1,12 @@
 //! INSERT of one row into a table.
 
 ghost use Rattle.std.specs.Prelude.{◌≡◌, pos, ℕ};
-ghost use Rattle.tally_statements.specs.Inside.{Acts, Stays};
-ghost use Rattle.tally_statements.specs.Office.{Inserts, con_cells, gone_cells, item_cells, past_cells, return_cells};
-ghost use Rattle.tally_statements.specs.declared.table.KeyedTable.TheVariants.{Returns, Counts, Cons, Lots, Seats, Gone, Totals, Past};
+ghost use Rattle.tally_statements.specs.Inside.{InDatabase, Stays};
+ghost use Rattle.tally_statements.specs.Office.{Inserts, con_cells, gone_cells, item_cells};
+ghost use Rattle.tally_statements.specs.Office.{past_cells, return_cells};
+ghost use Rattle.tally_statements.specs.declared.table.KeyedTable.TheVariants.{Returns, Counts};
+ghost use Rattle.tally_statements.specs.declared.table.KeyedTable.TheVariants.{Cons, Lots, Seats};
+ghost use Rattle.tally_statements.specs.declared.table.KeyedTable.TheVariants.{Gone, Totals, Past};
 
 use crate::running::run;
 use sqlite::{Alter, Error, Transaction, params};
@@ -19,7 +22,7 @@ pub fn insert_return<S: Alter>(
     note: &str,
 ) -> Result<(), Error>
     ensures stays { Stays S.Store tx.old tx.new }
-    ensures inserted { Acts S.Store
+    ensures inserted { InDatabase S.Store
         (Inserts Returns (return_cells station.now con.now rev slip.now status note.now))
         tx.old tx.new result }
 {
@@ -39,7 +42,7 @@ pub fn insert_count<S: Alter>(
     n: u32,
 ) -> Result<(), Error>
     ensures stays { Stays S.Store tx.old tx.new }
-    ensures inserted { Acts S.Store (Inserts Counts (item_cells station.now item n))
+    ensures inserted { InDatabase S.Store (Inserts Counts (item_cells station.now item n))
         tx.old tx.new result }
 {
     run(
@@ -58,7 +61,8 @@ pub fn insert_con<S: Alter>(
     note: &str,
 ) -> Result<(), Error>
     ensures stays { Stays S.Store tx.old tx.new }
-    ensures inserted { Acts S.Store (Inserts Cons (con_cells con.now edition certified note.now))
+    ensures inserted { InDatabase S.Store
+        (Inserts Cons (con_cells con.now edition certified note.now))
         tx.old tx.new result }
 {
     run(
@@ -76,7 +80,7 @@ pub fn insert_lot<S: Alter>(
     list: u32,
 ) -> Result<(), Error>
     ensures stays { Stays S.Store tx.old tx.new }
-    ensures inserted { Acts S.Store (Inserts Lots (item_cells con.now place list))
+    ensures inserted { InDatabase S.Store (Inserts Lots (item_cells con.now place list))
         tx.old tx.new result }
 {
     run(
@@ -94,7 +98,7 @@ pub fn insert_seats<S: Alter>(
     n: u32,
 ) -> Result<(), Error>
     ensures stays { Stays S.Store tx.old tx.new }
-    ensures inserted { Acts S.Store (Inserts Seats (item_cells con.now list n))
+    ensures inserted { InDatabase S.Store (Inserts Seats (item_cells con.now list n))
         tx.old tx.new result }
 {
     run(
@@ -113,7 +117,7 @@ pub fn insert_gone<S: Alter>(
     note: &str,
 ) -> Result<(), Error>
     ensures stays { Stays S.Store tx.old tx.new }
-    ensures inserted { Acts S.Store (Inserts Gone (gone_cells con.now list place note.now))
+    ensures inserted { InDatabase S.Store (Inserts Gone (gone_cells con.now list place note.now))
         tx.old tx.new result }
 {
     run(
@@ -131,7 +135,7 @@ pub fn insert_total<S: Alter>(
     n: i64,
 ) -> Result<(), Error>
     ensures stays { Stays S.Store tx.old tx.new }
-    ensures inserted { (m : ℕ) → n ≡ pos m → Acts S.Store
+    ensures inserted { (m : ℕ) → n ≡ pos m → InDatabase S.Store
         (Inserts Totals (item_cells con.now item m)) tx.old tx.new result }
 {
     run(
@@ -150,7 +154,7 @@ pub fn insert_past<S: Alter>(
     n: u32,
 ) -> Result<(), Error>
     ensures stays { Stays S.Store tx.old tx.new }
-    ensures inserted { Acts S.Store (Inserts Past (past_cells con.now edition list n))
+    ensures inserted { InDatabase S.Store (Inserts Past (past_cells con.now edition list n))
         tx.old tx.new result }
 {
     run(

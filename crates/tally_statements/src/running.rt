@@ -1,7 +1,7 @@
 //! Running a statement in a transaction.
 
 ghost use Rattle.sqlite.specs.Values.{bound};
-ghost use Rattle.tally_statements.specs.Inside.{Acts, Stays};
+ghost use Rattle.tally_statements.specs.Inside.{InDatabase, Stays};
 ghost use Rattle.tally_statements.specs.Office.{RunsWithValues};
 
 use sqlite::types::ValueRef;
@@ -14,7 +14,8 @@ pub(crate) fn run<S: Alter>(
     params: &[ValueRef<'_>],
 ) -> Result<(), Error>
     ensures stays { Stays S.Store tx.old tx.new }
-    ensures ran { Acts S.Store (RunsWithValues sql.now (bound params.now)) tx.old tx.new result }
+    ensures ran { InDatabase S.Store
+        (RunsWithValues sql.now (bound params.now)) tx.old tx.new result }
 {
     tx.execute(sql, params)?;
     Ok(())

@@ -1,7 +1,7 @@
 //! SELECT of the rows of a key, and of whole tables.
 
 ghost use Rattle.std.specs.Prelude.{◌≡◌};
-ghost use Rattle.tally_statements.specs.Inside.{Acts, OnlyReads, OnlyReadsFrom};
+ghost use Rattle.tally_statements.specs.Inside.{InDatabase, OnlyReads, OnlyReadsFrom};
 ghost use Rattle.tally_statements.specs.Office.{FindsRows, HasTables, ShowsAllRowids, ShowsAllRows};
 ghost use Rattle.tally_statements.specs.internal.Texts.{rows_of_text, all_rows_text, rowids_text};
 
@@ -41,7 +41,7 @@ pub fn rows_of_key<S: Alter>(
     key: &str,
 ) -> Result<Vec<Row>, Error>
     ensures reads { OnlyReads S.Store tx.old tx.new result }
-    ensures found { Acts S.Store (FindsRows table key.now) tx.old tx.new result }
+    ensures found { InDatabase S.Store (FindsRows table key.now) tx.old tx.new result }
 {
     tx.query_all(text_of(table), params![key])
 }
@@ -66,7 +66,7 @@ fn all_rows_text(table: KeyedTable) -> &'static str
 /// All rows of a table, with all columns, in the order of the table's key.
 pub fn all_rows<S: Alter>(tx: &mut Transaction<'_, S>, table: KeyedTable) -> Result<Vec<Row>, Error>
     ensures reads { OnlyReadsFrom HasTables S.Store tx.old tx.new result }
-    ensures shown { Acts S.Store (ShowsAllRows table) tx.old tx.new result }
+    ensures shown { InDatabase S.Store (ShowsAllRows table) tx.old tx.new result }
 {
     tx.query_all(all_rows_text(table), &[])
 }
@@ -89,7 +89,7 @@ fn rowids_text(table: KeyedTable) -> &'static str
 /// The rowids of a table, in order.
 pub fn rowids<S: Alter>(tx: &mut Transaction<'_, S>, table: KeyedTable) -> Result<Vec<Row>, Error>
     ensures reads { OnlyReadsFrom HasTables S.Store tx.old tx.new result }
-    ensures shown { Acts S.Store (ShowsAllRowids table) tx.old tx.new result }
+    ensures shown { InDatabase S.Store (ShowsAllRowids table) tx.old tx.new result }
 {
     tx.query_all(rowids_text(table), &[])
 }

@@ -1,7 +1,7 @@
 //! UPDATE of one row by its key.
 
 ghost use Rattle.std.specs.Prelude.{◌≡◌, pos, ℕ};
-ghost use Rattle.tally_statements.specs.Inside.{Acts, Stays};
+ghost use Rattle.tally_statements.specs.Inside.{InDatabase, Stays};
 ghost use Rattle.tally_statements.specs.Office.{SetsItem, UpdatesCon, UpdatesReturn};
 ghost use Rattle.tally_statements.specs.declared.table.KeyedTable.TheVariants.{Counts, Totals};
 
@@ -18,7 +18,7 @@ pub fn update_return<S: Alter>(
     note: &str,
 ) -> Result<(), Error>
     ensures stays { Stays S.Store tx.old tx.new }
-    ensures updated { Acts S.Store (UpdatesReturn station.now rev slip.now status note.now)
+    ensures updated { InDatabase S.Store (UpdatesReturn station.now rev slip.now status note.now)
         tx.old tx.new result }
 {
     run(
@@ -36,7 +36,7 @@ pub fn update_count<S: Alter>(
     n: u32,
 ) -> Result<(), Error>
     ensures stays { Stays S.Store tx.old tx.new }
-    ensures updated { Acts S.Store (SetsItem Counts station.now item n) tx.old tx.new result }
+    ensures updated { InDatabase S.Store (SetsItem Counts station.now item n) tx.old tx.new result }
 {
     run(
         tx,
@@ -54,7 +54,7 @@ pub fn update_con<S: Alter>(
     note: &str,
 ) -> Result<(), Error>
     ensures stays { Stays S.Store tx.old tx.new }
-    ensures updated { Acts S.Store (UpdatesCon con.now edition certified note.now)
+    ensures updated { InDatabase S.Store (UpdatesCon con.now edition certified note.now)
         tx.old tx.new result }
 {
     run(
@@ -72,7 +72,8 @@ pub fn update_total<S: Alter>(
     n: i64,
 ) -> Result<(), Error>
     ensures stays { Stays S.Store tx.old tx.new }
-    ensures updated { (m : ℕ) → n ≡ pos m → Acts S.Store (SetsItem Totals con.now item m)
+    ensures updated { (m : ℕ) → n ≡ pos m → InDatabase S.Store
+        (SetsItem Totals con.now item m)
         tx.old tx.new result }
 {
     run(

@@ -11,7 +11,7 @@ use Rattle.tally_law.specs.Poll.{Poll}
 use Rattle.tally_steps.specs.Certification.{ByOutcome, ByOutcomeOrWrongLot, Certifies, Draws, RefusedOr, seats_by_outcome, count_checks, lot_in_view, drawn_places, lot_where_recorded, list_places}
 use Rattle.tally_returns.specs.Checks.{first_refusal}
 use Rattle.tally_steps.specs.LawStatements.{WrongLotsLeadToNoOutcome}
-use Rattle.tally_steps.specs.Outcome.{Outcome, HasWrongLot, IsLawfulView, IsOutcome, MayStand, allotted, lot_missing, nobody, poll_in, rule_in}
+use Rattle.tally_steps.specs.Outcome.{Outcome, HasWrongLot, IsLawfulView, IsOutcome, HasLawfulLot, allotted, lot_missing, nobody, poll_in, rule_in}
 use Rattle.tally_steps.specs.Step.{Decides, IsConRefusal}
 use Rattle.tally_returns.specs.View.{FitsView, View}
 use Rattle.tally_returns.specs.declared.ask.Ask.{Ask}
@@ -61,8 +61,8 @@ some_lot-wrong : (rule : Rule) (poll : Poll) (seats : ℕ) (lot : List ℕ) → 
 some_lot-wrong rule poll seats lot none (inl wrong) = wrong.1 none
 some_lot-wrong rule poll seats lot none (inr wrong) = wrong.3 none
 
--- the lot that stands in a lawful view is not wrong
-pub lot-right : (con : Constituency) (view : View) → (view.lot ≡ []) ⊎ MayStand con view → HasWrongLot con view → ⊥
+-- the lot that is recorded in a lawful view is not wrong
+pub lot-right : (con : Constituency) (view : View) → (view.lot ≡ []) ⊎ HasLawfulLot con view → HasWrongLot con view → ⊥
 lot-right con view (inl none) wrong = some_lot-wrong (rule_in con) (poll_in con view) con.seats view.lot none wrong
 lot-right con view (inr may) wrong = taken-right (rule_in con) (poll_in con view) con.seats view.lot may.2 wrong
 
@@ -73,11 +73,11 @@ wrong-none con view (lot_missing group n) has wrong is = some_lot-wrong (rule_in
 wrong-none con view (allotted seats) has wrong is = taken-right (rule_in con) (poll_in con view) con.seats view.lot is.1 wrong
 
 -- a refusal that no wrong lot has to do with
-refused-right : (con : Constituency) (view : View) (gives : Outcome → Result (List ℕ) Refusal) (told : Refusal) (refusal : Option Refusal) (result : Result (List ℕ) Refusal) → (HasWrongLot con view → ⊥)
-    → RefusedOr refusal (ByOutcomeOrWrongLot con view gives told) result → RefusedOr refusal (ByOutcome con view gives) result
-refused-right con view gives told (Some e) result right is = is
-refused-right con view gives told None result right (inl by) = by
-refused-right con view gives told None result right (inr wrong) = absurd (right wrong.1)
+refused-right : (con : Constituency) (view : View) (gives : Outcome → Result (List ℕ) Refusal) (ensured : Refusal) (refusal : Option Refusal) (result : Result (List ℕ) Refusal) → (HasWrongLot con view → ⊥)
+    → RefusedOr refusal (ByOutcomeOrWrongLot con view gives ensured) result → RefusedOr refusal (ByOutcome con view gives) result
+refused-right con view gives ensured (Some e) result right is = is
+refused-right con view gives ensured None result right (inl by) = by
+refused-right con view gives ensured None result right (inr wrong) = absurd (right wrong.1)
 
 -- so a refusal of a command on it is the one that is decided
 pub refused-lawful : (con : Constituency) (view : View) (ask : Ask) (refusal : Refusal) → IsLawfulView con view → IsConRefusal con view ask refusal
@@ -89,16 +89,16 @@ refused-lawful con view (Certify code edition) e lawful refused other =
 refused-lawful con view ask e lawful refused other = refused other
 
 -- what is decided is so where the lot may be wrong, too
-pub told-by_outcome : (con : Constituency) (view : View) (gives : Outcome → Result (List ℕ) Refusal) (told : Refusal) (refusal : Option Refusal) (result : Result (List ℕ) Refusal)
-    → RefusedOr refusal (ByOutcome con view gives) result → RefusedOr refusal (ByOutcomeOrWrongLot con view gives told) result
-told-by_outcome con view gives told None result by = inl by
-told-by_outcome con view gives told (Some e) result is = is
+pub reported-by_outcome : (con : Constituency) (view : View) (gives : Outcome → Result (List ℕ) Refusal) (ensured : Refusal) (refusal : Option Refusal) (result : Result (List ℕ) Refusal)
+    → RefusedOr refusal (ByOutcome con view gives) result → RefusedOr refusal (ByOutcomeOrWrongLot con view gives ensured) result
+reported-by_outcome con view gives ensured None result by = inl by
+reported-by_outcome con view gives ensured (Some e) result is = is
 
 allotted-length : (rule : Rule) (poll : Poll) (seats : ℕ) (a : List ℕ) → IsAllotmentByVotes rule poll seats a → length a ≡ length poll.votes
 allotted-length (divisors nth unit lot_rule) poll seats a is = is.shares.one_each
 allotted-length hare poll seats a is = is.shares.one_each
 
--- the lists of a group stand in the poll
+-- the lists of a group are in the poll
 pub group-within : (rule : Rule) (poll : Poll) (seats : ℕ) (group : List Bool) (n : ℕ) → IsNeed rule poll seats group n → (l : ℕ) → length poll.votes ≤ l → get_or group l false ≡ false
 group-within rule poll seats group n need l past =
     false_from_ne_true (get_or group l false) (λ marked.

@@ -43,7 +43,7 @@ use Rattle.tally_steps.proofs.ViewLemmas.{constituency-code, view-lawful}
 
 -- ---- what a constituency has come to
 
--- what a constituency may have come to where these returns stand
+-- what a constituency may have come to where these returns are recorded
 record MayBe (con : Constituency) (c : ConState) (returns : Returns) : Type 0 where
   seen : IsLawfulCon con (view_with con c returns [])
   gone : All IsUnderPlaces (fin.entries c.gone)
@@ -138,7 +138,7 @@ certified-may_be con s seats given_seats edition here lawful certifies =
 
 -- ---- Reopen
 
--- the certificate that stands is lawful on record once the edition has gone on
+-- the certificate of a constituency is lawful on record once the edition has gone on
 certificate-past : (con : Constituency) (view : View) → view.certified ≡ true → IsLawfulView con view → IsLawfulPast con (view.edition + 1) (certificate_of view)
 certificate-past con view certified lawful =
     let outcome : IsOutcome con view (allotted view.seats) = subst (λ (b : Bool). HasSeats con view b) certified lawful.seats in record {

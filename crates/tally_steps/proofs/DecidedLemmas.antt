@@ -12,7 +12,7 @@ use Rattle.tally_returns.specs.Checks.{first_refusal}
 use Rattle.tally_steps.specs.Step.{ConChange, Decides, IsView, after_change, certified_with, change_of_result, lot_set, Answer, IsConStepSeen, IsStepSeen, IsStepSeenAt, answer, con_answer, after_return}
 use Rattle.tally_steps.specs.LawfulState.{IsLawfulState}
 use Rattle.tally_returns.specs.Named.{con_named}
-use Rattle.tally_steps.specs.Outcome.{IsOutcome, MayStand, Outcome, allotted, lot_missing, nobody, poll_in, rule_in}
+use Rattle.tally_steps.specs.Outcome.{IsOutcome, HasLawfulLot, Outcome, allotted, lot_missing, nobody, poll_in, rule_in}
 use Rattle.tally_returns.specs.State.{State}
 use Rattle.tally_returns.specs.View.{View}
 use Rattle.tally_returns.specs.declared.ask.Ask.{Ask}
@@ -39,8 +39,8 @@ some_marked (false ∷ marks) = later (some_marked marks)
 
 -- ---- what the votes come to
 
--- Where no lot stands, or one that may, the votes come to something.
-pub outcome-stands : AllotmentLaws → (con : Constituency) (view : View) → 1 ≤ con.seats → length view.votes ≤ 60 → (view.lot ≡ []) ⊎ MayStand con view → (outcome : Outcome) × IsOutcome con view outcome
+-- Where no lot is recorded, or one that may be, the votes come to something.
+pub outcome-stands : AllotmentLaws → (con : Constituency) (view : View) → 1 ≤ con.seats → length view.votes ≤ 60 → (view.lot ≡ []) ⊎ HasLawfulLot con view → (outcome : Outcome) × IsOutcome con view outcome
 outcome-stands laws con view some few lot = by_eligible (some_marked (poll_in con view).eligible)
   where
     rule : Rule
@@ -59,7 +59,7 @@ outcome-stands laws con view some few lot = by_eligible (some_marked (poll_in co
     without has none (inl decided) = seated has (inl (decided, none))
     without has none (inr need) = (lot_missing (marks_60 need.0) need.1, (has, need-marked rule poll con.seats need.0 need.1 few need.2, none, length-marks_60 need.0))
 
-    by_lot : HasEligible poll → (view.lot ≡ []) ⊎ MayStand con view → (outcome : Outcome) × IsOutcome con view outcome
+    by_lot : HasEligible poll → (view.lot ≡ []) ⊎ HasLawfulLot con view → (outcome : Outcome) × IsOutcome con view outcome
     by_lot has (inl none) = without has none (laws.either con.profile view.votes view.blank con.seats some has)
     by_lot has (inr may) = seated has may.2
 

@@ -122,7 +122,7 @@ unknown-station setup s code ask named none =
 
 -- ---- a change
 
--- what a Lodge that was accepted is told
+-- what a Lodge that was accepted is answered
 lodge-changed : (known : Option StationLimits) (found : Option StationReturn) (code slip : List ℕ) (counts : VoteCounts) (change : Change) → lodge_change slip counts (reply_at_code known found slip counts) ≡ Ok change
     → (a : Answer) × (answer_to_change (Lodge code slip counts) found change ≡ Some a) × (Ok a ≡ lodge_reply (reply_at_code known found slip counts))
 lodge-changed None found code slip counts change is = cc
@@ -165,7 +165,7 @@ show-changed (Some limits) (Some standing) code change is =
     let none : Same ≡ change = cc in
     (return_shown standing, ap (answer_to_change (ShowReturn code) (Some standing)) (sym none), refl)
 
--- what was decided is told, and leads to the state
+-- what was decided is answered, and leads to the state
 pub changed-step : (setup : List Constituency) (s : State) (ask : Ask) (station : List ℕ) (change : Change) → station_named ask ≡ Some station → change_in_state setup s ask ≡ Ok change
     → (a : Answer) × (answer_to_change ask (get s.returns station) change ≡ Some a) × IsStepSeen setup s ask (Ok a) (state_after setup s ask (Ok change))
 changed-step setup s (Lodge code slip counts) station change named is =

@@ -15,7 +15,7 @@ use Rattle.tally_steps.specs.Step.{IsView, certified_with, change_of_result, IsA
 use Rattle.tally_steps.specs.LawStatements.{CertificatesOfRunsAreRight}
 use Rattle.tally_steps.specs.LawfulState.{IsLawfulState}
 use Rattle.tally_returns.specs.Named.{BringsCode, con_named}
-use Rattle.tally_steps.specs.Outcome.{HasSeats, IsCertificate, IsOutcome, MayStand, Outcome, allotted, lot_missing, nobody, poll_in, rule_in}
+use Rattle.tally_steps.specs.Outcome.{HasSeats, IsCertificate, IsOutcome, HasLawfulLot, Outcome, allotted, lot_missing, nobody, poll_in, rule_in}
 use Rattle.tally_steps.specs.Runs.{IsRun}
 use Rattle.tally_returns.specs.State.{State, con_state, last_edition}
 use Rattle.tally_returns.specs.View.{View, view_of}
@@ -64,7 +64,7 @@ pub record AllotmentLaws : Type 0 where
   pub either : VotesDecideOrALotIsNeeded
   pub never_both : NoLotIsNeededWhereVotesDecide
 
--- the lot that is to be taken stands where one is needed
+-- there is a lot to be taken where one is needed
 pub lot-stands : AllotmentLaws → (con : Constituency) (view : View) → 1 ≤ con.seats → IsLotTaken (rule_in con) (poll_in con view) con.seats view.lot → IsLotNeeded (rule_in con) (poll_in con view) con.seats → view.lot ≢ []
 lot-stands laws con view some (inl taken) needed none = absurd (laws.never_both con.profile view.votes view.blank con.seats taken.0 needed)
 lot-stands laws con view some (inr taken) needed none =
@@ -119,7 +119,7 @@ pub certificate-stands : AllotmentLaws → (setup : List Constituency) (t : Stat
 certificate-stands laws setup t ok lawful code con is certified =
     let some : 1 ≤ con.seats = (constituency-limits setup code con ok is).some_seat in
     let empty = view_of con t [] in
-    let may : MayStand con empty = (lawful.cons code con is).seen.certified certified in
+    let may : HasLawfulLot con empty = (lawful.cons code con is).seen.certified certified in
     let a = seats-stand laws con empty some may.1 may.2 in
     let view = view_of con t a.0 in
     let has : HasSeats con view true = (may.1, may.2, a.1) in
@@ -148,31 +148,31 @@ seen-refused : (r : Result Reply Refusal) (refusal : Refusal) → reply_seen r �
 seen-refused (Ok reply) refusal is = cc
 seen-refused (Err e) refusal is = cc
 
--- a missing lot is told exactly where one is needed and none stands
-told-where_missing : AllotmentLaws → (con : Constituency) (view : View) (r : Result Reply Refusal) (outcome : Outcome) → 1 ≤ con.seats → HasEligible (poll_in con view) → IsOutcome con view outcome
+-- a missing lot is reported exactly where one is needed and none is given
+reported-where_missing : AllotmentLaws → (con : Constituency) (view : View) (r : Result Reply Refusal) (outcome : Outcome) → 1 ≤ con.seats → HasEligible (poll_in con view) → IsOutcome con view outcome
     → reply_seen r ≡ con_answer view (change_of_result certified_with (seats_by_outcome outcome))
     → ((group : List Bool) × (in_question : ℕ) × (r ≡ Err (LotMissing group in_question))) ↔ (IsLotNeeded (rule_in con) (poll_in con view) con.seats × (view.lot ≡ []))
-told-where_missing laws con view r nobody some has is answer = absurd (is has)
-told-where_missing laws con view r (lot_missing group n) some has is answer = (λ told. (is.1.needed, is.2), λ missing. (group, n, seen-refused r (LotMissing group n) answer))
-told-where_missing laws con view r (allotted seats) some has is answer = (
-  λ told. let both : reply_seen r ≡ Err (LotMissing told.0 told.1) = ap reply_seen told.2 in cc,
+reported-where_missing laws con view r nobody some has is answer = absurd (is has)
+reported-where_missing laws con view r (lot_missing group n) some has is answer = (λ ensured. (is.1.needed, is.2), λ missing. (group, n, seen-refused r (LotMissing group n) answer))
+reported-where_missing laws con view r (allotted seats) some has is answer = (
+  λ ensured. let both : reply_seen r ≡ Err (LotMissing ensured.0 ensured.1) = ap reply_seen ensured.2 in cc,
   λ missing. absurd (lot-stands laws con view some is.1 missing.0 missing.1),
 )
 
--- what is told of a missing lot is its need
-need-told : (con : Constituency) (view : View) (group : List Bool) (n : ℕ) (outcome : Outcome) → IsOutcome con view outcome → Err (LotMissing group n) ≡ seats_by_outcome outcome
+-- what is reported of a missing lot is its need
+need-reported : (con : Constituency) (view : View) (group : List Bool) (n : ℕ) (outcome : Outcome) → IsOutcome con view outcome → Err (LotMissing group n) ≡ seats_by_outcome outcome
     → IsNeed (rule_in con) (poll_in con view) con.seats group n
-need-told con view group n nobody is told = cc
-need-told con view group n (allotted seats) is told = cc
-need-told con view group n (lot_missing its m) is told =
+need-reported con view group n nobody is ensured = cc
+need-reported con view group n (allotted seats) is ensured = cc
+need-reported con view group n (lot_missing its m) is ensured =
     let same_group : its ≡ group = cc in
     let same_number : m ≡ n = cc in
     subst (λ (g : List Bool). IsNeed (rule_in con) (poll_in con view) con.seats g n) same_group
     (subst (λ (k : ℕ). IsNeed (rule_in con) (poll_in con view) con.seats its k) same_number is.1)
 
-result-told : (view : View) (result : Result (List ℕ) Refusal) (refusal : Refusal) → Err refusal ≡ con_answer view (change_of_result certified_with result) → result ≡ Err refusal
-result-told view (Ok seats) refusal is = cc
-result-told view (Err e) refusal is = cc
+result-reported : (view : View) (result : Result (List ℕ) Refusal) (refusal : Refusal) → Err refusal ≡ con_answer view (change_of_result certified_with result) → result ≡ Err refusal
+result-reported view (Ok seats) refusal is = cc
+result-reported view (Err e) refusal is = cc
 
 -- no check before the votes tells of a lot
 no_lot-checked : (a b c d : Bool) (now left : ℕ) (group : List Bool) (n : ℕ)
@@ -183,11 +183,11 @@ no_lot-checked true true false d now left group n is = cc
 no_lot-checked true true true false now left group n is = cc
 no_lot-checked true true true true now left group n is = cc
 
-certifies-told : (con : Constituency) (view : View) (edition : ℕ) (group : List Bool) (n : ℕ) → Certifies con view edition (Err (LotMissing group n)) → IsNeed (rule_in con) (poll_in con view) con.seats group n
-certifies-told con view edition group n certifies = at (first_refusal (count_checks view edition)) refl certifies
+certifies-reported : (con : Constituency) (view : View) (edition : ℕ) (group : List Bool) (n : ℕ) → Certifies con view edition (Err (LotMissing group n)) → IsNeed (rule_in con) (poll_in con view) con.seats group n
+certifies-reported con view edition group n certifies = at (first_refusal (count_checks view edition)) refl certifies
   where
     at : (refusal : Option Refusal) → first_refusal (count_checks view edition) ≡ refusal → RefusedOr refusal (ByOutcome con view seats_by_outcome) (Err (LotMissing group n)) → IsNeed (rule_in con) (poll_in con view) con.seats group n
-    at None none by = need-told con view group n by.0 by.1 by.2
+    at None none by = need-reported con view group n by.0 by.1 by.2
     at (Some e) some by =
         let same : e ≡ LotMissing group n = cc in
         absurd (
@@ -214,10 +214,10 @@ certify-step setup s t code con edition r is step =
       answer = here.4 ∙ ap (con_answer view) decides.2 ∙ ap (λ (v : View). con_answer v (change_of_result certified_with decides.0)) here.2.0;
     }
 
-pub missing-told : AllotmentLaws → (setup : List Constituency) (s t : State) (code : List ℕ) (con : Constituency) (view : View) (edition : ℕ) (r : Result Reply Refusal) → IsSetup setup
+pub missing-reported : AllotmentLaws → (setup : List Constituency) (s t : State) (code : List ℕ) (con : Constituency) (view : View) (edition : ℕ) (r : Result Reply Refusal) → IsSetup setup
     → constituency_with code setup ≡ Some con → IsView con s view → first_refusal (count_checks view edition) ≡ None → HasEligible (poll_in con view) → IsStep setup s (Certify code edition) r t
     → ((group : List Bool) × (in_question : ℕ) × (r ≡ Err (LotMissing group in_question))) ↔ (IsLotNeeded (rule_in con) (poll_in con view) con.seats × (view.lot ≡ []))
-missing-told laws setup s t code con view edition r ok is view_is none has step =
+missing-reported laws setup s t code con view edition r ok is view_is none has step =
     let its = certify-step setup s t code con edition r is step in
     let same_view = view_is.0 in
     let other = view_of con s its.seats in
@@ -226,15 +226,15 @@ missing-told laws setup s t code con view edition r ok is view_is none has step 
     let by = otherwise (first_refusal (count_checks other edition)) (ByOutcome con other seats_by_outcome) its.result none_there its.certifies in
     let answer : reply_seen r ≡ con_answer other (change_of_result certified_with (seats_by_outcome by.0)) = its.answer ∙ ap (λ (x : Result (List ℕ) Refusal). con_answer other (change_of_result certified_with x)) by.2 in
     subst (λ (v : View). ((group : List Bool) × (in_question : ℕ) × (r ≡ Err (LotMissing group in_question))) ↔ (IsLotNeeded (rule_in con) (poll_in con v) con.seats × (v.lot ≡ []))) (sym same_view)
-    (told-where_missing laws con other r by.0 (constituency-limits setup code con ok is).some_seat has_there by.1 answer)
+    (reported-where_missing laws con other r by.0 (constituency-limits setup code con ok is).some_seat has_there by.1 answer)
 
-pub told-is_need : (setup : List Constituency) (s t : State) (code : List ℕ) (con : Constituency) (view : View) (edition : ℕ) (r : Result Reply Refusal) (group : List Bool) (in_question : ℕ)
+pub reported-is_need : (setup : List Constituency) (s t : State) (code : List ℕ) (con : Constituency) (view : View) (edition : ℕ) (r : Result Reply Refusal) (group : List Bool) (in_question : ℕ)
     → constituency_with code setup ≡ Some con → IsView con s view → IsStep setup s (Certify code edition) r t → r ≡ Err (LotMissing group in_question)
     → IsNeed (rule_in con) (poll_in con view) con.seats group in_question
-told-is_need setup s t code con view edition r group n is view_is step told =
+reported-is_need setup s t code con view edition r group n is view_is step ensured =
     let its = certify-step setup s t code con edition r is step in
     let other = view_of con s its.seats in
-    let result_is : its.result ≡ Err (LotMissing group n) = result-told other its.result (LotMissing group n) (sym (ap reply_seen told) ∙ its.answer) in
+    let result_is : its.result ≡ Err (LotMissing group n) = result-reported other its.result (LotMissing group n) (sym (ap reply_seen ensured) ∙ its.answer) in
     let need : IsNeed (rule_in con) (poll_in con other) con.seats group n =
-    certifies-told con other edition group n (subst (λ (x : Result (List ℕ) Refusal). Certifies con other edition x) result_is its.certifies) in
+    certifies-reported con other edition group n (subst (λ (x : Result (List ℕ) Refusal). Certifies con other edition x) result_is its.certifies) in
     subst (λ (v : View). IsNeed (rule_in con) (poll_in con v) con.seats group n) (sym view_is.0) need

@@ -130,7 +130,7 @@ drawn-open con view edition order places draws =
     let g = given (first_refusal (count_checks view edition)) (ByOutcome con view (lot_in_view con view order)) places draws in
     (passed view edition g.0).not_certified
 
--- a lawful view is lawful once the lot stands that Draw gives
+-- a lawful view is lawful once the lot is recorded that Draw gives
 pub drawn-lawful : (con : Constituency) (view : View) (edition : ℕ) (order : List (List ℕ)) (places : List ℕ) → IsLawfulView con view → Draws con view edition order (Ok places)
     → IsLawfulView con (record view { edition = view.edition + 1; lot = places })
 drawn-lawful con view edition order places lawful draws =

@@ -44,7 +44,7 @@ named_rev (Correct station rev slip counts) = rev
 named_rev (Close station rev) = rev
 named_rev other = 0
 
--- a return that is put is the next one of that which stands
+-- a return that is put is the next one of the one recorded
 pub record IsMove (checks : List (Option Refusal)) (found : Option StationReturn) (next : StationReturn → StationReturn) (r : StationReturn) : Type 0 where
   pub standing : StationReturn
   pub found_is : found ≡ Some standing
@@ -78,7 +78,7 @@ first_refusal-append_rest [] ys none = none
 first_refusal-append_rest (None ∷ xs) ys none = first_refusal-append_rest xs ys none
 first_refusal-append_rest (Some e ∷ xs) ys none = cc
 
--- a command that puts a return names the revision that stood, and puts the next
+-- a command that puts a return names the revision that was recorded, and puts the next
 pub record IsRise (found : Option StationReturn) (rev : ℕ) (r : StationReturn) : Type 0 where
   pub stood : rev_of found ≡ rev
   pub rises : r.rev ≡ rev + 1
@@ -186,7 +186,7 @@ acts-put : (setup : List Constituency) (s : State) (ask : Ask) (station : List �
 acts-put setup s ask station named acted =
     puts-is (change_at_station setup s ask (Some station)) (subst (λ n. puts (change_at_station setup s ask n) ≡ true) named acted)
 
--- a command that acts names the revision that stands
+-- a command that acts names the revision that is recorded
 pub acts-stood : (setup : List Constituency) (s : State) (ask : Ask) (station : List ℕ) → station_named ask ≡ Some station → acts setup s ask ≡ true
     → rev_at s station ≡ named_rev ask
 acts-stood setup s ask station named acted =

@@ -12,7 +12,7 @@ use Rattle.tally_steps.specs.Holders.{is_among}
 
 -- ---- what is among places
 
--- where a place is, by the test of the first place and what is behind
+-- where a place is, by the test of the first place and what follows it
 among-by : (place x : ℕ) (xs : List ℕ) (b : Bool) → nat_eq place x ≡ b → (list_any (nat_eq place) xs ≡ true → (i : ℕ) × (i < length xs) × (get_or xs i 0 ≡ place))
     → (b || list_any (nat_eq place) xs) ≡ true → (i : ℕ) × (i < length (x ∷ xs)) × (get_or (x ∷ xs) i 0 ≡ place)
 among-by place x xs true t rest e = (0, omega arith, sym (eqb-true place x t))

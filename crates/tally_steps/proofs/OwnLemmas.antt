@@ -277,7 +277,7 @@ step_at-own : (named : Option (List ℕ)) (setup : List Constituency) (s : State
 step_at-own None setup s ask a t is = subst IsOwn (sym is.0) (answer-own setup s ask)
 step_at-own (Some code) setup s ask a t is = con_step-own (constituency_with code setup) s ask a t is
 
--- a step is refused neither for want of memory nor by a store
+-- a step is refused neither because it is out of memory nor by a store
 pub steps-own : StepsAreOfTheMachine
 steps-own setup s t ask refusal is =
     let own : Own refusal = step_at-own (con_named ask) setup s ask (Err refusal) t is in

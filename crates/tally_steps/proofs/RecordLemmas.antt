@@ -106,7 +106,7 @@ with_con-each P same s code c is q = subst (P (con_state s q)) (sym (con_state-w
 
 -- ---- what a reopening puts on record
 
--- the request was a Reopen, and what it puts on record is the certificate that stands
+-- the request was a Reopen, and what it puts on record is the present certificate
 record IsOfReopening (view : View) (ask : Ask) (past : PastSeats) : Type 0 where
   past_is : past ≡ certificate_of view
   certified : view.certified ≡ true
@@ -240,22 +240,22 @@ records-last setup s con code view ask note past lawful on viewed decides = λ k
 -- ---- records are of allotments
 
 -- an answer that tells an edition
-told-edition : (r : Result Reply Refusal) (n : ℕ) → reply_seen r ≡ Ok (edition_now n) → r ≡ Ok (Edition n)
-told-edition (Ok (Lodged rev)) n is = cc
-told-edition (Ok (Same rev)) n is = cc
-told-edition (Ok (Moved rev)) n is = cc
-told-edition (Ok (Return standing)) n is = cc
-told-edition (Ok (Edition edition)) n is = let same : edition ≡ n = cc in ap (λ (m : ℕ). Ok (Edition m)) same
-told-edition (Ok (Vacated next)) n is = cc
-told-edition (Ok (Con view)) n is = cc
-told-edition (Ok (Progress rows)) n is = cc
-told-edition (Err refusal) n is = cc
+reported-edition : (r : Result Reply Refusal) (n : ℕ) → reply_seen r ≡ Ok (edition_now n) → r ≡ Ok (Edition n)
+reported-edition (Ok (Lodged rev)) n is = cc
+reported-edition (Ok (Same rev)) n is = cc
+reported-edition (Ok (Moved rev)) n is = cc
+reported-edition (Ok (Return standing)) n is = cc
+reported-edition (Ok (Edition edition)) n is = let same : edition ≡ n = cc in ap (λ (m : ℕ). Ok (Edition m)) same
+reported-edition (Ok (Vacated next)) n is = cc
+reported-edition (Ok (Con view)) n is = cc
+reported-edition (Ok (Progress rows)) n is = cc
+reported-edition (Err refusal) n is = cc
 
 -- the certificate that a Reopen puts on record
 reopened-now : AllotmentLaws → (setup : List Constituency) (s : State) (ask : Ask) (r : Result Reply Refusal) (code : List ℕ) (con : Constituency) (view : View) (note : List ℕ) (past : PastSeats) → IsSetup setup → IsLawfulState setup s
     → con_named ask ≡ Some code → constituency_with code setup ≡ Some con → IsView con s view → Decides con view ask (Ok (open_again note past)) → reply_seen r ≡ Ok (edition_now (view.edition + 1))
     → IsReopened con past.edition past.seats s ask r
-reopened-now laws setup s ask r code con view note past ok lawful named found viewed decides told =
+reopened-now laws setup s ask r code con view note past ok lawful named found viewed decides ensured =
     let of = of-reopening con view ask note past decides in
     let is_edition : view.edition ≡ past.edition = sym (ap (λ (p : PastSeats). p.edition) of.past_is) in
     let codes : Some of.key ≡ Some code = sym of.named ∙ named in
@@ -269,10 +269,10 @@ reopened-now laws setup s ask r code con view note past ok lawful named found vi
       certificate = certificate-of_view laws setup s ok lawful code con found certified view viewed;
       note = of.note;
       asked = of.asked ∙ ap (λ (k : List ℕ). reopen k of.edition of.note) key ∙ ap (λ (n : ℕ). reopen con.code n of.note) (sym of.edition_is ∙ is_edition);
-      answered = told-edition r (view.edition + 1) told ∙ ap (λ (n : ℕ). Ok (Edition (n + 1))) is_edition;
+      answered = reported-edition r (view.edition + 1) ensured ∙ ap (λ (n : ℕ). Ok (Edition (n + 1))) is_edition;
     }
 
--- what stands on record after a change of the constituency stood there before, or the change put it there
+-- what is on record after a change of the constituency was there before, or the change put it there
 changed-adds : (s : State) (code : List ℕ) (note : List ℕ) (past : PastSeats) (edition : ℕ) (seats : List ℕ) → IsOnRecord (with_con s code (con_state_after (con_state s code) (open_again note past))) code edition seats
     → IsOnRecord s code edition seats ⊎ ((edition ≡ past.edition) × (seats ≡ past.seats))
 changed-adds s code note past edition seats is = go (eq_by_cmp nat_cmp edition past.edition) refl (sym there ∙ is)
@@ -305,32 +305,32 @@ con-adds laws setup s ask r t key other ok lawful named known step code con edit
   where
     here : (note : List ℕ) (past : PastSeats) → Decides other step.0 ask (Ok (open_again note past)) → reply_seen r ≡ Ok (edition_now (step.0.edition + 1)) → con.code ≡ other.code → con ≡ other
         → IsOnRecord s other.code edition seats ⊎ ((edition ≡ past.edition) × (seats ≡ past.seats)) → IsOnRecord s con.code edition seats ⊎ IsReopened con edition seats s ask r
-    here note past decides told codes same (inl before) = inl (subst (λ (q : List ℕ). IsOnRecord s q edition seats) (sym codes) before)
-    here note past decides told codes same (inr made) =
-        let its : IsReopened other past.edition past.seats s ask r = reopened-now laws setup s ask r key other step.0 note past ok lawful named known step.2 decides told in
+    here note past decides ensured codes same (inl before) = inl (subst (λ (q : List ℕ). IsOnRecord s q edition seats) (sym codes) before)
+    here note past decides ensured codes same (inr made) =
+        let its : IsReopened other past.edition past.seats s ask r = reopened-now laws setup s ask r key other step.0 note past ok lawful named known step.2 decides ensured in
         inr (subst (λ (x : Constituency). IsReopened x edition seats s ask r) (sym same)
         (subst (λ (n : ℕ). IsReopened other n seats s ask r) (sym made.0) (subst (λ (a : List ℕ). IsReopened other past.edition a s ask r) (sym made.1) its)))
 
     by_tie : (note : List ℕ) (past : PastSeats) → Decides other step.0 ask (Ok (open_again note past)) → reply_seen r ≡ Ok (edition_now (step.0.edition + 1))
         → IsOnRecord (with_con s other.code (con_state_after (con_state s other.code) (open_again note past))) con.code edition seats
         → (b : Bool) → eq_by_cmp code_cmp con.code other.code ≡ b → IsOnRecord s con.code edition seats ⊎ IsReopened con edition seats s ask r
-    by_tie note past decides told is true tied =
+    by_tie note past decides ensured is true tied =
         let codes : con.code ≡ other.code = same_code con.code other.code tied in
         let same : con ≡ other = same-constituency setup code key con other found known (sym codes) in
-        here note past decides told codes same
+        here note past decides ensured codes same
         (changed-adds s other.code note past edition seats (subst (λ (q : List ℕ). IsOnRecord (with_con s other.code (con_state_after (con_state s other.code) (open_again note past))) q edition seats) codes is))
-    by_tie note past decides told is false apart = inl (elsewhere s other.code (con_state_after (con_state s other.code) (open_again note past)) con.code edition seats apart is)
+    by_tie note past decides ensured is false apart = inl (elsewhere s other.code (con_state_after (con_state s other.code) (open_again note past)) con.code edition seats apart is)
 
     go : (decided : Result ConChange Refusal) → Decides other step.0 ask decided → reply_seen r ≡ con_answer step.0 decided → IsOnRecord (after_change s other.code decided) con.code edition seats
         → IsOnRecord s con.code edition seats ⊎ IsReopened con edition seats s ask r
-    go (Ok no_change) decides told is = inl is
-    go (Ok (lot_set places)) decides told is = inl (same-past s other.code (con_state_after (con_state s other.code) (lot_set places)) con.code edition seats refl is)
-    go (Ok (certified_with given)) decides told is = inl (same-past s other.code (con_state_after (con_state s other.code) (certified_with given)) con.code edition seats refl is)
-    go (Ok (open_again note past)) decides told is = by_tie note past decides told is (eq_by_cmp code_cmp con.code other.code) refl
-    go (Ok (gone_for_good candidate next)) decides told is = inl (same-past s other.code (con_state_after (con_state s other.code) (gone_for_good candidate next)) con.code edition seats refl is)
-    go (Err refusal) decides told is = inl is
+    go (Ok no_change) decides ensured is = inl is
+    go (Ok (lot_set places)) decides ensured is = inl (same-past s other.code (con_state_after (con_state s other.code) (lot_set places)) con.code edition seats refl is)
+    go (Ok (certified_with given)) decides ensured is = inl (same-past s other.code (con_state_after (con_state s other.code) (certified_with given)) con.code edition seats refl is)
+    go (Ok (open_again note past)) decides ensured is = by_tie note past decides ensured is (eq_by_cmp code_cmp con.code other.code) refl
+    go (Ok (gone_for_good candidate next)) decides ensured is = inl (same-past s other.code (con_state_after (con_state s other.code) (gone_for_good candidate next)) con.code edition seats refl is)
+    go (Err refusal) decides ensured is = inl is
 
--- what stands on record after a step stood there before, or the request put it there
+-- what is on record after a step was there before, or the request put it there
 step-adds : AllotmentLaws → (setup : List Constituency) (s : State) (ask : Ask) (r : Result Reply Refusal) (t : State) → IsSetup setup → IsLawfulState setup s
     → (named : Option (List ℕ)) → con_named ask ≡ named → IsStepSeenAt named setup s ask (reply_seen r) t
     → (code : List ℕ) (con : Constituency) (edition : ℕ) (seats : List ℕ) → constituency_with code setup ≡ Some con → IsOnRecord t con.code edition seats
@@ -347,7 +347,7 @@ pub records-of-allotments : AllotmentLaws → RecordsAreOfAllotments
 records-of-allotments laws setup s t ask r ok lawful (inl step) code con edition seats found on = step-adds laws setup s ask r t ok lawful (con_named ask) refl step code con edition seats found on
 records-of-allotments laws setup s t ask r ok lawful (inr not_accepted) code con edition seats found on = inl (subst (λ (x : State). IsOnRecord x con.code edition seats) not_accepted.1 on)
 
--- what stands on record after a run stood there before, or a request of the run put it there
+-- what is on record after a run was there before, or a request of the run put it there
 pub records-of-run : AllotmentLaws → RecordsOfRunsAreOfAllotments
 records-of-run laws setup s t [] [] brings ok lawful run code con edition seats found on = inl (subst (λ (x : State). IsOnRecord x con.code edition seats) run on)
 records-of-run laws setup s t [] (r ∷ rs) brings ok lawful run code con edition seats found on = absurd run

@@ -23,7 +23,7 @@ use Rattle.tally_steps.specs.LawfulState.{IsLawfulIn, IsLawfulState, IsUnderPlac
 use Rattle.tally_returns.specs.Lodge.{StationLimits, reply_after_checks, counts_checks}
 use Rattle.tally_returns.specs.Moves.{close_checks, closed_return, correct_checks, corrected_return, counts_checks_at, last_revision, may_close, may_correct, may_query, move_checks, queried_return, query_checks}
 use Rattle.tally_returns.specs.Named.{BringsCode}
-use Rattle.tally_steps.specs.Outcome.{IsLawfulCon, IsLawfulGone, IsLawfulPast, MayStand}
+use Rattle.tally_steps.specs.Outcome.{IsLawfulCon, IsLawfulGone, IsLawfulPast, HasLawfulLot}
 use Rattle.tally_returns.specs.Progress.{is_closed}
 use Rattle.tally_returns.specs.Return.{StationReturn, Returns}
 use Rattle.tally_returns.specs.State.{State, ConState, con_state, opening, opening_con, opening_cons, stations_of, last_edition}
@@ -71,15 +71,15 @@ IsLawfulIn-open con s t now is_open lawful = record {
   gone = subst (λ (c : ConState). All IsUnderPlaces (fin.entries c.gone)) (sym now) lawful.gone;
 }
 
--- where the return of a station is not closed, no lot stands in its constituency, and it is not certified
+-- where the return of a station is not closed, its constituency has no lot, and it is not certified
 pub open-station : (setup : List Constituency) (s : State) (code : List ℕ) (con : Constituency) (station : Station) → IsLawfulIn con s → station_with code setup ≡ Some (con, station)
     → closed_now (fin.get s.returns code) ≡ false → ((con_state s con.code).lot ≡ []) × ((con_state s con.code).certified ≡ false)
 open-station setup s code con station lawful is is_open = (no_lot lawful.seen.lot, not_certified (con_state s con.code).certified refl)
   where
-    never : ¬ MayStand con (view_of con s [])
+    never : ¬ HasLawfulLot con (view_of con s [])
     never may = let closed : closed_now (fin.get s.returns code) ≡ true = all_closed-at con s.returns code station may.0 (station_with-in setup code con station is) in cc
 
-    no_lot : ((con_state s con.code).lot ≡ []) ⊎ MayStand con (view_of con s []) → (con_state s con.code).lot ≡ []
+    no_lot : ((con_state s con.code).lot ≡ []) ⊎ HasLawfulLot con (view_of con s []) → (con_state s con.code).lot ≡ []
     no_lot (inl none) = none
     no_lot (inr may) = absurd (never may)
 
@@ -133,7 +133,7 @@ put-lawful setup s t con place station r is_setup lawful is right is_open put = 
         (subst (λ (m : Returns). All (IsSameAt m s.returns) other.stations) (sym put.returns) (put-elsewhere s.returns station r other.stations (station-elsewhere setup code station con other place is_setup is found differ)))
         (lawful.cons code other found)
 
--- a return that is put where no lot stands
+-- a return that is put where there is no lot
 without_lot-put : (s : State) (code station : List ℕ) (r : StationReturn) → (con_state s code).lot ≡ [] → IsPut s (record s { returns = fin.insert s.returns station r }) code station r
 without_lot-put s code station r none = record {
   returns = refl;
@@ -163,7 +163,7 @@ with_lot-put s code station r known = record {
 
 -- ---- the decisions that put a return
 
--- a return that moves stood in a status that the command starts from, and its constituency is not certified
+-- a return that moves was in a status that the command starts from, and its constituency is not certified
 pub record IsMoved (certified : Bool) (found : Option StationReturn) (may_start : Status → Bool) : Type 0 where
   pub standing : StationReturn
   pub found_is : found ≡ Some standing
@@ -237,7 +237,7 @@ close-open station certified found rev r is =
     (passed-rest (is_some station) NoStation (move_checks certified found rev may_close)) is in
     ap closed_now m.found_is ∙ close-not_closed m.standing.status m.started
 
--- a return is lodged only where none stands
+-- a return is lodged only where none is recorded
 lodge-open : (limits : StationLimits) (found : Option StationReturn) (slip : List ℕ) (counts : VoteCounts) (r : StationReturn)
     → lodge_change slip counts (refused_or (first_refusal (counts_checks limits counts)) (reply_after_checks found slip counts)) ≡ Ok (PutReturn r) → closed_now found ≡ false
 lodge-open limits found slip counts r is = go (first_refusal (counts_checks limits counts)) found is

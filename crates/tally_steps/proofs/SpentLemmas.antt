@@ -85,7 +85,7 @@ mark-seen ShowProgress = refl
 pub same-mark : (ask other : Ask) → IsSameCommand ask other → mark ask ≡ mark other
 same-mark ask other alike = mark-seen ask ∙ ap mark_seen alike ∙ sym (mark-seen other)
 
--- whether the candidate at a place of a list is gone, where the constituency and the list stand in the setup
+-- whether the candidate at a place of a list is gone, where the constituency and the list are in the setup
 pub record IsGoneFlag (setup : List Constituency) (code list : List ℕ) (place : ℕ) (s : State) (b : Bool) : Type 0 where
   pub con : Constituency
   pub found : constituency_with code setup ≡ Some con

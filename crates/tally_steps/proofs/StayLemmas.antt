@@ -89,7 +89,7 @@ lodge-stays stations m station slip counts q there = go (lodge_answer stations m
     go (Ok (Same rev)) = there
     go (Err refusal) = there
 
--- a return is lodged only where none stands
+-- a return is lodged only where none is recorded
 lodged-none : (known : Option StationLimits) (found : Option StationReturn) (slip : List ℕ) (counts : VoteCounts) (rev : ℕ) → reply_at_code known found slip counts ≡ Ok (Lodged rev) → found ≡ None
 lodged-none None found slip counts rev is = cc
 lodged-none (Some limits) found slip counts rev is = go (first_refusal (counts_checks limits counts)) found is

@@ -125,7 +125,7 @@ votes-cast n (c ∷ counts) =
       sum_by-cons all_votes c counts,
     )
 
--- Each return that stands is of at most this many votes.
+-- Each return that is recorded is of at most this many votes.
 abbrev AreFewEach : Returns → Type 0
 AreFewEach returns = (station : List ℕ) → ForSome (get returns station) (λ standing. all_votes standing.counts ≤ 1000000)
 

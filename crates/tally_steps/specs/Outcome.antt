@@ -1,6 +1,7 @@
 -- What closed votes and a lot come to, and the views that a lawful state has.
 use Rattle.std.specs.Prelude.{◌≡◌, ◌≢◌, ◌<◌, ◌≤◌, ◌⊎◌, ◌&&◌, ◌-◌, ℕ, nat_le, Bool, true, false, List, [], All, length, slice_get, sum}
 use Rattle.std.specs.Option.{option_map_or}
+use Rattle.tally_frac.specs.Limits.{most_lists}
 use Rattle.tally_rules.specs.Constituency.{Constituency, ListEntry}
 use Rattle.tally_rules.specs.Limits.{most_stations}
 use Rattle.tally_law.specs.Poll.{Poll, HasEligible}
@@ -32,7 +33,7 @@ IsOutcome con view nobody = ¬ HasEligible (poll_in con view)
 IsOutcome con view (lot_missing group in_question) =
     HasEligible (poll_in con view)
     × IsNeed (rule_in con) (poll_in con view) con.seats group in_question
-    × (view.lot ≡ []) × (length group ≡ 60)
+    × (view.lot ≡ []) × (length group ≡ most_lists)
 IsOutcome con view (allotted seats) =
     IsAllotmentUnderLot (rule_in con) (poll_in con view) view.lot con.seats seats
 
@@ -42,9 +43,10 @@ abbrev pub HasSeats : Constituency → View → Bool → Type 0
 HasSeats con view true = IsOutcome con view (allotted view.seats)
 HasSeats con view false = view.seats ≡ []
 
--- a lot may be recorded only where all stations are closed and it is the one to be taken
-abbrev pub MayStand : Constituency → View → Type 0
-MayStand con view =
+-- all stations are closed, some list is eligible, and the lot that is recorded, if there is one, is
+-- the one to be taken
+abbrev pub HasLawfulLot : Constituency → View → Type 0
+HasLawfulLot con view =
     (view.closed ≡ view.stations) × HasEligible (poll_in con view)
     × IsLotTaken (rule_in con) (poll_in con view) con.seats view.lot
 
@@ -86,8 +88,8 @@ pub record IsLawfulCon (con : Constituency) (view : View) : Type 0 where
   pub first : 1 ≤ view.edition
   pub last : view.edition ≤ last_edition
   pub note : is_note_or_empty view.note ≡ true
-  pub lot : (view.lot ≡ []) ⊎ MayStand con view
-  pub certified : view.certified ≡ true → MayStand con view
+  pub lot : (view.lot ≡ []) ⊎ HasLawfulLot con view
+  pub certified : view.certified ≡ true → HasLawfulLot con view
   pub gone : All (IsLawfulGone con) view.gone
   pub past : All (IsLawfulPast con view.edition) view.past
 

@@ -1,5 +1,6 @@
 pub mod SortedLemmas
 pub mod ContentLemmas
 pub mod RequestLemmas
+pub mod EndLemmas
 pub mod ShownLemmas
 pub mod CertifiedLemmas

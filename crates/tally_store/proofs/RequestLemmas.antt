@@ -309,13 +309,13 @@ served_after setup old new ask r known views was h knows = record {
     go : HasCleanDisk new → (text : List ℕ) (s : State) → IsLawfulState setup s → HasState setup text s new
         → IsNothing known ⊎ (IsTrue new.is_open × ((text : List ℕ) (s t : State) → IsLawfulState setup s → HasState setup text s old → IsAnswered setup s ask r t → AreKnown setup t.returns known)) → AreKnown setup s.returns known
     go clean text s lawful has (inl nothing) = nothing-known setup s.returns known nothing
-    go clean text s lawful has (inr told) =
-        let office = was.office (h.clean clean) (h.was_open clean told.0) in
-        let done = h.done clean told.0 office.2.text office.0 office.1 office.2.has in
+    go clean text s lawful has (inr ensured) =
+        let office = was.office (h.clean clean) (h.was_open clean ensured.0) in
+        let done = h.done clean ensured.0 office.2.text office.0 office.1 office.2.has in
         let next : IsOffice setup done.state new = record { text = office.2.text; reads = office.2.reads; has = done.has } in
         subst (λ (x : State). AreKnown setup x.returns known)
-        (one_state setup s done.state text new views was.limits lawful has (answered-lawful setup office.0 done.state ask r h.codes was.limits office.1 done.answered) next told.0)
-        (told.1 office.2.text office.0 done.state office.1 office.2.has done.answered)
+        (one_state setup s done.state text new views was.limits lawful has (answered-lawful setup office.0 done.state ask r h.codes was.limits office.1 done.answered) next ensured.0)
+        (ensured.1 office.2.text office.0 done.state office.1 office.2.has done.answered)
 
 pub all_known : (setup : List Constituency) (text : List ℕ) (s : State) (d : Delivery) (before after : Known) (count : ImportCount) (last new : Seen) → IsImportedKnown setup text s d before after count last → AreKnown setup s.returns before
     → Shows last new last.now last.now false → IsAllKnown setup text s d count new after
@@ -327,12 +327,12 @@ pub served_import : (setup : List Constituency) (old new : Seen) (d : Delivery) 
 served_import setup old new d (Ok count) known views was h knows = record {
   stored = stored_import setup old new d (Ok count) was h;
   true_is = λ clean now text s lawful has.
-      let told = knows clean in
-      let office = was.office (h.clean clean) (h.was_open clean told.0) in
-      let all = told.1 office.2.text office.0 office.1 office.2.has in
+      let ensured = knows clean in
+      let office = was.office (h.clean clean) (h.was_open clean ensured.0) in
+      let all = ensured.1 office.2.text office.0 office.1 office.2.has in
       let next : IsOffice setup all.0.state new = record { text = office.2.text; reads = office.2.reads; has = all.0.has } in
       subst (λ (x : State). AreKnown setup x.returns known)
-      (one_state setup s all.0.state text new views was.limits lawful has (import-lawful setup office.0 all.0.state d count was.limits office.1 all.0.imported) next told.0)
+      (one_state setup s all.0.state text new views was.limits lawful has (import-lawful setup office.0 all.0.state d count was.limits office.1 all.0.imported) next ensured.0)
       all.1;
 }
 served_import setup old new d (Err fault) known views was h knows = record {

@@ -1,7 +1,8 @@
 -- What showing a constituency leaves of a connection, and of a store.
-use Rattle.std.proofs.Common.{◌≡◌, ◌⊎◌, ◌∙◌, inl, inr, ℕ, Bool, true, false, IsTrue, List, [], Result, Ok, Err, refl, sym, ap, subst, subst₂, true≢false, None, Some}
+use Rattle.std.proofs.Common.{◌≡◌, ◌⊎◌, ◌∙◌, inl, inr, ℕ, Bool, true, false, IsTrue, List, [], OnOk, Result, Ok, Err, refl, sym, ap, subst, subst₂, true≢false, None, Some}
 use Rattle.sqlite.specs.Effect.{Database}
 use Rattle.sqlite.specs.State.{State as Seen, HasCleanDisk, IsUnchanged}
+use Rattle.sqlite.specs.declared.error.Error.{Error}
 use Rattle.tally_rules.specs.Constituency.{Constituency}
 use Rattle.tally_rules.specs.Limits.{IsSetup}
 use Rattle.tally_returns.specs.Named.{BringsCode}
@@ -27,9 +28,10 @@ use Rattle.tally_opening.specs.Create.{IsAsBefore}
 use Rattle.tally_opening.specs.Office.{HasState, IsOffice}
 use Rattle.tally_store.specs.Content.{content_of}
 use Rattle.tally_store.specs.Store.{IsServed, IsStored, KeepsText}
-use Rattle.tally_store.specs.internal.Requests.{DoesShow, IsNothing, IsShown, KnowsStill}
+use Rattle.tally_store.specs.internal.Requests.{DoesShow, IsNothing, IsConShown, KnowsStill}
 use Rattle.tally_store.proofs.ContentLemmas.{content_is, content_shut}
-use Rattle.tally_store.proofs.RequestLemmas.{done_failed, inside_still, not_accepted, nothing-known, one_state}
+use Rattle.tally_store.proofs.EndLemmas.{GotSo}
+use Rattle.tally_store.proofs.RequestLemmas.{inside_still, nothing-known, one_state}
 
 -- ---- in a transaction
 
@@ -45,10 +47,11 @@ shown_carried setup text s con bare last shown is same here held = (
   },
 )
 
--- nothing was shown
-pub shown_failed : (setup : List Constituency) (text : List ℕ) (s : State) (con : List ℕ) (e : Refusal) (old new : Seen) → (e ≡ refusal.Memory) ⊎ (e ≡ refusal.Store) → HasState setup text s old → IsAsBefore old new
-    → IsShown setup text s con (Err e) new
-shown_failed setup text s con e old new own has back = ([], done_failed setup text s (ShowCon con) e old new own has back)
+-- and so where it was found in a transaction
+pub shown_got : (setup : List Constituency) (con : List ℕ) (known : Known) (bare last : Seen) (got : Result (Result View Refusal) Error) → OnOk got (IsUnchanged bare last) → IsInside bare
+    → GotSo setup known bare got (λ shown text s. IsShownIn setup s con shown) → GotSo setup known bare got (λ shown text s. (past : List PastSeats) × IsCarriedOut setup text s (ShowCon con) (con_with past shown) last)
+shown_got setup con known bare last (Ok shown) same here is = λ text s lawful held tables. shown_carried setup text s con bare last shown (is text s lawful held tables) same here tables
+shown_got setup con known bare last (Err e) same here is = tt
 
 -- a request that shows a constituency brings no slip
 brings_none : (con : List ℕ) → BringsCode (ShowCon con)
@@ -65,7 +68,7 @@ pub record ServedView (setup : List Constituency) (old new : Seen) (con : List �
   pub was_open : HasCleanDisk new → IsTrue new.is_open → IsTrue old.is_open
 
 module _ (setup : List Constituency) (old new : Seen) (con : List ℕ) (shown : Result View Refusal) where
-  after : (s : State) → IsSetup setup → IsLawfulState setup s → (office : IsOffice setup s old) → IsShown setup office.text s con shown new → (t : State) × IsLawfulState setup t × IsOffice setup t new
+  after : (s : State) → IsSetup setup → IsLawfulState setup s → (office : IsOffice setup s old) → IsConShown setup office.text s con shown new → (t : State) × IsLawfulState setup t × IsOffice setup t new
   after s limits lawful office done =
       (done.1.state, answered-lawful setup s done.1.state (ShowCon con) (con_with done.0 shown) (brings_none con) limits lawful done.1.answered, record { text = office.text; reads = office.reads; has = done.1.has })
 
@@ -107,11 +110,11 @@ module _ (setup : List Constituency) (old new : Seen) (con : List ℕ) (shown : 
       go : HasCleanDisk new → (text : List ℕ) (s : State) → IsLawfulState setup s → HasState setup text s new
           → IsNothing known ⊎ (IsTrue new.is_open × ((text : List ℕ) (s : State) → IsLawfulState setup s → HasState setup text s old → AreKnown setup s.returns known)) → AreKnown setup s.returns known
       go clean text s lawful has (inl nothing) = nothing-known setup s.returns known nothing
-      go clean text s lawful has (inr told) =
-          let office = was.office (h.clean clean) (h.was_open clean told.0) in
-          let done = h.done clean told.0 office.2.text office.0 office.1 office.2.has in
+      go clean text s lawful has (inr ensured) =
+          let office = was.office (h.clean clean) (h.was_open clean ensured.0) in
+          let done = h.done clean ensured.0 office.2.text office.0 office.1 office.2.has in
           let next : IsOffice setup done.1.state new = record { text = office.2.text; reads = office.2.reads; has = done.1.has } in
-          let is : done.1.state ≡ s = one_state setup s done.1.state text new views was.limits lawful has (answered-lawful setup office.0 done.1.state (ShowCon con) (con_with done.0 shown) (brings_none con) was.limits office.1 done.1.answered) next told.0 in
+          let is : done.1.state ≡ s = one_state setup s done.1.state text new views was.limits lawful has (answered-lawful setup office.0 done.1.state (ShowCon con) (con_with done.0 shown) (brings_none con) was.limits office.1 done.1.answered) next ensured.0 in
           let same = con-returns setup office.0 done.1.state (ShowCon con) con (con_with done.0 shown) refl done.1.answered in
           subst (λ (x : State). AreKnown setup x.returns known) is
-          (subst (λ m. AreKnown setup m known) (sym same) (told.1 office.2.text office.0 office.1 office.2.has))
+          (subst (λ m. AreKnown setup m known) (sym same) (ensured.1 office.2.text office.0 office.1 office.2.has))

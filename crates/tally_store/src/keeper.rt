@@ -14,7 +14,8 @@ ghost use Rattle.tally_steps.specs.Kinds.{IsReplyTo};
 ghost use Rattle.tally_steps.specs.Runs.{is_act};
 ghost use Rattle.tally_store.specs.Content.{content_of};
 ghost use Rattle.tally_store.specs.Crash.{LeavesAsBefore};
-ghost use Rattle.tally_store.specs.Keeping.{HappensIn, ImportsIn, KeepsTextIn, ShowsConIn, ShowsContent};
+ghost use Rattle.tally_store.specs.Keeping.{HappensIn, ImportsIn, KeepsTextIn, ShowsConIn};
+ghost use Rattle.tally_store.specs.Keeping.{ShowsContent};
 ghost use Rattle.tally_store.specs.Keeping.{StaysStore, SurvivesImport, SurvivesRequest};
 
 use crate::requests::{answer_request, import_rows, show_request};

@@ -6,7 +6,6 @@ ghost use Rattle.sqlite.specs.Held.{state};
 ghost use Rattle.tally_keeper.specs.Delivery.{delivery};
 ghost use Rattle.tally_keeper.specs.Keeper.{IsImportFault};
 ghost use Rattle.tally_keeper.specs.Shown.{con_with};
-ghost use Rattle.tally_keeper.specs.Source.{GaveAll};
 ghost use Rattle.tally_steps.specs.Kinds.{IsReplyTo};
 ghost use Rattle.tally_steps.specs.Runs.{is_act};
 ghost use Rattle.tally_steps.specs.Step.{IsNotAccepted};
@@ -16,13 +15,13 @@ ghost use Rattle.tally_returns.specs.Named.{BringsCode};
 ghost use Rattle.tally_returns.specs.View.{FitsView};
 ghost use Rattle.tally_returns.specs.declared.ask.Ask.TheVariants.{ShowCon};
 ghost use Rattle.tally_store.specs.Crash.{LeavesAsBefore};
-ghost use Rattle.tally_statements.specs.Inside.{OnlyReads, StaysInside};
+ghost use Rattle.tally_statements.specs.Inside.{StaysInside};
 ghost use Rattle.tally_requests.specs.Inside.{StaysInState};
 ghost use Rattle.tally_requests.specs.Known.{ForgetsNone, known_of};
-ghost use Rattle.tally_requests.specs.Requests.{AnswersIn, ImportsRows};
+ghost use Rattle.tally_requests.specs.Requests.{AnswersIn, LodgesRows};
 ghost use Rattle.tally_store.specs.internal.Requests.{Does, DoesImport, DoesShow, EndsImport};
-ghost use Rattle.tally_store.specs.internal.Requests.{EndsRequest, IsNothing, KnowsAfter};
-ghost use Rattle.tally_store.specs.internal.Requests.{KnowsImported, KnowsStill};
+ghost use Rattle.tally_store.specs.internal.Requests.{EndsRequest, EndsTransaction, IsNothing};
+ghost use Rattle.tally_store.specs.internal.Requests.{KnowsAfter, KnowsImported, KnowsStill};
 ghost use Rattle.tally_store.specs.Store.{IsKnownOf, IsOfLawfulState};
 
 use sqlite::{Alter, Connection, Error, Transaction};
@@ -56,28 +55,21 @@ pub(crate) fn answer_request<S: Alter>(
         (state S.Store conn.old) (state S.Store conn.new) result (known_of known.new) }
     ensures shut { HasCleanDisk (state S.Store conn.new) →
         (state S.Store conn.new).is_open ≡ false → IsNotAccepted result }
-    ensures forgets { IsNotAccepted result ⊎
-        ForgetsNone (known_of known.old) (known_of known.new) }
+    ensures forgets { IsNotAccepted result
+        ⊎ ForgetsNone (known_of known.old) (known_of known.new) }
     ensures unwritten { is_act result ≡ false →
         LeavesAsBefore (state S.Store conn.old) (state S.Store conn.new) result }
 {
     // Called for what its contract says: a slip that a request brings is a code.
     let _slip = ask.slip();
     let mut tx = conn.transaction();
-    match answer_open(alloc, &mut tx, setup, known, ask) {
-        Ok(answer) => match tx.commit() {
-            Ok(()) => answer,
-            Err(error) => Err(forget(known, &error)),
-        },
-        Err(error) => {
-            tx.rollback();
-            Err(forget(known, &error))
-        }
-    }
+    let got = answer_open(alloc, &mut tx, setup, known, ask);
+    end_request(tx, known, got)
 }
 
 /// Shows a constituency by the database, without its certificates on record. Nothing is written.
-/// What is known then is still true of the database, or nothing is known.
+/// What is known then is still true of the database, or nothing is known. Nothing is forgotten
+/// where the request was accepted or refused.
 pub(crate) fn show_request<S: Alter>(
     alloc: Global,
     conn: &mut Connection<S>,
@@ -98,20 +90,14 @@ pub(crate) fn show_request<S: Alter>(
         (state S.Store conn.old) (state S.Store conn.new) (known_of known.new) }
     ensures shut { HasCleanDisk (state S.Store conn.new) →
         (state S.Store conn.new).is_open ≡ false → IsNotAccepted (con_with [] result) }
+    ensures forgets { IsNotAccepted (con_with [] result)
+        ⊎ ForgetsNone (known_of known.old) (known_of known.new) }
     ensures unwritten { LeavesAsBefore (state S.Store conn.old) (state S.Store conn.new)
         (con_with [] result) }
 {
     let mut tx = conn.transaction();
-    match show_con_in(alloc, &mut tx, setup, known, con) {
-        Ok(shown) => match tx.commit() {
-            Ok(()) => shown,
-            Err(error) => Err(forget(known, &error)),
-        },
-        Err(error) => {
-            tx.rollback();
-            Err(forget(known, &error))
-        }
-    }
+    let shown = show_con_in(alloc, &mut tx, setup, known, con);
+    end_request(tx, known, shown)
 }
 
 /// Lodges the rows of a source in the database. With a fault the database is as it was, unless a
@@ -182,16 +168,34 @@ fn take_open<S: Alter, R: RowSource>(
     ensures stays { StaysInState setup.now S.Store tx.old tx.new }
     ensures was_open { HasCleanDisk (state S.Store tx.new.conn.now) →
         OnOk result (IsTrue (state S.Store tx.old.conn.now).is_open) }
-    ensures imported { ImportsRows setup.now (delivery R.RowSource source.old source.new)
-        (known_of known.old) (known_of known.new)
-        (state S.Store tx.old.conn.now) (state S.Store tx.new.conn.now) result }
-    ensures gave { OnOk result (GaveAll (delivery R.RowSource source.old source.new)) }
-    ensures fault { IfErr result (IsImportFault (delivery R.RowSource source.old source.new)) }
-    ensures forgets { OnOk result (ForgetsNone (known_of known.old) (known_of known.new)) }
+    ensures lodges { LodgesRows S.Store setup.now (delivery R.RowSource source.old source.new)
+        known.old known.new tx.old tx.new result }
 {
     match see_open(tx) {
         Ok(()) => take_rows(alloc, tx, setup, known, source),
         Err(error) => Err(import_fault_of(&error)),
+    }
+}
+
+/// Ends the transaction in which a request was answered. The answer is committed with what was
+/// written. Where a call failed, or the commit, what was written is undone, and nothing is known.
+fn end_request<S: Alter, T: Drop>(
+    tx: Transaction<'_, S>,
+    known: &mut BTreeMap<Code, Statuses>,
+    got: Result<Result<T, Refusal>, Error>,
+) -> Result<T, Refusal>
+    ensures { EndsTransaction got (known_of known.old) (known_of known.new)
+        (state S.Store tx.entry.conn.now) (state S.Store tx.exit.0.now) result }
+{
+    match got {
+        Ok(answer) => match tx.commit() {
+            Ok(()) => answer,
+            Err(error) => Err(forget(known, &error)),
+        },
+        Err(error) => {
+            tx.rollback();
+            Err(forget(known, &error))
+        }
     }
 }
 

@@ -5,8 +5,8 @@
 use std::alloc::Global;
 use std::test::Fail;
 use tally_disk_scripts::{
-    Contents, Deed, Done, MIXTURES, Stop, are_same, carried_out, files_with, have_stopped, mixed,
-    stop_after, synced, told, written,
+    Contents, Deed, Done, MIXTURES, Stop, TABLES, are_same, carried_out, files_with, have_stopped,
+    mixed, shown_by, stop_after, synced, wanted, written,
 };
 
 /// A deed on files of these contents, and what they show before it and after each of its steps.
@@ -15,6 +15,19 @@ pub(crate) struct Case<'a> {
     pub(crate) contents: Contents,
     pub(crate) deed: Deed<'a>,
     pub(crate) shows: Vec<String>,
+}
+
+/// What an office of a setup shows before the first of these lines, and after each.
+pub(crate) fn shows_of(alloc: Global, text: &str, lines: &str) -> Result<Vec<String>, Fail> {
+    let mut shows = Vec::new(alloc);
+    let mut done = String::new(alloc);
+    shows.push(wanted(alloc, TABLES, text, "")?)?;
+    for line in lines.lines() {
+        done.push_str(line)?;
+        done.push_str("\n")?;
+        shows.push(wanted(alloc, TABLES, text, done.as_str())?)?;
+    }
+    Ok(shows)
 }
 
 /// More runs than a count has.
@@ -27,7 +40,7 @@ pub(crate) fn check(
     left: &Contents,
     steps: usize,
 ) -> Result<(), Fail> {
-    let shown = told(alloc, left, Deed::Look)?;
+    let shown = shown_by(alloc, left, Deed::Look)?;
     let before = case.shows.get(steps).ok_or("no such step")?;
     let after = case.shows.get(steps.saturating_add(1)).unwrap_or(before);
     if shown.as_str() == before.as_str() || shown.as_str() == after.as_str() {

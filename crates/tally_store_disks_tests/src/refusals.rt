@@ -2,16 +2,15 @@
 //! refuses the office shows what a new opening of its files shows; or the store is shut, and shows
 //! nothing more.
 
-use crate::counts::{Case, MOST, check};
-use crate::scripts::MORE_STATIONS;
+use crate::counts::{Case, MOST, check, shows_of};
 use std::alloc::Global;
 use std::test::*;
 use tally_core::Book;
 use tally_disk_scripts::{
     Contents, Deed, Done, Stop, TABLES, carried_out, contents_after, files_with, have_stopped,
-    no_contents, push_each, stop_after, told, wanted, written,
+    no_contents, push_each, shown_by, stop_after, written,
 };
-use tally_scripts::{TWIN_TOWN, setup};
+use tally_scripts::{MORE_STATIONS, TWIN_TOWN, setup};
 
 /// By how many calls each run lets more through than the one before. With 1, each call of a file is
 /// refused in turn. `rt try --test` is slower by far, and 10 is enough there.
@@ -45,24 +44,11 @@ fn each_shown(alloc: Global, text: &str) -> Result<String, Fail> {
     Ok(shown)
 }
 
-/// What is shown before the first of the lines, and after each.
-fn shows(alloc: Global, text: &str) -> Result<Vec<String>, Fail> {
-    let mut shows = Vec::new(alloc);
-    let mut done = String::new(alloc);
-    shows.push(wanted(alloc, TABLES, text, "")?)?;
-    for line in LINES.lines() {
-        done.push_str(line)?;
-        done.push_str("\n")?;
-        shows.push(wanted(alloc, TABLES, text, done.as_str())?)?;
-    }
-    Ok(shows)
-}
-
 fn case(alloc: Global, text: &str) -> Result<Case<'static>, Fail> {
     Ok(Case {
         contents: contents_after(alloc, &no_contents(alloc), Deed::Create(text))?,
         deed: Deed::Refuse(LINES),
-        shows: shows(alloc, text)?,
+        shows: shows_of(alloc, text, LINES)?,
     })
 }
 
@@ -80,11 +66,11 @@ enum Came {
 }
 
 /// What becomes of an office that shows this.
-fn shown_as(told: &str) -> Came {
-    if told.is_empty() {
+fn shown_as(shown: &str) -> Came {
+    if shown.is_empty() {
         return Came::NotOpened;
     }
-    for line in told.lines() {
+    for line in shown.lines() {
         if line != "refused 23" {
             return Came::GoesOn;
         }
@@ -94,7 +80,7 @@ fn shown_as(told: &str) -> Came {
 
 /// Whether files of these contents show what the office showed.
 fn check_shown(alloc: Global, left: &Contents, shown: &str) -> Result<(), Fail> {
-    let look = told(alloc, left, Deed::Look)?;
+    let look = shown_by(alloc, left, Deed::Look)?;
     let again = look.as_str().strip_prefix(TABLES).ok_or("the tables")?;
     if again == shown {
         return Ok(());
@@ -105,12 +91,16 @@ fn check_shown(alloc: Global, left: &Contents, shown: &str) -> Result<(), Fail> 
 /// What becomes of an office that is looked at after the line that its store refuses.
 fn looked_at(alloc: Global, case: &Case<'_>, stop: Stop) -> Result<Came, Fail> {
     let files = files_with(alloc, &case.contents, stop)?;
-    let Done { files, steps, told } = carried_out(alloc, files, case.deed)?;
+    let Done {
+        files,
+        steps,
+        shown,
+    } = carried_out(alloc, files, case.deed)?;
     let left = written(alloc, &files)?;
     check(alloc, case, &left, steps)?;
-    let came = shown_as(told.as_str());
+    let came = shown_as(shown.as_str());
     if came == Came::GoesOn {
-        check_shown(alloc, &left, told.as_str())?;
+        check_shown(alloc, &left, shown.as_str())?;
     }
     if have_stopped(&files) {
         return Ok(came);
@@ -127,12 +117,16 @@ fn check_going_on(
     stop: Stop,
 ) -> Result<(), Fail> {
     let files = files_with(alloc, &case.contents, stop)?;
-    let Done { files, steps, told } = carried_out(alloc, files, Deed::Repeat(LINES))?;
+    let Done {
+        files,
+        steps,
+        shown,
+    } = carried_out(alloc, files, Deed::Repeat(LINES))?;
     check(alloc, case, &written(alloc, &files)?, steps)?;
-    if steps.saturating_add(1) == case.shows.len() && told.as_str() == each_shown {
+    if steps.saturating_add(1) == case.shows.len() && shown.as_str() == each_shown {
         return Ok(());
     }
-    Err(Fail::from(told))
+    Err(Fail::from(shown))
 }
 
 /// In how many runs an office was shut by a call that one file refused, and in how many it went on.

@@ -2,73 +2,35 @@
 //! memory.
 
 use std::alloc::Global;
+use std::io::ErrorKind;
 use std::test::*;
-use tally_core::{FirstRow, ImportCount, ImportFault};
+use tally_core::{ImportCount, ImportFault};
 use tally_disk_scripts::{
-    Contents, Deed, RETURNS, Rows, TABLES, contents_after, former_contents, no_contents, told,
-    wanted,
+    Contents, Deed, Rows, TABLES, contents_after, former_contents, no_contents, shown_by, wanted,
 };
 use tally_import::Sep;
 use tally_scripts::{
-    ALTERNATING, HARE, LIFE, RECOUNT, RIVERS, TWICE, TWIN_TOWN, VACANCIES, twin_town, with,
+    BAD_RETURNS, CERTIFIED, CUT_RETURNS, MORE_STATIONS, QUOTED_RETURNS, RECOUNT, RETURNS, TWICE,
+    TWIN_TOWN, import_count, setups_and_scripts, with_bad_rows,
 };
 
-pub(crate) const MORE_STATIONS: &str = r#"
-[[constituency.station]]
-code = "s2"
-electors = 300
-
-[[constituency.station]]
-code = "s3"
-electors = 300
-"#;
-
-// The returns as requests.
+// The three returns as requests.
 pub(crate) const LODGED: &str = "lodge s1 p1 10,20 = lodged 1
 lodge s2 p2 30,40 1 = lodged 1
 lodge s3 p3 50,60 0 2 = lodged 1";
 
-// The first 60 bytes of the returns.
-const CUT: &str = "station,slip,blank,spoiled,A,B\ns1,p1,0,0,10,20\ns2,p2,1,0,30,";
-
 const DIFFERING: &str =
     "station,slip,blank,spoiled,A,B\ns1,p1,0,0,10,20\ns2,p2,1,0,31,40\ns3,p3,0,2,50,60\n";
 
-const BAD: &str =
-    "station,slip,blank,spoiled,A,B\ns1,p1,0,0,10,20\ns2,p2,1,0,x,40\ns3,p3,0,2,50,60\n";
-
-// Those of the bad text that are lodged.
+// Those that are lodged where the second is bad.
 const LODGED_OF_BAD: &str = "lodge s1 p1 10,20 = lodged 1
 lodge s3 p3 50,60 0 2 = lodged 1";
 
-const QUOTED: &str = "\u{feff}\"station\";\"slip\";\"blank\";\"spoiled\";\"A\";\"B\"\r
-\"s1\";\"p1\";\"0\";\"0\";\"10\";\"20\"\r
-\"s2\";\"p2\";\"1\";\"0\";\"30\";\"40\"\r
-\"s3\";\"p3\";\"0\";\"2\";\"50\";\"60\"\r
-";
-
 const EXCHANGED: &str = "station,slip,blank,spoiled,B,A\ns1,p1,0,0,20,10\n";
-
-/// How many rows were lodged, the same, differing, refused and bad, and the first row that was
-/// neither lodged nor the same, with the number of its refusal.
-pub(crate) fn count(
-    numbers: [u32; 5],
-    first: Option<(u32, u32)>,
-) -> Result<ImportCount, ImportFault> {
-    let [lodged, same, differs, refused, bad] = numbers;
-    Ok(ImportCount {
-        lodged,
-        same,
-        differs,
-        refused,
-        bad,
-        first: first.map(|(row, number)| FirstRow { row, number }),
-    })
-}
 
 /// Whether files show what an office in memory shows that has answered these lines.
 fn shows(alloc: Global, contents: &Contents, text: &str, lines: &str) -> Result<bool, Fail> {
-    let shown = told(alloc, contents, Deed::Look)?;
+    let shown = shown_by(alloc, contents, Deed::Look)?;
     let wanted = wanted(alloc, TABLES, text, lines)?;
     Ok(shown.as_str() == wanted.as_str())
 }
@@ -92,17 +54,8 @@ fn follows(alloc: Global, text: &str, lines: &str) -> Result<bool, Fail> {
 #[test]
 fn scripts_over_files(rt: HostRuntime) -> Result<(), Fail> {
     let alloc = rt.alloc();
-    let one_seat = twin_town(alloc, "dhondt", 1)?;
-    let rule = "base = \"valid\"\nlot = \"alternating\"";
-    let alternating = with(alloc, TWIN_TOWN, "base = \"valid\"", rule)?;
-    for (setup, script) in [
-        (TWIN_TOWN, LIFE),
-        (TWIN_TOWN, RECOUNT),
-        (RIVERS, HARE),
-        (one_seat.as_str(), VACANCIES),
-        (alternating.as_str(), ALTERNATING),
-    ] {
-        assert!(rt; follows(alloc, setup, script)?, "{script}");
+    for (setup, script) in &setups_and_scripts(alloc)? {
+        assert!(rt; follows(alloc, setup.as_str(), script)?, "{script}");
     }
     Ok(())
 }
@@ -111,12 +64,12 @@ fn scripts_over_files(rt: HostRuntime) -> Result<(), Fail> {
 fn cut(alloc: Global, last: &str) -> Result<(String, String), Fail> {
     let mut before = String::new(alloc);
     let mut after = String::new(alloc);
-    let mut is_behind = false;
+    let mut is_after = false;
     for line in RECOUNT.lines().filter(|line| !line.starts_with("show")) {
-        let part = if is_behind { &mut after } else { &mut before };
+        let part = if is_after { &mut after } else { &mut before };
         part.push_str(line)?;
         part.push_str("\n")?;
-        is_behind = is_behind || line == last;
+        is_after = is_after || line == last;
     }
     Ok((before, after))
 }
@@ -127,7 +80,7 @@ fn an_office_of_version_1_goes_on(rt: HostRuntime) -> Result<(), Fail> {
     let (before, after) = cut(alloc, "close s1 4 = moved 5")?;
     let former = former_contents(alloc, TWIN_TOWN, before.as_str())?;
     let now = contents_after(alloc, &former, Deed::Answer(after.as_str()))?;
-    let shown = told(alloc, &now, Deed::Look)?;
+    let shown = shown_by(alloc, &now, Deed::Look)?;
     let end = "\ncertified 6 0 0 0 1/1 [120, 120] 4 1 [1, 2] [2, 1] recount 2.1 resigned\n";
     assert!(rt; shown.as_str().contains(end), "{shown}");
     Ok(())
@@ -151,7 +104,7 @@ fn rows(text: &str, sep: Sep, want: Result<ImportCount, ImportFault>) -> Rows<'_
         text,
         sep,
         piece: 4_096,
-        fails: false,
+        failure: None,
         want,
     }
 }
@@ -162,18 +115,18 @@ fn returns_by(piece: usize) -> Rows<'static> {
         text: RETURNS,
         sep: Sep::Comma,
         piece,
-        fails: false,
-        want: count([3, 0, 0, 0, 0], None),
+        failure: None,
+        want: import_count([3, 0, 0, 0, 0], None),
     }
 }
 
 /// The first of them, and a read that fails in the second.
 fn cut_returns() -> Rows<'static> {
     Rows {
-        text: CUT,
+        text: CUT_RETURNS,
         sep: Sep::Comma,
         piece: 7,
-        fails: true,
+        failure: Some(ErrorKind::BrokenPipe),
         want: Err(ImportFault::Read),
     }
 }
@@ -182,28 +135,45 @@ fn cut_returns() -> Rows<'static> {
 fn imports_over_files(rt: HostRuntime) -> Result<(), Fail> {
     let alloc = rt.alloc();
     let setup = format!(in alloc; "{TWIN_TOWN}{MORE_STATIONS}")?;
-    let bad_rows = "x\n".repeat(alloc, 20_000)?;
-    let long = format!(in alloc; "station,slip,blank,spoiled,A,B\ns1,p1,0,0,10,20\n{bad_rows}")?;
+    let long = with_bad_rows(alloc, 20_000)?;
     let comma = Sep::Comma;
     let one_after_the_other = [
         (rows(long.as_str(), comma, Err(ImportFault::TooLong)), ""),
         (rows("", comma, Err(ImportFault::BadHeader)), ""),
         (rows(EXCHANGED, comma, Err(ImportFault::BadHeader)), ""),
-        (rows(RETURNS, comma, count([3, 0, 0, 0, 0], None)), LODGED),
-        (rows(RETURNS, comma, count([0, 3, 0, 0, 0], None)), LODGED),
         (
-            rows(DIFFERING, comma, count([0, 2, 1, 0, 0], Some((2, 7)))),
+            rows(RETURNS, comma, import_count([3, 0, 0, 0, 0], None)),
+            LODGED,
+        ),
+        (
+            rows(RETURNS, comma, import_count([0, 3, 0, 0, 0], None)),
+            LODGED,
+        ),
+        (
+            rows(
+                DIFFERING,
+                comma,
+                import_count([0, 2, 1, 0, 0], Some((2, 7))),
+            ),
             LODGED,
         ),
     ];
     assert!(rt; import_in_turn(alloc, setup.as_str(), &one_after_the_other)?);
     let bad = [(
-        rows(BAD, comma, count([2, 0, 0, 0, 1], Some((2, 0)))),
+        rows(
+            BAD_RETURNS,
+            comma,
+            import_count([2, 0, 0, 0, 1], Some((2, 0))),
+        ),
         LODGED_OF_BAD,
     )];
     assert!(rt; import_in_turn(alloc, setup.as_str(), &bad)?);
     let quoted = [(
-        rows(QUOTED, Sep::Semicolon, count([3, 0, 0, 0, 0], None)),
+        rows(
+            QUOTED_RETURNS,
+            Sep::Semicolon,
+            import_count([3, 0, 0, 0, 0], None),
+        ),
         LODGED,
     )];
     assert!(rt; import_in_turn(alloc, setup.as_str(), &quoted)?);
@@ -220,7 +190,7 @@ fn imports_over_files(rt: HostRuntime) -> Result<(), Fail> {
 fn a_run_over_files(rt: HostRuntime) -> Result<(), Fail> {
     let alloc = rt.alloc();
     let made = contents_after(alloc, &no_contents(alloc), Deed::Create(TWIN_TOWN))?;
-    let wrong = told(alloc, &made, Deed::Run(TWICE))?;
+    let wrong = shown_by(alloc, &made, Deed::Run(TWICE))?;
     assert!(rt; wrong.is_empty(), "{wrong}");
     Ok(())
 }
@@ -229,8 +199,8 @@ fn a_run_over_files(rt: HostRuntime) -> Result<(), Fail> {
 fn an_office_is_made_once(rt: HostRuntime) -> Result<(), Fail> {
     let alloc = rt.alloc();
     let made = contents_after(alloc, &no_contents(alloc), Deed::Create(TWIN_TOWN))?;
-    let told = told(alloc, &made, Deed::Create(TWIN_TOWN))?;
-    assert!(rt; told.as_str() == "the database has such tables", "{told}");
+    let shown = shown_by(alloc, &made, Deed::Create(TWIN_TOWN))?;
+    assert!(rt; shown.as_str() == "the database has such tables", "{shown}");
     let still = contents_after(alloc, &made, Deed::Create(TWIN_TOWN))?;
     assert!(rt; shows(alloc, &still, TWIN_TOWN, "")?);
     Ok(())
@@ -239,12 +209,10 @@ fn an_office_is_made_once(rt: HostRuntime) -> Result<(), Fail> {
 #[test]
 fn a_moved_seat_over_files(rt: HostRuntime) -> Result<(), Fail> {
     let alloc = rt.alloc();
-    let certified =
-        "lodge s1 p1 100,100 = lodged 1\nclose s1 1 = moved 2\ndraw c1 1 B,A = edition 2\ncertify c1 2 = edition 3";
     let made = contents_after(alloc, &no_contents(alloc), Deed::Create(TWIN_TOWN))?;
-    let office = contents_after(alloc, &made, Deed::Answer(certified))?;
+    let office = contents_after(alloc, &made, Deed::Answer(CERTIFIED))?;
     let moved = contents_after(alloc, &office, Deed::Leave("UPDATE seats SET n = 3 - n"))?;
-    let shown = told(alloc, &moved, Deed::Look)?;
+    let shown = shown_by(alloc, &moved, Deed::Look)?;
     assert!(rt;
         shown.as_str().ends_with("the tables are those of no state"),
         "{shown}"

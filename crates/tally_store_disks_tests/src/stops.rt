@@ -1,15 +1,15 @@
 //! What a stop of a file leaves of an office that is made, opened, asked or imported into.
 
-use crate::counts::{Case, is_whole};
-use crate::scripts::{LODGED, MORE_STATIONS, count};
+use crate::counts::{Case, is_whole, shows_of};
+use crate::scripts::LODGED;
 use std::alloc::Global;
 use std::test::*;
 use tally_disk_scripts::{
-    Deed, FORMER_TABLES, NO_TABLES, RETURNS, Rows, TABLES, contents_after, former_contents,
-    no_contents, wanted,
+    Deed, FORMER_TABLES, NO_TABLES, Rows, TABLES, contents_after, former_contents, no_contents,
+    wanted,
 };
 use tally_import::Sep;
-use tally_scripts::{RECOUNT, TWIN_TOWN};
+use tally_scripts::{CERTIFIED, MORE_STATIONS, RECOUNT, RETURNS, TWIN_TOWN, import_count};
 
 /// By how many calls each run lets more through than the one before. With 1, each call of a file is
 /// stopped at in turn: some 540 stops in all, in 8 seconds as `rt test` builds them. `rt try
@@ -19,12 +19,6 @@ const MORE: u64 = 1;
 /// How many steps of the script are taken: up to the second closing. After it come only steps of
 /// kinds that came before.
 const STEPS: usize = 20;
-
-// What was done to the office that is taken over.
-const FORMER: &str = "lodge s1 p1 100,100 = lodged 1
-close s1 1 = moved 2
-draw c1 1 B,A = edition 2
-certify c1 2 = edition 3";
 
 /// What is shown before a deed of one step and after it.
 fn pair(alloc: Global, before: String, after: String) -> Result<Vec<String>, Fail> {
@@ -45,10 +39,10 @@ fn making(alloc: Global) -> Result<Case<'static>, Fail> {
 }
 
 fn taking_over(alloc: Global) -> Result<Case<'static>, Fail> {
-    let before = wanted(alloc, FORMER_TABLES, TWIN_TOWN, FORMER)?;
-    let after = wanted(alloc, TABLES, TWIN_TOWN, FORMER)?;
+    let before = wanted(alloc, FORMER_TABLES, TWIN_TOWN, CERTIFIED)?;
+    let after = wanted(alloc, TABLES, TWIN_TOWN, CERTIFIED)?;
     Ok(Case {
-        contents: former_contents(alloc, TWIN_TOWN, FORMER)?,
+        contents: former_contents(alloc, TWIN_TOWN, CERTIFIED)?,
         deed: Deed::Open,
         shows: pair(alloc, before, after)?,
     })
@@ -64,8 +58,8 @@ fn importing(alloc: Global) -> Result<Case<'static>, Fail> {
             text: RETURNS,
             sep: Sep::Comma,
             piece: 4_096,
-            fails: false,
-            want: count([3, 0, 0, 0, 0], None),
+            failure: None,
+            want: import_count([3, 0, 0, 0, 0], None),
         }),
         shows: pair(alloc, before, after)?,
     })
@@ -85,24 +79,11 @@ fn steps(alloc: Global) -> Result<String, Fail> {
     Ok(lines)
 }
 
-/// What is shown before the first of these lines, and after each.
-fn shows_of(alloc: Global, lines: &str) -> Result<Vec<String>, Fail> {
-    let mut shows = Vec::new(alloc);
-    let mut done = String::new(alloc);
-    shows.push(wanted(alloc, TABLES, TWIN_TOWN, "")?)?;
-    for line in lines.lines() {
-        done.push_str(line)?;
-        done.push_str("\n")?;
-        shows.push(wanted(alloc, TABLES, TWIN_TOWN, done.as_str())?)?;
-    }
-    Ok(shows)
-}
-
 fn answering(alloc: Global, lines: &str) -> Result<Case<'_>, Fail> {
     Ok(Case {
         contents: contents_after(alloc, &no_contents(alloc), Deed::Create(TWIN_TOWN))?,
         deed: Deed::Answer(lines),
-        shows: shows_of(alloc, lines)?,
+        shows: shows_of(alloc, TWIN_TOWN, lines)?,
     })
 }
 

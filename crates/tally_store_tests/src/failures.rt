@@ -7,14 +7,7 @@ use std::io::ErrorKind;
 use std::test::*;
 use tally_core::Keeper;
 use tally_import::{ReturnRows, Sep};
-use tally_scripts::{Failing, TWIN_TOWN, first_wrong};
-
-const HEADER: &str = "station,slip,blank,spoiled,A,B\n";
-
-const RETURNS: &str = "station,slip,blank,spoiled,A,B\ns1,p1,0,0,10,20\n";
-
-/// Two complete rows and a piece of a third.
-const CUT: &str = "station,slip,blank,spoiled,A,B\ns1,p1,0,0,10,20\ns9,p1,0,0,10,20\ns1,p2";
+use tally_scripts::{Failing, TWIN_TOWN, failing_reads, first_wrong};
 
 /// What an import of what a reader gives comes to, as text.
 fn imported<K: Keeper>(alloc: Global, office: &mut K, reader: Failing<'_>) -> Result<String, Fail> {
@@ -39,9 +32,9 @@ fn wrong_import<K: Keeper>(
         kind: ErrorKind::Interrupted,
         back: back.as_bytes(),
     };
-    let told = imported(alloc, office, reader)?;
-    if told.as_str() != wanted {
-        return Ok(told);
+    let got = imported(alloc, office, reader)?;
+    if got.as_str() != wanted {
+        return Ok(got);
     }
     first_wrong(alloc, office, "return s1 = refused 8")
 }
@@ -49,21 +42,11 @@ fn wrong_import<K: Keeper>(
 #[test]
 fn imports_whose_reads_fail_once_or_for_ever(rt: HostRuntime) -> Result<(), Fail> {
     let alloc = rt.alloc();
-    let rows = "x\n".repeat(alloc, 20_000)?;
-    let full = format!(in alloc; "{HEADER}{rows}x")?;
-    let long = format!(in alloc; "{HEADER}{rows}x\n")?;
     let mut office = made(alloc, TWIN_TOWN)?;
-    for (front, back, wanted) in [
-        ("", RETURNS, "Err(Read)"),
-        ("station,sl", "ip,blank,spoiled,A,B\n", "Err(Read)"),
-        ("station,slip\n", "", "Err(BadHeader)"),
-        (CUT, ",0,0,1,1\n", "Err(Read)"),
-        (RETURNS, "", "Err(Read)"),
-        (full.as_str(), "", "Err(Read)"),
-        (long.as_str(), "", "Err(TooLong)"),
-    ] {
+    for (front, back, wanted) in &failing_reads(alloc)? {
+        let front = front.as_str();
         for failures in [1, u32::MAX] {
-            let wrong = wrong_import(alloc, &mut office, (front, failures, back), wanted)?;
+            let wrong = wrong_import(alloc, &mut office, (front, failures, *back), wanted)?;
             assert!(rt; wrong.is_empty(), "{wrong}");
         }
     }

@@ -5,12 +5,7 @@ use crate::offices::{create, database, empty, open};
 use sqlite::{Alter, Connection};
 use std::alloc::Global;
 use std::test::*;
-use tally_scripts::TWIN_TOWN;
-
-const SCRIPT: &str = "lodge s1 p1 100,100 = lodged 1
-close s1 1 = moved 2
-draw c1 1 B,A = edition 2
-certify c1 2 = edition 3";
+use tally_scripts::{CERTIFIED, TWIN_TOWN};
 
 // What is done to the database of an office, and what its opening answers then.
 const CHANGED: &str = " -> opened
@@ -39,7 +34,7 @@ fn a_changed_office_is_opened_or_not(rt: HostRuntime) -> Result<(), Fail> {
     let alloc = rt.alloc();
     for line in CHANGED.lines() {
         let (statements, want) = line.split_once("-> ").ok_or("an answer")?;
-        let conn = database(alloc, TWIN_TOWN, SCRIPT)?;
+        let conn = database(alloc, TWIN_TOWN, CERTIFIED)?;
         let got = opening(alloc, conn, statements)?;
         assert!(rt; got.as_str() == want, "{line}");
     }

@@ -3,7 +3,7 @@
 use sqlite::{Alter, Connection, MemStore};
 use std::alloc::Global;
 use std::test::Fail;
-use tally_scripts::first_wrong;
+use tally_scripts::check_answers;
 use tally_store::{CreateFault, OpenFault, Store};
 
 // What is done to a connection or an office is written over any store. Over this one each of these
@@ -74,10 +74,7 @@ fn database_of<S: Alter + Drop>(
     mut office: Store<S>,
     script: &str,
 ) -> Result<Connection<S>, Fail> {
-    let wrong = first_wrong(alloc, &mut office, script)?;
-    if !wrong.is_empty() {
-        return Err(Fail::from(wrong));
-    }
+    check_answers(alloc, &mut office, script)?;
     Ok(office.close())
 }
 

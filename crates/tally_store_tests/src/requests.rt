@@ -6,8 +6,7 @@ use sqlite::{Alter, Connection};
 use std::alloc::Global;
 use std::test::*;
 use tally_scripts::{
-    ALTERNATING, HARE, LIFE, RECOUNT, RIVERS, TWICE, TWIN_TOWN, VACANCIES, all_told, first_wrong,
-    first_wrong_of_run, twin_town, with,
+    CERTIFIED, TWIN_TOWN, first_wrong, first_wrong_of_run, setups_and_scripts, text_of_answers,
 };
 use tally_store::Store;
 
@@ -24,9 +23,9 @@ fn reopened_the_same<S: Alter + Drop>(
     alloc: Global,
     mut office: Store<S>,
 ) -> Result<Store<S>, Fail> {
-    let before = all_told(alloc, &mut office, SHOWN)?;
+    let before = text_of_answers(alloc, &mut office, SHOWN)?;
     let mut office = opened(alloc, office.close())?;
-    let after = all_told(alloc, &mut office, SHOWN)?;
+    let after = text_of_answers(alloc, &mut office, SHOWN)?;
     if after.as_str() == before.as_str() {
         return Ok(office);
     }
@@ -71,17 +70,8 @@ fn wrong_line_by_line<S: Alter + Drop>(
 #[test]
 fn scripts_at_once_and_line_by_line(rt: HostRuntime) -> Result<(), Fail> {
     let alloc = rt.alloc();
-    let one_seat = twin_town(alloc, "dhondt", 1)?;
-    let rule = "base = \"valid\"\nlot = \"alternating\"";
-    let alternating = with(alloc, TWIN_TOWN, "base = \"valid\"", rule)?;
-    for (setup, script) in [
-        (TWIN_TOWN, LIFE),
-        (TWIN_TOWN, TWICE),
-        (TWIN_TOWN, RECOUNT),
-        (RIVERS, HARE),
-        (one_seat.as_str(), VACANCIES),
-        (alternating.as_str(), ALTERNATING),
-    ] {
+    for (setup, script) in &setups_and_scripts(alloc)? {
+        let setup = setup.as_str();
         let wrong = wrong_at_once(alloc, made(alloc, setup)?, script)?;
         assert!(rt; wrong.is_empty(), "{wrong}");
         let wrong = wrong_as_one_run(alloc, made(alloc, setup)?, script)?;
@@ -91,11 +81,6 @@ fn scripts_at_once_and_line_by_line(rt: HostRuntime) -> Result<(), Fail> {
     }
     Ok(())
 }
-
-const CERTIFIED: &str = "lodge s1 p1 100,100 = lodged 1
-close s1 1 = moved 2
-draw c1 1 B,A = edition 2
-certify c1 2 = edition 3";
 
 // The tables of version 1 have no record of a certificate that was reopened.
 const FORMER: &str = "DROP TABLE past; UPDATE setup SET version = 1";

@@ -212,11 +212,11 @@ entries_are setup (row ∷ rows) counts es h =
     let e = first.0 in
     let later = map_some _ (entries_in setup rows (drop items counts)) es first.2 in
     let read = entry_is con.code place.0.1.code row (take items counts) e first.1 in
-    let told = entries_are setup rows (drop items counts) later.0 later.1 in
+    let ensured = entries_are setup rows (drop items counts) later.0 later.1 in
     let here = placed setup row e.0 place.0 (ap (λ r. column r 0) read.1) place.1 in
     subst (AreRows setup (row ∷ rows) counts) later.2 (record {
-      rows_are = ap₂ (λ r l. r ∷ l) (read.1 ∙ ap (λ c. return_row c e) (sym (constituency_is setup e.0 place.0 here))) told.rows_are;
-      counts_are = sym (take-append-drop items counts) ∙ ap₂ ◌++◌ read.2 told.counts_are;
+      rows_are = ap₂ (λ r l. r ∷ l) (read.1 ∙ ap (λ c. return_row c e) (sym (constituency_is setup e.0 place.0 here))) ensured.rows_are;
+      counts_are = sym (take-append-drop items counts) ∙ ap₂ ◌++◌ read.2 ensured.counts_are;
     })
 
 -- a return of a station of the setup that can be read again

@@ -21,7 +21,7 @@ use Rattle.tally_rows.specs.Rows.{text_cmp}
 use Rattle.tally_rows.proofs.RowsLemmas.{text_same}
 use Rattle.tally_tables.specs.Cells.{item_row, numbers_with_places, items_of, gone_row, past_row, record_rows}
 use Rattle.tally_tables.specs.Reading.{has_text}
-use Rattle.tally_tables.specs.Views.{Tables, in_each, is_empty, key_len, rows_of_key, rows_behind, statuses_of, view_from_tables, con_at, view_with_code, next_view, views_from}
+use Rattle.tally_tables.specs.Views.{Tables, in_each, is_empty, key_len, rows_of_key, rows_after, statuses_of, view_from_tables, con_at, view_with_code, next_view, views_from}
 use Rattle.tally_tables.proofs.ItemLemmas.{and_then_some, map_some, same_text}
 use Rattle.tally_tables.proofs.ConLemmas.{gone_entry, past_entry, sums_of_view, row_of_view, tables_of_view, view_is, view_again, IsReadableView}
 
@@ -56,7 +56,7 @@ empty_is t h =
     let seats = and_parts (length t.lots == 0) (length t.seats == 0) gone.0 in
     λ i. record { lots = no_rows t.lots seats.0 i; seats = no_rows t.seats seats.1 i; gone = no_rows t.gone gone.1 i; totals = no_rows t.totals totals.1 i; past = no_rows t.past past.1 i }
 
-split_is : (key : List ℕ) (t : Tables) → t ≡ joined (in_each (rows_of_key key) t) (in_each (rows_behind key) t)
+split_is : (key : List ℕ) (t : Tables) → t ≡ joined (in_each (rows_of_key key) t) (in_each (rows_after key) t)
 split_is key t = λ i. record {
   lots = sym (take-append-drop (key_len key t.lots) t.lots) i;
   seats = sym (take-append-drop (key_len key t.seats) t.seats) i;
@@ -79,13 +79,13 @@ views_are setup counted (row ∷ rows) tables vs h =
     let con = and_then_some _ (con_at setup row) vs h in
     let code = con.0.code in
     let e = and_then_some _ (view_with_code (counted con.0) row (in_each (rows_of_key code) tables) con.0) vs con.2 in
-    let rest = map_some _ (views_from setup counted rows (in_each (rows_behind code) tables)) vs e.2 in
+    let rest = map_some _ (views_from setup counted rows (in_each (rows_after code) tables)) vs e.2 in
     let v = map_some _ (view_from_tables con.0 (statuses_of (counted con.0)) row (in_each (rows_of_key code) tables)) e.0 e.1 in
-    let told = view_is con.0 (statuses_of (counted con.0)) row (in_each (rows_of_key code) tables) v.0 v.1 in
-    let later = views_are setup counted rows (in_each (rows_behind code) tables) rest.0 rest.1 in
+    let ensured = view_is con.0 (statuses_of (counted con.0)) row (in_each (rows_of_key code) tables) v.0 v.1 in
+    let later = views_are setup counted rows (in_each (rows_after code) tables) rest.0 rest.1 in
     subst (AreRowsOfViews (row ∷ rows) tables) rest.2 (record {
-      rows_are = ap₂ (λ r l. r ∷ l) (told.row_is ∙ ap (λ (x : List ℕ × View). row_of_view x.0 x.1) v.2) later.rows_are;
-      tables_are = split_is code tables ∙ ap₂ joined (told.tables_are ∙ ap (λ (x : List ℕ × View). tables_of_view x.0 x.1) v.2) later.tables_are;
+      rows_are = ap₂ (λ r l. r ∷ l) (ensured.row_is ∙ ap (λ (x : List ℕ × View). row_of_view x.0 x.1) v.2) later.rows_are;
+      tables_are = split_is code tables ∙ ap₂ joined (ensured.tables_are ∙ ap (λ (x : List ℕ × View). tables_of_view x.0 x.1) v.2) later.tables_are;
     })
 
 -- ---- rows of a key in front of those of others
@@ -156,7 +156,7 @@ key_len_is key (x ∷ xs) ys mine others =
 front_is : (key : List ℕ) (xs ys : List Row) → AllByRecursion (IsKeyed key) xs → AllByRecursion (IsOther key) ys → rows_of_key key (xs ++ ys) ≡ xs
 front_is key xs ys mine others = take_at xs ys (key_len key (xs ++ ys)) (sym (key_len_is key xs ys mine others))
 
-back_is : (key : List ℕ) (xs ys : List Row) → AllByRecursion (IsKeyed key) xs → AllByRecursion (IsOther key) ys → rows_behind key (xs ++ ys) ≡ ys
+back_is : (key : List ℕ) (xs ys : List Row) → AllByRecursion (IsKeyed key) xs → AllByRecursion (IsOther key) ys → rows_after key (xs ++ ys) ≡ ys
 back_is key xs ys mine others = drop_at xs ys (key_len key (xs ++ ys)) (sym (key_len_is key xs ys mine others))
 
 fronts_are : (key : List ℕ) (a b : Tables) → AreKeyed (IsKeyed key) a → AreKeyed (IsOther key) b → in_each (rows_of_key key) (joined a b) ≡ a
@@ -168,7 +168,7 @@ fronts_are key a b mine others = λ i. record {
   past = front_is key a.past b.past mine.past others.past i;
 }
 
-backs_are : (key : List ℕ) (a b : Tables) → AreKeyed (IsKeyed key) a → AreKeyed (IsOther key) b → in_each (rows_behind key) (joined a b) ≡ b
+backs_are : (key : List ℕ) (a b : Tables) → AreKeyed (IsKeyed key) a → AreKeyed (IsOther key) b → in_each (rows_after key) (joined a b) ≡ b
 backs_are key a b mine others = λ i. record {
   lots = back_is key a.lots b.lots mine.lots others.lots i;
   seats = back_is key a.seats b.seats mine.seats others.seats i;
@@ -199,14 +199,14 @@ next_again others setup counted e vs h above is =
     let apart = tables_others e.0 vs above in
     let front : in_each (rows_of_key h.con.code) tables ≡ tables_of_view h.con.code e.1 =
     ap (λ k. in_each (rows_of_key k) tables) h.same ∙ fronts_are e.0 (tables_of_view e.0 e.1) (all_tables vs) mine apart ∙ ap (λ k. tables_of_view k e.1) (sym h.same) in
-    let back : in_each (rows_behind h.con.code) tables ≡ all_tables vs =
-    ap (λ k. in_each (rows_behind k) tables) h.same ∙ backs_are e.0 (tables_of_view e.0 e.1) (all_tables vs) mine apart in
+    let back : in_each (rows_after h.con.code) tables ≡ all_tables vs =
+    ap (λ k. in_each (rows_after k) tables) h.same ∙ backs_are e.0 (tables_of_view e.0 e.1) (all_tables vs) mine apart in
     let one : view_with_code (counted h.con) row (in_each (rows_of_key h.con.code) tables) h.con ≡ Some e =
     ap (option_map (λ view. (h.con.code, view)))
     (ap (λ t. view_from_tables h.con (statuses_of (counted h.con)) row t) front ∙ ap (λ s. view_from_tables h.con s row (tables_of_view h.con.code e.1)) h.statuses
     ∙ ap (λ k. view_from_tables h.con (statuses_of e.1) (row_of_view k e.1) (tables_of_view h.con.code e.1)) (sym h.same) ∙ view_again h.con e.1 h.some_list h.fine)
     ∙ ap (λ k. Some (k, e.1)) h.same in
-    ap (option_and_then (λ x. option_map (λ l. x ∷ l) (others (in_each (rows_behind h.con.code) tables)))) one
+    ap (option_and_then (λ x. option_map (λ l. x ∷ l) (others (in_each (rows_after h.con.code) tables)))) one
     ∙ ap (option_map (λ l. e ∷ l)) (ap others back ∙ is)
 
 pub views_again : (setup : List Constituency) (counted : Constituency → View) (vs : List (List ℕ × View)) → AllByRecursion (IsReadableFound setup counted) vs → IsAscending (λ a b. text_cmp a.0 b.0 ≡ Less) vs
@@ -246,10 +246,10 @@ no_con setup counted so_far rows tables i row low at is = at_row setup counted s
 -- with a constituency
 with_found : (setup : List Constituency) (counted : Constituency → View) (so_far : List (List ℕ × View)) (rows : List Row) (tables : Tables) (i : ℕ) (row : Row) (con : Constituency) (o : Option (List ℕ × View)) → i < length rows → row ≡ get_or rows i row
     → Some con ≡ con_at setup row → o ≡ view_with_code (counted con) row (in_each (rows_of_key con.code) tables) con
-    → Reading setup counted so_far (drop i rows) tables ≡ option_map (λ es. so_far ++ es) (option_and_then (λ e. option_map (λ es. e ∷ es) (views_from setup counted (drop (i + 1) rows) (in_each (rows_behind con.code) tables))) o)
+    → Reading setup counted so_far (drop i rows) tables ≡ option_map (λ es. so_far ++ es) (option_and_then (λ e. option_map (λ es. e ∷ es) (views_from setup counted (drop (i + 1) rows) (in_each (rows_after con.code) tables))) o)
 with_found setup counted so_far rows tables i row con o low at is e =
     at_row setup counted so_far rows tables i row (Some con) low at is
-    ∙ ap (λ p. option_map (λ es. so_far ++ es) (option_and_then (λ e. option_map (λ es. e ∷ es) (views_from setup counted (drop (i + 1) rows) (in_each (rows_behind con.code) tables))) p)) (sym e)
+    ∙ ap (λ p. option_map (λ es. so_far ++ es) (option_and_then (λ e. option_map (λ es. e ∷ es) (views_from setup counted (drop (i + 1) rows) (in_each (rows_after con.code) tables))) p)) (sym e)
 
 pub not_found : (setup : List Constituency) (counted : Constituency → View) (so_far : List (List ℕ × View)) (rows : List Row) (tables : Tables) (i : ℕ) (row : Row) (con : Constituency) → i < length rows → row ≡ get_or rows i row
     → Some con ≡ con_at setup row → None ≡ view_with_code (counted con) row (in_each (rows_of_key con.code) tables) con → Reading setup counted so_far (drop i rows) tables ≡ None
@@ -257,9 +257,9 @@ not_found setup counted so_far rows tables i row con low at is e = with_found se
 
 pub one_found : (setup : List Constituency) (counted : Constituency → View) (so_far : List (List ℕ × View)) (rows : List Row) (tables : Tables) (i : ℕ) (row : Row) (con : Constituency) (e : List ℕ × View) → i < length rows → row ≡ get_or rows i row
     → Some con ≡ con_at setup row → Some e ≡ view_with_code (counted con) row (in_each (rows_of_key con.code) tables) con
-    → Reading setup counted so_far (drop i rows) tables ≡ Reading setup counted (so_far ++ e ∷ []) (drop (i + 1) rows) (in_each (rows_behind con.code) tables)
+    → Reading setup counted so_far (drop i rows) tables ≡ Reading setup counted (so_far ++ e ∷ []) (drop (i + 1) rows) (in_each (rows_after con.code) tables)
 one_found setup counted so_far rows tables i row con e low at is found =
-    with_found setup counted so_far rows tables i row con (Some e) low at is found ∙ moved (views_from setup counted (drop (i + 1) rows) (in_each (rows_behind con.code) tables))
+    with_found setup counted so_far rows tables i row con (Some e) low at is found ∙ moved (views_from setup counted (drop (i + 1) rows) (in_each (rows_after con.code) tables))
   where
     moved : (o : Option (List (List ℕ × View))) → option_map (λ es. so_far ++ es) (option_map (λ es. e ∷ es) o) ≡ option_map (λ es. (so_far ++ e ∷ []) ++ es) o
     moved None = refl

@@ -21,7 +21,7 @@ module _ {X : Type 0} (read : ℕ → Row → Option X) where
   moved so_far x None = refl
   moved so_far x (Some xs) = ap Some (sym (append_assoc so_far (x ∷ []) xs))
 
-  -- the row at a place of the loop, and those behind it
+  -- the row at a place of the loop, and those after it
   opened : (rows : List Row) (i : ℕ) (row : Row) → i < length rows → row ≡ get_or rows i row → drop i rows ≡ row ∷ drop (i + 1) rows
   opened rows i row low at = drop_more rows i row low ∙ ap (λ r. r ∷ drop (i + 1) rows) (sym at)
 

@@ -52,15 +52,15 @@ key_len key rows = prefix_len (λ row. has_text row 0 key) rows
 abbrev pub rows_of_key : List ℕ → List Row → List Row
 rows_of_key key rows = take (key_len key rows) rows
 
-abbrev pub rows_behind : List ℕ → List Row → List Row
-rows_behind key rows = drop (key_len key rows) rows
+abbrev pub rows_after : List ℕ → List Row → List Row
+rows_after key rows = drop (key_len key rows) rows
 
 -- the same of each table
 abbrev pub tables_of_key : List ℕ → Tables → Tables
 tables_of_key key tables = in_each (rows_of_key key) tables
 
-abbrev pub tables_behind : List ℕ → Tables → Tables
-tables_behind key tables = in_each (rows_behind key) tables
+abbrev pub tables_after : List ℕ → Tables → Tables
+tables_after key tables = in_each (rows_after key) tables
 
 -- what a row of `cons` has beside its code
 abbrev pub standing_value : Standing → ℕ × Bool × List ℕ
@@ -120,7 +120,7 @@ abbrev pub next_view : (Tables → Option (List (List ℕ × View))) → View �
     → Option (List (List ℕ × View))
 next_view others counted row tables con = do
   e ← view_with_code counted row (tables_of_key con.code tables) con
-  option_map (λ es. e ∷ es) (others (tables_behind con.code tables))
+  option_map (λ es. e ∷ es) (others (tables_after con.code tables))
 
 -- the constituencies whose rows the tables hold, one after the other, in whatever order
 abbrev pub views_from : List Constituency → (Constituency → View) → List Row → Tables

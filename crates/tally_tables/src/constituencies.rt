@@ -1,7 +1,8 @@
 //! Rows of what constituencies have come to.
 
 ghost use Rattle.std.specs.Prelude.{◌≡◌, IfOk, option_map};
-ghost use Rattle.tally_tables.specs.Reading.{AreRead, all_gone_of, flag_of, gone_in_row, standing_of};
+ghost use Rattle.tally_tables.specs.Reading.{AreRead, all_gone_of, flag_of, gone_in_row};
+ghost use Rattle.tally_tables.specs.Reading.{standing_of};
 ghost use Rattle.tally_tables.specs.Views.{standing_value};
 ghost use Rattle.tally_tables.specs.internal.Parts.{place_value};
 

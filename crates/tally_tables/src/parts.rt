@@ -1,7 +1,8 @@
 //! The rows of one constituency among those of all.
 
-ghost use Rattle.std.specs.Prelude.{◌≡◌, ◌≤◌, length};
-ghost use Rattle.tally_tables.specs.Views.{is_empty, key_len, rows_behind, rows_of_key, tables_behind, tables_in, tables_of_key};
+ghost use Rattle.std.specs.Prelude.{◌≡◌};
+ghost use Rattle.tally_tables.specs.Views.{is_empty, key_len, rows_after, rows_of_key};
+ghost use Rattle.tally_tables.specs.Views.{tables_after, tables_in, tables_of_key};
 
 use crate::columns::has_text;
 use sqlite::Row;
@@ -31,7 +32,7 @@ fn key_len(rows: &[Row], key: &[u8]) -> usize
 /// The rows at the start that have this key, and those after them.
 fn split_rows<'a>(rows: &'a [Row], key: &[u8]) -> (&'a [Row], &'a [Row])
     ensures front { result.0.now ≡ rows_of_key key.now rows.now }
-    ensures back { result.1.now ≡ rows_behind key.now rows.now }
+    ensures back { result.1.now ≡ rows_after key.now rows.now }
 {
     rows.split_at(key_len(rows, key))
 }
@@ -41,7 +42,7 @@ impl<'a> ConTables<'a> {
     /// them.
     pub fn split(self, con: &[u8]) -> (ConTables<'a>, ConTables<'a>)
         ensures front { tables_in result.0 ≡ tables_of_key con.now (tables_in self.entry) }
-        ensures back { tables_in result.1 ≡ tables_behind con.now (tables_in self.entry) }
+        ensures back { tables_in result.1 ≡ tables_after con.now (tables_in self.entry) }
     {
         let lots = split_rows(self.lots, con);
         let seats = split_rows(self.seats, con);

@@ -2,8 +2,9 @@
 
 ghost use Rattle.std.specs.Prelude.{◌≡◌, IfOk, option_map};
 ghost use Rattle.tally_returns.specs.Counts.{VoteCounts};
-ghost use Rattle.tally_tables.specs.Reading.{AreRead, entries_in, entry_of, return_of, station_of_row};
-ghost use Rattle.tally_tables.specs.internal.Parts.{with_counts};
+ghost use Rattle.tally_tables.specs.Reading.{AreRead, entries_in, entry_of, return_of};
+ghost use Rattle.tally_tables.specs.Reading.{station_of_row};
+ghost use Rattle.tally_tables.specs.internal.Parts.{return_of_counts};
 
 use crate::columns::{has_text, note_in};
 use crate::items::counts_in;
@@ -26,7 +27,7 @@ struct Head<'a> {
 
 fn head_of<'a>(row: &'a Row, station: &[u8], con: &[u8]) -> Option<Head<'a>>
     ensures { (counts : VoteCounts) →
-        option_map (with_counts counts) result ≡ return_of station.now con.now counts row.now }
+        option_map (return_of_counts counts) result ≡ return_of station.now con.now counts row.now }
 {
     if row.column_count() != 6 || !has_text(row, 0, station) || !has_text(row, 1, con) {
         return None;

@@ -9,7 +9,7 @@ is_begun [] = false
 is_begun (list ∷ lists) = true
 
 -- what is written of a list, after others or not, that is marked or not
-abbrev pub code_of : Bool → Bool → ListEntry → List ℕ
-code_of others false list = []
-code_of false true list = quoted_code list
-code_of true true list = next_code list
+abbrev pub code_in_group : Bool → Bool → ListEntry → List ℕ
+code_in_group others false list = []
+code_in_group false true list = quoted_code list
+code_in_group true true list = next_code list

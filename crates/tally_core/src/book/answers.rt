@@ -1,9 +1,11 @@
 //! What a keeper in memory answers.
 
 ghost use Rattle.std.specs.Prelude.{◌≡◌, ◌⊎◌, true, false, Some, Err, IsSome};
-ghost use Rattle.tally_keeper.specs.internal.Held.{IsAnsweredInMemory, IsHeld, IsLodged, IsMoved, is_query, lodge_answer_in, moves_return};
+ghost use Rattle.tally_keeper.specs.internal.Held.{IsAnsweredInMemory, IsHeld, CarriesOutLodge};
+ghost use Rattle.tally_keeper.specs.internal.Held.{IsMoved, is_query, lodge_answer_in};
+ghost use Rattle.tally_keeper.specs.internal.Held.{moves_return};
 ghost use Rattle.tally_ledger.specs.Kept.{state_in, with_no_lot};
-ghost use Rattle.tally_returns.specs.Named.{con_named, station_named};
+ghost use Rattle.tally_returns.specs.Named.{station_named};
 ghost use Rattle.tally_steps.specs.Step.{answer, reply_seen};
 ghost use Rattle.tally_rules.specs.Setup.{constituency_with};
 ghost use Rattle.tally_returns.specs.declared.ask.Ask.TheVariants.{ShowReturn};
@@ -52,7 +54,7 @@ fn lodge(
     slip: Code,
     counts: &Counts,
 ) -> Result<Reply, Refusal>
-    ensures { IsLodged ledger.old station slip counts.now result ledger.new }
+    ensures { CarriesOutLodge ledger.old station slip counts.now result ledger.new }
 {
     let reply = decide_first(ledger, station, slip, counts)?;
     let LodgeReply::Lodged { .. } = reply else {

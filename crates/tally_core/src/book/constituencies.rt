@@ -1,7 +1,8 @@
 //! What a keeper in memory answers to a command on a constituency.
 
-ghost use Rattle.std.specs.Prelude.{◌≡◌, ◌+◌, ◌<◌, ◌^◌, Some, IsSome, IfErr, IfOk, OnErr, OnOk};
-ghost use Rattle.tally_keeper.specs.internal.Held.{CanCarryOut, IsAfterChange, IsAnsweredOn, IsHeld, TellsChange};
+ghost use Rattle.std.specs.Prelude.{◌≡◌, ◌+◌, ◌<◌, Some, IfErr, IfOk, OnErr, OnOk};
+ghost use Rattle.tally_keeper.specs.internal.Held.{CanCarryOut, IsAfterChange, IsAnsweredOn};
+ghost use Rattle.tally_keeper.specs.internal.Held.{IsHeld, TellsChange};
 ghost use Rattle.tally_returns.specs.Named.{con_named};
 ghost use Rattle.tally_returns.specs.declared.refusal.Refusal.TheVariants.{Memory};
 

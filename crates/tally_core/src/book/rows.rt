@@ -1,8 +1,9 @@
 //! An import into a keeper in memory.
 
-ghost use Rattle.std.specs.Prelude.{◌≡◌, ◌≢◌, Some, true, IfErr, IfOk, OnErr, OnOk};
+ghost use Rattle.std.specs.Prelude.{◌≡◌, ◌≢◌, Some, true, IfErr, IfOk, OnOk};
 ghost use Rattle.tally_keeper.specs.Delivery.{delivery};
-ghost use Rattle.tally_keeper.specs.internal.Held.{after_row_in, lodge_answer_in, lodge_in, row_answer_in, returns_without};
+ghost use Rattle.tally_keeper.specs.internal.Held.{after_row_in, lodge_answer_in, after_lodge_in};
+ghost use Rattle.tally_keeper.specs.internal.Held.{row_answer_in, returns_without};
 ghost use Rattle.tally_keeper.specs.Import.{IsCodedRow};
 ghost use Rattle.tally_keeper.specs.Keeper.{IsImportFault, IsImportOf};
 ghost use Rattle.tally_keeper.specs.declared.import.Row.{Row};
@@ -107,7 +108,8 @@ fn take_return(
     ensures codes { is_code slip ≡ true }
     ensures answer { IfOk result (λ answer.
         answer ≡ lodge_answer_in ledger.old station slip counts) }
-    ensures returns { OnOk result (ledger.new.returns ≡ lodge_in ledger.old station slip counts) }
+    ensures returns { OnOk result
+        (ledger.new.returns ≡ after_lodge_in ledger.old station slip counts) }
     ensures kept { ledger.new ≡ record ledger.old { returns = ledger.new.returns } }
     ensures undone { returns_without lodged.new.items ledger.new.returns
         ≡ returns_without lodged.old.items ledger.old.returns }

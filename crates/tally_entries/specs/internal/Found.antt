@@ -1,12 +1,9 @@
 -- What the rows of a constituency read as, where they were looked up by its code.
-use Rattle.std.specs.Prelude.{◌≡◌, ◌==◌, ◌<◌, ◌≤◌, ◌+◌, if◌then◌else◌, ℕ, Bool, true, false, List, [], ◌∷◌, length, Option, Some, None, option_map, option_and_then, slice_index_or, Result, IfOk, OnOk}
+use Rattle.std.specs.Prelude.{◌≡◌, ◌==◌, ◌<◌, ◌≤◌, ◌+◌, if◌then◌else◌, ℕ, Bool, true, false, List, [], ◌∷◌, length, Option, Some, None, option_map, option_and_then, slice_index_or, Result, IfOk}
 use Rattle.std.specs.FinMap.{FinMap, get}
 use Rattle.sqlite_value.specs.Order.{Row, column}
-use Rattle.sqlite_trees.specs.declared.store.Store.{Ghosts}
 use Rattle.sqlite.specs.declared.error.Error.{Error}
-use Rattle.sqlite.specs.declared.transaction.Transaction.{Transaction}
-use Rattle.sqlite.specs.Held.{state}
-use Rattle.sqlite.specs.State.{State as Seen, HasCleanDisk, IsUnchanged}
+use Rattle.sqlite.specs.State.{State as Seen}
 use Rattle.tally_rows.specs.Cells.{number_of}
 use Rattle.tally_rows.specs.Rows.{AreRowsOf}
 use Rattle.tally_rules.specs.Code.{code_cmp}
@@ -20,7 +17,6 @@ use Rattle.tally_returns.specs.declared.returns.Status.{Status}
 use Rattle.tally_returns.specs.declared.returns.Status.TheVariants.{Received, Queried, Corrected, Closed}
 use Rattle.tally_statements.specs.declared.table.KeyedTable.{KeyedTable}
 use Rattle.tally_statements.specs.declared.table.KeyedTable.TheVariants.{Returns, Cons, Lots, Seats, Gone, Totals, Past}
-use Rattle.tally_statements.specs.Inside.{IsOpenInside}
 use Rattle.tally_statements.specs.Office.{IsFound}
 use Rattle.tally_tables.specs.Cells.{con_rows, return_rows}
 use Rattle.tally_tables.specs.Reading.{standing_of, status_of}
@@ -91,11 +87,6 @@ FindsOne entries result = (e : List ℕ × StationReturn) → entries ≡ Some (
 
 -- ---- what is looked up
 
--- What holds after a call that changes nothing in the tables of the office, on a connection that is
--- open, where the disk returned what was written.
-abbrev pub ChangesNothing : {S X : Type 0} (g : Ghosts S) → Transaction S → Transaction S → Result X Error → Type 0
-ChangesNothing g old new result = HasCleanDisk (state g new.conn.now) → IsOpenInside (state g old.conn.now) → OnOk result (IsUnchanged (state g old.conn.now) (state g new.conn.now))
-
 -- these are the rows of a key in a table where they are asked for, and else there are none
 abbrev pub IsFoundIf : Bool → KeyedTable → List ℕ → Seen → List Row → Type 0
 IsFoundIf true t key s rows = IsFound t key s rows
@@ -103,7 +94,7 @@ IsFoundIf false t key s rows = rows ≡ []
 
 -- these are the rows of a constituency in each of the tables that have it for their key, in `past`
 -- where those are asked for
-pub record AreFound (with_past : Bool) (con : List ℕ) (s : Seen) (rows : Rows) : Type 0 where
+pub record AreRowsFound (with_past : Bool) (con : List ℕ) (s : Seen) (rows : Rows) : Type 0 where
   pub cons : IsFound Cons con s rows.cons
   pub lots : IsFound Lots con s rows.tables.lots
   pub seats : IsFound Seats con s rows.tables.seats
@@ -121,8 +112,8 @@ FindsStatuses stations s found = (setup : List Constituency) (returns : Office) 
 
 -- What is found of a constituency is how many of its returns are in each status, where what is
 -- known of it is true.
-abbrev pub FindsKnown : Constituency → Option Statuses → Seen → Statuses → Type 0
-FindsKnown con known s found =
+abbrev pub FindsKnownStatuses : Constituency → Option Statuses → Seen → Statuses → Type 0
+FindsKnownStatuses con known s found =
     (setup : List Constituency) (returns : Office) → IsKnown con returns known → AreRowsOf (return_rows setup) returns (stored_in Returns s) → found ≡ statuses_in returns con.stations
 
 -- one station more, whose return has this status, if there is one

@@ -31,8 +31,8 @@ abbrev pub IsRowAnswer : ℕ → Table → Row → RowAnswer → Type 0
 IsRowAnswer lists held row answer = (returns : Returns) → Holds held returns → row_answer (every_code lists) returns row ≡ answer
 
 -- the answer to the lodging of a return there: its station, its slip and its counts
-abbrev pub IsLodgeAnswer : ℕ → Table → List ℕ → List ℕ → VoteCounts → Result LodgeReply Refusal → Type 0
-IsLodgeAnswer lists held station slip counts answer = (returns : Returns) → Holds held returns → answer ≡ lodge_answer (every_code lists) returns station slip counts
+abbrev pub IsHeldLodgeAnswer : ℕ → Table → List ℕ → List ℕ → VoteCounts → Result LodgeReply Refusal → Type 0
+IsHeldLodgeAnswer lists held station slip counts answer = (returns : Returns) → Holds held returns → answer ≡ lodge_answer (every_code lists) returns station slip counts
 
 -- a table that held some returns holds what they have become
 abbrev pub TableMoves : Table → Table → (Returns → Returns) → Type 0

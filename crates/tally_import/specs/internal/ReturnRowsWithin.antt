@@ -2,7 +2,7 @@
 use Rattle.std.proofs.Common.{◌≤◌, ℕ, zero, suc, List, [], ◌∷◌, Bool, true, false, Option, Some, None, length, take, map, arith, length-drop}
 use Rattle.std.specs.Prelude.{◌≢◌, if◌then◌else◌, nat_lt, option_map, IfSome}
 use Rattle.tally_rules.specs.Constituency.{Constituency, list_codes}
-use Rattle.tally_keeper.specs.Source.{IsWithin, row_limit}
+use Rattle.tally_keeper.specs.Source.{IsWithinRowLimit, row_limit}
 use Rattle.tally_keeper.specs.declared.source.ImportFault.{ImportFault}
 use Rattle.tally_keeper.specs.declared.source.ImportFault.TheVariants as cause
 use Rattle.tally_records.specs.Input.{size_limit, text_records}
@@ -17,7 +17,7 @@ few f (suc n) [] = omega arith
 few f (suc n) (x ∷ xs) = omega (arith, few f n xs)
 
 rows-within : (con : Constituency) (records : List (List (List ℕ))) (long : Bool)
-    → IsWithin (rows_coming con records (if long then Some stopped.TooLong else None))
+    → IsWithinRowLimit (rows_coming con records (if long then Some stopped.TooLong else None))
 rows-within con records long = (few _ row_limit records, go (nat_lt row_limit (length records)) long)
   where
     go : (many long : Bool)
@@ -27,19 +27,19 @@ rows-within con records long = (few _ row_limit records, go (nat_lt row_limit (l
     go false false e = cc
 
 records-within : (con : Constituency) (records : List (List (List ℕ))) (long : Bool)
-    → IsWithin (records_coming con records (if long then Some stopped.TooLong else None))
+    → IsWithinRowLimit (records_coming con records (if long then Some stopped.TooLong else None))
 records-within con [] true = (omega arith, λ e. cc)
 records-within con [] false = (omega arith, λ e. cc)
 records-within con (header ∷ records) long = go (is_header (list_codes con.lists) header)
   where
-    go : (good : Bool) → IsWithin (if good then rows_coming con records (if long then Some stopped.TooLong else None) else fault_alone (Some cause.BadHeader))
+    go : (good : Bool) → IsWithinRowLimit (if good then rows_coming con records (if long then Some stopped.TooLong else None) else fault_alone (Some cause.BadHeader))
     go true = rows-within con records long
     go false = (omega arith, λ e. cc)
 
-text-within : (con : Constituency) (sep : Sep) (text : List ℕ) → IsWithin (text_coming con sep text)
+text-within : (con : Constituency) (sep : Sep) (text : List ℕ) → IsWithinRowLimit (text_coming con sep text)
 text-within con sep text = records-within con (text_records sep text) (nat_lt size_limit (length text))
 
-own-within : (fault : Option ImportFault) → IsWithin (fault_alone (option_map own_fault fault))
+own-within : (fault : Option ImportFault) → IsWithinRowLimit (fault_alone (option_map own_fault fault))
 own-within None = (omega arith, λ e. cc)
 own-within (Some cause.BadHeader) = (omega arith, λ e. cc)
 own-within (Some cause.TooLong) = (omega arith, λ e. cc)
@@ -48,12 +48,12 @@ own-within (Some cause.Memory) = (omega arith, λ e. cc)
 own-within (Some cause.Store) = (omega arith, λ e. cc)
 
 at-within : (con : Constituency) (sep : Sep) (came : ℕ) (ended : Option (Option ImportFault)) (text : Option (List ℕ))
-    → IfSome (option_map (coming_at con sep came ended) text) IsWithin
+    → IfSome (option_map (coming_at con sep came ended) text) IsWithinRowLimit
 at-within con sep came ended None = tt
 at-within con sep came None (Some text) =
     let whole = text-within con sep text in
     (omega (arith, length-drop came (text_coming con sep text).rows, whole.0), whole.1)
 at-within con sep came (Some fault) (Some text) = own-within fault
 
-pub coming-within : (rows : ReturnRows) → IfSome (coming rows) IsWithin
+pub coming-within : (rows : ReturnRows) → IfSome (coming rows) IsWithinRowLimit
 coming-within rows = at-within rows.con rows.sep rows.came rows.ended rows.text

@@ -19,28 +19,28 @@ ended_import None import = Ok import
 ended_import (Some stop) import = Err (check_fault stop)
 
 -- After the records given so far these are the complete ones of what comes of a text.
-abbrev pub AreBehind : Option (List ℕ) → Option (List ℕ) → Records → List (List (List ℕ)) → Option Stop → Type 0
-AreBehind old_left left r rows stop = (text : Option (List ℕ)) (before : List (List (List ℕ))) → HasGiven text old_left before r → AreAll (sep_of r) text left (before ++ rows) stop
+abbrev pub AreRecordsAfter : Option (List ℕ) → Option (List ℕ) → Records → List (List (List ℕ)) → Option Stop → Type 0
+AreRecordsAfter old_left left r rows stop = (text : Option (List ℕ)) (before : List (List (List ℕ))) → HasGiven text old_left before r → AreAll (sep_of r) text left (before ++ rows) stop
 
 -- The import, under a header of so many lists, of rows that are all, or the fault of too many, or
 -- what stopped them. Out of memory may come at any place.
-abbrev pub Imports : ℕ → (List (List (List ℕ)) → Option Stop → Type 0) → Result Import CheckFault → Type 0
-Imports lists AreRows (Ok import) = (rows : List (List (List ℕ))) × AreRows rows None
+abbrev pub ImportsRecords : ℕ → (List (List (List ℕ)) → Option Stop → Type 0) → Result Import CheckFault → Type 0
+ImportsRecords lists AreRows (Ok import) = (rows : List (List (List ℕ))) × AreRows rows None
     × HasTaken (record { lists = lists; rows = rows_of_records lists rows }) import × (length rows ≤ row_limit)
-Imports lists AreRows (Err fault) = (fault ≡ Memory) ⊎ ((rows : List (List (List ℕ))) × (stop : Option Stop) × AreRows rows stop
+ImportsRecords lists AreRows (Err fault) = (fault ≡ Memory) ⊎ ((rows : List (List (List ℕ))) × (stop : Option Stop) × AreRows rows stop
     × (((fault ≡ TooLong) × (row_limit < length rows)) ⊎ ((option_map check_fault stop ≡ Some fault) × (length rows ≤ row_limit))))
 
 -- The check text that is found in a text, or the fault that comes first; out of memory may come at
 -- any place.
-abbrev pub Finds : Sep → List ℕ → Option (List ℕ) → Result (String Global) CheckFault → Type 0
-Finds sep text left (Ok found) = Found sep text left (λ f. f ≡ Ok (string_bytes found))
-Finds sep text left (Err fault) = (fault ≡ Memory) ⊎ Found sep text left (λ f. f ≡ Err fault)
+abbrev pub FindsCheckText : Sep → List ℕ → Option (List ℕ) → Result (String Global) CheckFault → Type 0
+FindsCheckText sep text left (Ok found) = Found sep text left (λ f. f ≡ Ok (string_bytes found))
+FindsCheckText sep text left (Err fault) = (fault ≡ Memory) ⊎ Found sep text left (λ f. f ≡ Err fault)
 
 -- The same of the text of which these records were given so far.
 abbrev pub FindsAfter : List (List (List ℕ)) → Records → Option (List ℕ) → Option (List ℕ)
     → Result (String Global) CheckFault → Type 0
 FindsAfter given r old_left left result = (text : Option (List ℕ))
-    → HasGiven text old_left given r → IfSome text (λ t. Finds (sep_of r) t left result)
+    → HasGiven text old_left given r → IfSome text (λ t. FindsCheckText (sep_of r) t left result)
 
 -- A fault that comes before anything is written: Read only where a read failed, and never Write.
 abbrev pub IsOfReading : CheckFault → Bool → Type 0

@@ -2,7 +2,7 @@
 use Rattle.std.specs.Prelude.{◌≡◌, ◌⊎◌, ◌&&◌, All, Bool, true, [], nat_le}
 use Rattle.tally_law.specs.LotNeed.{IsLotTaken}
 use Rattle.tally_law.specs.Poll.{HasEligible}
-use Rattle.tally_steps.specs.Outcome.{HasSeats, IsLawfulGone, IsLawfulPast, MayStand, poll_in}
+use Rattle.tally_steps.specs.Outcome.{HasSeats, IsLawfulGone, IsLawfulPast, HasLawfulLot, poll_in}
 use Rattle.tally_steps.specs.Outcome.{rule_in}
 use Rattle.tally_returns.specs.Lawful.{is_note_or_empty}
 use Rattle.tally_returns.specs.State.{last_edition}
@@ -25,11 +25,11 @@ pub record HasLawfulFrame (con : Constituency) (view : View) : Type 0 where
 
 -- all stations are closed, and the seats and the lot are those of the one allotment
 abbrev pub IsCertified : Constituency → View → Type 0
-IsCertified con view = MayStand con view × HasSeats con view true
+IsCertified con view = HasLawfulLot con view × HasSeats con view true
 
 -- there are no seats, and no lot or the one to be taken
 abbrev pub IsOpen : Constituency → View → Type 0
-IsOpen con view = (view.seats ≡ []) × ((view.lot ≡ []) ⊎ MayStand con view)
+IsOpen con view = (view.seats ≡ []) × ((view.lot ≡ []) ⊎ HasLawfulLot con view)
 
 -- the lot is the one to be taken
 abbrev pub IsLotRight : Constituency → View → Type 0

@@ -47,13 +47,13 @@ IsAnsweredInMemory setup s ask r t = IsStep setup s ask r t ⊎ ((r ≡ Err Memo
 abbrev pub lodge_answer_in : Kept → List ℕ → List ℕ → VoteCounts → Result LodgeReply Refusal
 lodge_answer_in k station slip counts = lodge_answer (stations_of k.setup) k.returns station slip counts
 
-abbrev pub lodge_in : Kept → List ℕ → List ℕ → VoteCounts → Returns
-lodge_in k station slip counts = lodge (stations_of k.setup) k.returns station slip counts
+abbrev pub after_lodge_in : Kept → List ℕ → List ℕ → VoteCounts → Returns
+after_lodge_in k station slip counts = lodge (stations_of k.setup) k.returns station slip counts
 
 -- a Lodge was answered and carried out, or it is out of memory and nothing has changed
-abbrev pub IsLodged : Kept → List ℕ → List ℕ → VoteCounts → Result Reply Refusal → Kept → Type 0
-IsLodged k station slip counts r new =
-    ((reply_seen r ≡ lodge_reply (lodge_answer_in k station slip counts)) × (new ≡ record k { returns = lodge_in k station slip counts }))
+abbrev pub CarriesOutLodge : Kept → List ℕ → List ℕ → VoteCounts → Result Reply Refusal → Kept → Type 0
+CarriesOutLodge k station slip counts r new =
+    ((reply_seen r ≡ lodge_reply (lodge_answer_in k station slip counts)) × (new ≡ record k { returns = after_lodge_in k station slip counts }))
     ⊎ ((r ≡ Err Memory) × (new ≡ k))
 
 -- what is kept after a state: the seats stay

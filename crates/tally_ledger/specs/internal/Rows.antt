@@ -33,8 +33,8 @@ views_of tree = from_entries tree.entries
 abbrev pub gone_by_places : List GoneCandidate → GoneCandidates
 gone_by_places gone = map_of (λ (g : GoneCandidate). g.list ∷ g.place ∷ []) (λ g. g.note) gone
 
-abbrev pub past_of : List PastSeats → PastRecords
-past_of past = map_of (λ (p : PastSeats). p.edition) (λ p. p.seats) past
+abbrev pub past_by_edition : List PastSeats → PastRecords
+past_by_edition past = map_of (λ (p : PastSeats). p.edition) (λ p. p.seats) past
 
 -- what a constituency has come to, of what is seen of it
 abbrev pub con_of : View → ConState
@@ -44,7 +44,7 @@ con_of view = record {
   note = view.note;
   lot = view.lot;
   gone = gone_by_places view.gone;
-  past = past_of view.past;
+  past = past_by_edition view.past;
 }
 
 abbrev pub cons_of : Views → FinMap code_cmp ConState
@@ -125,8 +125,8 @@ with_reopening note past view = record view {
 }
 
 -- how far a constituency has come, of what is seen of it
-abbrev pub row_of : List ℕ → View → ProgressRow
-row_of code view = record {
+abbrev pub progress_row_of : List ℕ → View → ProgressRow
+progress_row_of code view = record {
   con = code;
   stations = view.stations;
   received = view.received;

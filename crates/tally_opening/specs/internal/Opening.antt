@@ -245,7 +245,7 @@ pub record IsReady (setup : List Constituency) (old new : Seen) : Type 0 where
   pub past : AddsPast old new
 
 -- They are taken over, and were those of one lawful state.
-pub record IsTaken (setup : List Constituency) (old new : Seen) : Type 0 where
+pub record AreTablesTakenOver (setup : List Constituency) (old new : Seen) : Type 0 where
   pub state : State
   pub text : List ℕ
   pub lawful : IsLawfulState setup state

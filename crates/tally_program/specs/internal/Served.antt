@@ -7,7 +7,7 @@ use Rattle.tally_commands.specs.Served.{served_line}
 
 -- The text is the line of a server: of so many connections this many were answered, and the others
 -- failed.
-pub record IsToldOfServing (Trusted : Type 0) (count : ℕ) (known knows : Option Connections)
+pub record IsReportOfServing (Trusted : Type 0) (count : ℕ) (known knows : Option Connections)
     (old new : Office) (text : List ℕ) : Type 0 where
   pub answered : ℕ
   pub failed : ℕ

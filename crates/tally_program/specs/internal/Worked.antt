@@ -13,11 +13,11 @@ use Rattle.tally_program.specs.Troubles.{IsTroubleOfFile}
 
 -- The text is the report that is named, of the constituency of this code; or how far each
 -- constituency has come, where none is.
-abbrev pub IsShown : List Constituency → Option State → Option Report → Option (List ℕ) → List ℕ
+abbrev pub IsTextShown : List Constituency → Option State → Option Report → Option (List ℕ) → List ℕ
     → Option State → Type 0
-IsShown setup old None code text new = IsProgressShown setup old text new
-IsShown setup old (Some which) (Some code) text new = IsReportShown setup old code which text new
-IsShown setup old (Some which) None text new = ⊥
+IsTextShown setup old None code text new = IsProgressShown setup old text new
+IsTextShown setup old (Some which) (Some code) text new = IsReportShown setup old code which text new
+IsTextShown setup old (Some which) None text new = ⊥
 
 -- Why it is not shown.
 abbrev pub IsShowTrouble : List Constituency → Option State → Option Report → Option (List ℕ) → Trouble

@@ -11,22 +11,22 @@ use Rattle.tally_records.specs.declared.text.Text.{Text}
 abbrev pub unread_bytes : Reader Text → Option (List ℕ)
 unread_bytes reader = source_of text_left reader
 
-abbrev pub rows_in : Reader Text → Option (List ℕ) → List (List (List ℕ))
-rows_in reader None = []
-rows_in reader (Some text) = records_from (reader_config reader) (length text + 1) (reader_state reader) text
+abbrev pub records_read_from : Reader Text → Option (List ℕ) → List (List (List ℕ))
+records_read_from reader None = []
+records_read_from reader (Some text) = records_from (reader_config reader) (length text + 1) (reader_state reader) text
 
 -- the records that it still gives
 abbrev pub rows_left : Reader Text → List (List (List ℕ))
-rows_left reader = rows_in reader (unread_bytes reader)
+rows_left reader = records_read_from reader (unread_bytes reader)
 
 -- it gives this record next, if it found one, and else none is left
-abbrev pub GivesRow : Reader Text → Reader Text → List (List ℕ) → Bool → Type 0
-GivesRow old new fields found = rows_left old ≡ (if found then fields ∷ rows_left new else [])
+abbrev pub GivesNextRecord : Reader Text → Reader Text → List (List ℕ) → Bool → Type 0
+GivesNextRecord old new fields found = rows_left old ≡ (if found then fields ∷ rows_left new else [])
 
 -- it is between two records, and reads the next one, of any length, just as it is, with no header
 -- row of its own
 pub record IsReading (reader : Reader Text) : Type 0 where
-  pub as_it_stands : reader_trim reader ≡ trim.None
+  pub untrimmed : reader_trim reader ≡ trim.None
   pub ready : Ready reader
   pub any_length : is_flexible reader ≡ true
   pub source : IsSome (unread_bytes reader)

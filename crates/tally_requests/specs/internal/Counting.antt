@@ -60,13 +60,13 @@ without_one status s = record s {
 abbrev pub with_move : Option Status → Status → Statuses → Statuses
 with_move before standing s = without_one before (with_one standing s)
 
-abbrev pub with_changed : Known → List ℕ → (Statuses → Statuses) → Option Statuses → Known
-with_changed known con change None = known
-with_changed known con change (Some statuses) = insert known con (change statuses)
+abbrev pub with_statuses_changed : Known → List ℕ → (Statuses → Statuses) → Option Statuses → Known
+with_statuses_changed known con change None = known
+with_statuses_changed known con change (Some statuses) = insert known con (change statuses)
 
 -- what is known of a constituency, changed
 abbrev pub with_known : Known → List ℕ → (Statuses → Statuses) → Known
-with_known known con change = with_changed known con change (get known con)
+with_known known con change = with_statuses_changed known con change (get known con)
 
 -- what is known after a return of a constituency moved
 abbrev pub known_after_move : List ℕ → Option Status → Status → Known → Known

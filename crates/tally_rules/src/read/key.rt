@@ -6,9 +6,9 @@ ghost use Rattle.toml.specs.View.{view};
 ghost use Rattle.tally_rules.specs.Code.{is_code};
 ghost use Rattle.tally_rules.specs.Codes.{AreDistinct};
 ghost use Rattle.tally_rules.specs.internal.Found.{key_name, IsFoundIn};
-ghost use Rattle.tally_rules.specs.Reading.{read_base, read_code, read_lot_rule, read_method, name_from};
-ghost use Rattle.tally_rules.specs.Reading.{read_name, new_code, read_number, number_in, read_text};
-ghost use Rattle.tally_rules.specs.Reading.{read_value};
+ghost use Rattle.tally_rules.specs.Reading.{read_base, read_code, read_lot_rule, read_method};
+ghost use Rattle.tally_rules.specs.Reading.{name_from, read_name, new_code, read_number, number_in};
+ghost use Rattle.tally_rules.specs.Reading.{read_text, read_value};
 ghost use Rattle.tally_rules.specs.Text.{IsName};
 
 use crate::code::Code;
@@ -126,13 +126,7 @@ pub(super) fn read_method(entry: &Value) -> Result<Method, KeyFault>
     ensures method { IfOk result (λ method. read_method (view entry.now) ≡ Ok method) }
     ensures fault { IfErr result (IsFoundIn (read_method (view entry.now))) }
 {
-    match read_text(entry, Key::Method)? {
-        "dhondt" => Ok(Method::DHondt),
-        "sainte-lague" => Ok(Method::SainteLague),
-        "modified-sainte-lague" => Ok(Method::ModifiedSainteLague),
-        "hare" => Ok(Method::Hare),
-        _ => Err(KeyFault::BadValue(Key::Method)),
-    }
+    Method::named(read_text(entry, Key::Method)?).ok_or(KeyFault::BadValue(Key::Method))
 }
 
 /// The base of the profile's threshold.

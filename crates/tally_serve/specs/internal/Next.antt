@@ -5,12 +5,12 @@ use Rattle.tally_serve.specs.Serving.{Answering, IsExchange, connections_taken_u
 
 -- The next connection was taken and answered; or there is none, which counts as failed and changes
 -- nothing.
-abbrev pub IsNext :
+abbrev pub IsNextConnection :
     List Connection → List Connection → Connections → Bool → (Connection → Connection → Type 0)
     → Type 0 → Type 0
-IsNext ended [] after answered P Kept =
+IsNextConnection ended [] after answered P Kept =
     (answered ≡ false) × (after ≡ connections ended None []) × Kept
-IsNext ended (c ∷ rest) after answered P Kept =
+IsNextConnection ended (c ∷ rest) after answered P Kept =
     (d : Connection) × (after ≡ connections ended (Some d) rest) × P c d
 
 -- The next connection of a door whose connections are known was served over a content, which is
@@ -20,5 +20,5 @@ abbrev pub IsNextServed : {C : Type 0}
 IsNextServed Answers IsTrusted answered known known_new old new =
     (before : Connections) → known ≡ Some before
     → (after : Connections) × (known_new ≡ Some after)
-    × IsNext (connections_taken_up before) before.coming after answered
+    × IsNextConnection (connections_taken_up before) before.coming after answered
     (λ c d. IsTrusted → IsExchange Answers old c answered d new) (new ≡ old)

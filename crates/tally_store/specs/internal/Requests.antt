@@ -1,7 +1,8 @@
 -- What a request or an import leaves of a connection. No public contract speaks of this.
-use Rattle.std.specs.Prelude.{◌≡◌, ◌⊎◌, false, List, ℕ, IsTrue, None, Some, Result, Ok, Err}
+use Rattle.std.specs.Prelude.{◌≡◌, ◌⊎◌, false, List, ℕ, IsOk, IsTrue, None, OnOk, Some, Result, Ok, Err}
 use Rattle.std.specs.FinMap.{get}
-use Rattle.sqlite.specs.State.{State as Seen, HasCleanDisk, Survives}
+use Rattle.sqlite.specs.State.{State as Seen, HasCleanDisk, IsRolledBack, KeepsCounts, Shows, Survives}
+use Rattle.sqlite.specs.declared.error.Error.{Error}
 use Rattle.sqlite_trees.specs.Tree.{Trees}
 use Rattle.tally_rules.specs.Constituency.{Constituency}
 use Rattle.tally_steps.specs.LawfulState.{IsLawfulState}
@@ -12,6 +13,7 @@ use Rattle.tally_returns.specs.View.{View}
 use Rattle.tally_returns.specs.declared.ask.Ask.{Ask}
 use Rattle.tally_returns.specs.declared.ask.Ask.TheVariants.{ShowCon}
 use Rattle.tally_returns.specs.declared.refusal.Refusal.{Refusal}
+use Rattle.tally_returns.specs.declared.refusal.Refusal.TheVariants.{Memory, Store}
 use Rattle.tally_returns.specs.declared.reply.Reply.{Reply}
 use Rattle.tally_keeper.specs.Keeper.{IsImportOf}
 use Rattle.tally_keeper.specs.Shown.{con_with}
@@ -48,10 +50,10 @@ abbrev pub Does : List Constituency → Ask → Seen → Seen → Result Reply R
 Does setup ask old new r =
     HasCleanDisk new → IsTrue new.is_open → (text : List ℕ) (s : State) → IsLawfulState setup s → HasState setup text s old → IsDone setup text s ask r new
 
--- A ShowCon was answered, as in this state, with what was shown and some certificates on record, and
--- the database is that of the state after it.
-abbrev pub IsShown : List Constituency → List ℕ → State → List ℕ → Result View Refusal → Seen → Type 0
-IsShown setup text s con shown new =
+-- A ShowCon was answered, as in this state, with what was shown and some certificates on record,
+-- and the database is that of the state after it.
+abbrev pub IsConShown : List Constituency → List ℕ → State → List ℕ → Result View Refusal → Seen → Type 0
+IsConShown setup text s con shown new =
     (past : List PastSeats) × IsDone setup text s (ShowCon con) (con_with past shown) new
 
 -- and so for every lawful state that the database was of, where the disk returned what was written
@@ -59,7 +61,7 @@ IsShown setup text s con shown new =
 abbrev pub DoesShow : List Constituency → List ℕ → Seen → Seen → Result View Refusal → Type 0
 DoesShow setup con old new shown =
     HasCleanDisk new → IsTrue new.is_open → (text : List ℕ) (s : State) → IsLawfulState setup s
-    → HasState setup text s old → IsShown setup text s con shown new
+    → HasState setup text s old → IsConShown setup text s con shown new
 
 -- All rows that a source gave were lodged as in this state, and the database is that of the state
 -- after that.
@@ -108,3 +110,28 @@ abbrev pub KnowsImported : List Constituency → Delivery → Seen → Seen → 
 KnowsImported setup d old new (Ok count) after =
     HasCleanDisk new → IsTrue new.is_open × ((text : List ℕ) (s : State) → IsLawfulState setup s → HasState setup text s old → IsAllKnown setup text s d count new after)
 KnowsImported setup d old new (Err fault) after = IsNothing after
+
+-- ---- the end of a transaction in which a request was answered
+
+-- The answer is what was got. What was written is committed, and what was known is known still.
+pub record CommitsAnswer {T : Type 0} (got : Result (Result T Refusal) Error) (before after : Known) (last new : Seen) (r : Result T Refusal) : Type 0 where
+  pub is : got ≡ Ok r
+  pub known : after ≡ before
+  pub shown : HasCleanDisk new → Shows last new last.now last.now false
+  pub counts : HasCleanDisk new → KeepsCounts last new
+
+-- The request is not accepted, and nothing is known. What was written is undone; after an answer
+-- that is said only of a transaction that had not ended before.
+pub record UndoesRequest {T : Type 0} (got : Result (Result T Refusal) Error) (after : Known) (last new : Seen) (r : Result T Refusal) : Type 0 where
+  pub why : Refusal
+  pub is : r ≡ Err why
+  pub own : (why ≡ Memory) ⊎ (why ≡ Store)
+  pub forgot : IsNothing after
+  pub undone : HasCleanDisk new → OnOk got (IsTrue last.in_transaction) → IsRolledBack last new
+
+-- One of the two. A crash leaves what it could leave before, or, after an answer, what was written.
+pub record EndsTransaction {T : Type 0} (got : Result (Result T Refusal) Error) (before after : Known) (last new : Seen) (r : Result T Refusal) : Type 0 where
+  pub ended : new.in_transaction ≡ false
+  pub was_open : HasCleanDisk new → IsTrue new.is_open → IsTrue last.is_open
+  pub survives : Survives last new (λ db. IsOk got × (db ≡ last.now.trees))
+  pub how : CommitsAnswer got before after last new r ⊎ UndoesRequest got after last new r

@@ -10,8 +10,8 @@ abbrev pub place_value : Place → GoneCandidate
 place_value place = record { list = place.list; place = place.place; note = place.note.now }
 
 -- a return of these counts, by what its row of `returns` has
-abbrev pub with_counts : VoteCounts → Head → StationReturn
-with_counts counts head = record {
+abbrev pub return_of_counts : VoteCounts → Head → StationReturn
+return_of_counts counts head = record {
   rev = head.rev;
   slip = head.slip;
   status = head.status;

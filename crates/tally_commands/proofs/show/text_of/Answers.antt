@@ -1,6 +1,5 @@
 use Rattle.std.proofs.Common.{◌≡◌, ◌∙◌, Some, sym, String, Global}
 use Rattle.tally_report.specs.Reports.{report_fault}
-use Rattle.tally_report.specs.internal.EnoughViews.{lawful-is_enough}
 use Rattle.tally_commands.proofs.ShowLemmas.{given-none, withheld}
 use Rattle.tally_commands.proofs.show.text_of.Goals as goal
 
@@ -8,11 +7,11 @@ pub report_text-requires : goal.report_text-requires
 report_text-requires c = c.requires c.in-Some.con.now (sym c.in-Some.ensures.found)
 
 pub returns-in-Ok-clause-text : goal.returns-in-Ok-clause-text
-returns-in-Ok-clause-text c con found lawful =
+returns-in-Ok-clause-text c con found enough =
     let both : Some c.in-Some.con.now ≡ Some con = c.in-Some.ensures.found ∙ found in
     let same : con ≡ c.in-Some.con.now = cc in
-    let at = rw same at lawful in
-    rw same (given-none (report_fault c.in-Some.con.now c.args.view.now c.args.which) c.in-Ok.text c.in-Ok.ensures.fault, c.in-Ok.ensures.text (lawful-is_enough c.args.which c.in-Some.con.now c.args.view.now at))
+    let at = rw same at enough in
+    rw same (given-none (report_fault c.in-Some.con.now c.args.view.now c.args.which) c.in-Ok.text c.in-Ok.ensures.fault, c.in-Ok.ensures.text at)
 
 pub returns-in-Err-clause-trouble : goal.returns-in-Err-clause-trouble
 returns-in-Err-clause-trouble c con found =

@@ -1,6 +1,6 @@
 use Rattle.std.proofs.Common.{◌++◌, ℕ, List, codes, subst}
 use Rattle.tally_commands.specs.Reported.{IsReported}
-use Rattle.tally_commands.proofs.ToldLemmas.{told-behind, told-front}
+use Rattle.tally_commands.proofs.ReportedLemmas.{reported-behind, reported-front}
 use Rattle.tally_commands.proofs.standard_error.tell_line.Goals as goal
 
 pub returns-in-Ok : goal.returns-in-Ok
@@ -9,11 +9,11 @@ returns-in-Ok g c =
     let mid = g.E.Write.contents c.write_text.new.writer in
     let new = g.E.Write.contents c.tell.new.errors in
     subst (λ (words : List ℕ). IsReported old new (words ++ codes "\n")) c.as_bytes.ensures.value
-    (told-behind old mid new c.as_bytes.result.now (codes "\n") c.in-Ok.ensures.ok c.tell.ensures)
+    (reported-behind old mid new c.as_bytes.result.now (codes "\n") c.in-Ok.ensures.ok c.tell.ensures)
 
 pub returns-in-Err : goal.returns-in-Err
 returns-in-Err g c =
     let old = g.E.Write.contents c.args.errors.now in
     let new = g.E.Write.contents c.write_text.new.writer in
     subst (λ (words : List ℕ). IsReported old new (words ++ codes "\n")) c.as_bytes.ensures.value
-    (told-front old new c.as_bytes.result.now (codes "\n") c.in-Err.ensures.err)
+    (reported-front old new c.as_bytes.result.now (codes "\n") c.in-Err.ensures.err)

@@ -3,7 +3,7 @@ use Rattle.tally_keeper.specs.Source.{Delivery, SourceAt}
 use Rattle.tally_import.specs.ReturnRowsValue.{ReturnRows, coming}
 use Rattle.tally_desk.proofs.command.lodge_rows.Goals as goal
 
--- how the rows of a text stand as a source
+-- the state of the rows of a text as a source
 abbrev rows_at : ReturnRows → SourceAt
 rows_at rows = record { coming = coming rows; given = rows.given; ended = rows.ended }
 

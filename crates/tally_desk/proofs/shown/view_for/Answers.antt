@@ -1,16 +1,16 @@
-use Rattle.std.proofs.Common.{◌≡◌, ◌∙◌, false, subst, sym}
+use Rattle.std.proofs.Common.{◌≡◌, false, rules, subst}
 use Rattle.tally_rules.specs.Limits.{IsSetup}
-use Rattle.tally_desk.specs.internal.ShownFor.{is_past}
+use Rattle.tally_desk.specs.Shown.{is_past}
 use Rattle.tally_desk.proofs.DeskLemmas.{enough-for, shown-bare}
 use Rattle.tally_desk.proofs.shown.view_for.Goals as goal
 
-pub returns-clause-enough : goal.returns-clause-enough
-returns-clause-enough g c sure =
+pub returns-then-not-shows_past-clause-enough : goal.returns-then-not-shows_past-clause-enough
+returns-then-not-shows_past-clause-enough g c sure =
     let k = g.K.Keeper in
     let setup = k.constituencies c.args.keeper.now in
     let old = k.content c.args.keeper.now in
     let new = k.content c.show_con.new.self in
-    let bare : is_past c.args.which ≡ false = sym c.shows_past.ensures ∙ c.if-shows_past.false in
+    let bare : is_past c.args.which ≡ false = search rules in
     let limits = subst IsSetup c.setup.ensures.setup c.cons-cons.ensures.limits in
     let lawful = c.setup.ensures.lawful (c.show_con.ensures.stays.trusted sure) in
     let shows = shown-bare setup old new c.args.con c.args.which c.show_con.result bare c.show_con.ensures.bare (c.show_con.ensures.shows sure) in

@@ -20,12 +20,12 @@ loop-place-preserved g c =
     let new = state g.S.Store c.move_sum.new.tx.conn.now in
     let place = c.loop-place.place in
     let was = c.loop-place.invariant in
-    let told = c.move_sum.ensures in
+    let ensured = c.move_sum.ensures in
     record {
       next = omega (arith, was.next);
-      stays = stays-both g.S.Store c.args.tx.now c.loop-place.tx c.move_sum.new.tx was.stays told.stays;
+      stays = stays-both g.S.Store c.args.tx.now c.loop-place.tx c.move_sum.new.tx was.stays ensured.stays;
       rows = λ clean inside v rest lists differ none held.
-          let before = was.rows (omega (arith, told.stays.survives.clean)) inside v rest lists differ none held in
+          let before = was.rows (omega (arith, ensured.stays.survives.clean)) inside v rest lists differ none held in
           votes_more Totals c.args.con.now v c.args.votes.now place c.loop-place.item _ 0 rest old mid new (omega arith) (omega (arith, c.requires.few)) lists was.next refl none before
           (λ more. c.in_ok-move_sum.ensures.moved clean before.inside (get_or v.votes place 0) more (differ place));
     }

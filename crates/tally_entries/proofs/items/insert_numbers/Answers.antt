@@ -19,11 +19,11 @@ loop-n-preserved g c =
     let mid = state g.S.Store c.loop-n.tx.conn.now in
     let new = state g.S.Store c.insert_item.new.tx.conn.now in
     let was = c.loop-n.invariant in
-    let told = c.insert_item.ensures in
+    let ensured = c.insert_item.ensures in
     record {
       place = omega (arith, was.place);
-      stays = stays-both g.S.Store c.args.tx.now c.loop-n.tx c.insert_item.new.tx was.stays told.stays;
+      stays = stays-both g.S.Store c.args.tx.now c.loop-n.tx c.insert_item.new.tx was.stays ensured.stays;
       rows = λ clean inside.
-          let before = was.rows (omega (arith, told.stays.survives.clean)) inside in
+          let before = was.rows (omega (arith, ensured.stays.survives.clean)) inside in
           adds_number (keyed_table c.args.table) c.args.key.now c.args.numbers.now c.loop-n.n-index c.loop-n.item _ 0 old mid new (omega arith) was.place refl before (c.in_ok-insert_item.ensures.inserted clean before.inside);
     }

@@ -19,12 +19,12 @@ loop-n-preserved g c =
     let mid = state g.S.Store c.loop-n.tx.conn.now in
     let new = state g.S.Store c.update_count.new.tx.conn.now in
     let was = c.loop-n.invariant in
-    let told = c.update_count.ensures in
+    let ensured = c.update_count.ensures in
     record {
       place = omega (arith, was.place);
-      stays = stays-both g.S.Store c.args.tx.now c.loop-n.tx c.update_count.new.tx was.stays told.stays;
+      stays = stays-both g.S.Store c.args.tx.now c.loop-n.tx c.update_count.new.tx was.stays ensured.stays;
       rows = λ clean inside v rest same none held.
-          let before = was.rows (omega (arith, told.stays.survives.clean)) inside v rest same none held in
+          let before = was.rows (omega (arith, ensured.stays.survives.clean)) inside v rest same none held in
           votes_more Counts c.args.station.now v c.args.votes.now c.loop-n.n-index c.loop-n.item _ 0 rest old mid new (omega arith) (omega (arith, c.requires)) same was.place refl none before (c.in_ok-update_count.ensures.updated clean before.inside (get_or v.votes c.loop-n.n-index 0));
     }
 

@@ -30,18 +30,18 @@ loop-station-preserved g c =
     let mid = state g.S.Store c.loop-station.tx.conn.now in
     let new = state g.S.Store c.find_status.new.tx.conn.now in
     let was = c.loop-station.invariant in
-    let told = c.find_status.ensures.reads in
+    let ensured = c.find_status.ensures.reads in
     let i = c.loop-station.station-index in
     let station = c.station-item.result in
     record {
-      stays = stays-then IsOpenInside IsInside g.S.Store c.args.tx.now c.loop-station.tx c.find_status.new.tx (λ early at. inside_still old mid (was.same early at) at.0) was.stays told.stays;
+      stays = stays-then IsOpenInside IsInside g.S.Store c.args.tx.now c.loop-station.tx c.find_status.new.tx (λ early at. inside_still old mid (was.same early at) at.0) was.stays ensured.stays;
       within = subst (AreWithin (i + 1)) (sym c.with_station-found.ensures) (within_more i c.loop-station.found c.in_ok-status.status was.within);
       same = λ clean at.
-          let before : IsUnchanged old mid = was.same (omega (arith, told.stays.survives.clean)) at in
+          let before : IsUnchanged old mid = was.same (omega (arith, ensured.stays.survives.clean)) at in
           unchanged_then old mid new before (c.in_ok-status.ensures.reads.same clean (inside_still old mid before at.0));
       found = λ clean at.
-          let before : IsUnchanged old mid = was.same (omega (arith, told.stays.survives.clean)) at in
-          let so_far = was.found (omega (arith, told.stays.survives.clean)) at in
+          let before : IsUnchanged old mid = was.same (omega (arith, ensured.stays.survives.clean)) at in
+          let so_far = was.found (omega (arith, ensured.stays.survives.clean)) at in
           let one : FindsStatus station.code mid c.in_ok-status.status = subst (λ k. FindsStatus k mid c.in_ok-status.status) c.as_str.ensures.text (c.in_ok-status.ensures.found clean (inside_still old mid before at.0)) in
           subst (FindsStatuses (take (i + 1) c.args.stations.now) old) (sym c.with_station-found.ensures)
           (finds_more c.args.stations.now i station c.loop-station.found c.in_ok-status.status old (omega (arith, c.loop-station-test.true)) c.station-item.is so_far (status_before station.code old mid c.in_ok-status.status before one));

@@ -3,7 +3,7 @@ use Rattle.sqlite.specs.State.{HasCleanDisk, IsUnchanged}
 use Rattle.sqlite.specs.Held.{state}
 use Rattle.tally_rules.specs.Constituency.{Constituency}
 use Rattle.tally_rules.specs.Limits.{IsConstituency}
-use Rattle.tally_entries.specs.internal.Found.{AreFound}
+use Rattle.tally_entries.specs.internal.Found.{AreRowsFound}
 use Rattle.tally_entries.proofs.FindLemmas.{inside_still}
 use Rattle.tally_entries.proofs.StatusLemmas.{known_before}
 use Rattle.tally_entries.proofs.WholeViewLemmas.{finds_view}
@@ -18,6 +18,6 @@ returns-clause-found g c clean inside =
     let early : HasCleanDisk mid = omega (arith, clean, c.find_known.ensures.stays.survives.clean) in
     let same : IsUnchanged old mid = c.in_ok-rows.ensures.reads.same early inside in
     let limits : IsConstituency con = subst IsConstituency c.con.view_is c.con.invariant in
-    let rows : AreFound c.args.with_past con.code old c.in_ok-rows.rows = subst (λ k. AreFound c.args.with_past k old c.in_ok-rows.rows) (c.as_str.ensures.text ∙ ap (λ (x : Constituency). x.code) c.con.view_is) (c.in_ok-rows.ensures.found early inside) in
+    let rows : AreRowsFound c.args.with_past con.code old c.in_ok-rows.rows = subst (λ k. AreRowsFound c.args.with_past k old c.in_ok-rows.rows) (c.as_str.ensures.text ∙ ap (λ (x : Constituency). x.code) c.con.view_is) (c.in_ok-rows.ensures.found early inside) in
     let counted = c.in_ok-statuses.ensures.found clean (inside_still old mid same inside, same.0.is_open) in
     finds_view c.args.setup.now con known c.args.with_past old c.in_ok-statuses.statuses c.in_ok-rows.rows c.fitting_view.result limits rows (known_before con known old mid c.in_ok-statuses.statuses same counted) c.fitting_view.ensures.read

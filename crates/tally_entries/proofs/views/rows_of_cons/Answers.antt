@@ -9,16 +9,16 @@ has-tables s inside = record { schema = inside.schema; sound = λ _. inside.soun
 pub returns-clause-reads : goal.returns-clause-reads
 returns-clause-reads g c =
     let old = state g.S.Store c.args.tx.now.conn.now in
-    let told = c.all_rows.ensures.reads in
+    let ensured = c.all_rows.ensures.reads in
     record {
       stays = record {
-        same_reference = told.stays.same_reference;
-        was_open = told.stays.was_open;
-        kept = λ clean inside. told.stays.kept clean (has-tables old inside);
-        survives = told.stays.survives;
+        same_reference = ensured.stays.same_reference;
+        was_open = ensured.stays.was_open;
+        kept = λ clean inside. ensured.stays.kept clean (has-tables old inside);
+        survives = ensured.stays.survives;
       };
-      same = λ clean inside. told.same clean (has-tables old inside);
-      answered_open = told.answered_open;
+      same = λ clean inside. ensured.same clean (has-tables old inside);
+      answered_open = ensured.answered_open;
     }
 
 pub returns-clause-found : goal.returns-clause-found

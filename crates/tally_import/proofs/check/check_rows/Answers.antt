@@ -4,7 +4,7 @@ use Rattle.csv.specs.Records.{fields_of}
 use Rattle.tally_import.specs.Check.{rows_of_records}
 use Rattle.tally_records.specs.Input.{AreAll}
 use Rattle.tally_records.specs.Given.{HasGiven, sep_of}
-use Rattle.tally_import.specs.internal.Rounds.{AreBehind, Imports}
+use Rattle.tally_import.specs.internal.Rounds.{AreRecordsAfter, ImportsRecords}
 use Rattle.tally_import.proofs.FoundLemmas.{Imports-ended}
 use Rattle.tally_import.proofs.RoundsLemmas.{more-taken, length-rows}
 use Rattle.tally_records.proofs.WorkLemmas.{HasGiven-partly}
@@ -14,7 +14,7 @@ pub loop-taken-init : goal.loop-taken-init
 loop-taken-init g c = record {
   reading = c.requires.reading;
   sep = refl;
-  tells = λ before told. told;
+  tells = λ before ensured. ensured;
   given = ([], refl, c.in_ok-import.ensures, λ text before has. subst (λ l. HasGiven text (g.R.Read.remaining c.args.reader.now) l c.args.records.now) (sym (append-nil before)) has);
 }
 
@@ -22,8 +22,8 @@ pub returns-in-Some-clause-imports : goal.returns-in-Some-clause-imports
 returns-in-Some-clause-imports g c =
     let inv = c.loop-taken.invariant in
     let given = inv.given in
-    let AreRows = AreBehind (g.R.Read.remaining c.args.reader.now) (g.R.Read.remaining c.next.new.input) c.args.records.now in
-    subst (Imports c.args.lists AreRows) (sym c.ended.ensures.import)
+    let AreRows = AreRecordsAfter (g.R.Read.remaining c.args.reader.now) (g.R.Read.remaining c.next.new.input) c.args.records.now in
+    subst (ImportsRecords c.args.lists AreRows) (sym c.ended.ensures.import)
     (Imports-ended c.args.lists AreRows c.loop-taken.import given.0 c.in-Some.end.stop
     (λ text before has. subst (λ s. AreAll s text (g.R.Read.remaining c.next.new.input) (before ++ given.0) c.in-Some.end.stop) inv.sep
     (c.in_ok-end.ensures.all c.in-Some.end c.in-Some.is text (before ++ given.0) (given.3 text before has)))
@@ -41,7 +41,7 @@ loop-taken-preserved g c =
     record {
       reading = c.in_ok-end.ensures.reading none;
       sep = c.next.ensures.sep ∙ inv.sep;
-      tells = λ before told. c.in_ok-end.ensures.tells before (inv.tells before told);
+      tells = λ before ensured. c.in_ok-end.ensures.tells before (inv.tells before ensured);
       given = (
         given.0 ++ fields ∷ [],
         omega (arith, length-append given.0 (fields ∷ []), given.1),
@@ -56,8 +56,8 @@ pub returns-in-Some-2-clause-imports : goal.returns-in-Some-2-clause-imports
 returns-in-Some-2-clause-imports g c =
     let inv = c.loop-taken.invariant in
     let given = inv.given in
-    let AreRows = AreBehind (g.R.Read.remaining c.args.reader.now) (g.R.Read.remaining c.next-2.new.input) c.args.records.now in
-    subst (Imports c.args.lists AreRows) (sym c.ended-in-Some-2.ensures.import)
+    let AreRows = AreRecordsAfter (g.R.Read.remaining c.args.reader.now) (g.R.Read.remaining c.next-2.new.input) c.args.records.now in
+    subst (ImportsRecords c.args.lists AreRows) (sym c.ended-in-Some-2.ensures.import)
     (Imports-ended c.args.lists AreRows c.loop-taken.import given.0 c.in-Some-2.end.stop
     (λ text before has. subst (λ s. AreAll s text (g.R.Read.remaining c.next-2.new.input) (before ++ given.0) c.in-Some-2.end.stop) inv.sep
     (c.in_ok-end-2.ensures.all c.in-Some-2.end c.in-Some-2.is text (before ++ given.0) (given.3 text before has)))

@@ -1,7 +1,7 @@
 use Rattle.std.proofs.Common.{◌∷◌, [], length}
 use Rattle.tally_import.specs.Check.{rows_of_records}
 use Rattle.tally_records.specs.Given.{sep_of}
-use Rattle.tally_import.specs.internal.Rounds.{AreBehind}
+use Rattle.tally_import.specs.internal.Rounds.{AreRecordsAfter}
 use Rattle.tally_import.proofs.FoundLemmas.{Found-rows, Found-text}
 use Rattle.tally_records.proofs.WorkLemmas.{IfOk-then}
 use Rattle.tally_import.proofs.check.text_under_header.Goals as goal
@@ -21,6 +21,6 @@ pub returns-in-Err-clause-finds : goal.returns-in-Err-clause-finds
 returns-in-Err-clause-finds g c header named text given =
     let left = g.R.Read.remaining c.check_rows.new.reader in
     Found-rows (sep_of c.args.records.now) text left header c.args.lists.now (length c.args.lists.now) c.in-Err.fault
-    (AreBehind (g.R.Read.remaining c.args.reader.now) left c.args.records.now) named
+    (AreRecordsAfter (g.R.Read.remaining c.args.reader.now) left c.args.records.now) named
     (λ rows stop are. are text (header ∷ []) given)
     c.in-Err.ensures.imports

@@ -12,11 +12,11 @@ returns-clause-lawful c =
     let many : length found ≡ length kept.setup = search rules in
     let rise : rises found ≡ true = search rules in
     on_ok c.are_each_lawful.result (λ yes. IsTrue yes → All (IsLawfulFound kept) found) (λ yes. IsTrue yes → AreAllLawful kept found)
-    (λ yes told is. record { many = many; rise = rise; each = told is }) c.are_each_lawful.ensures.lawful
+    (λ yes ensured is. record { many = many; rise = rise; each = ensured is }) c.are_each_lawful.ensures.lawful
 
 pub returns-clause-otherwise : goal.returns-clause-otherwise
 returns-clause-otherwise c =
     let kept = c.args.ledger.now in
     let found = c.args.found.now in
     on_ok c.are_each_lawful.result (λ yes. All (IsLawfulFound kept) found → IsTrue yes) (λ yes. AreAllLawful kept found → IsTrue yes)
-    (λ yes told all. told all.each) c.are_each_lawful.ensures.otherwise
+    (λ yes ensured all. ensured all.each) c.are_each_lawful.ensures.otherwise

@@ -9,4 +9,4 @@ loop-con-preserved c =
     all_more (IsLawfulFound c.args.ledger.now) c.args.found.now c.loop-con.con-index c.con-item.result (omega (arith, c.loop-con-test.true)) c.con-item.is (c.in_ok-is_lawful.ensures.lawful passed) c.loop-con.invariant
 
 pub returns-clause-lawful : goal.returns-clause-lawful
-returns-clause-lawful c told = all_end (IsLawfulFound c.args.ledger.now) c.args.found.now c.loop-con.con-index (omega (arith, c.loop-con-test.false)) c.loop-con.invariant
+returns-clause-lawful c ensured = all_end (IsLawfulFound c.args.ledger.now) c.args.found.now c.loop-con.con-index (omega (arith, c.loop-con-test.false)) c.loop-con.invariant

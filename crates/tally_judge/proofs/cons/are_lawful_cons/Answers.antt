@@ -16,7 +16,7 @@ returns-clause-lawful c =
     let kept = c.args.ledger.now in
     let vs = c.deref.result.now in
     on_ok c.are_all_lawful.result (λ b. IsTrue b → AreAllLawful kept vs) (λ b. IsTrue b → AreLawfulCons kept c.args.cons.now (tables_in c.args.tables))
-    (λ b told is. (vs, sym found ∙ ap Some (sym c.deref.ensures.value), told is)) c.are_all_lawful.ensures.lawful
+    (λ b ensured is. (vs, sym found ∙ ap Some (sym c.deref.ensures.value), ensured is)) c.are_all_lawful.ensures.lawful
 
 pub returns-clause-otherwise : goal.returns-clause-otherwise
 returns-clause-otherwise c =
@@ -24,4 +24,4 @@ returns-clause-otherwise c =
     let kept = c.args.ledger.now in
     let vs = c.deref.result.now in
     on_ok c.are_all_lawful.result (λ b. AreAllLawful kept vs → IsTrue b) (λ b. AreLawfulCons kept c.args.cons.now (tables_in c.args.tables) → IsTrue b)
-    (λ b told lawful. told (found_lawful kept c.args.cons.now (tables_in c.args.tables) vs (ap Some c.deref.ensures.value ∙ found) lawful)) c.are_all_lawful.ensures.otherwise
+    (λ b ensured lawful. ensured (found_lawful kept c.args.cons.now (tables_in c.args.tables) vs (ap Some c.deref.ensures.value ∙ found) lawful)) c.are_all_lawful.ensures.otherwise

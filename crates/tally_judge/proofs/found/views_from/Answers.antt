@@ -3,7 +3,7 @@ use Rattle.sqlite_value.specs.Order.{Row}
 use Rattle.tally_ledger.specs.Kept.{view_in}
 use Rattle.tally_returns.specs.View.{View}
 use Rattle.tally_rules.specs.Constituency.{Constituency}
-use Rattle.tally_tables.specs.Views.{con_at, view_with_code, in_each, rows_behind, rows_of_key, tables_in}
+use Rattle.tally_tables.specs.Views.{con_at, view_with_code, in_each, rows_after, rows_of_key, tables_in}
 use Rattle.tally_tables.proofs.FoundLemmas.{Reading, not_found, one_found}
 use Rattle.tally_tables.proofs.ItemLemmas.{map_some}
 use Rattle.tally_judge.specs.internal.Found.{con_counted}
@@ -29,7 +29,7 @@ loop-row-preserved c =
     let place = named setup counted row con c.in-Some.counted.now c.in-Some.ensures in
     let code : c.as_bytes.result.now ≡ con.code = search rules in
     let front = c.split.ensures.front ∙ ap (λ k. in_each (rows_of_key k) left) code in
-    let back = c.split.ensures.back ∙ ap (λ k. in_each (rows_behind k) left) code in
+    let back = c.split.ensures.back ∙ ap (λ k. in_each (rows_after k) left) code in
     let found = sym c.in-Some-2.is ∙ c.in_ok-found.ensures ∙ ap₂ (λ v t. view_with_code v row t con) place.1 front in
     ap₂ (λ es t. Reading setup counted es (drop (i + 1) rows) t) c.in_ok-push-in-Some-2.ensures.items back
     ∙ sym (one_found setup counted c.loop-row.all.items rows left i row con _ (omega (arith, c.loop-row-test.true)) c.row-item.is place.0 found) ∙ c.loop-row.invariant

@@ -23,7 +23,7 @@ returns-then-not-are_candidates-clause-otherwise c frame =
     search (rules, passed)
 
 pub returns-clause-lawful : goal.returns-clause-lawful
-returns-clause-lawful c told =
+returns-clause-lawful c ensured =
     let con = c.args.con.now in
     let fits : IsTrue c.fits.result = search rules in
     let candidates : IsTrue c.are_candidates.result = search rules in
@@ -33,7 +33,7 @@ returns-clause-lawful c told =
       fits = c.fits.ensures.fits fits;
       range = sym c.is_in_range.ensures ∙ c.if-not-is_in_range.false;
       gone = subst (All (IsLawfulGone con)) gone (c.are_candidates.ensures.candidates candidates);
-      past = subst (λ e. All (IsLawfulPast con e) c.args.view.now.past) edition (subst (All (IsLawfulPast con c.view.inside.edition)) past (c.are_earlier.ensures.earlier told));
+      past = subst (λ e. All (IsLawfulPast con e) c.args.view.now.past) edition (subst (All (IsLawfulPast con c.view.inside.edition)) past (c.are_earlier.ensures.earlier ensured));
     }
 
 pub returns-clause-otherwise : goal.returns-clause-otherwise

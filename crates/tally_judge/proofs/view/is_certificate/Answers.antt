@@ -20,5 +20,5 @@ returns-then-view-clause-certified c passed =
     let lot = c.deref-then-view.ensures.value ∙ ap (λ (v : View). v.lot) c.view.view_is in
     let given = c.deref-then-view-2.ensures.value ∙ ap (λ (v : View). v.seats) c.view.view_is in
     let Under : Profile → ℕ → List ℕ → ℕ → List ℕ → Type 0 = λ profile seats votes blank lot. IsAllotmentUnderLot (rule_of profile) (poll_of profile votes blank) lot seats c.deref-then-view-2.result.now in
-    let told = subst (IsAllotmentUnderLot (rule_in con) (poll_in con view) view.lot con.seats) given (carried Under profile seats votes blank lot (c.is_allotment.ensures.0 passed)) in
-    ((closed, told.0, told.1), told)
+    let ensured = subst (IsAllotmentUnderLot (rule_in con) (poll_in con view) view.lot con.seats) given (carried Under profile seats votes blank lot (c.is_allotment.ensures.0 passed)) in
+    ((closed, ensured.0, ensured.1), ensured)

@@ -18,10 +18,10 @@ returns-then-not-has_lawful_frame-clause-otherwise c lawful =
     search (rules, passed)
 
 pub returns-then-view-clause-lawful : goal.returns-then-view-clause-lawful
-returns-then-view-clause-lawful c told =
+returns-then-view-clause-lawful c ensured =
     let passed : IsTrue c.has_lawful_frame.result = search rules in
     let certified = sym (ap (λ (v : View). v.certified) c.view.view_is) ∙ c.if-view.true in
-    certified_view c.args.con.now c.args.view.now (c.has_lawful_frame.ensures.lawful passed) certified (c.is_certificate.ensures.certified told)
+    certified_view c.args.con.now c.args.view.now (c.has_lawful_frame.ensures.lawful passed) certified (c.is_certificate.ensures.certified ensured)
 
 pub returns-then-view-clause-otherwise : goal.returns-then-view-clause-otherwise
 returns-then-view-clause-otherwise c lawful =
@@ -35,11 +35,11 @@ returns-clause-lawful c =
     let passed : IsTrue c.has_lawful_frame.result = search rules in
     let open_is = sym (ap (λ (v : View). v.certified) c.view.view_is) ∙ c.if-view.false in
     on_ok c.is_open.result (λ yes. IsTrue yes → IsOpen con view) (λ yes. IsTrue yes → IsLawfulView con view)
-    (λ yes told is. open_view con view (c.has_lawful_frame.ensures.lawful passed) open_is (told is)) c.is_open.ensures.open
+    (λ yes ensured is. open_view con view (c.has_lawful_frame.ensures.lawful passed) open_is (ensured is)) c.is_open.ensures.open
 
 pub returns-clause-otherwise : goal.returns-clause-otherwise
 returns-clause-otherwise c =
     let con = c.args.con.now in
     let view = c.args.view.now in
     let open_is = sym (ap (λ (v : View). v.certified) c.view.view_is) ∙ c.if-view.false in
-    on_ok c.is_open.result (λ yes. IsOpen con view → IsTrue yes) (λ yes. IsLawfulView con view → IsTrue yes) (λ yes told lawful. told (open_of con view open_is lawful)) c.is_open.ensures.otherwise
+    on_ok c.is_open.result (λ yes. IsOpen con view → IsTrue yes) (λ yes. IsLawfulView con view → IsTrue yes) (λ yes ensured lawful. ensured (open_of con view open_is lawful)) c.is_open.ensures.otherwise

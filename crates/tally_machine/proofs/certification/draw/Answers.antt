@@ -8,20 +8,20 @@ use Rattle.tally_steps.specs.Outcome.{IsOutcome, lot_missing, poll_in, rule_in}
 use Rattle.tally_returns.specs.Checks.{first_refusal}
 use Rattle.tally_returns.specs.View.{View}
 use Rattle.tally_returns.specs.declared.refusal.Refusal.TheVariants.{LotNotNeeded, LotStands, Memory}
-use Rattle.tally_steps.proofs.CertificationLemmas.{draws-decided, draws-missing, draws-stands, group-within, none_long, on_fault, on_ok, told-by_outcome}
+use Rattle.tally_steps.proofs.CertificationLemmas.{draws-decided, draws-missing, draws-stands, group-within, none_long, on_fault, on_ok, reported-by_outcome}
 use Rattle.tally_machine.proofs.certification.draw.Goals as goal
 
 pub returns-in-Ok-clause-refused : goal.returns-in-Ok-clause-refused
 returns-in-Ok-clause-refused c = λ _.
     let none : length c.view.inside.lot.items ≡ 0 = omega (arith, eqb-true (vec_len c.view.inside.lot) 0 (sym c.is_empty.ensures ∙ c.if-is_empty.true), c.view.inside.lot.ok.0) in
-    told-by_outcome c.args.con.now c.args.view.now (lot_in_view c.args.con.now c.args.view.now c.args.order.now) LotStands (first_refusal (count_checks c.args.view.now c.args.edition)) (Err LotNotNeeded)
+    reported-by_outcome c.args.con.now c.args.view.now (lot_in_view c.args.con.now c.args.view.now c.args.order.now) LotStands (first_refusal (count_checks c.args.view.now c.args.edition)) (Err LotNotNeeded)
     (draws-decided c.args.con.now c.args.view.now c.args.edition c.args.order.now c.in-Ok.field-0.items c.in_ok-check_count.ensures.passed c.in-Ok.ensures.seats
     (sym (ap (λ (v : View). v.lot) c.view.view_is) ∙ none_long c.view.inside.lot.items none))
 
 pub returns-in-Ok-2-clause-refused : goal.returns-in-Ok-2-clause-refused
 returns-in-Ok-2-clause-refused c = λ _.
     let some : vec_len c.view.inside.lot ≡ 0 → ⊥ = eqb-false (vec_len c.view.inside.lot) 0 (sym c.is_empty.ensures ∙ c.if-is_empty.false) in
-    told-by_outcome c.args.con.now c.args.view.now (lot_in_view c.args.con.now c.args.view.now c.args.order.now) LotStands (first_refusal (count_checks c.args.view.now c.args.edition)) (Err LotStands)
+    reported-by_outcome c.args.con.now c.args.view.now (lot_in_view c.args.con.now c.args.view.now c.args.order.now) LotStands (first_refusal (count_checks c.args.view.now c.args.edition)) (Err LotStands)
     (draws-stands c.args.con.now c.args.view.now c.args.edition c.args.order.now c.in-Ok.field-0.items c.in_ok-check_count.ensures.passed c.in-Ok.ensures.seats
     (λ none. let e : length c.view.inside.lot.items ≡ 0 = ap length (ap (λ (v : View). v.lot) c.view.view_is ∙ none) in some (omega (arith, e, c.view.inside.lot.ok.0))))
 
@@ -55,6 +55,6 @@ returns-in-LotMissing-clause-refused c =
     let missing : IsOutcome con view (lot_missing group c.in-LotMissing.seats) = (fault.0, fault.1, fault.2, c.drawn_places.ensures.marks) in
     on_fault c.drawn_places.result (λ refusal. refusal ≢ Memory → drawn_places group (list_places con c.args.order.now) ≡ Err refusal)
     (IsDrawRefusal con view c.args.edition c.args.order.now)
-    (λ refusal gives other. told-by_outcome con view (lot_in_view con view c.args.order.now) LotStands (first_refusal (count_checks view c.args.edition)) (Err refusal)
+    (λ refusal gives other. reported-by_outcome con view (lot_in_view con view c.args.order.now) LotStands (first_refusal (count_checks view c.args.edition)) (Err refusal)
     (draws-missing con view c.args.edition c.args.order.now group c.in-LotMissing.seats (Err refusal) c.in_ok-check_count.ensures.passed missing (gives other)))
     c.drawn_places.ensures.refused

@@ -15,7 +15,7 @@ returns-in_err-first_value c =
     let first = some_value (λ v. v.now) c.loop-header.found c.in_err-first_value.ensures.again.0 in
     let fault = c.in_err-first_value.field-0.0 in
     let is : c.from_residual.result ≡ Err fault = search rules in
-    let told : single_value (values_in c.args.bytes.now c.args.headers.now c.args.name.now) ≡ Err fault =
+    let ensured : single_value (values_in c.args.bytes.now c.args.headers.now c.args.name.now) ≡ Err fault =
     twice_at c.args.name.now c.args.bytes.now c.args.headers.now c.loop-header.header-index _ first.0 (omega (arith, c.loop-header-test.true))
     (ap (λ (x : List ℕ). str_eq_ignore_ascii_case x c.args.name.now) (sym c.of.ensures) ∙ named) (c.loop-header.invariant ∙ ap Ok first.1) ∙ ap Err (sym c.in_err-first_value.ensures.again.1) in
-    subst (λ r. SeenAs r (single_value (values_in c.args.bytes.now c.args.headers.now c.args.name.now))) (sym is) told
+    subst (λ r. SeenAs r (single_value (values_in c.args.bytes.now c.args.headers.now c.args.name.now))) (sym is) ensured

@@ -11,8 +11,8 @@ returns-clause-ready g c clean first =
     let new = state g.S.Store c.judge_stored.new.tx.conn.now in
     let early : HasCleanDisk mid = omega (arith, c.judge_stored.ensures.reads.stays.survives.clean) in
     let past = past_added old mid (c.in_ok-create_past.ensures.past early first) in
-    let told = c.judge_stored.ensures in
-    ready_each c.judge_stored.result old mid new past (told.reads.same clean past.has) (told.stored clean past.has) (told.judged clean past.has)
+    let ensured = c.judge_stored.ensures in
+    ready_each c.judge_stored.result old mid new past (ensured.reads.same clean past.has) (ensured.stored clean past.has) (ensured.judged clean past.has)
 
 pub returns-clause-fault : goal.returns-clause-fault
 returns-clause-fault g c clean first =

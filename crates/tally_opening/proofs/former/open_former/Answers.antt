@@ -6,7 +6,7 @@ use Rattle.sqlite.proofs.Callers.{survives_begin}
 use Rattle.tally_schema.specs.Made.{HasFirstTables}
 use Rattle.tally_opening.specs.Crash.{LeavesTakenOver}
 use Rattle.tally_opening.specs.Open.{IsOpened}
-use Rattle.tally_opening.specs.internal.Opening.{CountsFormer, IsFormerFault, IsTaken}
+use Rattle.tally_opening.specs.internal.Opening.{CountsFormer, IsFormerFault, AreTablesTakenOver}
 use Rattle.tally_opening.proofs.TakeoverLemmas.{leaves_taken, opened_former, taken_now}
 use Rattle.tally_opening.proofs.former.open_former.Goals as goal
 
@@ -21,7 +21,7 @@ returns-in-Ok-clause-opened g c clean =
     let early : HasCleanDisk last = omega (arith, c.commit.ensures.survives.clean) in
     let same : bare.now ≡ old.now = ap (λ (h : _). (state g.S.Store h).now) begun in
     let first : HasFirstTables 8 bare = rw begun (record { schema = c.requires.schema; inside = refl }) in
-    let taken : IsTaken c.in-Ok-Ok.setup bare last = rw c.in-Ok-Ok.field-0-is at (c.in-Ok-Ok.ensures.taken early first) in
+    let taken : AreTablesTakenOver c.in-Ok-Ok.setup bare last = rw c.in-Ok-Ok.field-0-is at (c.in-Ok-Ok.ensures.taken early first) in
     let done = c.in-Ok.ensures.ok clean_end in
     subst (λ (h : _). IsOpened c.in-Ok-Ok.setup old (state g.S.Store h)) ends
     (opened_former c.in-Ok-Ok.setup old last (state g.S.Store c.commit.new.self.0) c.requires.schema (taken_now c.in-Ok-Ok.setup old bare last same taken) done.1.now_is done.1.committed_is)
@@ -38,7 +38,7 @@ returns-in-Ok-clause-ends g c =
     let whole = survives_then old last (state g.S.Store c.commit.new.self.0) _ _ (LeavesTakenOver old.now) (λ _ db none. absurd none)
     (λ clean db is.
     let early : HasCleanDisk last = omega (arith, c.commit.ensures.survives.clean) in
-    let taken : IsTaken c.in-Ok-Ok.setup bare last = rw c.in-Ok-Ok.field-0-is at (c.in-Ok-Ok.ensures.taken early first) in
+    let taken : AreTablesTakenOver c.in-Ok-Ok.setup bare last = rw c.in-Ok-Ok.field-0-is at (c.in-Ok-Ok.ensures.taken early first) in
     leaves_taken c.in-Ok-Ok.setup old last db c.requires.schema (taken_now c.in-Ok-Ok.setup old bare last same taken) is)
     inside c.commit.ensures.survives in
     let ends : c.commit.new.self.0 ≡ c.conn-1.given.0 = search rules in
@@ -61,7 +61,7 @@ returns-in-Err-commit-clause-ends g c =
     let whole = survives_then old last (state g.S.Store c.commit.new.self.0) _ _ (LeavesTakenOver old.now) (λ _ db none. absurd none)
     (λ clean db is.
     let early : HasCleanDisk last = omega (arith, c.commit.ensures.survives.clean) in
-    let taken : IsTaken c.in-Ok-Ok.setup bare last = rw c.in-Ok-Ok.field-0-is at (c.in-Ok-Ok.ensures.taken early first) in
+    let taken : AreTablesTakenOver c.in-Ok-Ok.setup bare last = rw c.in-Ok-Ok.field-0-is at (c.in-Ok-Ok.ensures.taken early first) in
     leaves_taken c.in-Ok-Ok.setup old last db c.requires.schema (taken_now c.in-Ok-Ok.setup old bare last same taken) is)
     inside c.commit.ensures.survives in
     let ends : c.commit.new.self.0 ≡ c.conn-1.given.0 = search rules in
@@ -93,5 +93,5 @@ returns-in-Ok-clause-numbers g c clean =
     let early : HasCleanDisk last = omega (arith, c.commit.ensures.survives.clean) in
     let same : bare.now ≡ old.now = ap (λ (h : _). (state g.S.Store h).now) begun in
     let first : HasFirstTables 8 bare = rw begun (record { schema = c.requires.schema; inside = refl }) in
-    let told : CountsFormer c.take_over.new.known c.in-Ok-Ok.setup bare.now = rw c.in-Ok-Ok.field-0-is at (c.in-Ok-Ok.ensures.numbers early first) in
-    subst (CountsFormer c.take_over.new.known c.in-Ok-Ok.setup) same told
+    let ensured : CountsFormer c.take_over.new.known c.in-Ok-Ok.setup bare.now = rw c.in-Ok-Ok.field-0-is at (c.in-Ok-Ok.ensures.numbers early first) in
+    subst (CountsFormer c.take_over.new.known c.in-Ok-Ok.setup) same ensured

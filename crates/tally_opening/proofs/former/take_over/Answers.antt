@@ -21,5 +21,5 @@ returns-clause-numbers g c clean first =
     let old = state g.S.Store c.args.tx.now.conn.now in
     let mid = state g.S.Store c.judge_with_past.new.tx.conn.now in
     let early : HasCleanDisk mid = omega (arith, c.update_version.ensures.stays.survives.clean) in
-    let told : CountsFormer c.judge_with_past.new.known c.in-Ok.setup old.now = rw c.in-Ok.is at (c.in_ok-setup.ensures.numbers early first) in
-    told
+    let ensured : CountsFormer c.judge_with_past.new.known c.in-Ok.setup old.now = rw c.in-Ok.is at (c.in_ok-setup.ensures.numbers early first) in
+    ensured

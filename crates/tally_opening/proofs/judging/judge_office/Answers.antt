@@ -28,4 +28,4 @@ returns-clause-numbers g c clean has =
     let rows = rows_found c.in_ok-rows.rows in
     let read : AreReadOf old rows = c.in_ok-rows.ensures.shown clean has in
     let here = numbers_judged c.args.setup old rows c.accept.new.known (subst IsSetup c.setup.view_is c.setup.invariant.limits) read.shown in
-    IfOk-weaker c.accept.result _ _ (λ found told. on_some found here told) c.accept.ensures.numbers
+    IfOk-weaker c.accept.result _ _ (λ found ensured. on_some found here ensured) c.accept.ensures.numbers

@@ -18,11 +18,11 @@ loop-list-preserved g c =
     let mid = state g.S.Store c.loop-list.tx.conn.now in
     let new = state g.S.Store c.insert_total.new.tx.conn.now in
     let was = c.loop-list.invariant in
-    let told = c.insert_total.ensures.stays in
+    let ensured = c.insert_total.ensures.stays in
     record {
-      stays = stays-both g.S.Store c.args.tx.now c.loop-list.tx c.insert_total.new.tx was.stays told;
+      stays = stays-both g.S.Store c.args.tx.now c.loop-list.tx c.insert_total.new.tx was.stays ensured;
       added = λ clean inside.
-          let before = was.added (omega (arith, told.survives.clean)) inside in
+          let before = was.added (omega (arith, ensured.survives.clean)) inside in
           subst (λ rows. AddsTotals rows old new) (sym (list_rows_more c.args.con.now c.loop-list.list))
           (totals_then _ _ old mid new before (c.in_ok-insert_total.ensures.inserted 0 refl clean before.inside));
     }

@@ -17,10 +17,10 @@ loop-con-preserved g c =
     let mid = state g.S.Store c.loop-con.tx.conn.now in
     let new = state g.S.Store c.insert_opening.new.tx.conn.now in
     let was = c.loop-con.invariant in
-    let told = c.insert_opening.ensures in
+    let ensured = c.insert_opening.ensures in
     record {
-      stays = stays-both g.S.Store c.args.tx.now c.loop-con.tx c.insert_opening.new.tx was.stays told.stays;
+      stays = stays-both g.S.Store c.args.tx.now c.loop-con.tx c.insert_opening.new.tx was.stays ensured.stays;
       opened = λ clean inside.
-          let before = was.opened (omega (arith, told.stays.survives.clean)) inside in
+          let before = was.opened (omega (arith, ensured.stays.survives.clean)) inside in
           cons_more old mid new c.args.cons.now c.loop-con.con-index c.con-item.result c.loop-con-test.true c.con-item.is before (c.in_ok-insert_opening.ensures.opened clean before.inside);
     }

@@ -21,8 +21,8 @@ returns-in-Ok-true-clause-opened g c clean =
     let new = state g.S.Store c.open_today.new.conn in
     let today = c.in-Ok-true.ensures.today c.in-Ok-true.field-0-test in
     let schema : old.now.schema ≡ office_schema = sym c.schema.ensures.value ∙ today.0 in
-    let told = c.open_today.ensures in
-    today_each c.open_today.result old new schema (λ now. (c.schema.ensures.live now).0) (λ now. c.is_autocommit.ensures.settled c.if-not-is_autocommit.false now) (told.ends.was_open clean) (told.ends.same clean) (told.stored clean) (told.judged clean)
+    let ensured = c.open_today.ensures in
+    today_each c.open_today.result old new schema (λ now. (c.schema.ensures.live now).0) (λ now. c.is_autocommit.ensures.settled c.if-not-is_autocommit.false now) (ensured.ends.was_open clean) (ensured.ends.same clean) (ensured.stored clean) (ensured.judged clean)
 
 pub returns-in-Ok-true-clause-fault : goal.returns-in-Ok-true-clause-fault
 returns-in-Ok-true-clause-fault g c clean =
@@ -32,13 +32,13 @@ returns-in-Ok-true-clause-fault g c clean =
     let schema : old.now.schema ≡ office_schema = value ∙ today.0 in
     let names : has_former_tables old.now.schema ≡ true = ap has_former_tables value ∙ today.1 in
     let past : has_table old.now.schema (codes "past") ≡ true = ap (λ s. has_table s (codes "past")) value ∙ today.2 in
-    IfErr-weaker c.open_today.result _ _ (λ fault told. fault_today old fault schema names past told) (c.open_today.ensures.fault clean)
+    IfErr-weaker c.open_today.result _ _ (λ fault ensured. fault_today old fault schema names past ensured) (c.open_today.ensures.fault clean)
 
 pub returns-in-Ok-true-clause-unwritten : goal.returns-in-Ok-true-clause-unwritten
 returns-in-Ok-true-clause-unwritten g c past =
-    let told = c.open_today.ensures in
+    let ensured = c.open_today.ensures in
     unwritten_by (state g.S.Store c.args.conn.now) (state g.S.Store c.open_today.new.conn) (λ db now may. g.met.S.Store.settled c.args.conn.now.store db now may)
-    (λ now. c.is_autocommit.ensures.settled c.if-not-is_autocommit.false now) told.ends.survives told.ends.same
+    (λ now. c.is_autocommit.ensures.settled c.if-not-is_autocommit.false now) ensured.ends.survives ensured.ends.same
 
 pub returns-in-Ok-false-clause-unwritten : goal.returns-in-Ok-false-clause-unwritten
 returns-in-Ok-false-clause-unwritten g c past =
@@ -63,11 +63,11 @@ returns-in-Ok-true-clause-numbers g c clean =
     let old = state g.S.Store c.args.conn.now in
     let today = c.in-Ok-true.ensures.today c.in-Ok-true.field-0-test in
     let schema : old.now.schema ≡ office_schema = sym c.schema.ensures.value ∙ today.0 in
-    IfOk-weaker c.open_today.result _ _ (λ setup told. numbers_today setup old c.open_today.new.known schema told) (c.open_today.ensures.numbers clean)
+    IfOk-weaker c.open_today.result _ _ (λ setup ensured. numbers_today setup old c.open_today.new.known schema ensured) (c.open_today.ensures.numbers clean)
 
 pub returns-in-Ok-false-clause-numbers : goal.returns-in-Ok-false-clause-numbers
 returns-in-Ok-false-clause-numbers g c clean =
     let old = state g.S.Store c.args.conn.now in
     let former = c.in-Ok-false.ensures.former c.in-Ok-false.field-0-test in
     let schema : old.now.schema ≡ former_schema = sym c.schema.ensures.value ∙ former.0 in
-    IfOk-weaker c.open_former.result _ _ (λ setup told. numbers_former setup old c.open_former.new.known schema told) (c.open_former.ensures.numbers clean)
+    IfOk-weaker c.open_former.result _ _ (λ setup ensured. numbers_former setup old c.open_former.new.known schema ensured) (c.open_former.ensures.numbers clean)

@@ -31,6 +31,6 @@ returns-in-Some-clause-numbers g c clean has =
     let mid = state g.S.Store c.read_stored.new.tx.conn.now in
     let early : HasCleanDisk mid = omega (arith, c.judge_office.ensures.reads.stays.survives.clean) in
     let same : IsUnchanged old mid = c.in_ok-setup.ensures.reads.same early has in
-    let told : CountsTables c.judge_office.new.known c.in-Ok.setup mid.now = rw c.in-Some.is at (c.in_ok-setup-2.ensures.numbers clean (tables_still old mid has same)) in
+    let ensured : CountsTables c.judge_office.new.known c.in-Ok.setup mid.now = rw c.in-Some.is at (c.in_ok-setup-2.ensures.numbers clean (tables_still old mid has same)) in
     let again = rw c.in-Some.is at c.in_ok-setup-2.ensures.setup in
-    subst (CountsTables c.judge_office.new.known c.in-Some.setup) same.0.now_is (subst (λ s. CountsTables c.judge_office.new.known s mid.now) (sym again) told)
+    subst (CountsTables c.judge_office.new.known c.in-Some.setup) same.0.now_is (subst (λ s. CountsTables c.judge_office.new.known s mid.now) (sym again) ensured)

@@ -20,7 +20,7 @@ returns-in-Ok-clause-judged g c clean =
     let early : HasCleanDisk last = omega (arith, c.rollback.ensures.survives.clean) in
     let same : bare.now ≡ old.now = ap (λ (h : _). (state g.S.Store h).now) begun in
     let has : HasTables bare = rw begun (record { schema = c.requires.schema; sound = c.requires.sound; inside = refl }) in
-    IfOk-weaker c.in-Ok.told _ _ (λ setup judged. subst (IsJudged setup) same judged) (c.in-Ok.ensures.judged early has)
+    IfOk-weaker c.in-Ok.answer _ _ (λ setup judged. subst (IsJudged setup) same judged) (c.in-Ok.ensures.judged early has)
 
 pub returns-in-Ok-clause-fault : goal.returns-in-Ok-clause-fault
 returns-in-Ok-clause-fault g c clean =
@@ -33,7 +33,7 @@ returns-in-Ok-clause-fault g c clean =
     let early : HasCleanDisk last = omega (arith, c.rollback.ensures.survives.clean) in
     let same : bare.now ≡ old.now = ap (λ (h : _). (state g.S.Store h).now) begun in
     let has : HasTables bare = rw begun (record { schema = c.requires.schema; sound = c.requires.sound; inside = refl }) in
-    IfErr-weaker c.in-Ok.told _ _ (λ fault told. or_fails (IsJudgedFault version old.now) fault (subst (λ d. IsJudgedFault version d fault) same told)) (c.in-Ok.ensures.fault early has)
+    IfErr-weaker c.in-Ok.answer _ _ (λ fault ensured. or_fails (IsJudgedFault version old.now) fault (subst (λ d. IsJudgedFault version d fault) same ensured)) (c.in-Ok.ensures.fault early has)
 
 pub returns-in-Ok-clause-counts : goal.returns-in-Ok-clause-counts
 returns-in-Ok-clause-counts g c clean =
@@ -50,7 +50,7 @@ returns-in-Ok-clause-counts g c clean =
     let moved = rw begun at kept in
     let whole : KeepsCounts old end = record { changes = moved.changes; last_rowid = moved.last_rowid } in
     let there = subst (λ (h : _). KeepsCounts old (state g.S.Store h)) ends whole in
-    IfOk-weaker c.in-Ok.told _ _ (λ _ _. there) (c.in-Ok.ensures.judged early has)
+    IfOk-weaker c.in-Ok.answer _ _ (λ _ _. there) (c.in-Ok.ensures.judged early has)
 
 pub returns-in-Ok-clause-numbers : goal.returns-in-Ok-clause-numbers
 returns-in-Ok-clause-numbers g c clean =
@@ -63,7 +63,7 @@ returns-in-Ok-clause-numbers g c clean =
     let early : HasCleanDisk last = omega (arith, c.rollback.ensures.survives.clean) in
     let same : bare.now ≡ old.now = ap (λ (h : _). (state g.S.Store h).now) begun in
     let has : HasTables bare = rw begun (record { schema = c.requires.schema; sound = c.requires.sound; inside = refl }) in
-    IfOk-weaker c.in-Ok.told _ _ (λ setup told. subst (CountsTables c.judge_stored-judged.new.known setup) same told) (c.in-Ok.ensures.numbers early has)
+    IfOk-weaker c.in-Ok.answer _ _ (λ setup ensured. subst (CountsTables c.judge_stored-judged.new.known setup) same ensured) (c.in-Ok.ensures.numbers early has)
 
 pub returns-in-Ok-clause-ends : goal.returns-in-Ok-clause-ends
 returns-in-Ok-clause-ends g c = record { ended = search rules; was_open = search rules; same = search rules; survives = search rules }

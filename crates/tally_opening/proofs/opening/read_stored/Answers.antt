@@ -12,5 +12,5 @@ returns-clause-stored g c clean has =
 pub returns-clause-fault : goal.returns-clause-fault
 returns-clause-fault g c clean has =
     let fits : nat_lt c.args.number (2 ^ 32) ≡ true = search rules in
-    IfErr-weaker c.setup_of_version.result _ _ (λ fault told. fault_shown c.args.number (state g.S.Store c.args.tx.now.conn.now) c.in_ok-rows.rows.items fault fits (c.in_ok-rows.ensures.shown clean has) told)
+    IfErr-weaker c.setup_of_version.result _ _ (λ fault ensured. fault_shown c.args.number (state g.S.Store c.args.tx.now.conn.now) c.in_ok-rows.rows.items fault fits (c.in_ok-rows.ensures.shown clean has) ensured)
     (rw c.deref.ensures.value at c.setup_of_version.ensures.fault)

@@ -1,8 +1,8 @@
 use Rattle.std.proofs.Common.{inl, inr, refl, string_bytes}
 use Rattle.tally_commands.specs.Served.{IsServedText}
-use Rattle.tally_program.specs.Commands.{NotListening}
-use Rattle.tally_program.specs.Troubles.{IsTroubleOfServe, IsTroubleOfServing}
-use Rattle.tally_program.proofs.WrittenLemmas.{ended, ended-named, served, takes, unwritten}
+use Rattle.tally_program.specs.Commands.{AtPath, AtPort, IsTroubleOfListening, NotListening}
+use Rattle.tally_program.specs.Troubles.{IsTroubleOfServe}
+use Rattle.tally_program.proofs.WrittenLemmas.{ended, ended-named, served, serving, takes, unwritten}
 use Rattle.tally_program.proofs.commands.serve_office.Goals as goal
 
 pub returns-in-Err-clause-written : goal.returns-in-Err-clause-written
@@ -23,10 +23,11 @@ returns-clause-written g c =
 
 pub returns-clause-named : goal.returns-clause-named
 returns-clause-named g c =
-    ended-named _ IsTroubleOfServing IsTroubleOfServe (λ t is. inr (inl is)) (λ t is. inr (inr is)) c.serve_on-outcome.result c.close_and_print.result
+    let Listens = g.O.Offices.Opens c.args.offices.now (AtPort c.args.port) in
+    ended-named _ (IsTroubleOfListening Listens) IsTroubleOfServe (λ t is. inr (inl (serving Listens t is))) (λ t is. inr (inr is)) c.serve_on-outcome.result c.close_and_print.result
     c.serve_on-outcome.ensures.named c.close_and_print.ensures.named c.close_and_print.ensures.trouble
 
 pub returns-clause-takes : goal.returns-clause-takes
 returns-clause-takes g c =
-    takes (g.O.Offices.Opens c.args.offices.now c.args.db.now) g.E.Write.contents c.args.port c.args.count _ c.args.errors.now c.serve_on-outcome.new.errors c.serve_on-outcome.result c.close_and_print.result
-    c.in-Ok.ensures.opens c.serve_on-outcome.ensures.said c.serve_on-outcome.ensures.silent c.serve_on-outcome.ensures.named c.close_and_print.ensures.named c.close_and_print.ensures.trouble
+    takes (g.O.Offices.Opens c.args.offices.now (AtPath c.args.db.now)) (g.O.Offices.Opens c.args.offices.now (AtPort c.args.port)) g.E.Write.contents c.args.port c.args.count _ c.args.errors.now c.serve_on-outcome.new.errors c.serve_on-outcome.result c.close_and_print.result
+    c.in-Ok.ensures.opens c.serve_on-outcome.ensures.listens c.serve_on-outcome.ensures.said c.serve_on-outcome.ensures.silent c.serve_on-outcome.ensures.named c.close_and_print.ensures.named c.close_and_print.ensures.trouble

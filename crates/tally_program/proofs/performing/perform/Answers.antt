@@ -1,6 +1,6 @@
 use Rattle.std.proofs.Common.{◌≡◌, ℕ, List, Some, map, rules, string_bytes, subst}
 use Rattle.tally_line.specs.Line.{ServeSeen, line_of}
-use Rattle.tally_program.specs.Commands.{TakesCourse}
+use Rattle.tally_program.specs.Commands.{AtPath, AtPort, TakesCourse}
 use Rattle.tally_program.proofs.LineLemmas.{refused, serves}
 use Rattle.tally_program.proofs.performing.perform.Goals as goal
 
@@ -14,7 +14,7 @@ pub returns-in-Ok-Serve : goal.returns-in-Ok-Serve
 returns-in-Ok-Serve g c =
     let words = map string_bytes c.args.words.now in
     let is : line_of words ≡ Some (ServeSeen (string_bytes c.in-Ok-Serve.db) c.in-Ok-Serve.port c.in-Ok-Serve.count) = search rules in
-    let takes = subst (λ (db : List ℕ). TakesCourse (g.O.Offices.Opens c.args.offices.now db) g.E.Write.contents c.in-Ok-Serve.port c.in-Ok-Serve.count
+    let takes = subst (λ (db : List ℕ). TakesCourse (g.O.Offices.Opens c.args.offices.now (AtPath db)) (g.O.Offices.Opens c.args.offices.now (AtPort c.in-Ok-Serve.port)) g.E.Write.contents c.in-Ok-Serve.port c.in-Ok-Serve.count
     c.args.errors.now c.serve_office-outcome.new.errors c.serve_office-outcome.result) c.deref-in-Ok-Serve.ensures c.serve_office-outcome.ensures.takes in
     serves (g.O.Offices.Opens c.args.offices.now) g.R.Read.remaining g.W.Write.contents g.E.Write.contents words (string_bytes c.in-Ok-Serve.db) c.in-Ok-Serve.port c.in-Ok-Serve.count
     c.args.input.now c.args.output.now c.serve_office-outcome.new.output c.args.errors.now c.serve_office-outcome.new.errors c.report_command-in-Ok-Serve.new.errors

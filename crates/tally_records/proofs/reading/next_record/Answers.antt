@@ -8,12 +8,12 @@ use Rattle.tally_records.proofs.reading.next_record.Goals as goal
 pub returns-clause-reading : goal.returns-clause-reading
 returns-clause-reading c found =
     let read = c.in-Ok.ensures in
-    let reads = read.reads c.requires.as_it_stands c.requires.ready in
+    let reads = read.reads c.requires.untrimmed c.requires.ready in
     let new = c.read_byte_record.new in
-    IsReading-next c.args.reader.now new.self (fields_of new.row) c.requires (read.ready c.requires.as_it_stands) read.flexible
+    IsReading-next c.args.reader.now new.self (fields_of new.row) c.requires (read.ready c.requires.untrimmed) read.flexible
     (subst (λ b. ReadRecord text_left c.args.reader.now new.self b (fields_of new.row)) found reads)
 
 pub returns-clause-record : goal.returns-clause-record
 returns-clause-record c =
     rows_left-next c.args.reader.now c.read_byte_record.new.self c.in-Ok.found (fields_of c.read_byte_record.new.row) c.requires
-    (c.in-Ok.ensures.reads c.requires.as_it_stands c.requires.ready)
+    (c.in-Ok.ensures.reads c.requires.untrimmed c.requires.ready)

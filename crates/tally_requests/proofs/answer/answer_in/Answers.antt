@@ -16,8 +16,8 @@ returns-in-ShowReturn-clause-answers g c =
     let shown = c.show_return.result in
     record {
       kind = search rules;
-      step = carries-known setup known (ShowReturn station) c.args.ask.now old new shown c.in-ShowReturn.is c.show_return.ensures.step;
+      step = carries-known setup known (ShowReturn station) c.args.ask.now old new shown c.in-ShowReturn.is c.show_return.ensures.answers.step;
       known = shown-keeps setup known station c.args.ask.now old new shown c.in-ShowReturn.is;
       forgets = forgets-answered shown known known (λ code had. had);
-      unwritten = c.show_return.ensures.unwritten;
+      unwritten = c.show_return.ensures.answers.unwritten;
     }

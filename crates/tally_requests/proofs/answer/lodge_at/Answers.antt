@@ -15,16 +15,16 @@ returns-in-Ok-clause-answers g c =
     let counts = c.args.counts.now in
     let before = known_of c.args.known.now in
     let after = known_of c.lodge.new.known in
-    let told = c.in_ok-reply.ensures in
+    let ensured = c.in_ok-reply.ensures in
     let r = c.in_ok-reply.field-0 in
     let seen = ap (λ q. reply_seen (Ok q)) c.from.ensures ∙ seen-reply c.in-Ok.reply ∙ ap lodge_reply (sym c.in-Ok.is) in
     record {
       kind = search rules;
-      step = λ clean inside text s lawful held tables. lodged-carried setup text s station slip counts r (Ok c.from.result) _ seen (told.lodged clean inside text s lawful tables);
+      step = λ clean inside text s lawful held tables. lodged-carried setup text s station slip counts r (Ok c.from.result) _ seen (ensured.lodged clean inside text s lawful tables);
       known = λ clean inside text s t lawful held tables answered.
-          lodged-known setup s t station slip counts r (Ok c.from.result) before after told.limits (told.lodged clean inside text s lawful tables).answered seen told.known held answered;
-      forgets = forgets-lodged setup station r before after told.known;
-      unwritten = λ clean at acts. told.unwritten clean at (ap (λ q. is_act (as_answer q)) c.in-Ok.is ∙ sym (ap (λ q. is_act (Ok q)) c.from.ensures) ∙ acts);
+          lodged-known setup s t station slip counts r (Ok c.from.result) before after ensured.limits (ensured.lodged clean inside text s lawful tables).answered seen ensured.known held answered;
+      forgets = forgets-lodged setup station r before after ensured.known;
+      unwritten = λ clean at acts. ensured.unwritten clean at (ap (λ q. is_act (as_answer q)) c.in-Ok.is ∙ sym (ap (λ q. is_act (Ok q)) c.from.ensures) ∙ acts);
     }
 
 pub returns-in-Err-clause-answers : goal.returns-in-Err-clause-answers
@@ -35,14 +35,14 @@ returns-in-Err-clause-answers g c =
     let counts = c.args.counts.now in
     let before = known_of c.args.known.now in
     let after = known_of c.lodge.new.known in
-    let told = c.in_ok-reply.ensures in
+    let ensured = c.in_ok-reply.ensures in
     let r = c.in_ok-reply.field-0 in
     let seen = ap lodge_reply (sym c.in-Err.is) in
     record {
       kind = tt;
-      step = λ clean inside text s lawful held tables. lodged-carried setup text s station slip counts r (Err c.in-Err.refusal) _ seen (told.lodged clean inside text s lawful tables);
+      step = λ clean inside text s lawful held tables. lodged-carried setup text s station slip counts r (Err c.in-Err.refusal) _ seen (ensured.lodged clean inside text s lawful tables);
       known = λ clean inside text s t lawful held tables answered.
-          lodged-known setup s t station slip counts r (Err c.in-Err.refusal) before after told.limits (told.lodged clean inside text s lawful tables).answered seen told.known held answered;
-      forgets = forgets-lodged setup station r before after told.known;
-      unwritten = λ clean at acts. told.unwritten clean at (ap (λ q. is_act (as_answer q)) c.in-Err.is);
+          lodged-known setup s t station slip counts r (Err c.in-Err.refusal) before after ensured.limits (ensured.lodged clean inside text s lawful tables).answered seen ensured.known held answered;
+      forgets = forgets-lodged setup station r before after ensured.known;
+      unwritten = λ clean at acts. ensured.unwritten clean at (ap (λ q. is_act (as_answer q)) c.in-Err.is);
     }

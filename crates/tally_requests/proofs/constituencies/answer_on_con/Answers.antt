@@ -53,15 +53,15 @@ returns-clause-answers g c =
     let here = constituency_with-own setup c.args.code con found in
     let known_here = c.known_at.ensures ∙ ap (get before) own in
     record {
-      kind = c.answer_seen.ensures.kind;
+      kind = c.answer_seen.ensures.answers.kind;
       step = λ clean inside.
           let early = earlier clean in
           seen-carries setup con before c.known_at.result c.shows_con.result c.in_ok-view.view ask old mid new c.answer_seen.result c.shows_con.ensures clean (still-unchanged old mid (c.in_ok-view.ensures.reads.same early inside) inside) here known_here
-          (c.in_ok-view.ensures.found early inside) c.answer_seen.ensures.step;
+          (c.in_ok-view.ensures.found early inside) c.answer_seen.ensures.answers.step;
       known = λ clean inside.
           let named = c.requires.named ∙ ap Some (sym (constituency_with-code setup c.args.code con found)) in
           seen-known setup con before after c.known_at.result code c.statuses_of.result c.shows_con.result c.in_ok-view.view ask old c.answer_seen.result here named known_here (c.in_ok-view.ensures.found (earlier clean) inside) own c.statuses_of.ensures
           c.in_ok-remember.ensures;
       forgets = forgets-answered c.answer_seen.result before after (forgets-remembered before after code c.statuses_of.result c.in_ok-remember.ensures);
-      unwritten = unwritten-then old mid new c.answer_seen.result earlier (λ early inside. c.in_ok-view.ensures.reads.same early inside) c.answer_seen.ensures.unwritten;
+      unwritten = unwritten-then old mid new c.answer_seen.result earlier (λ early inside. c.in_ok-view.ensures.reads.same early inside) c.answer_seen.ensures.answers.unwritten;
     }

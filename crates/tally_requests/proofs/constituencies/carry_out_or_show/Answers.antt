@@ -1,4 +1,4 @@
-use Rattle.std.proofs.Common.{◌∙◌, subst, sym, true≢false}
+use Rattle.std.proofs.Common.{◌∙◌, rules, subst, sym, true≢false}
 use Rattle.sqlite.proofs.StateLemmas.{unchanged}
 use Rattle.sqlite.specs.Held.{state}
 use Rattle.tally_steps.specs.Step.{IsConDecision}
@@ -7,26 +7,31 @@ use Rattle.tally_requests.proofs.RecordLemmas.{whole-view}
 use Rattle.tally_requests.proofs.AnswerLemmas.{changed-carried, shown-carried}
 use Rattle.tally_requests.proofs.constituencies.carry_out_or_show.Goals as goal
 
-pub returns-in-Same-clause-step : goal.returns-in-Same-clause-step
-returns-in-Same-clause-step g c clean inside text s lawful seen tables =
+pub returns-in-Same-clause-answers : goal.returns-in-Same-clause-answers
+returns-in-Same-clause-answers g c =
     let con = c.args.con.now in
     let ask = c.args.ask.now in
-    shown-carried c.args.setup.now text s con c.args.view ask (state g.S.Store c.args.tx.now.conn.now) c.requires.found c.requires.named seen
-    (subst (IsConDecision con c.args.view ask) c.in-Same.is c.requires.decided) (record { inside = inside; tables = tables })
+    let old = state g.S.Store c.args.tx.now.conn.now in
+    record {
+      kind = search rules;
+      step = λ clean inside text s lawful seen tables.
+          shown-carried c.args.setup.now text s con c.args.view ask old c.requires.found c.requires.named seen
+          (subst (IsConDecision con c.args.view ask) c.in-Same.is c.requires.decided) (record { inside = inside; tables = tables });
+      unwritten = λ clean at acts. unchanged old at.1;
+    }
 
 pub returns-in_ok-carry_out-in_default : goal.returns-in_ok-carry_out-in_default
 returns-in_ok-carry_out-in_default g c =
-    let told = c.in_ok-carry_out-in_default.ensures in
+    let ensured = c.in_ok-carry_out-in_default.ensures in
     let by = c.requires.decided in
     record {
-      stays = told.stays;
-      kind = told.kind;
-      step = λ clean inside text s lawful seen tables.
-          let all = whole-view (shows_con c.args.ask.now) c.args.con.now s c.args.view seen in
-          changed-carried c.args.setup.now text s c.args.con.now c.args.view c.args.ask.now by.0 c.in_ok-carry_out-in_default.field-0 (state g.S.Store c.carry_out.new.tx.conn.now) c.requires.found c.requires.named all by.2
-          (told.carried_out clean inside text s by.0 by.1 lawful all tables);
-      unwritten = λ clean at acts. absurd (true≢false (sym told.acts ∙ acts));
+      stays = ensured.stays;
+      answers = record {
+        kind = ensured.kind;
+        step = λ clean inside text s lawful seen tables.
+            let all = whole-view (shows_con c.args.ask.now) c.args.con.now s c.args.view seen in
+            changed-carried c.args.setup.now text s c.args.con.now c.args.view c.args.ask.now by.0 c.in_ok-carry_out-in_default.field-0 (state g.S.Store c.carry_out.new.tx.conn.now) c.requires.found c.requires.named all by.2
+            (ensured.carried_out clean inside text s by.0 by.1 lawful all tables);
+        unwritten = λ clean at acts. absurd (true≢false (sym ensured.acts ∙ acts));
+      };
     }
-
-pub returns-in-Same-clause-unwritten : goal.returns-in-Same-clause-unwritten
-returns-in-Same-clause-unwritten g c clean at acts = unchanged (state g.S.Store c.args.tx.now.conn.now) at.1

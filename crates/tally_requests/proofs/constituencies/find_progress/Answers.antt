@@ -21,14 +21,14 @@ use Rattle.tally_requests.proofs.constituencies.find_progress.Goals as goal
 
 pub loop-con-init : goal.loop-con-init
 loop-con-init g c =
-    let told = c.in_ok-standing.ensures in
+    let ensured = c.in_ok-standing.ensures in
     record {
-      stays = told.reads.stays;
+      stays = ensured.reads.stays;
       found = search rules;
       known = λ clean inside text s lawful held tables. held;
       forgets = λ code had. had;
-      same = λ clean inside. told.reads.same clean inside;
-      all = λ clean inside. (told.found clean inside).same;
+      same = λ clean inside. ensured.reads.same clean inside;
+      all = λ clean inside. (ensured.found clean inside).same;
     }
 
 pub loop-con-preserved : goal.loop-con-preserved
@@ -45,10 +45,10 @@ loop-con-preserved g c =
     let mid = state g.S.Store c.loop-con.tx.conn.now in
     let new = state g.S.Store c.find_progress_row.new.tx.conn.now in
     let was = c.loop-con.invariant in
-    let told = c.find_progress_row.ensures in
+    let ensured = c.find_progress_row.ensures in
     let has : Has con setup = subst (Has con) c.cons-cons.ensures.cons (subst (λ (x : Constituency). Has x cons) (sym c.con-item.is) (has-at cons i con c.loop-con-test.true)) in
     let there : constituency_with con.code setup ≡ Some con = con-only setup con c.cons-cons.ensures.limits has in
-    let before : HasCleanDisk new → HasCleanDisk mid = λ clean. omega (arith, clean, told.stays.survives.clean) in
+    let before : HasCleanDisk new → HasCleanDisk mid = λ clean. omega (arith, clean, ensured.stays.survives.clean) in
     let at : HasCleanDisk mid → IsInside old → IsOpenInside mid = λ early inside. (inside_still old mid (was.same early inside) inside, (was.same early inside).0.is_open) in
     let row_is : HasCleanDisk new → IsInside old → (text : List ℕ) (s : State) → IsLawfulState setup s → AreKnown setup s.returns (known_of c.args.known.now) → AreTables setup text s old.now.trees → row ≡ progress_row s con = λ clean inside text s lawful held tables.
     let early = before clean in
@@ -57,7 +57,7 @@ loop-con-preserved g c =
     let found = (rw c.deref.ensures.value at c.in_ok-row.ensures.found) clean (at early inside) in
     row-found setup text s con known c.known_at.result c.con.inside.code mid rows row there lawful (was.known early inside text s lawful held tables) c.known_at.ensures own (cons-still old mid rows same (was.all early inside)) found here.tables in
     record {
-      stays = stays-on g.S.Store c.args.tx.now c.loop-con.tx c.find_progress_row.new.tx was.same was.stays told.stays;
+      stays = stays-on g.S.Store c.args.tx.now c.loop-con.tx c.find_progress_row.new.tx was.same was.stays ensured.stays;
       found = λ clean inside text s lawful held tables.
           rows-more (progress_row s) cons i con c.loop-con.rows.items c.push.new.self.items row c.loop-con-test.true c.con-item.is (was.found (before clean) inside text s lawful held tables)
           (row_is clean inside text s lawful held tables) c.in_ok-push.ensures.items;

@@ -69,17 +69,17 @@ returns-clause-answers g c =
     let later : (HasCleanDisk new → HasCleanDisk last) = λ clean. omega (arith, clean, c.move_found.ensures.stays.survives.clean) in
     let earlier : (HasCleanDisk new → HasCleanDisk mid) = λ clean. omega (arith, later clean, c.find_certified.ensures.reads.stays.survives.clean) in
     record {
-      kind = c.in_ok-answer.ensures.kind;
+      kind = c.in_ok-answer.ensures.answers.kind;
       step = λ clean inside text s lawful held tables.
           let one = still-unchanged old mid (c.in_ok-found.ensures.reads.same (earlier clean) inside) inside in
           let two = still-unchanged mid last (c.in_ok-certified.ensures.reads.same (later clean) one.inside) one.inside in
           found-carries setup con place station c.as_str.result.now c.in_ok-certified.certified found ask old mid last new (Ok answer) clean limits (sym c.in-Some.ensures.found) (c.as_str.ensures.text ∙ own) one two
-          (c.in_ok-found.ensures.found (earlier clean) inside) (c.in_ok-certified.ensures.found (later clean) one.inside) c.in_ok-answer.ensures.step text s lawful tables;
+          (c.in_ok-found.ensures.found (earlier clean) inside) (c.in_ok-certified.ensures.found (later clean) one.inside) c.in_ok-answer.ensures.answers.step text s lawful tables;
       known = λ clean inside text s t lawful held tables answered.
           command-known setup s t ask station code con place found status answer known after limits c.requires.named c.requires.moves (sym c.in-Some.ensures.found) own
           (found-is setup text s station old found limits lawful tables (c.in_ok-found.ensures.found (earlier clean) inside)) c.status_found-before.ensures
           (c.count_command.ensures ∙ ap (λ b. after_command code ask status b known) c.is_ok.ensures.value) held answered;
       forgets = forgets-commanded code ask status c.is_ok.result known after c.count_command.ensures;
       unwritten = unwritten-then old mid new (Ok answer) earlier (λ early inside. c.in_ok-found.ensures.reads.same early inside)
-          (unwritten-then mid last new (Ok answer) later (λ early inside. c.in_ok-certified.ensures.reads.same early inside) c.in_ok-answer.ensures.unwritten);
+          (unwritten-then mid last new (Ok answer) later (λ early inside. c.in_ok-certified.ensures.reads.same early inside) c.in_ok-answer.ensures.answers.unwritten);
     }

@@ -25,11 +25,8 @@ put_moved-requires-clause-moves g c =
     let put = put-decided con c.args.place.now c.args.certified c.args.found c.args.ask.now c.args.change c.requires.moves c.requires.decided in
     put-only con c.args.certified c.args.found c.args.ask.now c.args.change c.in-Some.before c.in-PutReturn.standing put c.in-Some.is c.in-PutReturn.is
 
-pub returns-clause-kind : goal.returns-clause-kind
-returns-clause-kind g c = moved-kind c.args.setup.now c.args.ask.now c.standing.inside.rev c.requires.moves
-
-pub returns-clause-step : goal.returns-clause-step
-returns-clause-step g c clean inside text s lawful flag found tables =
+pub returns-clause-answers : goal.returns-clause-answers
+returns-clause-answers g c =
     let setup = c.args.setup.now in
     let con = c.args.con.now in
     let place = c.args.place.now in
@@ -39,10 +36,12 @@ returns-clause-step g c clean inside text s lawful flag found tables =
     let new = state g.S.Store c.put_moved.new.tx.conn.now in
     let standing = c.in-PutReturn.standing in
     let put = put-decided con place certified c.args.found ask c.args.change c.requires.moves c.requires.decided in
-    subst (λ (r : StationReturn). IsCarriedOut setup text s ask (Ok (Moved r.rev)) new) (sym c.standing.view_is)
-    (move-carried setup text s ask station con place certified c.args.found standing new c.requires.named c.requires.moves (record { known = c.requires.known; certified_is = flag; found_is = found })
-    (c.requires.decided ∙ ap Ok c.in-PutReturn.is)
-    (c.in_ok-put_moved.ensures.put clean inside setup place text s c.requires.limits c.requires.known lawful (sym flag ∙ put.is_open) (sym found ∙ c.in-Some.is) tables))
-
-pub returns-clause-unwritten : goal.returns-clause-unwritten
-returns-clause-unwritten g c clean at acts = absurd (true≢false acts)
+    record {
+      kind = moved-kind setup ask c.standing.inside.rev c.requires.moves;
+      step = λ clean inside text s lawful flag found tables.
+          subst (λ (r : StationReturn). IsCarriedOut setup text s ask (Ok (Moved r.rev)) new) (sym c.standing.view_is)
+          (move-carried setup text s ask station con place certified c.args.found standing new c.requires.named c.requires.moves (record { known = c.requires.known; certified_is = flag; found_is = found })
+          (c.requires.decided ∙ ap Ok c.in-PutReturn.is)
+          (c.in_ok-put_moved.ensures.put clean inside setup place text s c.requires.limits c.requires.known lawful (sym flag ∙ put.is_open) (sym found ∙ c.in-Some.is) tables));
+      unwritten = λ clean at acts. absurd (true≢false acts);
+    }

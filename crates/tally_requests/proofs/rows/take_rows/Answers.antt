@@ -24,14 +24,6 @@ loop-before-init g c =
       forgets = λ code had. had;
     }
 
-pub returns-in_default-clause-imported : goal.returns-in_default-clause-imported
-returns-in_default-clause-imported g c clean inside text s lawful tables =
-    let left = source_at g.R.RowSource in
-    let told = c.in_ok-row.ensures in
-    let given = subst (λ r. GivesAt (left c.loop-before.source) (Ok r) (left c.next_row.new.self)) c.in_default.is (told.gives, told.gave, told.ends) in
-    rows-end c.args.setup.now text s (left c.args.source.now) (left c.loop-before.source) (left c.next_row.new.self) c.loop-before.count c.loop-before.before (known_of c.args.known.now) (known_of c.loop-before.known) _
-    (c.loop-before.invariant.taken clean inside text s lawful tables) (omega (arith, c.loop-before-test.true)) given
-
 pub returns-in_err-answer-clause-stays : goal.returns-in_err-answer-clause-stays
 returns-in_err-answer-clause-stays g c =
     let was = c.loop-before.invariant in
@@ -49,8 +41,8 @@ loop-before-preserved g c =
     let row = c.in-Some.row in
     let came = left c.loop-before.source in
     let comes = left c.next_row.new.self in
-    let told = c.in_ok-row.ensures in
-    let given = subst (λ r. GivesAt came (Ok r) comes) c.in-Some.is (told.gives, told.gave, told.ends) in
+    let ensured = c.in_ok-row.ensures in
+    let given = subst (λ r. GivesAt came (Ok r) comes) c.in-Some.is (ensured.gives, ensured.gave, ensured.ends) in
     let was = c.loop-before.invariant in
     record {
       stays = stays-then (IsLawfulInside setup) IsInside g.S.Store c.args.tx.now c.loop-before.tx c.take_row.new.tx
@@ -68,28 +60,44 @@ loop-before-preserved g c =
           forgets-then (known_of c.args.known.now) known after was.forgets (forgets-row setup row c.in_ok-answer.answer known after c.in_ok-answer.ensures.known);
     }
 
-pub returns-in_err-row-clause-fault : goal.returns-in_err-row-clause-fault
-returns-in_err-row-clause-fault g c =
+pub returns-in_default-clause-lodges : goal.returns-in_default-clause-lodges
+returns-in_default-clause-lodges g c =
     let left = source_at g.R.RowSource in
-    let told = c.in_err-row.ensures in
-    let p = err_from_is_err_and c.from_residual.result c.from_residual.ensures.1 in
-    rw (p.1, p.2) (
-    came-fault (left c.args.source.now) (left c.loop-before.source) (left c.next_row.new.self) c.loop-before.before c.in_err-row.field-0.0 c.loop-before.invariant.came (told.gives, told.gave, told.ends))
+    let ensured = c.in_ok-row.ensures in
+    let was = c.loop-before.invariant in
+    let given = subst (λ r. GivesAt (left c.loop-before.source) (Ok r) (left c.next_row.new.self)) c.in_default.is (ensured.gives, ensured.gave, ensured.ends) in
+    record {
+      imported = λ clean inside text s lawful tables.
+          rows-end c.args.setup.now text s (left c.args.source.now) (left c.loop-before.source) (left c.next_row.new.self) c.loop-before.count c.loop-before.before (known_of c.args.known.now) (known_of c.loop-before.known) _
+          (was.taken clean inside text s lawful tables) (omega (arith, c.loop-before-test.true)) given;
+      gave = came-end (left c.args.source.now) (left c.loop-before.source) (left c.next_row.new.self) c.loop-before.before was.came (omega (arith, c.loop-before-test.true)) given;
+      fault = tt;
+      forgets = was.forgets;
+    }
 
-pub returns-in_err-answer-clause-fault : goal.returns-in_err-answer-clause-fault
-returns-in_err-answer-clause-fault g c =
+pub returns-in_err-row-clause-lodges : goal.returns-in_err-row-clause-lodges
+returns-in_err-row-clause-lodges g c =
+    let left = source_at g.R.RowSource in
+    let ensured = c.in_err-row.ensures in
+    let p = err_from_is_err_and c.from_residual.result c.from_residual.ensures.1 in
+    rw (p.1, p.2) (record {
+      imported = λ clean inside. tt;
+      gave = tt;
+      fault = came-fault (left c.args.source.now) (left c.loop-before.source) (left c.next_row.new.self) c.loop-before.before c.in_err-row.field-0.0 c.loop-before.invariant.came (ensured.gives, ensured.gave, ensured.ends);
+      forgets = tt;
+    })
+
+pub returns-in_err-answer-clause-lodges : goal.returns-in_err-answer-clause-lodges
+returns-in_err-answer-clause-lodges g c =
     let left = source_at g.R.RowSource in
     let came = left c.loop-before.source in
     let comes = left c.next_row.new.self in
-    let told = c.in_ok-row.ensures in
-    let given = subst (λ r. GivesAt came (Ok r) comes) c.in-Some.is (told.gives, told.gave, told.ends) in
+    let ensured = c.in_ok-row.ensures in
+    let given = subst (λ r. GivesAt came (Ok r) comes) c.in-Some.is (ensured.gives, ensured.gave, ensured.ends) in
     let p = err_from_is_err_and c.from_residual-in_err-answer.result c.from_residual-in_err-answer.ensures.1 in
-    rw (p.1, p.2) (
-    came-own (left c.args.source.now) came comes c.loop-before.before c.in-Some.row c.in_err-answer.field-0.0 c.loop-before.invariant.came given c.in_err-answer.ensures.own)
-
-pub returns-in_default-clause-gave : goal.returns-in_default-clause-gave
-returns-in_default-clause-gave g c =
-    let left = source_at g.R.RowSource in
-    let told = c.in_ok-row.ensures in
-    let given = subst (λ r. GivesAt (left c.loop-before.source) (Ok r) (left c.next_row.new.self)) c.in_default.is (told.gives, told.gave, told.ends) in
-    came-end (left c.args.source.now) (left c.loop-before.source) (left c.next_row.new.self) c.loop-before.before c.loop-before.invariant.came (omega (arith, c.loop-before-test.true)) given
+    rw (p.1, p.2) (record {
+      imported = λ clean inside. tt;
+      gave = tt;
+      fault = came-own (left c.args.source.now) came comes c.loop-before.before c.in-Some.row c.in_err-answer.field-0.0 c.loop-before.invariant.came given c.in_err-answer.ensures.own;
+      forgets = tt;
+    })

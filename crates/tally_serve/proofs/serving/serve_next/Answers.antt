@@ -1,7 +1,7 @@
 use Rattle.std.proofs.Common.{◌≡◌, ◌++◌, List, [], Some, None, option_to_list, false, sym, subst, refl}
 use Rattle.tally_door.specs.Connection.{Connection, connections}
 use Rattle.tally_serve.specs.Serving.{IsExchange}
-use Rattle.tally_serve.specs.internal.Next.{IsNext}
+use Rattle.tally_serve.specs.internal.Next.{IsNextConnection}
 use Rattle.tally_serve.proofs.serving.serve_next.Goals as goal
 
 pub returns-in-Ok-clause-next : goal.returns-in-Ok-clause-next
@@ -14,7 +14,7 @@ returns-in-Ok-clause-next g c before is =
     let after = connections front (Some e.0) rest in (
       after,
       e.1,
-      subst (λ (l : List Connection). IsNext front l after c.exchange.result
+      subst (λ (l : List Connection). IsNextConnection front l after c.exchange.result
           (λ t d. r.IsTrusted c.exchange.new.keeper → IsExchange r.Answers (r.content c.args.keeper.now) t c.exchange.result d (r.content c.exchange.new.keeper))
           (r.content c.exchange.new.keeper ≡ r.content c.args.keeper.now)) (sym next.2) (e.0, refl, e.2),
     )
@@ -27,7 +27,7 @@ returns-in-Err-clause-next g c before is =
     let after = connections front None [] in (
       after,
       none.1,
-      subst (λ (l : List Connection). IsNext front l after false
+      subst (λ (l : List Connection). IsNextConnection front l after false
           (λ t d. r.IsTrusted c.args.keeper.now → IsExchange r.Answers (r.content c.args.keeper.now) t false d (r.content c.args.keeper.now))
           (r.content c.args.keeper.now ≡ r.content c.args.keeper.now)) (sym none.0) (refl, refl, refl),
     )

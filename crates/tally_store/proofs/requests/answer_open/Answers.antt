@@ -30,17 +30,17 @@ returns-clause-answers g c =
     let mid = state g.S.Store c.see_open.new.tx.conn.now in
     let new = state g.S.Store c.answer_in.new.tx.conn.now in
     let earlier : (HasCleanDisk new → HasCleanDisk mid) = λ clean. omega (arith, clean, c.answer_in.ensures.stays.survives.clean) in
-    let told = c.answer_in.ensures.answers in
+    let ensured = c.answer_in.ensures.answers in
     record {
-      kind = told.kind;
+      kind = ensured.kind;
       step = λ clean inside.
           let same : IsUnchanged old mid = c.in_ok-see_open.ensures.reads.same (earlier clean) inside in
           IfOk-weaker c.answer_in.result _ _ (λ r carried text s lawful known tables. carried text s lawful known (subst (λ (d : Database). AreTables setup text s d.trees) (sym same.0.now_is) tables))
-          (told.step clean (inside_still old mid same inside));
+          (ensured.step clean (inside_still old mid same inside));
       known = λ clean inside.
           let same : IsUnchanged old mid = c.in_ok-see_open.ensures.reads.same (earlier clean) inside in
           IfOk-weaker c.answer_in.result _ _ (λ r keeps text s t lawful known tables. keeps text s t lawful known (subst (λ (d : Database). AreTables setup text s d.trees) (sym same.0.now_is) tables))
-          (told.known clean (inside_still old mid same inside));
-      forgets = told.forgets;
-      unwritten = unwritten-then old mid new c.answer_in.result earlier (λ early inside. c.in_ok-see_open.ensures.reads.same early inside) told.unwritten;
+          (ensured.known clean (inside_still old mid same inside));
+      forgets = ensured.forgets;
+      unwritten = unwritten-then old mid new c.answer_in.result earlier (λ early inside. c.in_ok-see_open.ensures.reads.same early inside) ensured.unwritten;
     }

@@ -27,7 +27,7 @@ returns-in-Ok-commit-clause-done g c clean now text s lawful has =
     let early : HasCleanDisk last = omega (arith, c.commit.ensures.survives.clean) in
     let here : IsInside bare = rw begun (record { schema = has.schema; sound = has.sound; distinct = has.distinct; inside = refl }) in
     let held : AreTables setup text s bare.now.trees = rw begun has.tables in
-    let all = (c.in-Ok.ensures.imported early here text s lawful held).0 in
+    let all = (c.in-Ok.ensures.lodges.imported early here text s lawful held).0 in
     let shown = (c.in-Ok-commit.ensures.ok clean_end).1 in
     subst (λ (h : _). IsAllDone setup text s came c.in-Ok.count (state g.S.Store h)) same (all_committed setup text s came c.in-Ok.count last new all shown)
 
@@ -50,7 +50,7 @@ returns-in-Ok-commit-clause-known g c clean =
           let held : AreTables setup text s bare.now.trees = rw begun has.tables in
           let true_is = c.requires.known (omega (arith, early, inside.clean)) (rw begun at (c.in-Ok.ensures.was_open early)) text s lawful has in
           subst (λ (h : _). IsAllKnown setup text s came c.in-Ok.count (state g.S.Store h) (known_of c.take_open.new.known)) same
-          (all_known setup text s came (known_of c.args.known.now) (known_of c.take_open.new.known) c.in-Ok.count last new (c.in-Ok.ensures.imported early here text s lawful held) true_is shown),
+          (all_known setup text s came (known_of c.args.known.now) (known_of c.take_open.new.known) c.in-Ok.count last new (c.in-Ok.ensures.lodges.imported early here text s lawful held) true_is shown),
     )
 
 pub returns-in-Err-commit-clause-known : goal.returns-in-Err-commit-clause-known
@@ -85,7 +85,7 @@ returns-in-Ok-commit-clause-ends g c =
           let has = office.2.has in
           let here : IsInside bare = rw begun (record { schema = has.schema; sound = has.sound; distinct = has.distinct; inside = refl }) in
           let held : AreTables setup text s bare.now.trees = rw begun has.tables in
-          record { was_open = was_open; text = text; state = s; lawful = lawful; has = has; after = tables_imported setup text s came c.in-Ok.count last (c.in-Ok.ensures.imported early here text s lawful held).0 }));
+          record { was_open = was_open; text = text; state = s; lawful = lawful; has = has; after = tables_imported setup text s came c.in-Ok.count last (c.in-Ok.ensures.lodges.imported early here text s lawful held).0 }));
     }
 
 pub returns-in-Err-commit-clause-done : goal.returns-in-Err-commit-clause-done
@@ -102,7 +102,7 @@ returns-in-Err-commit-clause-done g c clean now text s lawful has =
     let early : HasCleanDisk last = omega (arith, c.commit.ensures.survives.clean) in
     let here : IsInside bare = rw begun (record { schema = has.schema; sound = has.sound; distinct = has.distinct; inside = refl }) in
     let held : AreTables setup text s bare.now.trees = rw begun has.tables in
-    let all = (c.in-Ok.ensures.imported early here text s lawful held).0 in
+    let all = (c.in-Ok.ensures.lodges.imported early here text s lawful held).0 in
     let kept = c.take_open.ensures.stays.kept early (record { text = text; office = s; inside = here; lawful = lawful; tables = held }) in
     let was_open = rw begun at kept.was_open in
     let committed = rw begun at kept.committed in
@@ -136,7 +136,7 @@ returns-in-Err-commit-clause-ends g c =
           let has = office.2.has in
           let here : IsInside bare = rw begun (record { schema = has.schema; sound = has.sound; distinct = has.distinct; inside = refl }) in
           let held : AreTables setup text s bare.now.trees = rw begun has.tables in
-          record { was_open = was_open; text = text; state = s; lawful = lawful; has = has; after = tables_imported setup text s came c.in-Ok.count last (c.in-Ok.ensures.imported early here text s lawful held).0 }));
+          record { was_open = was_open; text = text; state = s; lawful = lawful; has = has; after = tables_imported setup text s came c.in-Ok.count last (c.in-Ok.ensures.lodges.imported early here text s lawful held).0 }));
     }
 
 pub returns-in-Err-clause-done : goal.returns-in-Err-clause-done
@@ -162,7 +162,7 @@ returns-in-Err-clause-done g c clean now text s lawful has =
 
 pub returns-in-Err-commit-clause-fault : goal.returns-in-Err-commit-clause-fault
 returns-in-Err-commit-clause-fault g c =
-    own-last (delivery g.R.RowSource c.args.source.now c.take_open.new.source) c.import_fault_of.result c.in-Ok.ensures.gave c.import_fault_of.ensures.own
+    own-last (delivery g.R.RowSource c.args.source.now c.take_open.new.source) c.import_fault_of.result c.in-Ok.ensures.lodges.gave c.import_fault_of.ensures.own
 
 pub returns-in-Err-clause-ends : goal.returns-in-Err-clause-ends
 returns-in-Err-clause-ends g c = record {

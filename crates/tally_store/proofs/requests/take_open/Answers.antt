@@ -25,18 +25,30 @@ returns-in-Ok-clause-was_open g c clean =
     let early : HasCleanDisk mid = omega (arith, clean, c.take_rows.ensures.stays.survives.clean) in
     on_ok c.take_rows.result (c.in-Ok.ensures.reads.answered_open early)
 
-pub returns-in-Ok-clause-imported : goal.returns-in-Ok-clause-imported
-returns-in-Ok-clause-imported g c clean inside =
-    let setup = c.args.setup.now in
-    let old = state g.S.Store c.args.tx.now.conn.now in
-    let mid = state g.S.Store c.see_open.new.tx.conn.now in
-    let early : HasCleanDisk mid = omega (arith, clean, c.take_rows.ensures.stays.survives.clean) in
-    let same : IsUnchanged old mid = c.in-Ok.ensures.reads.same early inside in
-    IfOk-weaker c.take_rows.result _ _ (λ r imported text s lawful tables. imported text s lawful (subst (λ (d : Database). AreTables setup text s d.trees) (sym same.0.now_is) tables))
-    (c.take_rows.ensures.imported clean (inside_still old mid same inside))
-
 pub returns-in-Err-clause-stays : goal.returns-in-Err-clause-stays
 returns-in-Err-clause-stays g c = stays_in_state c.args.setup.now g.S.Store c.args.tx.now c.see_open.new.tx c.in-Err.ensures.reads.stays
 
-pub returns-in-Err-clause-fault : goal.returns-in-Err-clause-fault
-returns-in-Err-clause-fault g c = own-first (source_at g.R.RowSource c.args.source.now) c.import_fault_of.result c.import_fault_of.ensures.own
+pub returns-in-Ok-clause-lodges : goal.returns-in-Ok-clause-lodges
+returns-in-Ok-clause-lodges g c =
+    let setup = c.args.setup.now in
+    let old = state g.S.Store c.args.tx.now.conn.now in
+    let mid = state g.S.Store c.see_open.new.tx.conn.now in
+    let ensured = c.take_rows.ensures.lodges in
+    record {
+      imported = λ clean inside.
+          let early : HasCleanDisk mid = omega (arith, clean, c.take_rows.ensures.stays.survives.clean) in
+          let same : IsUnchanged old mid = c.in-Ok.ensures.reads.same early inside in
+          IfOk-weaker c.take_rows.result _ _ (λ r imported text s lawful tables. imported text s lawful (subst (λ (d : Database). AreTables setup text s d.trees) (sym same.0.now_is) tables))
+          (ensured.imported clean (inside_still old mid same inside));
+      gave = ensured.gave;
+      fault = ensured.fault;
+      forgets = ensured.forgets;
+    }
+
+pub returns-in-Err-clause-lodges : goal.returns-in-Err-clause-lodges
+returns-in-Err-clause-lodges g c = record {
+  imported = λ clean inside. tt;
+  gave = tt;
+  fault = own-first (source_at g.R.RowSource c.args.source.now) c.import_fault_of.result c.import_fault_of.ensures.own;
+  forgets = tt;
+}

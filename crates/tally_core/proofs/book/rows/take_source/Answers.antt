@@ -25,8 +25,8 @@ loop-before-preserved g c =
     let new = c.take_row.new.ledger in
     let came = left c.loop-before.source in
     let comes = left c.next_row.new.self in
-    let told = c.in_ok-row.ensures in
-    let given : GivesAt came (Ok (Some row)) comes = subst (λ r. GivesAt came (Ok r) comes) c.in-Some.is (told.gives, told.gave, told.ends) in
+    let ensured = c.in_ok-row.ensures in
+    let given : GivesAt came (Ok (Some row)) comes = subst (λ r. GivesAt came (Ok r) comes) c.in-Some.is (ensured.gives, ensured.gave, ensured.ends) in
     let was = c.loop-before.invariant in
     let undone : returns_without c.take_row.new.lodged.items new.returns ≡ returns_without c.loop-before.lodged.items mid.returns = c.in_ok-answer.ensures.undone in
     record {
@@ -41,11 +41,11 @@ pub returns-in_err-row-clause-fault : goal.returns-in_err-row-clause-fault
 returns-in_err-row-clause-fault g c =
     let left = source_at g.R.RowSource in
     let old = c.args.ledger.now in
-    let told = c.in_err-row.ensures in
+    let ensured = c.in_err-row.ensures in
     let p = err_from_is_err_and c.from_residual.result c.from_residual.ensures.1 in
     rw (p.1, p.2) (
     SoFar-fault (stations_of old.setup) old.returns c.loop-before.ledger.returns (left c.args.source.now) (left c.loop-before.source) (left c.next_row.new.self) c.loop-before.count c.loop-before.before
-    c.in_err-row.field-0.0 c.loop-before.invariant.so_far (told.gives, told.gave, told.ends))
+    c.in_err-row.field-0.0 c.loop-before.invariant.so_far (ensured.gives, ensured.gave, ensured.ends))
 
 pub returns-in_err-answer-clause-fault : goal.returns-in_err-answer-clause-fault
 returns-in_err-answer-clause-fault g c =
@@ -53,8 +53,8 @@ returns-in_err-answer-clause-fault g c =
     let old = c.args.ledger.now in
     let came = left c.loop-before.source in
     let comes = left c.next_row.new.self in
-    let told = c.in_ok-row.ensures in
-    let given : GivesAt came (Ok (Some c.in-Some.row)) comes = subst (λ r. GivesAt came (Ok r) comes) c.in-Some.is (told.gives, told.gave, told.ends) in
+    let ensured = c.in_ok-row.ensures in
+    let given : GivesAt came (Ok (Some c.in-Some.row)) comes = subst (λ r. GivesAt came (Ok r) comes) c.in-Some.is (ensured.gives, ensured.gave, ensured.ends) in
     let p = err_from_is_err_and c.from_residual-in_err-answer.result c.from_residual-in_err-answer.ensures.1 in
     rw (p.1, p.2) (
     SoFar-own (stations_of old.setup) old.returns c.loop-before.ledger.returns (left c.args.source.now) came comes c.loop-before.count c.loop-before.before

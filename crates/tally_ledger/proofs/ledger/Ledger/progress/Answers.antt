@@ -5,7 +5,7 @@ use Rattle.std.proofs.lemmas.List.{map-append, take_more}
 use Rattle.tally_rules.specs.Constituency.{Constituency}
 use Rattle.tally_returns.specs.Progress.{progress_row}
 use Rattle.tally_ledger.specs.Kept.{Kept, state_in}
-use Rattle.tally_ledger.specs.internal.Rows.{returns_of, row_of, views_of}
+use Rattle.tally_ledger.specs.internal.Rows.{returns_of, progress_row_of, views_of}
 use Rattle.tally_ledger.proofs.ChangeLemmas.{held-has, row-is}
 use Rattle.tally_ledger.proofs.SetupLemmas.{Has, has-at}
 use Rattle.tally_ledger.proofs.ledger.Ledger.progress.Goals as goal
@@ -33,7 +33,7 @@ loop-con-preserved c =
     let code : c.con.inside.code ≡ con.code = ap (λ (con : Constituency). con.code) c.con.view_is in
     let has : Has con setup = subst (Has con) c.cons-cons.ensures.cons (subst (λ (x : Constituency). Has x cons) (sym c.con-item.is) (has-at cons i con c.loop-con-test.true)) in
     let there : get views con.code ≡ Some view = ap (get views) (sym code) ∙ sym c.in-Some.ensures in
-    let row = c.progress_row.ensures ∙ ap (λ q. row_of q view) code ∙ row-is setup returns views con view c.cons-cons.ensures.limits c.self.invariant has there
+    let row = c.progress_row.ensures ∙ ap (λ q. progress_row_of q view) code ∙ row-is setup returns views con view c.cons-cons.ensures.limits c.self.invariant has there
     ∙ ap (λ (k : Kept). progress_row (state_in k) con) c.self.view_is in
     let rows = progress_row (state_in c.args.self.now) in
     let next : take (i + 1) cons ≡ take i cons ++ con ∷ [] = take_more cons i con c.loop-con-test.true ∙ ap (λ x. take i cons ++ x ∷ []) (sym c.con-item.is) in

@@ -11,4 +11,4 @@ invariant-loop-count l = record {
 }
 
 abbrev pub decreases-loop-count : goal.decreases-loop-count
-decreases-loop-count l = length l.self.behind.value.items
+decreases-loop-count l = length l.self.later.value.items

@@ -7,7 +7,7 @@ use Rattle.tally_records.specs.internal.Text.{bytes_left, bytes_of_parts}
 use Rattle.tally_records.proofs.WorkLemmas.{IsBegunIn-room, IsRest-last}
 use Rattle.tally_records.proofs.work.Work.last.Goals as goal
 
--- the bytes that are held, with those behind them
+-- the bytes that are held, with those after them
 abbrev all : goal.In_ok-text-2 → List ℕ
 all c = c.args.held.bytes.items ++ bytes_of_parts c.args.more.items
 

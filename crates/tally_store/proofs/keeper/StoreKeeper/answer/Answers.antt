@@ -16,19 +16,19 @@ invariant_of-self g c =
     let setup = c.self.inside.setup in
     let old = state g.S.Store c.self.inside.conn in
     let new = state g.S.Store c.answer_request.new.conn in
-    let told = c.answer_request.ensures in
+    let ensured = c.answer_request.ensures in
     let r = c.answer_request.result in
-    let served : Served setup old new c.args.ask.now r = record { ended = told.ends.ended; codes = told.codes; clean = λ clean. omega (arith, clean, told.ends.crash.clean); done = told.done; shut = told.shut; was_open = told.ends.was_open } in
-    served_after setup old new c.args.ask.now r (known_of c.answer_request.new.known) c.a_constituency_has_a_view.ensures.lawful c.self.invariant.stored served told.known
+    let served : Served setup old new c.args.ask.now r = record { ended = ensured.ends.ended; codes = ensured.codes; clean = λ clean. omega (arith, clean, ensured.ends.crash.clean); done = ensured.done; shut = ensured.shut; was_open = ensured.ends.was_open } in
+    served_after setup old new c.args.ask.now r (known_of c.answer_request.new.known) c.a_constituency_has_a_view.ensures.lawful c.self.invariant.stored served ensured.known
 
 pub returns-clause-step : goal.returns-clause-step
 returns-clause-step g c clean =
     let setup = c.self.inside.setup in
     let old = state g.S.Store c.self.inside.conn in
     let new = state g.S.Store c.answer_request.new.conn in
-    let told = c.answer_request.ensures in
+    let ensured = c.answer_request.ensures in
     let r = c.answer_request.result in
-    let served : Served setup old new c.args.ask.now r = record { ended = told.ends.ended; codes = told.codes; clean = λ clean. omega (arith, clean, told.ends.crash.clean); done = told.done; shut = told.shut; was_open = told.ends.was_open } in
+    let served : Served setup old new c.args.ask.now r = record { ended = ensured.ends.ended; codes = ensured.codes; clean = λ clean. omega (arith, clean, ensured.ends.crash.clean); done = ensured.done; shut = ensured.shut; was_open = ensured.ends.was_open } in
     subst (λ (h : Stored _). Happens h.setup (content_of h.setup (state g.S.Store h.conn)) (request c.args.ask.now r) (content_of setup new)) c.self.view_is
     (happens_after setup old new c.args.ask.now r c.a_constituency_has_a_view.ensures.lawful c.self.invariant.stored served clean)
 
@@ -37,9 +37,9 @@ returns-clause-tables g c clean =
     let setup = c.self.inside.setup in
     let old = state g.S.Store c.self.inside.conn in
     let new = state g.S.Store c.answer_request.new.conn in
-    let told = c.answer_request.ensures in
+    let ensured = c.answer_request.ensures in
     let r = c.answer_request.result in
-    let served : Served setup old new c.args.ask.now r = record { ended = told.ends.ended; codes = told.codes; clean = λ clean. omega (arith, clean, told.ends.crash.clean); done = told.done; shut = told.shut; was_open = told.ends.was_open } in
+    let served : Served setup old new c.args.ask.now r = record { ended = ensured.ends.ended; codes = ensured.codes; clean = λ clean. omega (arith, clean, ensured.ends.crash.clean); done = ensured.done; shut = ensured.shut; was_open = ensured.ends.was_open } in
     shows_tables setup new c.a_constituency_has_a_view.ensures.lawful (stored_after setup old new c.args.ask.now r c.self.invariant.stored served) clean
 
 pub returns-clause-text : goal.returns-clause-text

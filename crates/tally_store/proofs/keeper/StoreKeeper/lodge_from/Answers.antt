@@ -17,10 +17,10 @@ invariant_of-self g c =
     let old = state g.S.Store c.self.inside.conn in
     let new = state g.S.Store c.import_rows.new.conn in
     let came = delivery g.R.RowSource c.args.rows.now c.import_rows.new.source in
-    let told = c.import_rows.ensures in
+    let ensured = c.import_rows.ensures in
     let r = c.import_rows.result in
-    let took : Took setup old new came r = record { ended = told.ends.ended; clean = λ clean. omega (arith, clean, told.ends.crash.clean); done = told.done; fault = told.fault; shut = told.shut; was_open = told.ends.was_open } in
-    served_import setup old new came r (known_of c.import_rows.new.known) c.a_constituency_has_a_view.ensures.lawful c.self.invariant.stored took told.known
+    let took : Took setup old new came r = record { ended = ensured.ends.ended; clean = λ clean. omega (arith, clean, ensured.ends.crash.clean); done = ensured.done; fault = ensured.fault; shut = ensured.shut; was_open = ensured.ends.was_open } in
+    served_import setup old new came r (known_of c.import_rows.new.known) c.a_constituency_has_a_view.ensures.lawful c.self.invariant.stored took ensured.known
 
 pub returns-clause-imported : goal.returns-clause-imported
 returns-clause-imported g c clean =
@@ -28,9 +28,9 @@ returns-clause-imported g c clean =
     let old = state g.S.Store c.self.inside.conn in
     let new = state g.S.Store c.import_rows.new.conn in
     let came = delivery g.R.RowSource c.args.rows.now c.import_rows.new.source in
-    let told = c.import_rows.ensures in
+    let ensured = c.import_rows.ensures in
     let r = c.import_rows.result in
-    let took : Took setup old new came r = record { ended = told.ends.ended; clean = λ clean. omega (arith, clean, told.ends.crash.clean); done = told.done; fault = told.fault; shut = told.shut; was_open = told.ends.was_open } in
+    let took : Took setup old new came r = record { ended = ensured.ends.ended; clean = λ clean. omega (arith, clean, ensured.ends.crash.clean); done = ensured.done; fault = ensured.fault; shut = ensured.shut; was_open = ensured.ends.was_open } in
     subst (λ (h : Stored _). Imports h.setup (content_of h.setup (state g.S.Store h.conn)) came r (content_of setup new)) c.self.view_is
     (imports_after setup old new came r c.a_constituency_has_a_view.ensures.lawful c.self.invariant.stored took clean)
 
@@ -40,9 +40,9 @@ returns-clause-tables g c clean =
     let old = state g.S.Store c.self.inside.conn in
     let new = state g.S.Store c.import_rows.new.conn in
     let came = delivery g.R.RowSource c.args.rows.now c.import_rows.new.source in
-    let told = c.import_rows.ensures in
+    let ensured = c.import_rows.ensures in
     let r = c.import_rows.result in
-    let took : Took setup old new came r = record { ended = told.ends.ended; clean = λ clean. omega (arith, clean, told.ends.crash.clean); done = told.done; fault = told.fault; shut = told.shut; was_open = told.ends.was_open } in
+    let took : Took setup old new came r = record { ended = ensured.ends.ended; clean = λ clean. omega (arith, clean, ensured.ends.crash.clean); done = ensured.done; fault = ensured.fault; shut = ensured.shut; was_open = ensured.ends.was_open } in
     shows_tables setup new c.a_constituency_has_a_view.ensures.lawful (stored_import setup old new came r c.self.invariant.stored took) clean
 
 pub returns-clause-text : goal.returns-clause-text

@@ -17,19 +17,19 @@ invariant_of-self g c =
     let setup = c.self.inside.setup in
     let old = state g.S.Store c.self.inside.conn in
     let new = state g.S.Store c.show_request.new.conn in
-    let told = c.show_request.ensures in
+    let ensured = c.show_request.ensures in
     let r = c.show_request.result in
-    let served : ServedView setup old new c.args.con r = record { ended = told.ends.ended; clean = λ clean. omega (arith, clean, told.ends.crash.clean); done = told.done; shut = told.shut; was_open = told.ends.was_open } in
-    served_view setup old new c.args.con r (known_of c.show_request.new.known) c.a_constituency_has_a_view.ensures.lawful c.self.invariant.stored served told.known
+    let served : ServedView setup old new c.args.con r = record { ended = ensured.ends.ended; clean = λ clean. omega (arith, clean, ensured.ends.crash.clean); done = ensured.done; shut = ensured.shut; was_open = ensured.ends.was_open } in
+    served_view setup old new c.args.con r (known_of c.show_request.new.known) c.a_constituency_has_a_view.ensures.lawful c.self.invariant.stored served ensured.known
 
 pub returns-clause-shows : goal.returns-clause-shows
 returns-clause-shows g c clean =
     let setup = c.self.inside.setup in
     let old = state g.S.Store c.self.inside.conn in
     let new = state g.S.Store c.show_request.new.conn in
-    let told = c.show_request.ensures in
+    let ensured = c.show_request.ensures in
     let r = c.show_request.result in
-    let served : ServedView setup old new c.args.con r = record { ended = told.ends.ended; clean = λ clean. omega (arith, clean, told.ends.crash.clean); done = told.done; shut = told.shut; was_open = told.ends.was_open } in
+    let served : ServedView setup old new c.args.con r = record { ended = ensured.ends.ended; clean = λ clean. omega (arith, clean, ensured.ends.crash.clean); done = ensured.done; shut = ensured.shut; was_open = ensured.ends.was_open } in
     subst (λ (h : Stored _). AnswersShowCon h.setup (content_of h.setup (state g.S.Store h.conn)) c.args.con r (content_of setup new)) c.self.view_is
     (shows_after setup old new c.args.con r c.a_constituency_has_a_view.ensures.lawful c.self.invariant.stored served clean)
 
@@ -38,9 +38,9 @@ returns-clause-tables g c clean =
     let setup = c.self.inside.setup in
     let old = state g.S.Store c.self.inside.conn in
     let new = state g.S.Store c.show_request.new.conn in
-    let told = c.show_request.ensures in
+    let ensured = c.show_request.ensures in
     let r = c.show_request.result in
-    let served : ServedView setup old new c.args.con r = record { ended = told.ends.ended; clean = λ clean. omega (arith, clean, told.ends.crash.clean); done = told.done; shut = told.shut; was_open = told.ends.was_open } in
+    let served : ServedView setup old new c.args.con r = record { ended = ensured.ends.ended; clean = λ clean. omega (arith, clean, ensured.ends.crash.clean); done = ensured.done; shut = ensured.shut; was_open = ensured.ends.was_open } in
     shows_tables setup new c.a_constituency_has_a_view.ensures.lawful (stored_view setup old new c.args.con r c.self.invariant.stored served) clean
 
 pub returns-clause-text : goal.returns-clause-text

@@ -10,23 +10,23 @@ use Rattle.tally_store.proofs.store.Store.create.Goals as goal
 
 pub store_over-requires-clause-office : goal.store_over-requires-clause-office
 store_over-requires-clause-office g c clean now =
-    let told = c.in-Ok.ensures in
+    let ensured = c.in-Ok.ensures in
     let setup = c.in-Ok.setup in (
       opening setup,
-      opening-lawful setup told.limits,
-      record { text = c.args.text.now; reads = told.setup; has = told.made clean },
+      opening-lawful setup ensured.limits,
+      record { text = c.args.text.now; reads = ensured.setup; has = ensured.made clean },
       empty-known setup (opening setup).returns c.new.result c.new.ensures.empty,
     )
 
 pub returns-in-Ok-clause-made : goal.returns-in-Ok-clause-made
 returns-in-Ok-clause-made g c clean =
-    let told = c.store_over.ensures in
+    let ensured = c.store_over.ensures in
     let done = c.in-Ok.ensures in
     let setup = c.in-Ok.setup in
     let text = c.args.text.now in
     let new = state g.S.Store c.create_in.new.conn in
-    let early : HasCleanDisk new = subst (λ (h : _). HasCleanDisk (state g.S.Store h)) told.conn clean in
+    let early : HasCleanDisk new = subst (λ (h : _). HasCleanDisk (state g.S.Store h)) ensured.conn clean in
     let now : IsTrue new.is_open = done.open early in
     let has : HasState setup text (opening setup) new = done.made early in
-    subst₂ (λ s (h : _). HasOpeningTables s text (state g.S.Store h)) (sym told.setup) (sym told.conn)
-    (record { is_open = now; has = has; content = told.content now (opening setup) (opening-lawful setup done.limits) (record { text = text; reads = done.setup; has = has }) })
+    subst₂ (λ s (h : _). HasOpeningTables s text (state g.S.Store h)) (sym ensured.setup) (sym ensured.conn)
+    (record { is_open = now; has = has; content = ensured.content now (opening setup) (opening-lawful setup done.limits) (record { text = text; reads = done.setup; has = has }) })

@@ -16,13 +16,13 @@ store_over-requires-clause-office g c clean now =
 
 pub returns-in-Ok-clause-opened : goal.returns-in-Ok-clause-opened
 returns-in-Ok-clause-opened g c clean =
-    let told = c.store_over.ensures in
-    let early : HasCleanDisk (state g.S.Store c.open_in.new.conn) = subst (λ (h : _). HasCleanDisk (state g.S.Store h)) told.conn clean in
+    let ensured = c.store_over.ensures in
+    let early : HasCleanDisk (state g.S.Store c.open_in.new.conn) = subst (λ (h : _). HasCleanDisk (state g.S.Store h)) ensured.conn clean in
     let old = state g.S.Store c.args.conn in
     let new = state g.S.Store c.open_in.new.conn in
     let opened = c.in-Ok.ensures.opened early in
-    subst₂ (λ s (h : _). ShowsFound s old (state g.S.Store h)) (sym told.setup) (sym told.conn)
-    (record { opened = opened; content = λ now. told.content now opened.state opened.found.lawful (record { text = opened.text; reads = opened.found.found.0; has = opened.has now }) })
+    subst₂ (λ s (h : _). ShowsFound s old (state g.S.Store h)) (sym ensured.setup) (sym ensured.conn)
+    (record { opened = opened; content = λ now. ensured.content now opened.state opened.found.lawful (record { text = opened.text; reads = opened.found.found.0; has = opened.has now }) })
 
 pub returns-in-Ok-clause-unwritten : goal.returns-in-Ok-clause-unwritten
 returns-in-Ok-clause-unwritten g c past =
@@ -30,6 +30,6 @@ returns-in-Ok-clause-unwritten g c past =
 
 pub returns-in-Ok-clause-counts : goal.returns-in-Ok-clause-counts
 returns-in-Ok-clause-counts g c past clean =
-    let told = c.store_over.ensures in
-    let early : HasCleanDisk (state g.S.Store c.open_in.new.conn) = subst (λ (h : _). HasCleanDisk (state g.S.Store h)) told.conn clean in
-    subst (λ (h : _). KeepsCounts (state g.S.Store c.args.conn) (state g.S.Store h)) (sym told.conn) (c.in-Ok.ensures.counts past early)
+    let ensured = c.store_over.ensures in
+    let early : HasCleanDisk (state g.S.Store c.open_in.new.conn) = subst (λ (h : _). HasCleanDisk (state g.S.Store h)) ensured.conn clean in
+    subst (λ (h : _). KeepsCounts (state g.S.Store c.args.conn) (state g.S.Store h)) (sym ensured.conn) (c.in-Ok.ensures.counts past early)

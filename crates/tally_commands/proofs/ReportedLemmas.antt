@@ -1,24 +1,24 @@
--- What is told where texts were written, or a front of them.
+-- What is reported where texts were written, or a front of them.
 use Rattle.std.proofs.Common.{◌≡◌, ◌∙◌, ◌++◌, ◌+◌, ℕ, List, Option, Result, Ok, Err, OnOk, OnErr, length, take, drop, subst, sym, ap, append_assoc, take-append-drop}
 use Rattle.std.proofs.KnownBytes.{Appends-trans}
 use Rattle.std.proofs.Math.Seq.{take-length, take-append-add, take-append_seam}
 use Rattle.std.specs.Io.KnownBytes.{Appends}
 use Rattle.tally_commands.specs.Reported.{IsReported}
 
-pub told-either : {E : Type 0} (old new : Option (List ℕ)) (text : List ℕ) (result : Result (Unit {0}) E)
+pub reported-either : {E : Type 0} (old new : Option (List ℕ)) (text : List ℕ) (result : Result (Unit {0}) E)
     → OnOk result (Appends old new text) → OnErr result ((n : ℕ) × Appends old new (take n text)) → IsReported old new text
-told-either old new text (Ok u) whole front = (length text, subst (Appends old new) (sym (take-length text)) whole)
-told-either old new text (Err e) whole front = front
+reported-either old new text (Ok u) whole front = (length text, subst (Appends old new) (sym (take-length text)) whole)
+reported-either old new text (Err e) whole front = front
 
 -- a front of the first of two texts is one of both
-pub told-front : (old new : Option (List ℕ)) (words rest : List ℕ) → (n : ℕ) × Appends old new (take n words) → IsReported old new (words ++ rest)
-told-front old new words rest (n, front) =
+pub reported-front : (old new : Option (List ℕ)) (words rest : List ℕ) → (n : ℕ) × Appends old new (take n words) → IsReported old new (words ++ rest)
+reported-front old new words rest (n, front) =
     let text = take n words in
     let split : words ++ rest ≡ text ++ (drop n words ++ rest) =
     ap (λ (l : List ℕ). l ++ rest) (sym (take-append-drop n words)) ∙ append_assoc text (drop n words) rest in
     (length text, subst (Appends old new) (sym (ap (take (length text)) split ∙ take-append_seam text (drop n words ++ rest))) front)
 
--- the first of two texts was written, and the second or a front of it behind
-pub told-behind : (old mid new : Option (List ℕ)) (words rest : List ℕ) → Appends old mid words → IsReported mid new rest → IsReported old new (words ++ rest)
-told-behind old mid new words rest whole (n, front) =
+-- the first of two texts was written, and after it the second or a prefix of it
+pub reported-behind : (old mid new : Option (List ℕ)) (words rest : List ℕ) → Appends old mid words → IsReported mid new rest → IsReported old new (words ++ rest)
+reported-behind old mid new words rest whole (n, front) =
     (length words + n, subst (Appends old new) (sym (take-append-add words rest n)) (Appends-trans old mid new words (take n rest) whole front))

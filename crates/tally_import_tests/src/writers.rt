@@ -1,26 +1,6 @@
-//! A reader that ends or fails, and a writer that is full.
+//! A writer that is full.
 
-use std::io::{self, ErrorKind, Read, Write};
-
-/// Gives its text by pieces of so many bytes, and then ends or fails.
-#[derive(Drop)]
-pub(crate) struct Pieces<'a> {
-    pub(crate) text: &'a [u8],
-    pub(crate) piece: usize,
-    pub(crate) failure: Option<ErrorKind>,
-}
-
-impl Read for Pieces<'_> {
-    fn read(&mut self, buf: &mut [u8]) -> io::Result<usize> {
-        if let (true, Some(kind)) = (self.text.is_empty(), self.failure) {
-            return Err(io::Error::from(kind));
-        }
-        let taken = self.piece.min(buf.len()).min(self.text.len());
-        buf[..taken].copy_from_slice(&self.text[..taken]);
-        self.text = &self.text[taken..];
-        Ok(taken)
-    }
-}
+use std::io::{self, ErrorKind, Write};
 
 /// Takes so many bytes, and then nothing or fails, as its flush does.
 #[derive(Drop)]
