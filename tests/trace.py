@@ -1,5 +1,6 @@
 #!/usr/bin/env python3
-"""Checks what the documents name, where their links lead, and the words that they use.
+"""Checks what the documents name, where their links lead and the words that they use; and in the sources how long lines
+are, and that each definition and each lemma is cited.
 
     python3 tests/trace.py
 
@@ -222,17 +223,24 @@ def test_the_labels_after_a_link_are_clauses():
 
 
 def test_each_name_of_a_recipe_or_a_page_is_in_the_sources():
-    """Names in backticks in HOW_TO_CHANGE, ARCHITECTURE, PROMISES and the pages of the crates, linked or not."""
+    """Names in backticks in HOW_TO_CHANGE, ARCHITECTURE, PROMISES and the pages of the crates, linked or not, and what
+    the examples of the pages call."""
     sources = [path for folder in ("crates", "tests", "examples") for path in (ROOT / folder).rglob("*") if "out" not in path.parts]
     sources = [path for path in sources if path.is_file() and path.suffix != ".md"] + [ROOT / "docs/openapi.json"]
     words = {word for path in sources for word in re.findall(r"\w[\w-]*", path.stem + " " + path.read_text(encoding="utf-8", errors="ignore"))}
+    of_the_kit = {"Host", "Origin", "Some", "Usage", "with_capacity", "is_ok", "is_none"}
+    calls = {name for path in found_in("crates/*/src/**/*.rt") for name in re.findall(r"\bfn (\w+)|^    (\w+)\(", text_of(path), re.M)}
+    calls = {name for names in calls for name in names} | of_the_kit
     documents = [ROOT / f"docs/{name}.md" for name in ("HOW_TO_CHANGE", "ARCHITECTURE", "PROMISES")]
     documents += [path for path in DOCUMENTS if path.parent.parent == ROOT / "crates"]
     wrong, count = [], 0
     for path in documents:
-        for name in re.findall(r"`([A-Za-z_][\w-]{3,})`", text_of(path)):
-            count += 1
-            if name not in words and not name.startswith(("tally_", "_")) and name not in ("Host", "Origin"):
+        called = re.findall(r"\b([A-Za-z]\w*)\(", "\n".join(re.findall(r"^    .*", text_of(path), re.M)))
+        named_there = re.findall(r"`([A-Za-z_][\w-]{3,})`", text_of(path))
+        count += len(called) + len(named_there)
+        wrong += [f"{shown(path)}: {name} is called" for name in called if name not in calls]
+        for name in named_there:
+            if name not in words | of_the_kit and not name.startswith(("tally_", "_")):
                 wrong.append(f"{shown(path)}: {name}")
     return count, wrong
 
@@ -342,6 +350,13 @@ def test_the_words_of_comments_and_of_the_help():
     return len(paths), [wrong for path in paths for wrong in unwanted(path, words_of_code(path))]
 
 
+def test_the_words_of_the_description_of_the_routes():
+    path = ROOT / "docs/openapi.json"
+    lines = enumerate(text_of(path).split("\n"), 1)
+    said = [(number, line) for number, line in lines if re.match(r'\s*"(?:summary|description|title)": ', line)]
+    return len(said), [*unwanted(path, said)] if said else ["nothing is said there"]
+
+
 def test_the_words_of_scripts():
     paths = found_in("tests/*.py", "bench/*.py", "deploy/*.py", "examples/*.py")
     return len(paths), [wrong for path in paths for wrong in unwanted(path, words_of_python(path))]
@@ -350,6 +365,47 @@ def test_the_words_of_scripts():
 def test_the_words_of_edits():
     paths = found_in("tests/wrong_bodies/*/*.edit", "crates/*/must-fail/*.edit")
     return len(paths), [wrong for path in paths for wrong in unwanted(path, words_of_edit(path))]
+
+
+def test_no_clause_definition_or_comment_is_above_100_columns():
+    """In crates of tests and in proofs only comments are looked at. An attribute may be longer, and a text of SQL."""
+    paths = found_in("crates/*/src/**/*.rt", "crates/*/specs/**/*.antt", "crates/*/proofs/**/*.antt")
+    wrong = []
+    for path in paths:
+        whole = not re.search(r"/proofs/|_(?:tests|scripts)/", path.as_posix())
+        for number, line in enumerate(text_of(path).split("\n"), 1):
+            longer = re.search(r'codes "(?:CREATE|SELECT|INSERT|UPDATE|DELETE) |^#\[', line)
+            looked_at = re.match(r"\s*(?:--|//)", line) or whole and not longer
+            if len(line) > 100 and looked_at:
+                wrong.append(f"{shown(path)}:{number}: {len(line)} columns")
+    return len(paths), wrong
+
+
+def test_each_definition_and_each_lemma_is_cited():
+    """By code, by another definition or lemma, or by a document."""
+    word = re.compile(r"[^\s(){}\[\],;.]+")
+    head = re.compile(r" *(?:(?:pub|abbrev|unfoldable|record|data) )*([^\W\d][^\s:]*)(?: :| \(| \{)")
+    cited, defined = set(), {}
+    for path in DOCUMENTS:
+        cited.update(name for names in re.findall(r"`([^`\n]+)`", text_of(path)) for name in word.findall(names))
+    for path in found_in("crates/*/src/**/*.rt", "crates/*/specs/**/*.antt", "crates/*/proofs/**/*.antt"):
+        is_code, is_lemma = path.suffix == ".rt", path.parent.name == "proofs" or "specs" in path.parts
+        own, begins = None, r"\S"
+        for line in text_of(path).split("\n"):
+            if re.match(r"\s*(?:(?:pub |ghost )*use |--|//)", line):
+                continue
+            words = word.findall(line.replace("::", " "))
+            if re.match(r"\S", line):
+                # (what a module has is indented by two)
+                begins = r" {0,2}\S" if line.startswith("module ") else r"\S"
+            # a line that begins with a name defines it; it and those below it cite the others
+            if words and not is_code and re.match(begins, line):
+                found = None if words[0] == "module" else head.match(line)
+                own = found[1] if found else words[0]
+                if found and is_lemma:
+                    defined[own] = path
+            cited.update(name for name in words if name != own)
+    return len(defined), sorted(f"{shown(path)}: {name}" for name, path in defined.items() if name not in cited)
 
 
 def test_no_document_names_a_place_on_one_machine():
@@ -386,6 +442,12 @@ def test_the_layers_have_the_same_headings():
         if missing:
             wrong.append(f"{name}: {', '.join(sorted(missing))}")
     return len(rows), wrong
+
+
+def test_documents_are_as_short_as_they_have_to_be():
+    most = {"README.md": 110, "CONTRIBUTING.md": 60, "docs/GUIDE.md": 160}
+    counts = {name: len(text_of(ROOT / name).splitlines()) for name in most}
+    return len(most), [f"{name}: {count} lines" for name, count in counts.items() if count > most[name]]
 
 
 def test_each_crate_has_a_page_of_at_most_40_lines():

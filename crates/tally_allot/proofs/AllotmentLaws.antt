@@ -89,7 +89,8 @@ exists rule poll lot seats d s some e proper =
 pub by_votes : (rule : Rule) (poll : Poll) (lot : List ℕ) (seats : ℕ) (a : List ℕ) → IsRule rule → IsSound poll → 1 ≤ seats → IsAllotment rule poll lot seats a → IsAllotmentByVotes rule poll seats a
 by_votes rule poll lot seats a d s some w = (are_races rule poll lot seats d s some).to_by_votes a w
 
--- where the seats of two lists differ between allotments by the votes alone, the lists have equal votes
+-- where the seats of two lists differ between allotments by the votes
+-- alone, the lists have equal votes
 module _ (terms : Terms) (r : AreRaces terms) where
   abbrev pub Moved : List ℕ → List ℕ → ℕ → Type 0
   Moved a b l = IsMoved (vote_race terms) r.by_votes r.within (votes_of terms.poll) r.classes a b l
@@ -138,7 +139,8 @@ module _ (terms : Terms) (r : AreRaces terms) (group : List Bool) (in_question :
 pub group_of_votes : (rule : Rule) (poll : Poll) (seats : ℕ) (group : List Bool) (in_question : ℕ) → IsRule rule → IsSound poll → 1 ≤ seats → IsNeed rule poll seats group in_question → (l : ℕ) × IsEligible poll l × ((m : ℕ) → (get_or group m false ≡ true) ↔ (IsEligible poll m × (votes_of poll m ≡ votes_of poll l)))
 group_of_votes rule poll seats group in_question d s some need = group_votes (terms_of rule poll [] seats) (are_races rule poll [] seats d s some) group in_question need
 
--- Each allotment by the votes alone comes from an order of the group, at a tie of its: lists x and y.
+-- Each allotment by the votes alone comes from an order of the group,
+-- at a tie of its: lists x and y.
 module _ (terms : Terms) (r : AreRaces terms) (group : List Bool) (in_question : ℕ) (need : IsNeed terms.rule terms.poll terms.seats group in_question) (a : List ℕ) (wa : IsAllotmentByVotes terms.rule terms.poll terms.seats a) (x y : ℕ) (t : IsTie (vote_race terms) a x y) where
   fa : IsFair (vote_race terms) terms.seats a
   fa = r.to_fair a wa

@@ -1,4 +1,5 @@
--- The pairs of eligible lists have keys, under the setup's places and under a lot that may be taken.
+-- The pairs of eligible lists have keys, under the setup's places and
+-- under a lot that may be taken.
 use Rattle.std.proofs.Common.{◌≡◌, ℕ, zero, suc, ◌+◌, ◌-◌, ◌%◌, ◌<◌, ◌≤◌, ◌≢◌, ◌⊎◌, ◌&&◌, List, ◌∷◌, Bool, true, false, cond, eqb, length, get_or, AllPairs, sum, sym, ap, ◌∙◌, inl, inr, arith}
 use Rattle.std.proofs.lemmas.Bool.{cases_Bool, eqb-true, false≢true}
 use Rattle.std.proofs.lemmas.Bool.Decides.{Decides-eqb}

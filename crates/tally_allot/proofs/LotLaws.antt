@@ -1,6 +1,6 @@
 -- What holds of lots: places, groups, and which lot is to be taken.
-use Rattle.std.proofs.Common.{◌≡◌, ℕ, zero, suc, ◌+◌, ◌<◌, ◌≤◌, ◌≢◌, ◌⊎◌, List, [], ◌∷◌, Bool, true, false, cond, eqb, length, get_or, refl, sym, ap, ◌∙◌, subst, inl, inr, arith}
-use Rattle.std.proofs.lemmas.Bool.{cases_lt, cases_Bool, eqb-true, eqb-false, eq-eqb}
+use Rattle.std.proofs.Common.{◌≡◌, ℕ, zero, suc, ◌+◌, ◌<◌, ◌≢◌, ◌⊎◌, List, [], ◌∷◌, Bool, true, false, cond, eqb, length, get_or, refl, sym, ap, ◌∙◌, subst, inl, inr, arith}
+use Rattle.std.proofs.lemmas.Bool.{cases_Bool, eqb-true, eqb-false, eq-eqb}
 use Rattle.std.proofs.lemmas.List.{get_or_default}
 use Rattle.std.proofs.lemmas.List.Folds.{Any-from_list_any, list_any_at}
 use Rattle.std.specs.Cmp.{both_ways}
@@ -44,20 +44,8 @@ has_place-marked group place l e h =
     let e' : place ≡ suc l = omega arith in
     sym (ap (has_place group) e') ∙ h
 
-has_place-from_marked : (group : List Bool) (place l : ℕ) → place ≡ l + 1 → get_or group l false ≡ true → has_place group place ≡ true
-has_place-from_marked group place l e h =
-    let e' : place ≡ suc l = omega arith in
-    ap (has_place group) e' ∙ h
-
-once_each : (lot : List ℕ) → ((i j : ℕ) → i < j → j < length lot → get_or lot i 0 ≢ get_or lot j 0) → (i j : ℕ) → i < length lot → j < length lot → get_or lot i 0 ≡ get_or lot j 0 → i ≡ j
-once_each lot once i j li lj e = by_order (cases_lt i j) (cases_lt j i)
-  where
-    by_order : (i < j) ⊎ (j ≤ i) → (j < i) ⊎ (i ≤ j) → i ≡ j
-    by_order (inl lt) _ = absurd (once i j lt lj e)
-    by_order (inr _) (inl gt) = absurd (once j i gt li (sym e))
-    by_order (inr a) (inr b) = omega arith
-
--- An order of a group gives different places to lists that are both in the group or both outside it.
+-- An order of a group gives different places to lists that are both in
+-- the group or both outside it.
 pub order_apart : (group : List Bool) (lot : List ℕ) → IsOrderOf group lot → (l m : ℕ) → l ≢ m → (get_or group l false ≡ true → get_or group m false ≡ true) → (get_or group m false ≡ true → get_or group l false ≡ true) → place_of lot l ≢ place_of lot m
 order_apart group lot o l m ne there back = by_cases (placed_at 1 lot l) (placed_at 1 lot m)
   where

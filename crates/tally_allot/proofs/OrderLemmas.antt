@@ -1,4 +1,5 @@
--- Lots that may be taken, going by the votes of the lists that they name: they are proper, and any other is wrong.
+-- Lots that may be taken, going by the votes of the lists that they
+-- name: they are proper, and any other is wrong.
 use Rattle.std.proofs.Common.{◌≡◌, ℕ, ◌≢◌, ◌⊎◌, List, [], Bool, true, false, get_or, sym, ◌∙◌, subst, inl, inr}
 use Rattle.std.specs.Cmp.{both_ways}
 use Rattle.tally_law.specs.Poll.{HasEligible, IsEligible, Poll, votes_of}

@@ -1,4 +1,5 @@
--- Each allotment that the votes allow comes from an order of the group: the lists that hold the seat in question first.
+-- Each allotment that the votes allow comes from an order of the group:
+-- the lists that hold the seat in question first.
 use Rattle.std.proofs.Common.{◌≡◌, ℕ, zero, suc, ◌+◌, ◌<◌, ◌≤◌, ◌≢◌, ◌⊎◌, List, [], ◌∷◌, ◌++◌, Bool, true, false, cond, eqb, length, get_or, refl, sym, ap, ◌∙◌, inl, inr, arith}
 use Rattle.std.proofs.lemmas.Bool.{cases_lt, cases_Bool, false≢true, eqb-true, eqb-false}
 use Rattle.std.proofs.lemmas.List.{get_or_append_left, get_or_push, length_push}
@@ -11,7 +12,8 @@ abbrev pub order_before : List Bool → List ℕ → ℕ → ℕ → List ℕ
 order_before group a k zero = []
 order_before group a k (suc n) = cond (get_or group n false) (cond (eqb (get_or a n 0) k) ((n + 1) ∷ order_before group a k n) (order_before group a k n ++ (n + 1) ∷ [])) (order_before group a k n)
 
--- What such an order is: it has each marked list, no other, those with k seats first, and each once.
+-- What such an order is: it has each marked list, no other, those with
+-- k seats first, and each once.
 pub record IsInOrder (group : List Bool) (a : List ℕ) (k n : ℕ) (lot : List ℕ) : Type 0 where
   pub all : (x : ℕ) → x < n → get_or group x false ≡ true → (i : ℕ) × (i < length lot) × (get_or lot i 0 ≡ x + 1)
   pub only : (i : ℕ) → i < length lot → (x : ℕ) × (x < n) × (get_or lot i 0 ≡ x + 1) × (get_or group x false ≡ true)

@@ -1,4 +1,5 @@
--- Votes short: why a list is sure of one seat more exactly where its next seat ranks above the lowest that another list has.
+-- Votes short: why a list is sure of one seat more exactly where its
+-- next seat ranks above the lowest that another list has.
 use Rattle.std.proofs.Common.{◌≡◌, ℕ, zero, suc, ◌+◌, ◌-◌, ◌*◌, ◌<◌, ◌≤◌, ◌≢◌, ◌⊎◌, ◌↔◌, List, [], ◌∷◌, ◌++◌, Option, None, Some, MatchOption, Result, Ok, Err, IfOk, length, get_or, sum, refl, sym, ◌∙◌, subst, inl, inr, ap, arith, get_or-set_same, get_or-set_other}
 use Rattle.std.proofs.lemmas.Bool.{cases_lt, cases_eq}
 use Rattle.std.proofs.lemmas.List.{length-set, length_push, get_or_past, get_or_push, get_or_append_left}
@@ -353,9 +354,6 @@ ok_and (Ok x) f h = f x h
 ok_and (Err e) f h = h
 
 module _ (rule : Rule) (poll : Poll) (seats : ℕ) (a : List ℕ) where
-  pub no_answers : AreAnswers rule poll seats a 0 []
-  no_answers = record { one_each = refl; each = λ m lt. absurd (omega arith) }
-
   pub answers_push : (n : ℕ) (numbers : List (Option ℕ)) (x : Option ℕ) → AreAnswers rule poll seats a n numbers → IsAnswerOf rule poll seats a n x → AreAnswers rule poll seats a (n + 1) (numbers ++ x ∷ [])
   answers_push n numbers x h here = record { one_each = omega (arith, length_push numbers x, h.one_each); each = λ m lt. each m (cases_lt m n) lt }
     where

@@ -1,5 +1,5 @@
 -- What the tests of an allotment say.
-use Rattle.std.proofs.Common.{◌≡◌, ℕ, List, [], Bool, length, sum, sym, subst, arith}
+use Rattle.std.proofs.Common.{◌≡◌, ℕ, List, [], Bool, sum, sym, subst}
 use Rattle.tally_law.specs.Poll.{HasEligible}
 use Rattle.tally_law.specs.LotNeed.{IsLotTaken, IsLotWrong, IsNeed, IsAllotmentUnderLot}
 use Rattle.tally_contest.specs.internal.Race.{IsFair}
@@ -20,12 +20,6 @@ module _ (terms : Terms) (sound : AreSound terms) (a : List ℕ) where
       let f = to_placed terms r (proper_if_taken terms r u.1) a u.2 in
       let P : ℕ → Type 0 = λ n. IsFair (placed_race terms) n a in
       subst P (sym f.total) f
-
-  pub whole_under_lot : IsAllotmentUnderLot terms.rule terms.poll terms.lot terms.seats a → sum a ≡ terms.seats
-  whole_under_lot u = let r = races terms sound in (r.to_fair a (r.to_by_votes a u.2)).total
-
-  pub long_under_lot : IsAllotmentUnderLot terms.rule terms.poll terms.lot terms.seats a → length a ≡ length terms.poll.votes
-  long_under_lot u = let r = races terms sound in omega (arith, (r.to_fair a (r.to_by_votes a u.2)).one_each, r.count_is)
 
   pub wrong_under_lot : IsLotWrong terms.rule terms.poll terms.seats terms.lot → IsAllotmentUnderLot terms.rule terms.poll terms.lot terms.seats a → ⊥
   wrong_under_lot w u = taken_not_wrong terms (races terms sound) u.1 w

@@ -20,7 +20,7 @@ use crate::award::Award;
 use crate::fault::AllotFault;
 use crate::under_lot::award_under_lot;
 use std::alloc::{AllocError, Global};
-use tally_contest::{Given, Poll, Won};
+use tally_contest::{AwardedSeats, Poll, Won};
 use tally_frac::Divisors;
 use tally_rules::{LotRule, Profile};
 
@@ -74,8 +74,8 @@ fn awards_by<D: Divisors + Copy>(
         (IsFaultOf (by_divisors (D.divisor divisors) (D.unit_of divisors) lot_rule)
         (kept_poll poll.now) seats lot.now) }
 {
-    let given = award_under_lot(alloc, divisors, lot_rule, poll, seats, lot)?;
-    let awards = awards_of(alloc, &divisors, poll, &given)?;
+    let awarded = award_under_lot(alloc, divisors, lot_rule, poll, seats, lot)?;
+    let awards = awards_of(alloc, &divisors, poll, &awarded)?;
     Ok(awards)
 }
 
@@ -83,15 +83,15 @@ fn awards_of<D: Divisors>(
     alloc: Global,
     divisors: &D,
     poll: &Poll,
-    given: &Given,
+    awarded: &AwardedSeats,
 ) -> Result<Vec<Award>, AllocError>
-    requires { AreRows (length poll.now.votes.now) given.now.rows.items }
+    requires { AreRows (length poll.now.votes.now) awarded.now.pairs.items }
     ensures { IfOk result (λ awards. (lot_rule : rule_of_lots) →
         IsTableOf (D.divisor divisors.now) (D.unit_of divisors.now) lot_rule (kept_poll poll.now)
-        given.now.seats.items given.now.rows.items awards.items) }
+        awarded.now.seats.items awarded.now.pairs.items awards.items) }
 {
-    let mut awards = Vec::with_capacity(alloc, given.rows.len())?;
-    for row in &given.rows {
+    let mut awards = Vec::with_capacity(alloc, awarded.pairs.len())?;
+    for row in &awarded.pairs {
         awards.push(award_of(divisors, poll, *row))?;
     }
     Ok(awards)

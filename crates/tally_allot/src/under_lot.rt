@@ -18,8 +18,8 @@ use crate::fault::AllotFault;
 use crate::verdict::{LotVerdict, verdict_on_lot};
 use std::alloc::Global;
 use tally_contest::{
-    DivisorContest, Given, HareContest, Poll, award_from_heap, award_remainders, has_eligible,
-    may_be_taken,
+    AwardedSeats, DivisorContest, HareContest, Poll, award_from_heap, award_remainders,
+    has_eligible, may_be_taken,
 };
 use tally_frac::Divisors;
 use tally_rules::LotRule;
@@ -32,17 +32,18 @@ pub(crate) fn award_under_lot<D: Divisors + Copy>(
     poll: &Poll,
     seats: u32,
     lot: &[u32],
-) -> Result<Given, AllotFault>
+) -> Result<AwardedSeats, AllotFault>
     requires some_seat { 1 ≤ seats }
     requires few_seats { seats ≤ most_seats }
-    ensures allotment { IfOk result (λ given.
+    ensures allotment { IfOk result (λ awarded.
         IsDivisorAllotment (D.divisor divisors) (D.unit_of divisors) lot_rule
-        (kept_poll poll.now) lot.now seats given.seats.items) }
-    ensures won { IfOk result (λ given.
+        (kept_poll poll.now) lot.now seats awarded.seats.items) }
+    ensures won { IfOk result (λ awarded.
         AreWon (placed_divisor_race (D.divisor divisors) lot_rule
         (kept_poll poll.now) lot.now seats)
-        given.seats.items given.rows.items) }
-    ensures rows { IfOk result (λ given. AreRows (length poll.now.votes.now) given.rows.items) }
+        awarded.seats.items awarded.pairs.items) }
+    ensures rows { IfOk result (λ awarded.
+        AreRows (length poll.now.votes.now) awarded.pairs.items) }
     ensures proper { OnOk result (IsProperLot (kept_poll poll.now) lot.now) }
     ensures lot_taken { OnOk result
         (IsLotTaken (by_divisors (D.divisor divisors) (D.unit_of divisors) lot_rule)
@@ -56,15 +57,18 @@ pub(crate) fn award_under_lot<D: Divisors + Copy>(
     award_in(alloc, &contest)
 }
 
-fn award_in<D: Divisors>(alloc: Global, contest: &DivisorContest<D>) -> Result<Given, AllotFault>
+fn award_in<D: Divisors>(
+    alloc: Global,
+    contest: &DivisorContest<D>,
+) -> Result<AwardedSeats, AllotFault>
     requires sound { AreSound (divisor_terms D.divisor D.unit_of contest.now) }
-    ensures allotment { IfOk result (λ given.
-        IsAllotmentOn (divisor_terms D.divisor D.unit_of contest.now) given.seats.items) }
-    ensures won { IfOk result (λ given.
-        AreWon (placed_race (divisor_terms D.divisor D.unit_of contest.now)) given.seats.items
-        given.rows.items) }
-    ensures rows { IfOk result (λ given.
-        AreRows (length contest.now.poll.votes.now) given.rows.items) }
+    ensures allotment { IfOk result (λ awarded.
+        IsAllotmentOn (divisor_terms D.divisor D.unit_of contest.now) awarded.seats.items) }
+    ensures won { IfOk result (λ awarded.
+        AreWon (placed_race (divisor_terms D.divisor D.unit_of contest.now)) awarded.seats.items
+        awarded.pairs.items) }
+    ensures rows { IfOk result (λ awarded.
+        AreRows (length contest.now.poll.votes.now) awarded.pairs.items) }
     ensures proper { OnOk result (IsProperLot (kept_poll contest.now.poll) contest.now.lot.now) }
     ensures lot_taken { OnOk result
         (IsLotTakenOn (divisor_terms D.divisor D.unit_of contest.now)) }
@@ -79,10 +83,10 @@ fn award_in<D: Divisors>(alloc: Global, contest: &DivisorContest<D>) -> Result<G
     if !may_be_taken(contest) {
         return Err(AllotFault::WrongLot);
     }
-    let given = award_from_heap(alloc, contest)?;
+    let awarded = award_from_heap(alloc, contest)?;
     // Whether a lot is needed shows in any award that the votes allow.
-    match verdict_on_lot(contest, &given.seats) {
-        LotVerdict::Right => Ok(given),
+    match verdict_on_lot(contest, &awarded.seats) {
+        LotVerdict::Right => Ok(awarded),
         LotVerdict::Missing(need) => Err(AllotFault::LotMissing {
             group: need.group,
             seats: need.seats,

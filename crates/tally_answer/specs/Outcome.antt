@@ -1,6 +1,7 @@
 -- The answer to a command: for each reply and each refusal its status and its JSON (RFC 8259),
 -- compact and with its keys in the order of their bytes.
-use Rattle.std.specs.Prelude.{ℕ, Bool, true, false, List, [], ◌∷◌, ◌++◌, codes, decimal, Some, None, Result, Ok, Err}
+use Rattle.std.specs.Prelude.{ℕ, Bool, true, false, List, [], ◌∷◌, ◌++◌, codes, decimal, Some, None}
+use Rattle.std.specs.Prelude.{Result, Ok, Err}
 use Rattle.std.specs.List.{flat_map}
 use Rattle.tally_rules.specs.Constituency.{ListEntry}
 use Rattle.tally_returns.specs.declared.returns.Status.{Status}

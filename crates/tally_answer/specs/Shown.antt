@@ -2,7 +2,8 @@
 -- their bytes.
 use Rattle.std.specs.Prelude.{ℕ, zero, suc, List, [], map, codes, option_map, unwrap_or}
 use Rattle.std.specs.List.{slice_get}
-use Rattle.serde_json.specs.Data.{Data, boolean, number, unsigned, string, array, object, Members, member, no_members}
+use Rattle.serde_json.specs.Data.{Data, boolean, number, unsigned, string, array, object, Members}
+use Rattle.serde_json.specs.Data.{member, no_members}
 use Rattle.serde_json.specs.View.{items_of}
 use Rattle.tally_rules.specs.Constituency.{Constituency, ListEntry}
 use Rattle.tally_returns.specs.GoneCandidate.{GoneCandidate}

@@ -1,11 +1,13 @@
 -- Which command a JSON body is (RFC 8259, as `serde_json` reads it).
-use Rattle.std.specs.Prelude.{◌≡◌, ℕ, List, [], ◌∷◌, codes, nat_le, if◌then◌else◌, Option, Some, None, IsUtf8}
+use Rattle.std.specs.Prelude.{◌≡◌, ℕ, List, [], ◌∷◌, codes, nat_le, if◌then◌else◌, Option, Some}
+use Rattle.std.specs.Prelude.{None, IsUtf8}
 use Rattle.std.specs.Option.{option_and_then}
 use Rattle.serde_json.specs.Data.{Data, Items, no_items, item}
 use Rattle.serde_json.specs.Read.{read}
 use Rattle.serde_json.specs.Find.{get, as_array, as_number, as_str, as_u64}
 use Rattle.tally_rules.specs.Code.{code_of}
-use Rattle.tally_returns.specs.AskSeen.{AskSeen, lodge, query, correct, close, draw, certify, reopen, vacate}
+use Rattle.tally_returns.specs.AskSeen.{AskSeen, lodge, query, correct, close, draw, certify}
+use Rattle.tally_returns.specs.AskSeen.{reopen, vacate}
 use Rattle.tally_returns.specs.Counts.{VoteCounts}
 use Rattle.tally_asks.specs.declared.routes.ConCommand.{ConCommand}
 use Rattle.tally_asks.specs.declared.routes.ConCommand.TheVariants as on_con

@@ -1,6 +1,8 @@
 -- The routes of the desk, as `matchit` reads and finds them, the method that each takes (RFC 9110,
 -- section 9), and the code in a target.
-use Rattle.std.specs.Prelude.{◌≡◌, ℕ, Bool, true, false, if◌then◌else◌, List, [], ◌∷◌, codes, length, Option, Some, None, Result, Ok, Err, IsUtf8, take, drop, position, bytes_eq, ◌==◌}
+use Rattle.std.specs.Prelude.{◌≡◌, ℕ, Bool, true, false, if◌then◌else◌, List, [], ◌∷◌, codes}
+use Rattle.std.specs.Prelude.{length, Option, Some, None, Result, Ok, Err, IsUtf8, take, drop}
+use Rattle.std.specs.Prelude.{position, bytes_eq, ◌==◌}
 use Rattle.std.specs.Option.{option_and_then}
 use Rattle.matchit.specs.Rows.{RowsOf}
 use Rattle.matchit.specs.Order.{placed}

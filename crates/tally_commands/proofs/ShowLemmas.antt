@@ -1,5 +1,5 @@
 -- Why something that the office has is not shown.
-use Rattle.std.proofs.Common.{◌≡◌, ◌⊎◌, ◌∙◌, ℕ, List, Option, Some, None, Result, Ok, Err, option_map, refl, sym, ap, subst, inl, inr}
+use Rattle.std.proofs.Common.{◌≡◌, ◌∙◌, ℕ, List, Option, Some, None, Ok, Err, option_map, refl, sym, ap, subst, inl, inr}
 use Rattle.tally_rules.specs.Constituency.{Constituency}
 use Rattle.tally_rules.specs.Setup.{constituency_with}
 use Rattle.tally_returns.specs.State.{State}
@@ -8,9 +8,8 @@ use Rattle.tally_returns.specs.declared.ask.Ask.{Ask}
 use Rattle.tally_returns.specs.declared.ask.Ask.TheVariants.{ShowCon, ShowProgress}
 use Rattle.tally_returns.specs.declared.refusal.Refusal.{Refusal}
 use Rattle.tally_returns.specs.declared.refusal.Refusal.TheVariants.{Memory, Store}
-use Rattle.tally_returns.specs.declared.reply.Reply.{Reply}
 use Rattle.tally_returns.specs.declared.reply.Reply.TheVariants as reply
-use Rattle.tally_steps.specs.Step.{Answer, IsConStepSeen, IsNotAccepted, IsReturnStepSeen, con_answer, no_change}
+use Rattle.tally_steps.specs.Step.{IsConStepSeen, IsNotAccepted, con_answer, no_change}
 use Rattle.tally_keeper.specs.Keeper.{Happens, request}
 use Rattle.tally_report.specs.declared.fault.ReportFault.{ReportFault}
 use Rattle.tally_report.specs.declared.fault.ReportFault.TheVariants as fault
@@ -25,20 +24,9 @@ use Rattle.tally_commands.specs.declared.trouble.Trouble.TheVariants as trouble
 
 -- ---- what a text names
 
-pub named-none : {X : Type 0} (text : List ℕ) (o : Option X) → option_map (λ (x : X). text) o ≡ None → o ≡ None
-named-none text None e = refl
-named-none text (Some x) e = cc
-
 pub named-some : {X : Type 0} (text code : List ℕ) (o : Option X) → option_map (λ (x : X). text) o ≡ Some code → (x : X) × (o ≡ Some x) × (code ≡ text)
 named-some text code None e = cc
 named-some text code (Some x) e = (x, refl, cc)
-
--- a text that names nothing in a setup
-pub con-unknown : (r : Option (List ℕ)) (text : List ℕ) (s setup : List Constituency) → r ≡ option_map (λ (con : Constituency). text) (constituency_with text s) → s ≡ setup
-    → r ≡ None → constituency_with text setup ≡ None
-con-unknown r text s setup named same none =
-    named-none text (constituency_with text setup)
-    (sym (ap (λ (x : List Constituency). option_map (λ (con : Constituency). text) (constituency_with text x)) same) ∙ sym named ∙ none)
 
 -- a text that names a constituency is its code
 pub con-known : (r : Option (List ℕ)) (text code : List ℕ) (s setup : List Constituency) → r ≡ option_map (λ (con : Constituency). text) (constituency_with text s) → s ≡ setup

@@ -1,6 +1,6 @@
 -- Why a command was not done: the line on standard error, the exit status, and the faults that
 -- it comes of.
-use Rattle.std.specs.Prelude.{◌≡◌, ◌≢◌, ◌⊎◌, ◌++◌, ℕ, List, Result, Ok, Err, codes}
+use Rattle.std.specs.Prelude.{◌≡◌, ◌≢◌, ◌⊎◌, ◌++◌, ℕ, List, codes}
 use Rattle.tally_rules.specs.declared.fault.SetupFault.{SetupFault}
 use Rattle.tally_rules.specs.declared.fault.SetupFault.TheVariants as setup
 use Rattle.tally_import.specs.declared.CheckFault.{CheckFault}
@@ -14,9 +14,12 @@ use Rattle.tally_faults.specs.declared.fault.CreateFault.TheVariants as create
 use Rattle.tally_faults.specs.declared.fault.OpenFault.{OpenFault}
 use Rattle.tally_faults.specs.declared.fault.OpenFault.TheVariants as opening
 use Rattle.tally_commands.specs.declared.trouble.Trouble.{Trouble}
-use Rattle.tally_commands.specs.declared.trouble.Trouble.TheVariants.{Setup, NotEmpty, NoTables, BadTables, BadSetup}
-use Rattle.tally_commands.specs.declared.trouble.Trouble.TheVariants.{NoConstituency, BadHeader, TooLong, NotCertified}
-use Rattle.tally_commands.specs.declared.trouble.Trouble.TheVariants.{OtherMethod, Memory, Store, File, Read, Write, Port}
+use Rattle.tally_commands.specs.declared.trouble.Trouble.TheVariants.{Setup, NotEmpty, NoTables}
+use Rattle.tally_commands.specs.declared.trouble.Trouble.TheVariants.{BadTables, BadSetup}
+use Rattle.tally_commands.specs.declared.trouble.Trouble.TheVariants.{NoConstituency, BadHeader}
+use Rattle.tally_commands.specs.declared.trouble.Trouble.TheVariants.{TooLong, NotCertified}
+use Rattle.tally_commands.specs.declared.trouble.Trouble.TheVariants.{OtherMethod, Memory, Store}
+use Rattle.tally_commands.specs.declared.trouble.Trouble.TheVariants.{File, Read, Write, Port}
 
 -- ---- the line
 

@@ -1,4 +1,5 @@
--- Giving one seat more: from a vector of n seats that a race allows to one of n + 1, and to any number that the lists can hold.
+-- Giving one seat more: from a vector of n seats that a race allows to
+-- one of n + 1, and to any number that the lists can hold.
 use Rattle.std.proofs.Common.{◌≡◌, ℕ, zero, suc, ◌+◌, ◌<◌, ◌≤◌, ◌≢◌, ◌⊎◌, List, length, get_or, set, sum, sym, ◌∙◌, subst, inl, inr, ap, arith, get_or-set_same, get_or-set_other, add-zero}
 use Rattle.std.proofs.lemmas.Bool.{cases_lt, cases_eq}
 use Rattle.std.proofs.lemmas.List.{length-set}

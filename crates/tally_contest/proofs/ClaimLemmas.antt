@@ -143,10 +143,6 @@ module _ (terms : Terms) (n : ℕ) (a : List ℕ) (items rest : List SeatClaim) 
           let same : one_if_more terms.poll terms.seats b l ≡ one_if_more terms.poll terms.seats a l = ap (λ k. cond (ltb k (most_for terms.poll terms.seats l)) 1 0) (get_or-set_other a x.list l (get_or a x.list 0 + 1) 0 ne) in
           omega (arith, same, counts l, claims.once l lt, is_by_other l x (λ e. ne (sym e)))
 
--- the claims, list by list
-pub no_claims : (terms : Terms) (a : List ℕ) → AreClaims terms 0 a []
-no_claims terms a = record { each = All-nil (IsClaimOf terms); once = λ l lt. absurd (omega arith); no_later = λ l ge. refl }
-
 module _ (terms : Terms) (n : ℕ) (a : List ℕ) (items : List SeatClaim) (claims : AreClaims terms n a items) where
   pub one_passed : most_for terms.poll terms.seats n ≤ get_or a n 0 → AreClaims terms (n + 1) a items
   one_passed full = record { each = claims.each; once = λ l lt. once l lt (cases_eq l n); no_later = λ l ge. claims.no_later l (omega arith) }

@@ -304,12 +304,3 @@ module _ (poll : Poll) (sound : IsSound poll) (seats : ℕ) where
   pub fair_by_votes : (lot : List ℕ) (n : ℕ) (a : List ℕ) → IsFair (placed_remainder_race poll lot seats) n a → IsFair (remainder_race poll seats) n a
   fair_by_votes lot n a f =
       record { one_each = f.one_each; low = f.low; high = f.high; total = f.total; last_not_below_next = λ l m ne win room ab. f.last_not_below_next l m ne win room (inl ab) }
-
-  -- the whole quotas alone
-  pub quotas_alone : (lot a : List ℕ) → length a ≡ length poll.votes → ((l : ℕ) → get_or a l 0 ≡ quotas_for poll seats l) → IsFair (placed_remainder_race poll lot seats) (sum a) a
-  quotas_alone lot a long at =
-      record { one_each = long; low = λ l. omega (arith, at l); high = λ l. high l (eligible_or_not poll l); total = refl; last_not_below_next = λ l m ne win room. absurd (omega (arith, at l)) }
-    where
-      high : (l : ℕ) → IsEligible poll l ⊎ ¬ IsEligible poll l → get_or a l 0 ≤ most_for poll seats l
-      high l (inl e) = omega (arith, at l, quotas_for-eligible poll seats l e, most_for-eligible poll seats l e)
-      high l (inr ne) = omega (arith, at l, none_for-ineligible poll seats l ne)

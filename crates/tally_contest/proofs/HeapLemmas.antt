@@ -131,10 +131,6 @@ module _ (terms : Terms) (n : ℕ) (a : List ℕ) (items rest : List Keyed) (x :
           let ne : y.1 ≢ x.1 = λ e. omega (arith, get_or-le-sum_by (is_of x.1) rest k d lt, none_left, is_of_same x.1 y e) in
           All-tail (Next a) x rest parts k d lt ∙ ap (λ s. keyed_pair terms y.1 (s + 1)) (sym (get_or-set_other a x.1 y.1 x.2 0 ne))
 
--- the first pairs, list by list
-pub no_pairs : (terms : Terms) (a : List ℕ) → AreNext terms 0 a []
-no_pairs terms a = record { each = All-nil (λ y. y ≡ keyed_pair terms y.1 (get_or a y.1 0 + 1)); once = λ l lt. absurd (omega arith); no_later = λ l ge. refl }
-
 module _ (terms : Terms) (n : ℕ) (a : List ℕ) (items : List Keyed) (next : AreNext terms n a items) where
   abbrev IsNext : Keyed → Type 0
   IsNext y = y ≡ keyed_pair terms y.1 (get_or a y.1 0 + 1)

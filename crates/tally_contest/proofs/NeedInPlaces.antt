@@ -1,7 +1,7 @@
 -- The need of a lot, seen from seats that the places allow.
 use Rattle.std.proofs.Common.{ℕ, ◌+◌, ◌≤◌, List, Bool, length, get_or, arith}
 use Rattle.tally_law.specs.LotNeed.{IsDecidedByVotes, IsNeed}
-use Rattle.tally_contest.specs.internal.Race.{IsPair, IsFair, IsHighestNext, IsLowestLast}
+use Rattle.tally_contest.specs.internal.Race.{IsFair, IsHighestNext, IsLowestLast}
 use Rattle.tally_contest.specs.internal.Sums.{sum_before, holds_at}
 use Rattle.tally_contest.specs.internal.Terms.{Terms, AreSound, IsClassOf, vote_race, placed_race}
 use Rattle.tally_contest.proofs.TermsRace.{races, fair_by_votes, highest_by_votes, lowest_by_votes}
@@ -35,10 +35,3 @@ module _ (terms : Terms) (sound : AreSound terms) (a : List ℕ) (f : IsFair (pl
 
   pub few_lists_of : length a ≤ 60
   few_lists_of = omega (arith, f.one_each, count_is terms sound, sound.few_lists)
-
-  -- the pairs that are compared by the votes alone
-  pub last_by_votes : (l : ℕ) → IsLowestLast (placed_race terms) a l → IsPair (vote_race terms) l (get_or a l 0)
-  last_by_votes l h = let r = races terms sound in omega (arith, h.wins, f.high l, r.same_floor l, r.same_cap l)
-
-  pub next_by_votes : (m : ℕ) → IsHighestNext (placed_race terms) a m → IsPair (vote_race terms) m (get_or a m 0 + 1)
-  next_by_votes m h = let r = races terms sound in omega (arith, h.runs, f.low m, r.same_floor m, r.same_cap m)

@@ -1,4 +1,5 @@
--- Whether a lot is needed is seen from one allotment by the votes alone: from its lowest last pair and its highest next pair.
+-- Whether a lot is needed is seen from one allotment by the votes
+-- alone: from its lowest last pair and its highest next pair.
 use Rattle.std.proofs.Common.{◌≡◌, ℕ, ◌+◌, ◌-◌, ◌<◌, ◌≤◌, ◌≢◌, ◌⊎◌, ◌↔◌, List, Bool, true, false, cond, length, get_or, replicate, eqb, refl, sym, ◌∙◌, subst, inl, inr, ap, arith}
 use Rattle.std.proofs.lemmas.Bool.{cases_eq, cases_Bool, false≢true, eq-eqb, ne_eqb}
 use Rattle.std.proofs.lemmas.List.{length-replicate, get_or-replicate}

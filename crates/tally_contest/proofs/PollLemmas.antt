@@ -6,7 +6,6 @@ use Rattle.tally_rules.specs.Threshold.{is_eligible}
 use Rattle.tally_law.specs.Poll.{Poll, IsEligible, eligible_votes}
 use Rattle.tally_law.specs.HareAllotment.{whole_quotas}
 use Rattle.tally_rules.specs.declared.profile.LotRule.{LotRule}
-use Rattle.tally_rules.specs.declared.profile.Method.{Method}
 use Rattle.tally_law.specs.Allotment.{Rule, divisors}
 use Rattle.tally_contest.specs.internal.Terms.{poll_under, IsSound, AreSound, AreDivisors}
 use Rattle.tally_contest.proofs.Scan.{votes-le-eligible, quotas-le-seats}
@@ -41,9 +40,6 @@ few_quotas threshold base votes seats l e = quotas-le-seats (poll_under threshol
 -- what is said of a rule and a poll, said of equal ones
 pub carried : (P : Rule → Poll → Type 0) → {rule rule' : Rule} → rule ≡ rule' → {poll poll' : Poll} → poll ≡ poll' → P rule poll → P rule' poll'
 carried P {rule = rule} {rule' = rule'} e {poll = poll} {poll' = poll'} e' h = subst (P rule') e' (subst (λ (x : Rule). P x poll) e h)
-
-pub carried_by_method : (P : Method → Poll → Type 0) → {method method' : Method} → method ≡ method' → {poll poll' : Poll} → poll ≡ poll' → P method poll → P method' poll'
-carried_by_method P {method = method} {method' = method'} e {poll = poll} {poll' = poll'} e' h = subst (P method') e' (subst (λ (x : Method). P x poll) e h)
 
 -- the terms of a contest under a divisor rule are sound
 pub sound_by_divisors : (nth : ℕ → ℕ) (unit : ℕ) (lot_rule : LotRule) → AreDivisors nth → 1 ≤ unit → (threshold base : ℕ) (votes lot : List ℕ) (seats : ℕ) → 1 ≤ seats → seats ≤ 500 → length votes ≤ 60 → AreSound (record { rule = divisors nth unit lot_rule; poll = poll_under threshold base votes; lot = lot; seats = seats })

@@ -1,4 +1,6 @@
--- A race for seats, of which the divisor rules and the largest remainders are both cases: what is true of every vector of seats that a total preorder of pairs of a list and a number of seats allows.
+-- A race for seats, of which the divisor rules and the largest
+-- remainders are both cases: what is true of every vector of seats that
+-- a total preorder of pairs of a list and a number of seats allows.
 use Rattle.std.proofs.Common.{◌≡◌, ℕ, ◌+◌, ◌<◌, ◌≤◌, ◌≢◌, ◌⊎◌, List, get_or, sym, subst, inl, inr, ap, arith}
 use Rattle.std.proofs.lemmas.Bool.{cases_lt}
 use Rattle.tally_contest.specs.internal.Race.{Race, IsPair, NotBelow, IsFair}

@@ -1,12 +1,11 @@
 -- Scans of the lists: the highest next pair and the lowest last pair, list by list.
-use Rattle.std.proofs.Common.{◌≡◌, ℕ, ◌+◌, ◌<◌, ◌≤◌, ◌⊎◌, List, cond, Option, Some, None, MatchOption, length, get_or, sum, subst, inl, inr, ap, arith}
+use Rattle.std.proofs.Common.{◌≡◌, ℕ, ◌+◌, ◌<◌, ◌≤◌, ◌⊎◌, List, cond, Some, length, get_or, sum, subst, inl, inr, ap, arith}
 use Rattle.std.proofs.lemmas.Bool.{cases_lt}
-use Rattle.std.proofs.lemmas.List.{get_or_past}
 use Rattle.std.proofs.Math.Nat.{mul-le-mul_right, div-le_of_le-mul}
 use Rattle.tally_law.specs.Poll.{Poll, IsEligible, votes_of, eligible_votes}
 use Rattle.tally_law.specs.HareAllotment.{whole_quotas}
 use Rattle.tally_law.specs.Allotment.{Rule, divisors, hare}
-use Rattle.tally_contest.specs.internal.Race.{Race, IsPair, NotBelow, IsWithin, IsFair, IsHighestNext, IsLowestLast, IsHighestBefore, IsLowestBefore}
+use Rattle.tally_contest.specs.internal.Race.{Race, IsPair, NotBelow, IsWithin, IsFair, IsHighestBefore, IsLowestBefore}
 use Rattle.tally_contest.specs.internal.Terms.{Terms, AreSound, IsSound, placed_race, most_for}
 use Rattle.tally_contest.proofs.Vectors.{sum-le}
 use Rattle.tally_contest.proofs.Race.{not_below_itself}
@@ -59,35 +58,12 @@ module _ (terms : Terms) (sound : AreSound terms) (a : List ℕ) (w : IsWithin (
       split (inl h) = before m h
       split (inr h) = let e : n ≡ m = omega arith in let P : ℕ → Type 0 = λ i. get_or a i 0 < (placed_race terms).cap i → NotBelow (placed_race terms) l (get_or a l 0 + 1) i (get_or a i 0 + 1) in subst P e here
 
-  pub higher_passes : (n : ℕ) (before : Option ℕ) → IsHighestBefore (placed_race terms) a n before → (placed_race terms).cap n ≤ get_or a n 0 → IsHighestBefore (placed_race terms) a (n + 1) before
-  higher_passes n None h le = λ m lt. split m (cases_lt m n) lt
-    where
-      split : (m : ℕ) → (m < n) ⊎ (n ≤ m) → m < n + 1 → (placed_race terms).cap m ≤ get_or a m 0
-      split m (inl k) lt = h m k
-      split m (inr k) lt = let e : n ≡ m = omega arith in let P : ℕ → Type 0 = λ i. (placed_race terms).cap i ≤ get_or a i 0 in subst P e le
-  higher_passes n (Some l) h le = (h.0, h.1, with_next l n h.2 (λ lt. absurd (omega arith)))
-
-  pub higher_first : (n : ℕ) → n < length terms.poll.votes → IsHighestBefore (placed_race terms) a n None → get_or a n 0 < (placed_race terms).cap n → IsHighestBefore (placed_race terms) a (n + 1) (Some n)
-  higher_first n inside h runs =
-      (omega (arith, count_is terms sound), runs, with_next n n (λ m lt room. absurd (omega (arith, h m lt))) (λ room. not_below_itself (placed_race terms) (races terms sound).placed n _ (next_pair n runs)))
-
-  pub higher_keeps : (n l : ℕ) → IsHighestBefore (placed_race terms) a n (Some l) → ¬ (placed_race terms).Above n (get_or a n 0 + 1) l (get_or a l 0 + 1) → IsHighestBefore (placed_race terms) a (n + 1) (Some l)
-  higher_keeps n l h nb = (h.0, h.1, with_next l n h.2 (λ _. nb))
-
   pub higher_takes : (n l : ℕ) → n < length terms.poll.votes → IsHighestBefore (placed_race terms) a n (Some l) → get_or a n 0 < (placed_race terms).cap n → (placed_race terms).Above n (get_or a n 0 + 1) l (get_or a l 0 + 1) → IsHighestBefore (placed_race terms) a (n + 1) (Some n)
   higher_takes n l inside h runs ab =
       let o = (races terms sound).placed in
       let pn = next_pair n runs in
       let pl = next_pair l h.1 in
       (omega (arith, count_is terms sound), runs, with_next n n (λ m lt room. o.chain n _ l _ m _ pn pl (next_pair m room) (o.asym n _ l _ pn pl ab) (h.2 m lt room)) (λ room. not_below_itself (placed_race terms) o n _ pn))
-
-  pub highest_all : (n : ℕ) (found : Option ℕ) → length terms.poll.votes ≤ n → IsHighestBefore (placed_race terms) a n found → MatchOption found ((m : ℕ) → (placed_race terms).cap m ≤ get_or a m 0) (λ l. IsHighestNext (placed_race terms) a l)
-  highest_all n None le h = λ m. split m (cases_lt (get_or a m 0) ((placed_race terms).cap m))
-    where
-      split : (m : ℕ) → (get_or a m 0 < (placed_race terms).cap m) ⊎ ((placed_race terms).cap m ≤ get_or a m 0) → (placed_race terms).cap m ≤ get_or a m 0
-      split m (inl lt) = absurd (omega (arith, h m (omega (arith, runs_within terms sound m _ (w.low m) lt, count_is terms sound))))
-      split m (inr ge) = ge
-  highest_all n (Some l) le h = record { runs = h.1; highest = λ m room. h.2 m (omega (arith, runs_within terms sound m _ (w.low m) room, count_is terms sound)) room }
 
   -- the lowest last pair
   with_last : (l n : ℕ) → ((m : ℕ) → m < n → (placed_race terms).floor m < get_or a m 0 → NotBelow (placed_race terms) m (get_or a m 0) l (get_or a l 0)) → ((placed_race terms).floor n < get_or a n 0 → NotBelow (placed_race terms) n (get_or a n 0) l (get_or a l 0)) → (m : ℕ) → m < n + 1 → (placed_race terms).floor m < get_or a m 0 → NotBelow (placed_race terms) m (get_or a m 0) l (get_or a l 0)
@@ -97,39 +73,12 @@ module _ (terms : Terms) (sound : AreSound terms) (a : List ℕ) (w : IsWithin (
       split (inl h) = before m h
       split (inr h) = let e : n ≡ m = omega arith in let P : ℕ → Type 0 = λ i. (placed_race terms).floor i < get_or a i 0 → NotBelow (placed_race terms) i (get_or a i 0) l (get_or a l 0) in subst P e here
 
-  pub lower_passes : (n : ℕ) (before : Option ℕ) → IsLowestBefore (placed_race terms) a n before → get_or a n 0 ≤ (placed_race terms).floor n → IsLowestBefore (placed_race terms) a (n + 1) before
-  lower_passes n None h le = λ m lt. split m (cases_lt m n) lt
-    where
-      split : (m : ℕ) → (m < n) ⊎ (n ≤ m) → m < n + 1 → get_or a m 0 ≤ (placed_race terms).floor m
-      split m (inl k) lt = h m k
-      split m (inr k) lt = let e : n ≡ m = omega arith in let P : ℕ → Type 0 = λ i. get_or a i 0 ≤ (placed_race terms).floor i in subst P e le
-  lower_passes n (Some l) h le = (h.0, h.1, with_last l n h.2 (λ lt. absurd (omega arith)))
-
-  pub lower_first : (n : ℕ) → n < length terms.poll.votes → IsLowestBefore (placed_race terms) a n None → (placed_race terms).floor n < get_or a n 0 → IsLowestBefore (placed_race terms) a (n + 1) (Some n)
-  lower_first n inside h wins =
-      (omega (arith, count_is terms sound), wins, with_last n n (λ m lt win. absurd (omega (arith, h m lt))) (λ win. not_below_itself (placed_race terms) (races terms sound).placed n _ (last_pair n wins)))
-
-  pub lower_keeps : (n l : ℕ) → IsLowestBefore (placed_race terms) a n (Some l) → ¬ (placed_race terms).Above l (get_or a l 0) n (get_or a n 0) → IsLowestBefore (placed_race terms) a (n + 1) (Some l)
-  lower_keeps n l h nb = (h.0, h.1, with_last l n h.2 (λ _. nb))
-
   pub lower_takes : (n l : ℕ) → n < length terms.poll.votes → IsLowestBefore (placed_race terms) a n (Some l) → (placed_race terms).floor n < get_or a n 0 → (placed_race terms).Above l (get_or a l 0) n (get_or a n 0) → IsLowestBefore (placed_race terms) a (n + 1) (Some n)
   lower_takes n l inside h wins ab =
       let o = (races terms sound).placed in
       let pn = last_pair n wins in
       let pl = last_pair l h.1 in
       (omega (arith, count_is terms sound), wins, with_last n n (λ m lt win. o.chain m _ l _ n _ (last_pair m win) pl pn (h.2 m lt win) (o.asym l _ n _ pl pn ab)) (λ win. not_below_itself (placed_race terms) o n _ pn))
-
-  pub lowest_all : (n : ℕ) (found : Option ℕ) → length terms.poll.votes ≤ n → IsLowestBefore (placed_race terms) a n found → MatchOption found ((m : ℕ) → get_or a m 0 ≤ (placed_race terms).floor m) (λ l. IsLowestLast (placed_race terms) a l)
-  lowest_all n None le h = λ m. split m (cases_lt m n)
-    where
-      split : (m : ℕ) → (m < n) ⊎ (n ≤ m) → get_or a m 0 ≤ (placed_race terms).floor m
-      split m (inl lt) = h m lt
-      split m (inr ge) = omega (arith, get_or_past a m 0 (omega (arith, w.one_each, count_is terms sound)))
-  lowest_all n (Some l) le h = record { wins = h.1; lowest = λ m win. lowest m (cases_lt m n) win }
-    where
-      lowest : (m : ℕ) → (m < n) ⊎ (n ≤ m) → (placed_race terms).floor m < get_or a m 0 → NotBelow (placed_race terms) m (get_or a m 0) l (get_or a l 0)
-      lowest m (inl lt) win = h.2 m lt win
-      lowest m (inr ge) win = absurd (omega (arith, get_or_past a m 0 (omega (arith, w.one_each, count_is terms sound))))
 
 -- not every list has its most where the lists can hold more
 pub not_full : (race : Race) (n : ℕ) (a full : List ℕ) → IsFair race n a → ((m : ℕ) → race.cap m ≤ get_or a m 0) → length full ≡ race.count → ((m : ℕ) → get_or full m 0 ≤ race.cap m) → n < sum full → ⊥

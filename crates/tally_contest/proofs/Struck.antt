@@ -6,7 +6,8 @@ use Rattle.tally_rules.specs.ListSet.{has_place}
 use Rattle.tally_law.specs.Lot.{IsOrderOf}
 use Rattle.tally_contest.proofs.ListSetLemmas.{has_place-at}
 
--- the lists of the group that the first i entries leave; each of these named one that those before it left
+-- the lists of the group that the first i entries leave; each of these
+-- named one that those before it left
 pub record AreLeft (group : List Bool) (lot : List ℕ) (i : ℕ) (left : List Bool) : Type 0 where
   pub kept : (l : ℕ) → get_or left l false ≡ true → get_or group l false ≡ true
   pub named : (l : ℕ) → get_or group l false ≡ true → (get_or left l false ≡ true) ⊎ ((k : ℕ) × (k < i) × (get_or lot k 0 ≡ l + 1))

@@ -99,8 +99,3 @@ sum_before-more f n = rw add-one refl
 
 pub marked_more_yes : (bs : List Bool) (ns : List ℕ) (i : ℕ) → get_or bs i false ≡ true → sum_before (marked_at bs ns) (i + 1) ≡ sum_before (marked_at bs ns) i + get_or ns i 0
 marked_more_yes bs ns i b = sum_before-more (marked_at bs ns) i ∙ ap (λ c. sum_before (marked_at bs ns) i + cond c (get_or ns i 0) 0) b
-
-pub marked_more_no : (bs : List Bool) (ns : List ℕ) (i : ℕ) → get_or bs i false ≡ false → sum_before (marked_at bs ns) (i + 1) ≡ sum_before (marked_at bs ns) i
-marked_more_no bs ns i b =
-    let e : sum_before (marked_at bs ns) (i + 1) ≡ sum_before (marked_at bs ns) i + 0 = sum_before-more (marked_at bs ns) i ∙ ap (λ c. sum_before (marked_at bs ns) i + cond c (get_or ns i 0) 0) b in
-    omega arith

@@ -89,10 +89,6 @@ pub within_from_fair : (race : Race) (n : ℕ) (a : List ℕ) → IsFair race n 
 within_from_fair race n a f = record { one_each = f.one_each; low = f.low; high = f.high }
 
 module _ (terms : Terms) (r : AreRaces terms) where
-  -- a pair of one race is one of the other
-  pub pair_to_placed : (l k : ℕ) → IsPair (vote_race terms) l k → IsPair (placed_race terms) l k
-  pair_to_placed l k p = omega (arith, p, r.same_floor l, r.same_cap l)
-
   pub pair_from_placed : (l k : ℕ) → IsPair (placed_race terms) l k → IsPair (vote_race terms) l k
   pair_from_placed l k p = omega (arith, p, r.same_floor l, r.same_cap l)
 
@@ -115,7 +111,8 @@ module _ (terms : Terms) (r : AreRaces terms) where
   pub lowest_by_votes : (a : List ℕ) (l : ℕ) → IsLowestLast (placed_race terms) a l → IsLowestLast (vote_race terms) a l
   lowest_by_votes a l h = record { wins = omega (arith, h.wins, r.same_floor l); lowest = λ x win ab. h.lowest x (omega (arith, r.same_floor x)) (r.refines _ _ _ _ ab) }
 
-  -- at most one vector is the allotment, whatever the lot: two that differ would both give one tied seat to the list that comes first
+  -- at most one vector is the allotment, whatever the lot: two that
+  -- differ would both give one tied seat to the list that comes first
   pub one_allotment : (a b : List ℕ) → IsAllotment terms.rule terms.poll terms.lot terms.seats a → IsAllotment terms.rule terms.poll terms.lot terms.seats b → a ≡ b
   one_allotment a b wa wb = by_cases (equal_or_exchange a b (omega (arith, fa.one_each, fb.one_each)) (omega (arith, fa.total, fb.total)))
     where

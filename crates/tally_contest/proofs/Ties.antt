@@ -1,4 +1,5 @@
--- Where the votes leave a choice: two vectors that a race allows differ in one class of lists of equal votes.
+-- Where the votes leave a choice: two vectors that a race allows differ
+-- in one class of lists of equal votes.
 use Rattle.std.proofs.Common.{◌≡◌, ℕ, ◌+◌, ◌-◌, ◌<◌, ◌≤◌, ◌≢◌, ◌⊎◌, List, length, get_or, set, sum, sym, ◌∙◌, subst, inl, inr, ap, arith, get_or-set_same, get_or-set_other}
 use Rattle.std.proofs.lemmas.Bool.{cases_lt, cases_eq}
 use Rattle.std.proofs.lemmas.List.{length-set}
@@ -8,7 +9,8 @@ use Rattle.tally_contest.specs.internal.Race.{Race, IsPair, NotBelow, IsFair, Is
 use Rattle.tally_contest.proofs.Race.{IsOrderly, IsOneSeat, not_below_itself, earlier_not_below, above_chain, chain_above, one_seat}
 use Rattle.tally_contest.proofs.AwardStep.{one_more, at_one_more, beside_one_more, sum-one_more}
 
--- Pairs tie exactly where they are of one number of votes and the same seat, and lists of equal votes run for the same seats.
+-- Pairs tie exactly where they are of one number of votes and the same
+-- seat, and lists of equal votes run for the same seats.
 pub record IsInClasses (race : Race) (votes : ℕ → ℕ) : Type 0 where
   pub tied_alike : (l k m j : ℕ) → IsPair race l k → IsPair race m j → NotBelow race l k m j → NotBelow race m j l k → (votes l ≡ votes m) × (k ≡ j)
   pub alike_tied : (l m k : ℕ) → IsPair race l k → IsPair race m k → votes l ≡ votes m → NotBelow race l k m k
@@ -21,9 +23,6 @@ exchanged a l m = one_more (set a l (get_or a l 0 - 1)) m
 module _ (a : List ℕ) (l m : ℕ) (apart : l ≢ m) (l_in : l < length a) (m_in : m < length a) where
   apart' : m ≢ l
   apart' e = apart (sym e)
-
-  lesser : List ℕ
-  lesser = set a l (get_or a l 0 - 1)
 
   pub exchanged_at_l : get_or (exchanged a l m) l 0 ≡ get_or a l 0 - 1
   exchanged_at_l = beside_one_more (set a l (get_or a l 0 - 1)) m l apart ∙ get_or-set_same a l _ 0 l_in
@@ -194,7 +193,8 @@ module _ (race : Race) (o : IsOrderly race) (within : (l : ℕ) → race.floor l
           let d : get_or (exchanged a l x) x 0 ≡ get_or a x 0 + 1 = exchanged_at_m a l x ne (in_vector l (omega (arith, last))) (in_vector x runs) in
           (exchanged a l x, exchange race o within n a l x f s, λ q. omega (arith, d, q))
 
-  -- Where another vector has other seats for list x, the last or next pair of x ties with one of another list.
+  -- Where another vector has other seats for list x, the last or next
+  -- pair of x ties with one of another list.
   pub data IsMoved (a b : List ℕ) (x : ℕ) : Type 0 where
     loses : (y : ℕ) → get_or b x 0 + 1 ≡ get_or a x 0 → IsTie race a x y → IsMoved a b x
     gains : (y : ℕ) → get_or a x 0 + 1 ≡ get_or b x 0 → IsTie race a y x → IsMoved a b x

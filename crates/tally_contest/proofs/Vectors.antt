@@ -55,7 +55,8 @@ equal_or_apart (x ∷ xs) (y ∷ ys) e = joined (grind arith) (equal_or_apart xs
     joined (inl q) (inl p) = inl cc
     joined (inl q) (inr w) = inr (suc w.0, w.1)
 
--- Two vectors of one length and one sum are equal, or one is above at one list and below at another.
+-- Two vectors of one length and one sum are equal, or one is above at
+-- one list and below at another.
 pub record Exchange (a b : List ℕ) : Type 0 where
   pub l : ℕ
   pub m : ℕ

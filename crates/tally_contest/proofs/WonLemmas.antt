@@ -122,12 +122,3 @@ module _ (race : Race) (o : IsOrderly race) (within : (l : ℕ) → race.floor l
           by_cases : (i < length rows) ⊎ (length rows ≤ i) → race.Above (get_or (rows ++ new_row ∷ []) i d).list (get_or (rows ++ new_row ∷ []) i d).seat m (get_or (one_more a l) m 0 + 1)
           by_cases (inl before) = rw (old i d before) (above_later _ _ m (w.each i d before).0 (λ y q. w.ahead i d y before q) room)
           by_cases (inr last) = rw (new i d (omega (arith, long))) (above_next m room)
-
-pub won_none : (race : Race) (a : List ℕ) → ((l : ℕ) → get_or a l 0 ≤ race.floor l) → AreWon race a []
-won_none race a none =
-    record {
-      each = λ i d lt. absurd (omega arith);
-      all = λ l k low le. absurd (omega (arith, none l));
-      falling = λ i j d lt end. absurd (omega arith);
-      ahead = λ i d m lt room. absurd (omega arith);
-    }

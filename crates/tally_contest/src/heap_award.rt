@@ -25,11 +25,11 @@ use tally_frac::{Divisors, RankKey};
 
 /// The seats of each list, and the pairs that won them, from the highest rank to the lowest.
 #[derive(Drop)]
-pub struct Given {
+pub struct AwardedSeats {
     /// The seats of each list, in order of place.
     pub seats: Vec<u32>,
     /// One pair for each seat.
-    pub rows: Vec<Won>,
+    pub pairs: Vec<Won>,
 }
 
 /// Gives all the seats, each to the list whose next pair has the greatest key (LOREG article 163.1
@@ -37,24 +37,24 @@ pub struct Given {
 pub fn award_from_heap<D: Divisors>(
     alloc: Global,
     contest: &DivisorContest<D>,
-) -> Result<Given, AllocError>
+) -> Result<AwardedSeats, AllocError>
     requires sound { AreSound (divisor_terms D.divisor D.unit_of contest.now) }
     requires proper { IsProperLot (kept_poll contest.now.poll) contest.now.lot.now }
     requires keys { HaveKeys (divisor_terms D.divisor D.unit_of contest.now) }
     requires eligible { HasEligible (kept_poll contest.now.poll) }
-    ensures fair { IfOk result (λ given.
-        AreFairSeats (divisor_terms D.divisor D.unit_of contest.now) given.seats.items) }
-    ensures won { IfOk result (λ given.
-        AreWon (placed_race (divisor_terms D.divisor D.unit_of contest.now)) given.seats.items
-        given.rows.items) }
+    ensures fair { IfOk result (λ awarded.
+        AreFairSeats (divisor_terms D.divisor D.unit_of contest.now) awarded.seats.items) }
+    ensures won { IfOk result (λ awarded.
+        AreWon (placed_race (divisor_terms D.divisor D.unit_of contest.now)) awarded.seats.items
+        awarded.pairs.items) }
 {
     let mut next = first_pairs(alloc, contest)?;
     let mut seats = no_seats(alloc, contest.count())?;
-    let mut rows = Vec::with_capacity(alloc, contest.seats() as usize)?;
+    let mut pairs = Vec::with_capacity(alloc, contest.seats() as usize)?;
     for _seat in 0..contest.seats() {
-        rows.push(award_next(contest, &mut next, &mut seats)?)?;
+        pairs.push(award_next(contest, &mut next, &mut seats)?)?;
     }
-    Ok(Given { seats, rows })
+    Ok(AwardedSeats { seats, pairs })
 }
 
 /// Gives one seat to the list of the greatest pair, and puts that list's next one into the heap.

@@ -18,7 +18,7 @@ mod won;
 pub use contest::{Contest, has_eligible, is_fair};
 pub use divisor_contest::DivisorContest;
 pub use hare_contest::HareContest;
-pub use heap_award::{Given, award_from_heap};
+pub use heap_award::{AwardedSeats, award_from_heap};
 pub use lot::is_order_of;
 pub use need::{Need, may_be_taken, need_of};
 pub use poll::Poll;

@@ -1,5 +1,6 @@
 -- The laws of what happens to a keeper. Each is proved as a clause of a function of `src/laws.rt`.
-use Rattle.std.specs.Prelude.{◌≡◌, ◌↔◌, ◌⊎◌, ◌<◌, ℕ, All, Bool, List, Option, Some, None, Result, true, false, slice_get}
+use Rattle.std.specs.Prelude.{◌≡◌, ◌↔◌, ◌⊎◌, ◌<◌, ℕ, All, Bool, List, Option, Some, None, Result}
+use Rattle.std.specs.Prelude.{true, false, slice_get}
 use Rattle.std.specs.List.{filter}
 use Rattle.tally_keeper.specs.Events.{BringsCodes, acts, answers_of, asks_of, lodges, lodge_answers}
 use Rattle.tally_keeper.specs.Import.{RowAnswer, count_of}

@@ -103,8 +103,8 @@ same-quotients : (rule : Rule) (con : Constituency) (view : View) (past : List P
 same-quotients (divisors nth unit lot_rule) con view past = refl
 same-quotients hare con view past = refl
 
--- What a report shows is what it shows of the whole view: the two compute to the same, but for quotients,
--- which go by the rule, and for the report that shows the certificates.
+-- What a report shows is what it shows of the whole view: the two compute to the same, but for
+-- quotients, which go by the rule, and for the report that shows the certificates.
 pub report-whole : (which : Report) (con : Constituency) (view : View) (past : List PastSeats) (text : List ℕ) → HasPastIf (is_past which) past (Ok view) → IsReport con view which text → IsReport con (record view { past = past }) which text
 report-whole report.Quotients con view past text has is = is ∙ same-quotients (rule_in con) con view past
 report-whole report.Past con view past text has is = subst (λ (p : List PastSeats). IsReport con (record view { past = p }) report.Past text) has is
@@ -116,10 +116,6 @@ text-whole report.Quotients con view past text has is =
     subst (λ (q : List ℕ). IsReportTextBy (divisors_fault con view) (λ t. t ≡ q) text) (same-quotients (rule_in con) con view past) is
 text-whole report.Past con view past text has is = subst (λ (p : List PastSeats). IsReportText con (record view { past = p }) report.Past text) has is
 text-whole other con view past text has is = is
-
--- what a request was answered, shown with its own certificates
-pub shown-whole : (setup : List Constituency) (old new : Option State) (con : List ℕ) (which : Report) (view : View) → is_past which ≡ true → Happens setup old (request (ShowCon con) (Ok (reply.Con view))) new → ShowsFor which setup old con (Ok view) new
-shown-whole setup old new con which view past is = (view.past, is, subst (λ b. HasPastIf b view.past (Ok view)) (sym past) refl)
 
 pub shown-bare : (setup : List Constituency) (old new : Option State) (con : List ℕ) (which : Report) (r : Result View Refusal) → is_past which ≡ false → IfOk r (λ view. view.past ≡ []) → AnswersShowCon setup old con r new → ShowsFor which setup old con r new
 shown-bare setup old new con which (Ok view) past bare is = (is.0, is.1, subst (λ b. HasPastIf b is.0 (Ok view)) (sym past) bare)

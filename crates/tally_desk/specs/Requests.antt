@@ -1,7 +1,8 @@
 -- What a route asks of the office and what it answers: the bytes of the answer, and the state then.
 -- The office's own part, what happens to it, is the machine's: a refused command changes nothing,
 -- and so does one that was not accepted, unless a disk that failed has shut the office.
-use Rattle.std.specs.Prelude.{◌≡◌, ℕ, List, [], Option, Some, None, option_and_then, option_map, Result, Ok, Err}
+use Rattle.std.specs.Prelude.{◌≡◌, ℕ, List, [], Option, Some, None, option_and_then, option_map}
+use Rattle.std.specs.Prelude.{Result, Ok, Err}
 use Rattle.serde_json.specs.Data.{Data}
 use Rattle.serde_json.specs.Written.{compact_text}
 use Rattle.tally_rules.specs.Constituency.{Constituency, ListEntry}

@@ -4,7 +4,8 @@
 -- (404); a method other than the route's (405); a station or a constituency of the path that the
 -- setup does not have (404); a body that is not the route's (400); and then what the route asks of
 -- the office.
-use Rattle.std.specs.Prelude.{◌≡◌, ◌⊎◌, Bool, true, false, List, ℕ, Option, Some, None, option_map, Result, Ok, Err, bytes_eq}
+use Rattle.std.specs.Prelude.{◌≡◌, ◌⊎◌, Bool, true, false, List, ℕ, Option, Some, None, option_map}
+use Rattle.std.specs.Prelude.{Result, Ok, Err, bytes_eq}
 use Rattle.matchit.specs.Router.{RouteOf}
 use Rattle.tally_rules.specs.Constituency.{Constituency}
 use Rattle.tally_returns.specs.State.{State}
@@ -18,7 +19,8 @@ use Rattle.tally_asks.specs.Bodies.{con_command, station_command}
 use Rattle.tally_asks.specs.Routes.{IsRouted, route_method, takes_get}
 use Rattle.tally_answer.specs.declared.word.Word.{Word}
 use Rattle.tally_answer.specs.declared.word.Word.TheVariants as word
-use Rattle.tally_desk.specs.Requests.{MessageAnswer, AtCon, AtStation, ImportsBody, Orders, Reports, Says, ShowsCon, ShowsProgress, ShowsReturn}
+use Rattle.tally_desk.specs.Requests.{MessageAnswer, AtCon, AtStation, ImportsBody, Orders, Reports}
+use Rattle.tally_desk.specs.Requests.{Says, ShowsCon, ShowsProgress, ShowsReturn}
 
 -- What is answered to a message that has this fault; nothing where a read failed.
 abbrev pub fault_word : MessageFault → Option Word

@@ -202,11 +202,13 @@ pub record AreImports (setup : List Constituency) (old mid later new : Option St
   pub second : keeper.ImportsComing setup later (Some coming) came_again outcome_again new
   pub said_again : other ≡ imported_text outcome_again
 
--- the second answer leaves the state, and where it is to an import, it tells that nothing was imported
+-- the second answer leaves the state, and where it is to an import, it
+-- tells that nothing was imported
 abbrev pub IsIdle : Type 0 → Option State → Option State → List ℕ → Type 0
 IsIdle IsImport later new other = Keeps later new × (IsImport → TellsNoImport other)
 
--- The second answer leaves the state, or both carried out the same command, which is no import, or both did the same import.
+-- The second answer leaves the state, or both carried out the same
+-- command, which is no import, or both did the same import.
 abbrev pub IsTwice : Type 0 → List Constituency → Option State → Option State → Option State → Option State → List ℕ → List ℕ → Type 0
 IsTwice IsImport setup old mid later new text other =
     IsIdle IsImport later new other ⊎ (((IsImport → ⊥) × AreCommands setup old mid later new text) ⊎ AreImports setup old mid later new text other)

@@ -1,6 +1,6 @@
 -- Connections that bring the same bytes bring the same message.
 use Rattle.std.specs.Prelude.{IfSome}
-use Rattle.std.proofs.Common.{◌≡◌, ◌≢◌, ◌⊎◌, ◌∙◌, ℕ, List, Bool, Option, Some, None, Result, Ok, Err, refl, sym, ap, subst, inl, inr}
+use Rattle.std.proofs.Common.{◌≡◌, ◌≢◌, ◌⊎◌, ℕ, List, Bool, Option, Some, None, Result, Ok, Err, refl, sym, ap, subst, inl, inr}
 use Rattle.tally_keeper.specs.Keeper.{Event}
 use Rattle.tally_door.specs.Connection.{Connection}
 use Rattle.tally_returns.specs.State.{State}
@@ -13,7 +13,6 @@ use Rattle.tally_serve.specs.Serving.{Follows, IsExchange, IsFailed, IsSent}
 use Rattle.tally_answer.specs.Words.{word_text}
 use Rattle.tally_answer.specs.declared.word.Word.{Word}
 use Rattle.tally_answer.specs.declared.word.Word.TheVariants.{Unavailable}
-use Rattle.tally_desk.specs.Requests.{Says}
 use Rattle.tally_desk.specs.Respond.{Answers, Office, SaysAny, fault_word}
 use Rattle.tally_desk_laws.specs.LawStatements.{ComesTo, ImportsLodgeNothingAgain, IsOfImport, IsWrittenTo, StateStays, TellsNoImport, TellsNothingLodged, WhatActedActsNoSecondTime}
 

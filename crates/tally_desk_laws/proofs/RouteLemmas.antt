@@ -1,4 +1,5 @@
--- What an answer has done: on each route it has shown something, or it has carried out an order or an import.
+-- What an answer has done: on each route it has shown something, or it
+-- has carried out an order or an import.
 use Rattle.std.proofs.Common.{◌≡◌, ◌⊎◌, ℕ, List, false, Option, Some, None, Result, Ok, Err, refl, inl, inr}
 use Rattle.tally_rules.specs.Constituency.{Constituency}
 use Rattle.tally_returns.specs.Named.{BringsCode}

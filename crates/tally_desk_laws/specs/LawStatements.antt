@@ -5,7 +5,8 @@
 -- vacancy is then on record that was not. One that was answered 503 was not accepted, and sent
 -- again it may act for the first time; but where a disk that failed at it has shut the office, the
 -- files may hold its change, and the next opening shows whether they do.
-use Rattle.std.specs.Prelude.{◌≡◌, ◌≢◌, ◌⊎◌, ℕ, Bool, All, List, ◌++◌, take, Option, Some, Result, Ok, IfSome, option_to_list}
+use Rattle.std.specs.Prelude.{◌≡◌, ◌≢◌, ◌⊎◌, ℕ, Bool, All, List, ◌++◌, take, Option, Some, Result}
+use Rattle.std.specs.Prelude.{Ok, IfSome, option_to_list}
 use Rattle.matchit.specs.Router.{RouteOf}
 use Rattle.tally_rules.specs.Limits.{IsSetup}
 use Rattle.tally_returns.specs.declared.refusal.Refusal.TheVariants.{NoConstituency}

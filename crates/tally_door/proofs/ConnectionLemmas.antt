@@ -1,5 +1,5 @@
 -- A door's connections, by the place of the current one.
-use Rattle.std.proofs.Common.{◌≡◌, ℕ, zero, suc, ◌+◌, ◌-◌, ◌<◌, ◌≤◌, Bool, true, false, cond, List, [], ◌∷◌, ◌++◌, length, take, drop, get_or, Option, Some, None, option_to_list, is_some, Ok, Err, refl, sym, ap, subst, append_assoc, ◌∙◌, arith, true≢false}
+use Rattle.std.proofs.Common.{◌≡◌, ℕ, suc, ◌+◌, ◌-◌, ◌<◌, ◌≤◌, Bool, true, false, cond, List, [], ◌∷◌, ◌++◌, length, take, drop, get_or, Some, None, option_to_list, is_some, Ok, Err, refl, sym, ap, append_assoc, ◌∙◌, arith, true≢false}
 use Rattle.std.proofs.Math.ListN.{set}
 use Rattle.std.proofs.Math.Seq.{drop-cons, take-suc, take-add, take-length}
 use Rattle.std.proofs.lemmas.List.{take-set, drop-set, take-append-drop, append-nil, drop_all, length-take-le, take_at, length-append, length-drop, drop-drop}

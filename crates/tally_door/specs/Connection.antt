@@ -1,6 +1,7 @@
 -- What is known of a door's connections: the bytes that each still gives, the room of its writes,
 -- and what was written.
-use Rattle.std.specs.Prelude.{◌≡◌, ℕ, ◌-◌, ◌<◌, ◌≤◌, Bool, true, false, List, [], ◌∷◌, ◌++◌, length, take, Option, Some, None, option_to_list, Result, Ok, Err, ⊤}
+use Rattle.std.specs.Prelude.{◌≡◌, ℕ, ◌-◌, ◌<◌, ◌≤◌, Bool, true, false, List, [], ◌∷◌, ◌++◌, length}
+use Rattle.std.specs.Prelude.{take, Option, Some, None, option_to_list, Result, Ok, Err, ⊤}
 use Rattle.tally_door.specs.declared.door.DoorFault.{DoorFault}
 
 -- A connection: the bytes that its reads still give, whether a read fails after them, whether one
@@ -25,7 +26,8 @@ abbrev pub all_connections : Connections → List Connection
 all_connections all = all.ended ++ (option_to_list all.current ++ all.coming)
 
 -- A read of a connection `c` into a buffer, which leaves it as `d`: some of the input, or none at
--- its end, or the failure after it, which is noted. Nothing else of the connection changes.
+-- its end or into an empty buffer, or the failure after it, which is noted. Nothing else of the
+-- connection changes.
 abbrev pub HasRead : Connection → List ℕ → Result ℕ DoorFault → Connection → Type 0
 HasRead c buf (Ok n) d =
     (n ≤ length buf) × (c.input ≡ take n buf ++ d.input) × (d ≡ record c { input = d.input })

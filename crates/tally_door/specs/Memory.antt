@@ -1,6 +1,7 @@
 -- Connections in memory: how one begins, and what is known of a list of them by the place of the
 -- current one.
-use Rattle.std.specs.Prelude.{ℕ, Bool, true, false, nat_le, List, [], ◌∷◌, length, take, drop, Option, Some, None}
+use Rattle.std.specs.Prelude.{ℕ, Bool, true, false, nat_le, List, [], ◌∷◌, length, take, drop}
+use Rattle.std.specs.Prelude.{Option, Some, None}
 use Rattle.tally_door.specs.Connection.{Connection, Connections, connections}
 
 -- the bytes that come before a read fails

@@ -19,7 +19,7 @@ use Rattle.tally_rows.proofs.RisingRowidLemmas.{int_less}
 use Rattle.tally_rows.proofs.RowsLemmas.{partitioned_rows, put_rows}
 use Rattle.tally_rules.specs.Constituency.{Constituency}
 use Rattle.tally_returns.specs.Counts.{VoteCounts}
-use Rattle.tally_returns.specs.Return.{StationReturn, Returns as Office}
+use Rattle.tally_returns.specs.Return.{StationReturn, Returns as StationReturns}
 use Rattle.tally_statements.specs.declared.table.KeyedTable.{KeyedTable}
 use Rattle.tally_statements.specs.declared.table.KeyedTable.TheVariants.{Returns, Counts}
 use Rattle.tally_statements.specs.Office.{rows_in, IsInside, HasRows, item_cells, is_item}
@@ -170,7 +170,7 @@ counts_then t key c d rest old mid new was now = record { inside = now.inside; r
 
 -- ---- the whole return
 
-pub return_corrected : (setup : List Constituency) (returns : Office) (station : List ℕ) (before standing : StationReturn) (old mid new : State) → get returns station ≡ Some before → AreReturnsIn setup returns old
+pub return_corrected : (setup : List Constituency) (returns : StationReturns) (station : List ℕ) (before standing : StationReturn) (old mid new : State) → get returns station ≡ Some before → AreReturnsIn setup returns old
     → HasRows Returns (return_row (constituency_of setup station) (station, standing) ∷ others station (rows_in Returns old)) old mid
     → HasCounts station standing.counts (others station (rows_in Counts mid)) mid new → PutsReturn setup returns station standing old new
 return_corrected setup returns station before standing old mid new is held head counts =
@@ -186,6 +186,6 @@ return_corrected setup returns station before standing old mid new is held head 
     }
 
 -- the rows of a return among those of its table
-pub counts_before : (setup : List Constituency) (returns : Office) (station : List ℕ) (before : StationReturn) (old mid : State) (rows : List Row) → get returns station ≡ Some before → AreReturnsIn setup returns old → HasRows Returns rows old mid
+pub counts_before : (setup : List Constituency) (returns : StationReturns) (station : List ℕ) (before : StationReturn) (old mid : State) (rows : List Row) → get returns station ≡ Some before → AreReturnsIn setup returns old → HasRows Returns rows old mid
     → IsPermutation (map (item_row station) (items_of before.counts) ++ others station (rows_in Counts mid)) (rows_in Counts mid)
 counts_before setup returns station before old mid rows is held head = partitioned_rows count_rows counts_keyed returns station before (stored_in Counts mid) is (subst (AreRowsOf count_rows returns) (sym (head.others Counts counts_apart)) held.counts)

@@ -21,7 +21,7 @@ use Rattle.tally_rows.proofs.RowsLemmas.{rows_of_key}
 use Rattle.tally_rules.specs.Code.{is_code}
 use Rattle.tally_rules.specs.Constituency.{Constituency}
 use Rattle.tally_returns.specs.Counts.{VoteCounts}
-use Rattle.tally_returns.specs.Return.{StationReturn, Returns as Office}
+use Rattle.tally_returns.specs.Return.{StationReturn, Returns as StationReturns}
 use Rattle.tally_statements.specs.declared.table.KeyedTable.{KeyedTable}
 use Rattle.tally_statements.specs.declared.table.KeyedTable.TheVariants.{Returns, Counts}
 use Rattle.tally_statements.specs.Office.{tree_of, rows_in, key_cells, all_cells, AreInOrder, IsFound, IsInside}
@@ -77,7 +77,7 @@ counts_in_order e few = record {
 abbrev entry_list : List ℕ → Option StationReturn → List (List ℕ × StationReturn)
 entry_list station found = map (λ r. (station, r)) (option_to_list found)
 
-module _ (setup : List Constituency) (returns : Office) (station : List ℕ) (s : State) (held : AreReturnsIn setup returns s) where
+module _ (setup : List Constituency) (returns : StationReturns) (station : List ℕ) (s : State) (held : AreReturnsIn setup returns s) where
   heads_are : (o : Option StationReturn) (heads : List Row) → get returns station ≡ o → IsFound Returns station s heads → heads ≡ flat_map (return_rows setup) (entry_list station o)
   heads_are None heads is found =
       found [] (record { whole = tt; rising = tt }) (subst (λ o. IsPermutation (flat_map (return_rows setup) (entry_list station o)) (filter (has_key station) (rows_in Returns s))) is (rows_of_key (return_rows setup) (heads_keyed setup) returns station (stored_in Returns s) held.heads))

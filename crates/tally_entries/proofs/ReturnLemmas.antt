@@ -11,7 +11,7 @@ use Rattle.sqlite.proofs.Callers.{one_permutation}
 use Rattle.tally_rows.specs.Rows.{cells, has_key, others, AreRowsOf}
 use Rattle.tally_rows.proofs.RowsLemmas.{AreKeyedBy, add_rows, put_rows, same_rows, rows_of_key}
 use Rattle.tally_rules.specs.Constituency.{Constituency}
-use Rattle.tally_returns.specs.Return.{StationReturn, Returns as Office}
+use Rattle.tally_returns.specs.Return.{StationReturn, Returns as StationReturns}
 use Rattle.tally_statements.specs.declared.table.KeyedTable.TheVariants.{Returns, Counts}
 use Rattle.tally_statements.specs.Office.{tree_of, rows_in, HasRows}
 use Rattle.tally_tables.specs.Cells.{item_row, items_of, return_row, return_rows, count_rows, constituency_of}
@@ -35,7 +35,7 @@ pub heads_apart : tree_of Returns ≢ tree_of Counts
 heads_apart e = omega arith
 
 pub return_added : (con station : List ℕ) (standing : StationReturn) (old mid new : State) → Adds Returns (return_row con (station, standing) ∷ []) old mid → Adds Counts (map (item_row station) (items_of standing.counts)) mid new
-    → (setup : List Constituency) (returns : Office) → constituency_of setup station ≡ con → get returns station ≡ None → AreReturnsIn setup returns old → PutsReturn setup returns station standing old new
+    → (setup : List Constituency) (returns : StationReturns) → constituency_of setup station ≡ con → get returns station ≡ None → AreReturnsIn setup returns old → PutsReturn setup returns station standing old new
 return_added con station standing old mid new head counts setup returns is none held =
     let own : return_rows setup (station, standing) ≡ return_row con (station, standing) ∷ [] = ap (λ c. return_row c (station, standing) ∷ []) is in
     let added : IsPermutation (return_rows setup (station, standing) ++ cells (stored_in Returns old)) (cells (stored_in Returns mid)) = subst (λ l. IsPermutation (l ++ cells (stored_in Returns old)) (cells (stored_in Returns mid))) (sym own) head.rows in
@@ -51,13 +51,13 @@ return_added con station standing old mid new head counts setup returns is none 
     }
 
 -- the one row of a return
-pub only_head : (setup : List Constituency) (returns : Office) (station : List ℕ) (before : StationReturn) (rows : List Row) → get returns station ≡ Some before → AreRowsOf (return_rows setup) returns rows
+pub only_head : (setup : List Constituency) (returns : StationReturns) (station : List ℕ) (before : StationReturn) (rows : List Row) → get returns station ≡ Some before → AreRowsOf (return_rows setup) returns rows
     → filter (has_key station) (cells rows) ≡ return_row (constituency_of setup station) (station, before) ∷ []
 only_head setup returns station before rows is held =
     one_permutation (return_row (constituency_of setup station) (station, before)) (filter (has_key station) (cells rows))
     (subst (λ o. IsPermutation (flat_map (return_rows setup) (map (λ v. (station, v)) (option_to_list o))) (filter (has_key station) (cells rows))) is (rows_of_key (return_rows setup) (heads_keyed setup) returns station rows held))
 
-pub return_changed : (setup : List Constituency) (returns : Office) (station : List ℕ) (before standing : StationReturn) (old new : State) → get returns station ≡ Some before → before.counts ≡ standing.counts → AreReturnsIn setup returns old
+pub return_changed : (setup : List Constituency) (returns : StationReturns) (station : List ℕ) (before standing : StationReturn) (old new : State) → get returns station ≡ Some before → before.counts ≡ standing.counts → AreReturnsIn setup returns old
     → HasRows Returns (return_row (constituency_of setup station) (station, standing) ∷ others station (rows_in Returns old)) old new → PutsReturn setup returns station standing old new
 return_changed setup returns station before standing old new is same held put = record {
   inside = put.inside;

@@ -15,7 +15,7 @@ use Rattle.tally_rows.specs.Rows.{AreRowsOf}
 use Rattle.tally_rules.specs.Constituency.{Constituency}
 use Rattle.tally_rules.specs.declared.constituency.Station.{Station}
 use Rattle.tally_returns.specs.Progress.{is_received, is_queried, is_corrected, is_closed, progress_row, count_with_status}
-use Rattle.tally_returns.specs.Return.{StationReturn, Returns as Office}
+use Rattle.tally_returns.specs.Return.{StationReturn, Returns as StationReturns}
 use Rattle.tally_returns.specs.State.{ConState, con_state, opening_con}
 use Rattle.tally_returns.specs.declared.progress.ProgressRow.{ProgressRow}
 use Rattle.tally_returns.specs.declared.returns.Status.{Status}
@@ -25,7 +25,7 @@ use Rattle.tally_statements.specs.Office.{IsFound, tree_of}
 use Rattle.tally_tables.specs.Cells.{return_rows, status_number}
 use Rattle.tally_tables.specs.Reading.{status_of}
 use Rattle.tally_tables.specs.declared.views.Statuses.{Statuses}
-use Rattle.tally_entries.specs.Constituencies.{FindsProgressRow, IsKnown}
+use Rattle.tally_entries.specs.Constituencies.{FindsProgressRow}
 use Rattle.tally_entries.specs.internal.Found.{AreWithin, FindsKnownStatuses, FindsStatus, FindsStatuses, IsStageAmong, row_with, status_in, with_station}
 use Rattle.tally_entries.proofs.StageLemmas.{stage-among}
 use Rattle.tally_entries.specs.Statuses.{statuses_in}
@@ -66,10 +66,10 @@ count_more p xs i x low is = go (p x) refl
     go true passes = count_by_more_yes p xs i x low (ap p (sym is) ∙ passes)
     go false fails = count_by_more_no p xs i x low (ap p (sym is) ∙ fails)
 
-abbrev status_at : Office → Station → Option Status
+abbrev status_at : StationReturns → Station → Option Status
 status_at returns station = option_map (λ (standing : StationReturn). standing.status) (get returns station.code)
 
-one_more : (returns : Office) (stations : List Station) (i : ℕ) (x : Station) → i < length stations → x ≡ get_or stations i x → (p : Status → Bool)
+one_more : (returns : StationReturns) (stations : List Station) (i : ℕ) (x : Station) → i < length stations → x ≡ get_or stations i x → (p : Status → Bool)
     → count_with_status p returns (take (i + 1) stations) ≡ cond (option_map_or p (status_at returns x) false) (count_with_status p returns (take i stations) + 1) (count_with_status p returns (take i stations))
 one_more returns stations i x low is p =
     count_more (λ (station : Station). option_map_or (λ (standing : StationReturn). p standing.status) (get returns station.code) false) stations i x low is
@@ -79,7 +79,7 @@ one_more returns stations i x low is p =
     same None = refl
     same (Some r) = refl
 
-all_more : (returns : Office) (before after : List Station) (status : Option Status) → length after ≡ length before + 1
+all_more : (returns : StationReturns) (before after : List Station) (status : Option Status) → length after ≡ length before + 1
     → ((p : Status → Bool) → count_with_status p returns after ≡ cond (option_map_or p status false) (count_with_status p returns before + 1) (count_with_status p returns before)) → statuses_in returns after ≡ with_station (statuses_in returns before) status
 all_more returns before after None long each = λ k. record { stations = long k; received = each is_received k; queried = each is_queried k; corrected = each is_corrected k; closed = each is_closed k }
 all_more returns before after (Some Received) long each = λ k. record { stations = long k; received = each is_received k; queried = each is_queried k; corrected = each is_corrected k; closed = each is_closed k }
@@ -116,13 +116,7 @@ within_most i most so_far low h = record { stations = omega (arith, h.stations);
 pub status_before : (station : List ℕ) (old mid : State) (found : Option Status) → IsUnchanged old mid → FindsStatus station mid found → FindsStatus station old found
 status_before station old mid found same finds setup returns held = finds setup returns (subst (λ d. AreRowsOf (return_rows setup) returns (d.trees (tree_of Returns))) (sym same.0.now_is) held)
 
-pub statuses_before : (stations : List Station) (old mid : State) (found : Statuses) → IsUnchanged old mid → FindsStatuses stations mid found → FindsStatuses stations old found
-statuses_before stations old mid found same finds setup returns held = finds setup returns (subst (λ d. AreRowsOf (return_rows setup) returns (d.trees (tree_of Returns))) (sym same.0.now_is) held)
-
 -- ---- what is known of a constituency, or was found
-
-pub known_found : (con : Constituency) (known : Option Statuses) (found : Statuses) (s : State) → known ≡ Some found → FindsKnownStatuses con known s found
-known_found con known found s is setup returns held rows = subst (IsKnown con returns) is held
 
 pub known_before : (con : Constituency) (known : Option Statuses) (old mid : State) (found : Statuses) → IsUnchanged old mid → FindsKnownStatuses con known mid found → FindsKnownStatuses con known old found
 known_before con known old mid found same finds setup returns held rows = finds setup returns held (subst (λ d. AreRowsOf (return_rows setup) returns (d.trees (tree_of Returns))) (sym same.0.now_is) rows)

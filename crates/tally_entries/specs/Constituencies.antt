@@ -1,5 +1,7 @@
 -- What writing and looking up a constituency does to its tables.
-use Rattle.std.specs.Prelude.{◌≡◌, ◌≢◌, ◌≤◌, ℕ, Bool, true, false, List, [], ◌∷◌, length, map, Option, Some, None, IfSome, IsSome, IsPermutation, Result, OnOk, slice_index}
+use Rattle.std.specs.Prelude.{◌≡◌, ◌≢◌, ◌≤◌, ℕ, Bool, true, false, List, [], ◌∷◌, length, map}
+use Rattle.std.specs.Prelude.{Option, Some, None, IfSome, IsSome, IsPermutation, Result, OnOk}
+use Rattle.std.specs.Prelude.{slice_index}
 use Rattle.std.specs.FinMap.{FinMap, get, insert}
 use Rattle.sqlite_value.specs.Order.{Row}
 use Rattle.sqlite.specs.declared.error.Error.{Error}
@@ -21,9 +23,11 @@ use Rattle.tally_steps.specs.LawfulState.{IsLawfulState}
 use Rattle.tally_steps.specs.Step.{IsView}
 use Rattle.tally_schema.specs.Tables.{setup_tree}
 use Rattle.tally_statements.specs.declared.table.KeyedTable.{KeyedTable}
-use Rattle.tally_statements.specs.declared.table.KeyedTable.TheVariants.{Returns as Heads, Cons, Seats, Totals}
+use Rattle.tally_statements.specs.declared.table.KeyedTable.TheVariants.{Returns as Heads, Cons}
+use Rattle.tally_statements.specs.declared.table.KeyedTable.TheVariants.{Seats, Totals}
 use Rattle.tally_statements.specs.Office.{tree_of, rows_in, IsInside}
-use Rattle.tally_tables.specs.Cells.{item_row, items_of, con_rows, return_rows, seat_rows, total_rows, totals_of}
+use Rattle.tally_tables.specs.Cells.{item_row, items_of, con_rows, return_rows, seat_rows}
+use Rattle.tally_tables.specs.Cells.{total_rows, totals_of}
 use Rattle.tally_tables.specs.TablesOfState.{AreTables}
 use Rattle.tally_tables.specs.declared.views.Statuses.{Statuses}
 use Rattle.tally_entries.specs.Entries.{stored_in}

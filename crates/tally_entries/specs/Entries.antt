@@ -1,5 +1,6 @@
 -- What writing all rows of an entry does to the tables.
-use Rattle.std.specs.Prelude.{◌≡◌, ◌≢◌, ◌≤◌, ◌++◌, ℕ, List, length, map, Option, None, Some, IfSome, Result, IfOk, OnOk}
+use Rattle.std.specs.Prelude.{◌≡◌, ◌≢◌, ◌≤◌, ◌++◌, ℕ, List, length, map, Option, None, Some, IfSome}
+use Rattle.std.specs.Prelude.{Result, IfOk, OnOk}
 use Rattle.std.specs.FinMap.{get, insert}
 use Rattle.sqlite_value.specs.Order.{Row}
 use Rattle.sqlite_trees.specs.declared.store.Store.{Ghosts}
@@ -13,10 +14,12 @@ use Rattle.tally_rules.specs.Constituency.{Constituency}
 use Rattle.tally_returns.specs.Return.{StationReturn, Returns}
 use Rattle.tally_schema.specs.Tables.{setup_tree}
 use Rattle.tally_statements.specs.declared.table.KeyedTable.{KeyedTable}
-use Rattle.tally_statements.specs.declared.table.KeyedTable.TheVariants.{Returns as Heads, Counts, Lots, Seats}
+use Rattle.tally_statements.specs.declared.table.KeyedTable.TheVariants.{Returns as Heads, Counts}
+use Rattle.tally_statements.specs.declared.table.KeyedTable.TheVariants.{Lots, Seats}
 use Rattle.tally_statements.specs.Inside.{IsOpenInside}
 use Rattle.tally_statements.specs.Office.{tree_of, rows_in, IsInside, HasRows}
-use Rattle.tally_tables.specs.Cells.{constituency_of, item_row, numbers_with_places, return_rows, count_rows}
+use Rattle.tally_tables.specs.Cells.{constituency_of, item_row, numbers_with_places, return_rows}
+use Rattle.tally_tables.specs.Cells.{count_rows}
 use Rattle.tally_returns.specs.Lawful.{IsLawfulAt}
 use Rattle.tally_entries.specs.declared.items.ItemTable.{ItemTable}
 use Rattle.tally_entries.specs.declared.items.ItemTable.TheVariants as items

@@ -38,9 +38,6 @@ level-alike x y p q =
     let back : IsLevel x y → IsLevel y x = λ h. omega arith in
     (λ h z r. (level-greater x y z q h, level-greater y x z p (back h)), not_distinguished x y p q)
 
-pub whole_part-below : (x : Fraction) (n : ℕ) → 1 ≤ x.den → n ≤ whole_part x → n * x.den ≤ x.num
-whole_part-below x n p h = (le-div_iff_mul-le p).0 h
-
 pub whole_part-rises : (x y : Fraction) → 1 ≤ x.den → 1 ≤ y.den → IsGreater x y → whole_part y ≤ whole_part x
 whole_part-rises x y p q h =
     let n : ℕ = whole_part y in

@@ -6,8 +6,6 @@ use Rattle.tally_keeper.specs.Source.{row_limit}
 use Rattle.tally_import.specs.Header.{header_lists}
 use Rattle.tally_records.specs.Input.{Gave, complete_records}
 use Rattle.tally_import.specs.Check.{Checks, Found, check_fault, check_result, records_result, no_header, under_header, result_at_end}
-use Rattle.tally_import.specs.internal.Rounds.{IsOfReading}
-use Rattle.tally_records.specs.Watch.{flag_after_stop}
 use Rattle.tally_records.specs.declared.end.Stop.{Stop}
 use Rattle.tally_records.specs.declared.end.Stop.TheVariants as stopped
 use Rattle.tally_import.specs.declared.check.CheckFault.{CheckFault}
@@ -92,25 +90,3 @@ OnOk-then (Ok x) p more = more p
 OnOk-then (Err e) p more = tt
 
 -- ---- faults of reading
-
-pub stop-of-reading : (stop : Stop) (before failed : Bool) → failed ≡ flag_after_stop (Some stop) before → IsOfReading (check_fault stop) failed
-stop-of-reading stopped.TooLong before failed is = tt
-stop-of-reading stopped.Read before failed is = is
-
--- out of memory is one
-pub memory-of-reading : (fault : CheckFault) (failed : Bool) → fault ≡ Memory → IsOfReading fault failed
-memory-of-reading fault failed is = subst (λ f. IsOfReading f failed) (sym is) tt
-
-pub read-of-reading : (fault : CheckFault) (failed : Bool) → IsOfReading fault failed → fault ≡ Read → failed ≡ true
-read-of-reading BadHeader failed of is = cc
-read-of-reading TooLong failed of is = cc
-read-of-reading Read failed of is = of
-read-of-reading Memory failed of is = cc
-read-of-reading Write failed of is = absurd of
-
-pub write-of-reading : (fault : CheckFault) (failed : Bool) → IsOfReading fault failed → fault ≢ Write
-write-of-reading BadHeader failed of is = cc
-write-of-reading TooLong failed of is = cc
-write-of-reading Read failed of is = cc
-write-of-reading Memory failed of is = cc
-write-of-reading Write failed of is = absurd of

@@ -1,12 +1,11 @@
 -- The header and the stations of a constituency.
-use Rattle.std.proofs.Common.{◌≡◌, ◌≢◌, ◌<◌, ◌≤◌, ◌+◌, ◌∷◌, ◌∙◌, ℕ, zero, suc, List, [], Bool, true, false, cond, Option, Some, None, length, map, drop, get_or, refl, sym, ap, arith, add-one, option_map, is_some}
-use Rattle.std.specs.Prelude.{not, ◌&&◌, ◌||◌, codes}
+use Rattle.std.proofs.Common.{◌≡◌, ◌<◌, ◌+◌, ◌∷◌, ◌∙◌, ℕ, zero, suc, List, [], Bool, true, false, cond, Option, Some, None, length, map, drop, get_or, refl, sym, ap, arith, add-one, option_map, is_some}
+use Rattle.std.specs.Prelude.{not, ◌&&◌, ◌||◌}
 use Rattle.std.specs.BTreeSet.{BTreeSet, Updates, contains}
 use Rattle.std.specs.Cmp.Lexicographic.{pointwise}
 use Rattle.std.specs.List.{list_any, find}
 use Rattle.std.specs.Str.{bytes_eq}
 use Rattle.std.proofs.Math.Seq.{drop-cons}
-use Rattle.std.proofs.lemmas.List.{drop_all}
 use Rattle.std.proofs.lemmas.Map.Text.{is_eq-slice_cmp}
 use Rattle.std.proofs.lemmas.Slice.Eq.{bytes_eq-Decides}
 use Rattle.tally_rules.specs.Code.{code_cmp}
@@ -14,38 +13,10 @@ use Rattle.tally_rules.specs.Constituency.{Constituency, ListEntry, list_codes, 
 use Rattle.tally_rules.specs.declared.constituency.Station.{Station}
 use Rattle.tally_returns.specs.Decide.{station_in, limits_of}
 use Rattle.tally_import.specs.Header.{same_text}
-use Rattle.tally_import.specs.ReturnRows.{header_of, is_header, station_limits_in}
-use Rattle.tally_import.proofs.HeaderLemmas.{drop-at, has_names}
+use Rattle.tally_import.specs.ReturnRows.{station_limits_in}
+use Rattle.tally_import.proofs.HeaderLemmas.{drop-at}
 
 -- ---- the header
-
-pub pointwise-length : (xs ys : List (List ℕ)) → length xs ≢ length ys → pointwise same_text xs ys ≡ false
-pointwise-length [] [] other = absurd (other refl)
-pointwise-length [] (y ∷ ys) other = refl
-pointwise-length (x ∷ xs) [] other = refl
-pointwise-length (x ∷ xs) (y ∷ ys) other = go (same_text x y) (pointwise-length xs ys (λ e. other (omega (arith, e))))
-  where
-    go : (b : Bool) → pointwise same_text xs ys ≡ false → (b && pointwise same_text xs ys) ≡ false
-    go true later = later
-    go false later = refl
-
--- a record of the wrong length is no header
-pub header-length : (lists fields : List (List ℕ)) → length fields ≢ length lists + 4 → is_header lists fields ≡ false
-header-length lists fields other = pointwise-length fields (header_of lists) (λ e. other (omega (arith, e)))
-
-and-five : (a b c d e : Bool) → (a && (b && (c && (d && e)))) ≡ ((((a && b) && c) && d) && e)
-and-five true true true d e = refl
-and-five true true false d e = refl
-and-five true false c d e = refl
-and-five false b c d e = refl
-
--- a record that is long enough, by its names and what follows them
-pub header-names : (lists fields : List (List ℕ)) → 4 ≤ length fields → is_header lists fields ≡ (has_names fields && pointwise same_text (drop 4 fields) lists)
-header-names lists (a ∷ b ∷ c ∷ d ∷ rest) some = and-five (same_text a (codes "station")) (same_text b (codes "slip")) (same_text c (codes "blank")) (same_text d (codes "spoiled")) (pointwise same_text rest lists)
-header-names lists [] some = absurd (omega arith)
-header-names lists (a ∷ []) some = absurd (omega arith)
-header-names lists (a ∷ b ∷ []) some = absurd (omega arith)
-header-names lists (a ∷ b ∷ c ∷ []) some = absurd (omega arith)
 
 -- the name at a place, and those after it
 pub names-at : (lists fields : List (List ℕ)) (place : ℕ) → place < length lists → 4 + place < length fields
@@ -126,12 +97,3 @@ station-moved old new stations place d code q within is updates =
     go true true = refl
     go true false = refl
     go false o = refl
-
--- no station to come
-pub stations-over : (set : BTreeSet (List ℕ)) (stations : List Station) (place : ℕ) (q : List ℕ) → length stations ≤ place
-    → (contains code_cmp set q || list_any (bytes_eq q) (station_codes (drop place stations))) ≡ contains code_cmp set q
-stations-over set stations place q over = ap (λ l. contains code_cmp set q || list_any (bytes_eq q) (station_codes l)) (drop_all place stations over) ∙ go (contains code_cmp set q)
-  where
-    go : (b : Bool) → (b || false) ≡ b
-    go true = refl
-    go false = refl

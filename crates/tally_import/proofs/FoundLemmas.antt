@@ -17,12 +17,6 @@ use Rattle.tally_import.specs.declared.check.CheckFault.TheVariants.{BadHeader, 
 use Rattle.tally_records.specs.declared.separator.Sep.{Sep}
 use Rattle.tally_import.proofs.RoundsLemmas.{examined-whole}
 
--- where these are all records that came, what they are examined to be is found
-pub Found-all : (sep : Sep) (text left : Option (List ℕ)) (records : List (List (List ℕ))) (stop : Option Stop) (result : Result (List ℕ) CheckFault)
-    → AreAll sep text left records stop → records_result records stop ≡ result → IfSome text (λ t. Found sep t left (λ f. f ≡ result))
-Found-all sep None left records stop result all is = tt
-Found-all sep (Some t) left records stop result all is = (all.0, stop, all.1, ap (λ r. records_result r stop) all.2 ∙ is)
-
 pub Found-memory : (sep : Sep) (text left : Option (List ℕ)) (fault : CheckFault) → fault ≡ Memory
     → IfSome text (λ t. (fault ≡ Memory) ⊎ Found sep t left (λ f. f ≡ Err fault))
 Found-memory sep None left fault is = tt

@@ -36,10 +36,6 @@ any-push p (y ∷ xs) x = ap (λ b. p y || b) (any-push p xs x) ∙ or_assoc (p 
     or_assoc true b c = refl
     or_assoc false b c = refl
 
-not_or : (a b : Bool) → not (a || b) ≡ (not a && not b)
-not_or true b = refl
-not_or false b = refl
-
 new-push : (seen : List (List ℕ)) (code : List ℕ) (rest : List (List ℕ)) → are_new (seen ++ code ∷ []) rest ≡ (are_new seen rest && not (list_any (same_text code) rest))
 unfolding are_new
 new-push seen code [] = refl

@@ -321,14 +321,6 @@ advanced-fault (Some t) old_left left con sep old fault (own, inl sudden) = (own
 advanced-fault (Some t) old_left left con sep old fault (own, inr next) =
     (own-some fault own, (own, inr (next, ap Some (sym (only-is (still_coming con sep old t) (Some fault) next.0 next.1)))))
 
--- an end stays
-pub advanced-ended : (text left : Option (List ℕ)) (con : Constituency) (sep : Sep) (fault : Option ImportFault)
-    → IsAtStage text left con sep (Ended fault) → Advances text con sep left (Ended fault) (at_end fault) left (Ended fault)
-advanced-ended None left con sep None at = (at, (tt, refl))
-advanced-ended (Some t) left con sep None at = (at, ((refl, refl), refl))
-advanced-ended None left con sep (Some fault) at = (at, ((λ e. at (ap Some e)), inr (tt, refl)))
-advanced-ended (Some t) left con sep (Some fault) at = (at, ((λ e. at (ap Some e)), inr ((refl, refl), refl)))
-
 -- the header was read, and no row has come
 pub advanced-first : (text old_left mid_left left : Option (List ℕ)) (con : Constituency) (sep : Sep) (rows : Rows) (result : Result (Option Row) ImportFault) (new : Stage)
     → rows.came ≡ 0 → Advances text con sep mid_left (Reading rows) result left new → Advances text con sep old_left Unread result left new

@@ -1,11 +1,11 @@
 -- The rounds of a check: one record more, or the last.
-use Rattle.std.proofs.Common.{◌≡◌, ◌≤◌, ◌++◌, ◌∷◌, ◌∙◌, ℕ, List, [], false, length, refl, sym, ap, subst, arith}
+use Rattle.std.proofs.Common.{◌≡◌, ◌≤◌, ◌++◌, ◌∷◌, ◌∙◌, ℕ, List, [], false, length, sym, ap, subst, arith}
 use Rattle.std.specs.Prelude.{if◌then◌else◌}
 use Rattle.std.proofs.lemmas.Bool.Decides.{nat_tests}
 use Rattle.std.proofs.lemmas.List.{map-append, length-map}
 use Rattle.tally_keeper.specs.declared.import.Row.{Row}
-use Rattle.std.proofs.Common.{Option, Some, None, Ok, Err}
-use Rattle.std.specs.Prelude.{is_some, option_map, nat_lt}
+use Rattle.std.proofs.Common.{Some, None, Ok, Err}
+use Rattle.std.specs.Prelude.{nat_lt}
 use Rattle.tally_keeper.specs.Source.{row_limit}
 use Rattle.tally_import.specs.Header.{header_lists}
 use Rattle.tally_import.specs.declared.check.CheckFault.TheVariants.{TooLong}
@@ -43,7 +43,3 @@ examined-whole records header rest lists text is named few shown =
   where
     not_more : (n : ℕ) → n ≤ row_limit → nat_lt row_limit n ≡ false
     not_more n few = grind (arith, nat_tests)
-
-pub is_some-map : {X Y : Type 0} (f : X → Y) (o : Option X) → is_some (option_map f o) ≡ is_some o
-is_some-map f None = refl
-is_some-map f (Some x) = refl

@@ -1,5 +1,6 @@
 -- The check of a text of returns.
-use Rattle.std.specs.Prelude.{◌≡◌, ◌+◌, ◌++◌, if◌then◌else◌, nat_lt, ℕ, List, [], ◌∷◌, map, length, sum_by, slice_index, take, Option, Some, None, Result, Ok, Err, codes}
+use Rattle.std.specs.Prelude.{◌≡◌, ◌+◌, ◌++◌, if◌then◌else◌, nat_lt, ℕ, List, [], ◌∷◌, map, length}
+use Rattle.std.specs.Prelude.{sum_by, slice_index, take, Option, Some, None, Result, Ok, Err, codes}
 use Rattle.std.specs.Fmt.{decimal}
 use Rattle.std.specs.FinMap.{empty}
 use Rattle.std.specs.Io.KnownBytes.{Appends, Keeps}
@@ -17,7 +18,8 @@ use Rattle.tally_import.specs.Rows.{row_of}
 use Rattle.tally_records.specs.declared.end.Stop.{Stop}
 use Rattle.tally_records.specs.declared.end.Stop.TheVariants as stopped
 use Rattle.tally_import.specs.declared.check.CheckFault.{CheckFault}
-use Rattle.tally_import.specs.declared.check.CheckFault.TheVariants.{BadHeader, TooLong, Read, Memory, Write}
+use Rattle.tally_import.specs.declared.check.CheckFault.TheVariants.{BadHeader, TooLong, Read}
+use Rattle.tally_import.specs.declared.check.CheckFault.TheVariants.{Memory, Write}
 use Rattle.tally_records.specs.declared.separator.Sep.{Sep}
 
 -- every code is a station, with as many electors as a station may have: 1,000,000

@@ -1,6 +1,7 @@
 -- The header of a text of returns: `station`, `slip`, `blank`, `spoiled` and the codes of the
 -- lists.
-use Rattle.std.specs.Prelude.{◌&&◌, not, if◌then◌else◌, ℕ, Bool, true, List, [], ◌∷◌, length, nat_eq, nat_le, Option, Some, None, codes}
+use Rattle.std.specs.Prelude.{◌&&◌, not, if◌then◌else◌, ℕ, Bool, true, List, [], ◌∷◌, length}
+use Rattle.std.specs.Prelude.{nat_eq, nat_le, Option, Some, None, codes}
 use Rattle.std.specs.List.{list_all, list_any}
 use Rattle.std.specs.Cmp.Lexicographic.{pointwise}
 use Rattle.tally_frac.specs.Limits.{most_lists}

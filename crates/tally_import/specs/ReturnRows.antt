@@ -1,5 +1,7 @@
 -- The rows of a constituency's returns: what comes of a text, and how far they have come.
-use Rattle.std.specs.Prelude.{◌≡◌, ◌≢◌, ◌≤◌, ◌⊎◌, if◌then◌else◌, nat_lt, ℕ, Bool, true, false, List, [], ◌∷◌, map, length, take, drop, Option, Some, None, option_map, is_some, IfSome, Result, Ok, Err, codes, ⊤}
+use Rattle.std.specs.Prelude.{◌≡◌, ◌≢◌, ◌≤◌, ◌⊎◌, if◌then◌else◌, nat_lt, ℕ, Bool, true, false, List}
+use Rattle.std.specs.Prelude.{[], ◌∷◌, map, length, take, drop, Option, Some, None, option_map}
+use Rattle.std.specs.Prelude.{is_some, IfSome, Result, Ok, Err, codes, ⊤}
 use Rattle.std.specs.BTreeSet.{BTreeSet, contains}
 use Rattle.std.specs.Cmp.Lexicographic.{pointwise}
 use Rattle.tally_frac.specs.Limits.{most_lists}

@@ -1,5 +1,6 @@
 -- A row: a Lodge, or bad.
-use Rattle.std.specs.Prelude.{◌+◌, ◌-◌, ◌*◌, ◌==◌, ◌&&◌, if◌then◌else◌, ℕ, Bool, List, ◌∷◌, length, map, fold, nat_le, Option, Some, None, is_some}
+use Rattle.std.specs.Prelude.{◌+◌, ◌-◌, ◌*◌, ◌==◌, ◌&&◌, if◌then◌else◌, ℕ, Bool, List, ◌∷◌, length}
+use Rattle.std.specs.Prelude.{map, fold, nat_le, Option, Some, None, is_some}
 use Rattle.std.specs.Char.{is_ascii_digit}
 use Rattle.std.specs.List.{list_all}
 use Rattle.tally_rules.specs.Code.{is_code}

@@ -1,4 +1,5 @@
--- Rows that are judged to be those of lawful returns are so, and the rows of lawful returns are judged so.
+-- Rows that are judged to be those of lawful returns are so, and the
+-- rows of lawful returns are judged so.
 use Rattle.std.proofs.Common.{◌≡◌, ℕ, All, Bool, true, false, cond, Some, List, [], ◌∷◌, refl, sym, ap, ap₂, subst, ◌∙◌, Less}
 use Rattle.std.specs.List.{AllByRecursion, flat_map}
 use Rattle.std.specs.Ordering.{eq_by_cmp, is_eq, ordering_reverse}

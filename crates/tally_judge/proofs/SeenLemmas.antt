@@ -1,4 +1,5 @@
--- What is seen of a constituency is lawful, by the tests that it passed, and passes them where it is.
+-- What is seen of a constituency is lawful, by the tests that it
+-- passed, and passes them where it is.
 use Rattle.std.proofs.Common.{◌≡◌, ◌≢◌, ◌≤◌, inr, ℕ, Bool, true, false, true≢false, List, [], refl, sym, subst, ◌∙◌}
 use Rattle.std.specs.Prelude.{◌&&◌, nat_le}
 use Rattle.std.specs.Str.{IsUtf8, is_utf8}

@@ -176,7 +176,8 @@ put-others setup s (Query code rev note) station con place named is q apart =
     ∙ ap (λ b. cond b now (con_state s q)) (apart-untied q con.code apart)
 put-others setup s other station con place named is q apart = refl
 
--- A step leaves a constituency: what it has come to is the same, and so are the returns of its stations; or it is not certified and was not.
+-- A step leaves a constituency: what it has come to is the same, and so are the returns of its
+-- stations; or it is not certified and was not.
 abbrev IsLeft : Constituency → State → State → Type 0
 IsLeft con s t =
     ((con_state t con.code ≡ con_state s con.code) × All (IsSameAt t.returns s.returns) con.stations)

@@ -34,7 +34,7 @@ use Rattle.tally_returns.proofs.ClosedLemmas.{station_with-con}
 use Rattle.tally_returns.proofs.DecideLemmas.{passed-first, passed-rest}
 use Rattle.tally_ledger.specs.Kept.{Kept, state_in, view_in, with_no_lot}
 use Rattle.tally_keeper.specs.internal.Held.{IsAnsweredInMemory, IsHeld, CarriesOutLodge, IsMoved, is_query, moves_return, with_state}
-use Rattle.tally_steps.proofs.DecisionLemmas.{certified-found, changed-step, con_of-found, decided-named, decided-none}
+use Rattle.tally_steps.proofs.DecisionLemmas.{certified-found, changed-step, con_of-found, decided-named}
 use Rattle.tally_keeper.proofs.HeldLemmas.{lodge-step}
 
 -- ---- what is decided at a station
@@ -93,7 +93,8 @@ memory-or Store = inr (λ (same : Store ≡ Memory). cc)
 
 -- ---- commands that move a return
 
--- What a keeper looked up of the station that a command names: its place, whether its constituency is certified, and its return.
+-- What a keeper looked up of the station that a command names: its
+-- place, whether its constituency is certified, and its return.
 pub record IsLookedUp (k : Kept) (station : List ℕ) (con : Constituency) (place : Station) (certified : Bool) (found : Option StationReturn) : Type 0 where
   pub place_is : station_with station k.setup ≡ Some (con, place)
   pub certified_is : certified ≡ (con_state (state_in k) con.code).certified
@@ -142,14 +143,6 @@ looked_up-lawful k station con place found held is stands =
 -- a command on a return that was refused
 moved-err : (k : Kept) (ask : Ask) (e : Refusal) → change_in_state k.setup (state_in k) ask ≡ Err e → IsMoved k ask (Err e) k
 moved-err k ask e is = inl (sym (ap move_reply is), ap (λ d. with_state k (state_after k.setup (state_in k) ask d)) (sym is))
-
-pub moved-no_station : (k : Kept) (ask : Ask) (station : List ℕ) → station_named ask ≡ Some station → station_with station k.setup ≡ None → IsMoved k ask (Err NoStation) k
-moved-no_station k ask station named none =
-    let s = state_in k in
-    let certified = is_certified k.setup s station in
-    moved-err k ask NoStation (decided-named k.setup s ask station named
-    ∙ ap (λ found. return_change (option_map (λ (p : Constituency × Station). limits_of p.0 p.1) found) certified (fin.get k.returns station) ask) none
-    ∙ decided-none certified (fin.get k.returns station) ask station named)
 
 pub moved-refused : (k : Kept) (ask : Ask) (station : List ℕ) (con : Constituency) (place : Station) (certified : Bool) (found : Option StationReturn) (e : Refusal)
     → IsLookedUp k station con place certified found → station_named ask ≡ Some station → IsUnlessMemory (Err e) (return_change (Some (limits_of con place)) certified found ask) → IsMoved k ask (Err e) k

@@ -1,5 +1,5 @@
 -- An import, so far.
-use Rattle.std.proofs.Common.{◌≡◌, ◌≤◌, ◌<◌, ◌⊎◌, inl, inr, ◌+◌, ◌++◌, ◌∷◌, ◌∙◌, ℕ, List, [], Option, Some, None, Result, Ok, Err, length, refl, sym, ap, subst, arith, append-nil, append_assoc, length-append}
+use Rattle.std.proofs.Common.{◌≡◌, ◌≤◌, ◌⊎◌, inl, inr, ◌+◌, ◌++◌, ◌∷◌, ◌∙◌, ℕ, List, [], Option, Some, None, Result, Ok, Err, length, refl, sym, ap, subst, arith, append-nil, append_assoc, length-append}
 use Rattle.std.specs.Prelude.{All, IfSome}
 use Rattle.std.proofs.lemmas.List.Elements.{All-head, All-nil, All-push, All-tail}
 use Rattle.tally_ledger.specs.Kept.{Kept, state_in}
@@ -11,12 +11,11 @@ use Rattle.tally_keeper.specs.internal.Held.{IsHeld}
 use Rattle.tally_keeper.specs.Import.{RowAnswer, IsBelow, IsCodedRow, row_answer, after_row, answers, returns_after_import, count_of, count_with_row}
 use Rattle.tally_keeper.specs.Given.{with_given}
 use Rattle.tally_keeper.specs.Keeper.{IsImportFault, IsImportOf, IsOwnFault}
-use Rattle.tally_keeper.specs.Source.{AreAllGiven, AreGiven, Coming, Delivery, GaveAll, IsSudden, IsWithinRowLimit, GivesNext, SourceAt, ends_by, row_limit}
+use Rattle.tally_keeper.specs.Source.{AreAllGiven, AreGiven, Coming, Delivery, GaveAll, IsSudden, GivesNext, SourceAt, ends_by, row_limit}
 use Rattle.tally_keeper.specs.declared.import.ImportCount.{ImportCount}
 use Rattle.tally_keeper.specs.declared.import.Row.{Row}
 use Rattle.tally_keeper.specs.declared.import.Row.TheVariants as row
 use Rattle.tally_keeper.specs.declared.source.ImportFault.{ImportFault}
-use Rattle.tally_keeper.specs.declared.source.ImportFault.TheVariants.{TooLong}
 use Rattle.tally_keeper.proofs.HeldLemmas.{held-lodge}
 use Rattle.tally_keeper.proofs.ImportLemmas.{count_of-below, count_of-push}
 use Rattle.tally_keeper.proofs.RowsLemmas.{imported-push, answers-push, length-answers}
@@ -171,16 +170,6 @@ own-last d fault gave own = (gave.0, (gave.1.0, all d.start.coming gave.1.3), in
     all : (known : Option Coming) → IfSome known (λ coming. (coming.rows ≡ gave.0) × (coming.fault ≡ None)) → IfSome known (λ coming. (rest : List Row) × (coming.rows ≡ gave.0 ++ rest))
     all None are = tt
     all (Some coming) are = ([], are.0 ∙ sym (append-nil gave.0))
-
--- one row more than the limit comes only of a source of unknown content
-pub SoFar-many : (stations : Stations) (old now : Returns) (all left : SourceAt) (count : ImportCount) (many : ℕ)
-    → SoFar stations old now all left count many → many ≡ row_limit + 1 → IfSome all.coming IsWithinRowLimit → IsImportFault (record { start = all; finish = left }) TooLong
-SoFar-many stations old now all left count many h over within =
-    (h.rows, given-so_far stations old now all left left count many h refl, inr (inr (refl, h.many_are ∙ over, none all.coming h.taken within)))
-  where
-    none : (known : Option Coming) → AreTaken known h.rows left.coming → IfSome known IsWithinRowLimit → known ≡ None
-    none None taken within = refl
-    none (Some known) taken within = absurd (omega (arith, over, within.0, h.many_are, ap length taken.2, length-append h.rows taken.0))
 
 -- an import leaves what a keeper in memory holds as it has to be
 imported-held : (k : Kept) (rows : List Row) → All IsCodedRow rows → IsHeld k → IsHeld (record k { returns = returns_after_import (stations_of k.setup) k.returns rows })

@@ -1,12 +1,14 @@
 -- What happens to a keeper of the office's state.
-use Rattle.std.specs.Prelude.{◌≡◌, ◌≤◌, ◌⊎◌, ◌+◌, All, List, [], ◌∷◌, length, Option, Some, None, Result, Ok, Err, IfSome}
+use Rattle.std.specs.Prelude.{◌≡◌, ◌≤◌, ◌⊎◌, ◌+◌, All, List, [], ◌∷◌, length, Option, Some, None}
+use Rattle.std.specs.Prelude.{Result, Ok, Err, IfSome}
 use Rattle.tally_rules.specs.Constituency.{Constituency}
 use Rattle.tally_returns.specs.State.{State, stations_of}
 use Rattle.tally_steps.specs.Step.{IsAnswered, IsNotAccepted}
 use Rattle.tally_returns.specs.declared.ask.Ask.{Ask}
 use Rattle.tally_returns.specs.declared.refusal.Refusal.{Refusal}
 use Rattle.tally_returns.specs.declared.reply.Reply.{Reply}
-use Rattle.tally_keeper.specs.Import.{RowAnswer, IsCodedRow, answers, returns_after_import, count_of}
+use Rattle.tally_keeper.specs.Import.{RowAnswer, IsCodedRow, answers, returns_after_import}
+use Rattle.tally_keeper.specs.Import.{count_of}
 use Rattle.tally_keeper.specs.Source.{AreAllGiven, AreGiven, Coming, Delivery, IsSudden, row_limit}
 use Rattle.tally_keeper.specs.declared.import.ImportCount.{ImportCount}
 use Rattle.tally_keeper.specs.declared.import.Row.{Row}

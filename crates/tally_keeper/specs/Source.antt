@@ -1,10 +1,12 @@
 -- What a source of rows gives.
-use Rattle.std.specs.Prelude.{◌≡◌, ◌≢◌, ◌≤◌, ◌⊎◌, ◌++◌, ℕ, List, [], ◌∷◌, length, Option, Some, None, Result, Ok, Err, IfSome}
+use Rattle.std.specs.Prelude.{◌≡◌, ◌≢◌, ◌≤◌, ◌⊎◌, ◌++◌, ℕ, List, [], ◌∷◌, length, Option, Some}
+use Rattle.std.specs.Prelude.{None, Result, Ok, Err, IfSome}
 use Rattle.tally_returns.specs.declared.ask.Ask.TheVariants.{Lodge}
 use Rattle.tally_keeper.specs.declared.import.Row.{Row}
 use Rattle.tally_keeper.specs.declared.import.Row.TheVariants as row
 use Rattle.tally_keeper.specs.declared.source.ImportFault.{ImportFault}
-use Rattle.tally_keeper.specs.declared.source.ImportFault.TheVariants.{BadHeader, TooLong, Read, Memory, Store}
+use Rattle.tally_keeper.specs.declared.source.ImportFault.TheVariants.{BadHeader, TooLong, Read}
+use Rattle.tally_keeper.specs.declared.source.ImportFault.TheVariants.{Memory, Store}
 
 -- the most rows that an import has
 abbrev pub row_limit : ℕ

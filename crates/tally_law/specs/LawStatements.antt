@@ -1,5 +1,5 @@
 -- The laws of allotments and lots, as they hold of the votes of any poll under any profile. Each is
--- proved as a clause of a function of `src/laws.rt`, which has its name.
+-- proved as a clause of a function of `laws` in `tally_allot`, which has its name.
 use Rattle.std.specs.Prelude.{ℕ, ◌≡◌, ◌≤◌, ◌↔◌, ◌⊎◌, List, [], Bool, true, false, length}
 use Rattle.std.specs.Prelude.{slice_index_or}
 use Rattle.tally_rules.specs.declared.profile.Profile.{Profile}

@@ -15,7 +15,8 @@ module _ {K V : Type 0} {R : K → K → Ordering} (total : IsTotalOrder R) (sam
       → map (λ x. (key x, value x)) (map row (entries m)) ≡ entries m → map_of key value (map row (entries m)) ≡ m
   rows-back key value row m is = ap from_entries is ∙ entries-back m
 
-  -- what one more row makes of the map, where the rows that it makes are those of the map with one more entry
+  -- what one more row makes of the map, where the rows that it makes
+  -- are those of the map with one more entry
   pub rows-insert : {X : Type 0} (key : X → K) (value : X → V) (row : K × V → X) (rows more : List X) (k : K) (v : V)
       → more ≡ map row (entries (insert (map_of {R = R} key value rows) k v))
       → map (λ x. (key x, value x)) (map row (entries (insert (map_of {R = R} key value rows) k v))) ≡ entries (insert (map_of {R = R} key value rows) k v)

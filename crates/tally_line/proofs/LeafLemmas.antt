@@ -1,5 +1,5 @@
--- What the matches of a command without subcommands have, where clap finds no fault: each value is one that its argument
--- takes, and what is required is there.
+-- What the matches of a command without subcommands have, where clap finds no fault: each value is
+-- one that its argument takes, and what is required is there.
 use Rattle.std.proofs.Common.{◌≡◌, ◌∙◌, ◌⊎◌, ℕ, Bool, cond, true, false, zero, suc, not, ◌&&◌, ◌||◌, refl, sym, ap, subst, List, [], ◌∷◌, ◌++◌, length, fold, Option, Some, None, is_some, true≢false, inl, inr}
 use Rattle.std.specs.Prelude.{find, nat_lt, option_and_then, slice_get}
 use Rattle.std.specs.List.{AllByRecursion as Each, list_any}

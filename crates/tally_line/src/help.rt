@@ -324,12 +324,12 @@ pub const SERVE_LONG: &str = "\
 Answer requests over HTTP, at 127.0.0.1.
 
 One connection after the other is served, each with one request and its answer,
-until N connections came, those that failed among them. Requests lodge, query,
-correct and close returns, draw lots, certify and reopen constituencies, record
-who leaves a seat, import files, and show all this. What was answered as done is
-in the database, so Ctrl-C is safe at any time. Until the server ends, no other
-command can open the database. A connection that failed counts, and so does
-each of the two or three that a browser takes for one table.
+until N connections have been served. Requests lodge, query, correct and close
+returns, draw lots, certify and reopen constituencies, record who leaves a seat,
+import files, and show all this. What was answered as done is in the database,
+so Ctrl-C is safe at any time. Until the server ends, no other command can open
+the database. A connection that failed counts, and so does each of the two or
+three that a browser takes for one table.
 
 The server asks nobody who they are. Every program on this machine can send it
 requests, and so can a web page that is open in a browser here: it could lodge,

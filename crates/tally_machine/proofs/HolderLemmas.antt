@@ -31,7 +31,3 @@ all_seats candidates seats n gone le full =
     sym (take_all seats (remaining_candidates n gone) (omega (arith, full)))
     ∙ sym (first_stay seats (candidates - n) n gone (omega (arith, full)))
     ∙ ap (λ m. take seats (remaining_candidates m gone)) e
-
--- where no more stay than there are seats, all of them are
-pub all_stay : (candidates seats : ℕ) (gone : List ℕ) → length (remaining_candidates candidates gone) ≤ seats → remaining_candidates candidates gone ≡ holders candidates seats gone
-all_stay candidates seats gone few = sym (take_all seats (remaining_candidates candidates gone) few)

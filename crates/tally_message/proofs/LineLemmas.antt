@@ -1,4 +1,5 @@
--- A head ends with an empty line after its first line, so bytes in which no such line ends have no head.
+-- A head ends with an empty line after its first line, so bytes in
+-- which no such line ends have no head.
 use Rattle.std.proofs.Common.{◌≡◌, ℕ, ◌<◌, ◌≤◌, Bool, true, false, cond, ◌&&◌, ◌==◌, List, [], ◌∷◌, ◌++◌, length, take, drop, get_or, refl, sym, ap, ap₂, subst, append_assoc, append-nil, ◌∙◌, arith, IsTrue, true≢false, flat_map}
 use Rattle.std.proofs.lemmas.Map.Views.{exact_unsigned_eq}
 use Rattle.std.proofs.lemmas.List.{take-append-drop, length-append}

@@ -1,11 +1,11 @@
 -- The start of a message, in the bytes that were read and in the whole text.
-use Rattle.std.proofs.Common.{◌≡◌, ℕ, zero, suc, ◌+◌, ◌<◌, ◌≤◌, Bool, true, false, cond, List, [], ◌∷◌, ◌++◌, length, map, take, drop, refl, sym, ap, subst, append_assoc, inr, ◌∙◌, arith, IsTrue, nat_le, codes, bytes_eq, Result, Ok, Err, IfOk, IfErr, IsErrAnd}
+use Rattle.std.proofs.Common.{◌≡◌, ℕ, zero, suc, ◌+◌, ◌<◌, ◌≤◌, Bool, true, false, cond, List, [], ◌∷◌, ◌++◌, length, map, take, drop, refl, sym, ap, subst, append_assoc, inr, ◌∙◌, arith, IsTrue, nat_le, codes, bytes_eq, Result, Ok, Err, IsErrAnd}
 use Rattle.std.specs.Prelude.{⊤}
 use Rattle.std.proofs.lemmas.List.{length-take, length-map, length-append}
 use Rattle.std.proofs.lemmas.Bool.{leb-true}
 use Rattle.http.specs.Token as http
 use Rattle.httparse.specs.Grammar as grammar
-use Rattle.httparse.specs.Grammar.{RequestHead, Field, ReadsRequest, print_request}
+use Rattle.httparse.specs.Grammar.{RequestHead}
 use Rattle.httparse.specs.Spans.{IsRequestAt, IsRequestWithin, header_bytes, span_bytes, name_and_value}
 use Rattle.httparse.specs.declared.spans.HeaderSpan.{HeaderSpan}
 use Rattle.httparse.specs.declared.spans.RequestSpans.{RequestSpans}
@@ -14,7 +14,7 @@ use Rattle.std.specs.List.{list_any}
 use Rattle.std.specs.Str.Parse.{digits_value}
 use Rattle.tally_door.specs.Connection.{Connection}
 use Rattle.tally_message.specs.internal.Reading.{IsBodyOrFault}
-use Rattle.tally_message.specs.Message.{OnlyReadsInput, FailsAs, is_failed_read, head_limit, field_limit, body_limit, NameAndValue, is_field_named, values_of, single_value, is_content_length, content_length, length_by, BeginsWithHead, Announces, IsFault, IsMessageOrFault, HasCutBody, announced_length, body_length}
+use Rattle.tally_message.specs.Message.{OnlyReadsInput, FailsAs, head_limit, field_limit, body_limit, NameAndValue, is_field_named, values_of, single_value, is_content_length, content_length, length_by, BeginsWithHead, Announces, IsFault, IsMessageOrFault, HasCutBody, announced_length, body_length}
 use Rattle.tally_message.specs.internal.Start.{IsStart, IsFaultyStart}
 use Rattle.tally_message.specs.declared.start.Start.{Start}
 use Rattle.tally_message.specs.declared.message.Message.{Message}
@@ -126,17 +126,6 @@ whole_fault bytes left fails EndedEarly b = absurd b
 whole_fault bytes left fails Read b = absurd b
 whole_fault bytes left fails Memory b = tt
 
--- such a fault is no failed read
-pub faulty_no_failure : (bytes : List ℕ) (e : MessageFault) → IsFaultyStart bytes e → is_failed_read e ≡ false
-faulty_no_failure bytes BadHead b = absurd b
-faulty_no_failure bytes HeadTooLong b = absurd b
-faulty_no_failure bytes LengthRequired b = refl
-faulty_no_failure bytes BadLength b = refl
-faulty_no_failure bytes BodyTooLong b = refl
-faulty_no_failure bytes EndedEarly b = absurd b
-faulty_no_failure bytes Read b = absurd b
-faulty_no_failure bytes Memory b = refl
-
 -- and of the body
 pub cut_fault : (bytes left : List ℕ) (fails : Bool) (s : Start) (e : MessageFault) (body : List ℕ) → IsStart bytes s → IsBodyOrFault (s.body.items ++ left) fails s.length (Err e) body → IsFault (bytes ++ left) fails e
 cut_fault bytes left fails s e body (h, rest, is) reads = go e (subst (λ t. IsBodyOrFault (t ++ left) fails s.length (Err e) body) is.body reads)
@@ -185,11 +174,6 @@ no_longer old input buf left same =
     omega (arith, sym (length-append old input) ∙ ap length same ∙ length-append buf left)
 
 -- ---- out of memory
-
-pub refused_head : (text buf left : List ℕ) (fails : Bool) (r : Result RequestSpans MessageFault) → IsErrAnd r (λ fault. fault ≡ Memory)
-    → IfOk r (λ _. text ≡ buf ++ left) × IfErr r (IsFault text fails)
-refused_head text buf left fails (Ok head) is = absurd is
-refused_head text buf left fails (Err fault) is = (tt, subst (IsFault text fails) (sym is) tt)
 
 pub refused_body : (text : List ℕ) (fails : Bool) (count : ℕ) (body : List ℕ) (r : Result ⊤ MessageFault) → IsErrAnd r (λ fault. fault ≡ Memory)
     → IsBodyOrFault text fails count r body

@@ -1,6 +1,8 @@
 -- Which message or which fault the bytes of a connection are: HTTP/1.1 (RFC 9112) as far as the
 -- desk speaks it.
-use Rattle.std.specs.Prelude.{◌≡◌, ◌⊎◌, ℕ, ◌+◌, ◌<◌, ◌≤◌, Bool, true, false, ◌&&◌, ◌||◌, if◌then◌else◌, nat_le, List, [], ◌∷◌, ◌++◌, map, filter, length, take, codes, bytes_eq, Option, Some, None, Result, Ok, Err, ⊤}
+use Rattle.std.specs.Prelude.{◌≡◌, ◌⊎◌, ℕ, ◌+◌, ◌<◌, ◌≤◌, Bool, true, false, ◌&&◌, ◌||◌}
+use Rattle.std.specs.Prelude.{if◌then◌else◌, nat_le, List, [], ◌∷◌, ◌++◌, map, filter, length, take}
+use Rattle.std.specs.Prelude.{codes, bytes_eq, Option, Some, None, Result, Ok, Err, ⊤}
 use Rattle.std.specs.List.{list_any, list_all}
 use Rattle.std.specs.Char.{is_ascii_digit}
 use Rattle.std.specs.Str.{str_eq_ignore_ascii_case}
@@ -11,7 +13,10 @@ use Rattle.httparse.specs.Spans.{name_and_value}
 use Rattle.tally_door.specs.Connection.{Connection}
 use Rattle.tally_message.specs.declared.message.Message.{Message}
 use Rattle.tally_message.specs.declared.message.MessageFault.{MessageFault}
-use Rattle.tally_message.specs.declared.message.MessageFault.TheVariants.{BadHead, HeadTooLong, LengthRequired, BadLength, BodyTooLong, EndedEarly, Read, Memory}
+use Rattle.tally_message.specs.declared.message.MessageFault.TheVariants.{BadHead, HeadTooLong}
+use Rattle.tally_message.specs.declared.message.MessageFault.TheVariants.{LengthRequired, BadLength}
+use Rattle.tally_message.specs.declared.message.MessageFault.TheVariants.{BodyTooLong, EndedEarly}
+use Rattle.tally_message.specs.declared.message.MessageFault.TheVariants.{Read, Memory}
 
 -- the most bytes of a head, the most fields in it, the most bytes of a body
 abbrev pub head_limit : ℕ

@@ -1,5 +1,5 @@
 -- From what was judged of the tables to the opening of a database.
-use Rattle.std.proofs.Common.{◌≡◌, ◌∙◌, ◌⊎◌, List, [], ◌∷◌, ℕ, pos, true, false, IsTrue, Result, Ok, Err, inl, inr, refl, sym, ap, subst, arith, length, true≢false}
+use Rattle.std.proofs.Common.{◌≡◌, ◌∙◌, ◌⊎◌, List, [], ◌∷◌, ℕ, pos, true, IsTrue, Result, Ok, Err, inl, inr, refl, sym, ap, subst, arith, length, true≢false}
 use Rattle.std.specs.Prelude.{codes, IfOk, IsOk}
 use Rattle.std.specs.BTreeMap.{BTreeMap}
 use Rattle.sqlite.specs.Effect.{Database, IsDatabase}
@@ -22,10 +22,9 @@ use Rattle.tally_tables.specs.Cells.{return_rows, count_rows, con_rows, lot_rows
 use Rattle.tally_tables.specs.TablesOfState.{AreTables, version}
 use Rattle.tally_tables.specs.declared.views.Statuses.{Statuses}
 use Rattle.tally_opening.specs.Create.{IsAsBefore}
-use Rattle.tally_opening.specs.Office.{IsOffice}
 use Rattle.tally_opening.specs.internal.Ending.{IsSettled}
-use Rattle.tally_opening.specs.Open.{AreFormerTables, CountsFound, HasSetup, IsOfKnownVersion, IsOpenFault, IsOpened, IsSetupOf, LacksTable, former_version, tables_taken_over}
-use Rattle.tally_opening.specs.internal.Opening.{AreFormerOfNone, AreOfNoStored, CountsFormer, CountsTables, HasSetupRow, HasStoredRow, IsFormerFault, IsJudged, IsTodayFault, Lacks, trees_with}
+use Rattle.tally_opening.specs.Open.{AreFormerTables, CountsFound, HasSetup, IsOfKnownVersion, IsOpenFault, IsOpened, LacksTable}
+use Rattle.tally_opening.specs.internal.Opening.{AreOfNoStored, CountsFormer, CountsTables, HasSetupRow, HasStoredRow, IsJudged, IsTodayFault, Lacks, trees_with}
 use Rattle.tally_faults.specs.declared.fault.OpenFault.{OpenFault}
 use Rattle.tally_faults.specs.declared.fault.OpenFault.TheVariants.{BadTables, Memory, NoTables, Setup, Store}
 
@@ -150,51 +149,7 @@ fault_today old BadTables schema names past ensured = (λ setup text s lawful fo
 
 -- ---- version 1
 
--- why tables of version 1 are not opened
-pub fault_former : (old : Seen) (fault : OpenFault) → old.now.schema ≡ former_schema → has_former_tables old.now.schema ≡ true → has_table old.now.schema (codes "past") ≡ false → IsFormerFault old.now fault
-    → IsOpenFault old.now fault
-fault_former old NoTables schema names past ensured = inr (past, ensured.1, ensured.2)
-fault_former old (Setup fault) schema names past ensured = (ensured.0, inr (schema, ensured.1), ensured.2.0, ensured.2.1)
-fault_former old Memory schema names past ensured = tt
-fault_former old Store schema names past ensured = tt
-fault_former old BadTables schema names past ensured = (λ setup text s lawful found. no_state ensured setup text s lawful found.0 found.1, λ text known. no_text ensured text known, inr schema, λ missing. lacks ensured missing)
-  where
-    Told : Type 0
-    Told = (Lacks (HasStoredRow old.now) former_version × Lacks (HasStoredRow old.now) version) ⊎ AreFormerOfNone old.now
-
-    lacks : Told → LacksTable old.now → ⊥
-    lacks ensured (inl missing) = true≢false (sym names ∙ missing)
-    lacks (inl none) (inr missing) = none.1 missing.1 missing.2
-    lacks (inr unlawful) (inr missing) = let k : version ≡ former_version = (one_row version former_version missing.1 unlawful.text old.now.trees missing.2 unlawful.row).0 in omega (arith, k)
-
-    no_state : Told → (setup : List Constituency) (text : List ℕ) (s : State) → IsLawfulState setup s → setup_of_text text ≡ Ok setup
-        → ((old.now.schema ≡ office_schema) × AreTables setup text s old.now.trees) ⊎ ((old.now.schema ≡ former_schema) × AreFormerTables setup text s old.now.trees) → ⊥
-    no_state ensured setup text s lawful reads (inl found) = forms_differ (sym found.0 ∙ schema)
-    no_state (inl none) setup text s lawful reads (inr found) = none.0 text found.1.0
-    no_state (inr unlawful) setup text s lawful reads (inr found) =
-        let own = (one_row former_version former_version text unlawful.text old.now.trees found.1.0 unlawful.row).1 in
-        let is = one_setup text unlawful.text setup unlawful.setup own reads unlawful.reads in
-        unlawful.none s (subst (λ c. IsLawfulState c s) is lawful) (subst (λ c. AreTables c unlawful.text s (tables_taken_over unlawful.text old.now.trees)) is (subst (λ t. AreTables setup t s (tables_taken_over t old.now.trees)) own found.1.1))
-
-    no_text : Told → (text : List ℕ) → IsOfKnownVersion text old.now → IsOk (setup_of_text text)
-    no_text ensured text (inl known) = absurd (forms_differ (sym known.0 ∙ schema))
-    no_text (inl none) text (inr known) = absurd (none.0 text known.1)
-    no_text (inr unlawful) text (inr known) = is_text unlawful.text text unlawful.setup (one_row former_version former_version text unlawful.text old.now.trees known.1 unlawful.row).1 unlawful.reads
-
 -- ---- the store
-
--- a database that was opened is that of a lawful state
-pub office_opened : (setup : List Constituency) (old new : Seen) → IsOpened setup old new → IsTrue new.is_open → (s : State) × IsLawfulState setup s × IsOffice setup s new
-office_opened setup old new opened now = (opened.state, opened.found.lawful, record { text = opened.text; reads = opened.found.found.0; has = opened.has now })
-
--- its setup is the one that was stored
-pub setup_opened : (setup : List Constituency) (old new : Seen) → IsOpened setup old new → IsSetupOf old.now setup
-setup_opened setup old new opened = (opened.text, known opened.found.found.1, opened.found.found.0)
-  where
-    known : ((old.now.schema ≡ office_schema) × AreTables setup opened.text opened.state old.now.trees) ⊎ ((old.now.schema ≡ former_schema) × AreFormerTables setup opened.text opened.state old.now.trees)
-        → IsOfKnownVersion opened.text old.now
-    known (inl found) = inl (found.0, found.1.setup_is)
-    known (inr found) = inr (found.0, found.1.0)
 
 -- ---- the numbers of returns
 

@@ -1,4 +1,5 @@
--- The rows of whole tables, as queries answer them in the order of the keys, and the tables of a lawful state.
+-- The rows of whole tables, as queries answer them in the order of the
+-- keys, and the tables of a lawful state.
 use Rattle.std.proofs.Common.{◌≡◌, ◌<◌, ◌&&◌, ℕ, pos, Bool, true, false, cond, nat_lt, T, List, [], ◌∷◌, map, Ordering, Less, Equal, Greater, refl, sym, ap₂, ◌∙◌, arith}
 use Rattle.std.specs.Prelude.{slice_index, ◌==◌}
 use Rattle.std.specs.FinMap.Entries.{is_sorted, below_all}

@@ -4,7 +4,6 @@ use Rattle.std.specs.List.Sorted.{IsPermutation}
 use Rattle.std.specs.Prelude.{if◌then◌else◌, option_and_then, option_map, unwrap_or}
 use Rattle.std.proofs.lemmas.Bool.{eqb-true}
 use Rattle.sqlite.proofs.Callers.{one_permutation}
-use Rattle.sqlite.specs.Effect.{Database}
 use Rattle.sqlite.specs.State.{State as Seen}
 use Rattle.sqlite_value.specs.Order.{Row, column}
 use Rattle.sqlite_value.specs.declared.value.Value.{Value}
@@ -15,7 +14,7 @@ use Rattle.tally_schema.specs.Cells.{setup_row}
 use Rattle.tally_schema.specs.Tables.{setup_tree}
 use Rattle.tally_statements.specs.Office.{ShowsSetup, shown_setup, stored_setup}
 use Rattle.tally_tables.specs.TablesOfState.{version}
-use Rattle.tally_opening.specs.internal.Opening.{AreOfNoStored, HasSetupRow, HasShownRow, HasStoredRow, IsJudgedFault, IsSetupFault, IsShownFault, IsShownSetup, IsTablesFault, OrFails, setup_shown, shown_of_row}
+use Rattle.tally_opening.specs.internal.Opening.{HasSetupRow, HasShownRow, HasStoredRow, IsSetupFault, IsShownFault, IsShownSetup, IsTablesFault, OrFails, setup_shown, shown_of_row}
 use Rattle.tally_faults.specs.declared.fault.OpenFault.{OpenFault}
 use Rattle.tally_faults.specs.declared.fault.OpenFault.TheVariants.{BadTables, Memory, NoTables, Setup, Store}
 
@@ -111,10 +110,6 @@ pub fault_shown : (number : ℕ) (seen : Seen) (answer : List Row) (fault : Open
 fault_shown number seen answer fault fits shown ensured =
     fault_as number (HasShownRow answer) (HasStoredRow seen.now) ⊥ ⊥ fault (λ n text is. row_stored n text seen answer shown is) (λ text row. row_shown number text seen answer fits shown row)
     (λ text row. row_shown version text seen answer refl shown row) (λ none. none) ensured
-
--- of the table `setup`, and of all tables
-pub fault_stored : (number : ℕ) (db : Database) (fault : OpenFault) → IsSetupFault number db fault → IsJudgedFault number db fault
-fault_stored number db fault ensured = fault_as number (HasStoredRow db) (HasStoredRow db) ⊥ (AreOfNoStored number db) fault (λ n text row. row) (λ text row. row) (λ text row. row) (λ none. absurd none) ensured
 
 pub or_fails : (IsFault : OpenFault → Type 0) (fault : OpenFault) → IsFault fault → OrFails IsFault fault
 or_fails IsFault NoTables ensured = ensured

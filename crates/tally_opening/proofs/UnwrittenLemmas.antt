@@ -8,7 +8,8 @@ use Rattle.tally_opening.specs.Crash.{CountsNothing, IsUnwritten, IsWholeOrNothi
 use Rattle.tally_opening.specs.Create.{IsAsBefore}
 use Rattle.tally_opening.specs.internal.Ending.{EndsUnchanged, IsSettled}
 
--- a crash leaves the last commit of a connection that is open, and nothing else: a law of every store
+-- a crash leaves the last commit of a connection that is open, and
+-- nothing else: a law of every store
 abbrev pub LeavesCommit : Seen → Type 0
 LeavesCommit seen = (db : Trees) → IsTrue seen.is_open → seen.may_leave db → db ≡ seen.committed.trees
 

@@ -11,7 +11,8 @@ use Rattle.tally_rules.specs.declared.fault.SetupFault.TheVariants as setup_faul
 use Rattle.tally_schema.specs.Made.{takes_office_name}
 use Rattle.tally_schema.specs.Tables.{schema_with}
 use Rattle.tally_faults.specs.declared.fault.CreateFault.{CreateFault}
-use Rattle.tally_faults.specs.declared.fault.CreateFault.TheVariants.{Setup, NotEmpty, Memory, Store}
+use Rattle.tally_faults.specs.declared.fault.CreateFault.TheVariants.{Setup, NotEmpty, Memory}
+use Rattle.tally_faults.specs.declared.fault.CreateFault.TheVariants.{Store}
 use Rattle.tally_opening.specs.Office.{HasState}
 
 -- no table, no index and no view

@@ -1,5 +1,6 @@
 -- The opening of a database: which tables are those of an office, and why a database is not opened.
-use Rattle.std.specs.Prelude.{◌≡◌, ◌≢◌, ◌⊎◌, ◌==◌, if◌then◌else◌, ℕ, List, [], ◌∷◌, Ok, IsOk, IsTrue, false, codes}
+use Rattle.std.specs.Prelude.{◌≡◌, ◌≢◌, ◌⊎◌, ◌==◌, if◌then◌else◌, ℕ, List, [], ◌∷◌, Ok, IsOk}
+use Rattle.std.specs.Prelude.{IsTrue, false, codes}
 use Rattle.std.specs.BTreeMap.{BTreeMap}
 use Rattle.sqlite_trees.specs.Tree.{Trees}
 use Rattle.sqlite.specs.Effect.{Database}
@@ -20,7 +21,8 @@ use Rattle.tally_statements.specs.declared.table.KeyedTable.{KeyedTable}
 use Rattle.tally_statements.specs.Office.{tree_of}
 use Rattle.tally_opening.specs.Office.{HasState}
 use Rattle.tally_faults.specs.declared.fault.OpenFault.{OpenFault}
-use Rattle.tally_faults.specs.declared.fault.OpenFault.TheVariants.{NoTables, BadTables, Setup, Memory, Store}
+use Rattle.tally_faults.specs.declared.fault.OpenFault.TheVariants.{NoTables, BadTables, Setup}
+use Rattle.tally_faults.specs.declared.fault.OpenFault.TheVariants.{Memory, Store}
 
 -- the version of the tables that had no `past`
 abbrev pub former_version : ℕ

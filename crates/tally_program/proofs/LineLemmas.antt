@@ -10,14 +10,14 @@ use Rattle.tally_line.specs.Line.{CheckSeen, ImportSeen, IsRefusal, LineSeen, Ne
 use Rattle.tally_line.specs.declared.line.LineFault.{LineFault}
 use Rattle.tally_line.specs.declared.line.LineFault.TheVariants.{Usage, NoCon, Memory}
 use Rattle.tally_line.proofs.CommandLemmas.{lacks_con_alone}
-use Rattle.tally_program.specs.Commands.{AtPath, AtPort, Bytes, IsAnyText, IsOutcomeReported, IsWritten, NotListening, Opening, Resource, TakesCourse, command_status}
+use Rattle.tally_program.specs.Commands.{AtPath, AtPort, Bytes, IsAnyText, IsOutcomeReported, IsWritten, NotListening, OpeningOutcome, Resource, TakesCourse, command_status}
 use Rattle.tally_program.specs.Perform.{Performs, PerformsLine}
 use Rattle.tally_program.specs.internal.Fault.{fault_status}
 use Rattle.tally_program.specs.Troubles.{IsTroubleOfServe}
 use Rattle.tally_program.proofs.WrittenLemmas.{any, counted, made, served, unwritten}
 
 -- out of memory, whatever the words ask for
-pub without-memory : {R W E : Type 0} (Opens : Resource → Opening) (left : Bytes R) (held : Bytes W) (reported : Bytes E) (words : List (List ℕ)) (line : Option LineSeen)
+pub without-memory : {R W E : Type 0} (Opens : Resource → OpeningOutcome) (left : Bytes R) (held : Bytes W) (reported : Bytes E) (words : List (List ℕ)) (line : Option LineSeen)
     (i : R) (o : W) (before after : E) → IsReported (reported before) (reported after) (codes "failed: memory\n")
     → PerformsLine Opens left held reported words line (record { input = i; output = o; errors = before }) (record { input = i; output = o; errors = after }) 3
 without-memory Opens left held reported words (Some (CheckSeen sep)) i o before after so =
@@ -63,7 +63,7 @@ without-memory Opens left held reported words None i o before after so = record 
 }
 
 -- words for which there is no line, and what is reported of them
-pub refused : {R W E : Type 0} (Opens : Resource → Opening) (left : Bytes R) (held : Bytes W) (reported : Bytes E) (words : List (List ℕ)) (fault : LineFault)
+pub refused : {R W E : Type 0} (Opens : Resource → OpeningOutcome) (left : Bytes R) (held : Bytes W) (reported : Bytes E) (words : List (List ℕ)) (fault : LineFault)
     (i : R) (o : W) (before after : E) (status : ℕ) → IsRefusal words fault → status ≡ fault_status fault
     → (status ≡ 3 → IsReported (reported before) (reported after) (codes "failed: memory\n"))
     → (fault ≡ NoCon → IsReported (reported before) (reported after) (codes "missing --con\n"))
@@ -90,7 +90,7 @@ refused Opens left held reported words (Usage e) i o before after status is give
     })
 
 -- words that ask for a server, and what it said, wrote and reported
-pub serves : {R W E : Type 0} (Opens : Resource → Opening) (left : Bytes R) (held : Bytes W) (reported : Bytes E) (words : List (List ℕ)) (db : List ℕ) (port count : ℕ)
+pub serves : {R W E : Type 0} (Opens : Resource → OpeningOutcome) (left : Bytes R) (held : Bytes W) (reported : Bytes E) (words : List (List ℕ)) (db : List ℕ) (port count : ℕ)
     (i : R) (o written : W) (before said after : E) (outcome : Result (Unit {0}) Trouble) (status : ℕ) → line_of words ≡ Some (ServeSeen db port count)
     → IfErr outcome IsTroubleOfServe → IsWritten held (IsServedText count) o written outcome → TakesCourse (Opens (AtPath db)) (Opens (AtPort port)) reported port count before said outcome
     → IsOutcomeReported reported said after outcome → status ≡ command_status outcome

@@ -1,4 +1,5 @@
--- What a command writes: nothing where it had a trouble before, and a text of a kind where it wrote one that is of the kind.
+-- What a command writes: nothing where it had a trouble before, and a
+-- text of a kind where it wrote one that is of the kind.
 use Rattle.std.proofs.Common.{◌≡◌, ◌⊎◌, ℕ, List, [], Option, Some, None, Result, Ok, Err, IfOk, IfErr, OnOk, OnErr, refl, sym, subst, append-nil, arith, inl, inr}
 use Rattle.std.specs.Io.KnownBytes.{Appends}
 use Rattle.tally_keeper.specs.declared.import.ImportCount.{ImportCount}
@@ -9,8 +10,8 @@ use Rattle.tally_commands.specs.Served.{IsServedText, listening_line, served_lin
 use Rattle.tally_commands.specs.Reported.{IsReported}
 use Rattle.tally_commands.specs.declared.trouble.Trouble.{Trouble}
 use Rattle.tally_commands.specs.declared.trouble.Trouble.TheVariants as trouble
-use Rattle.tally_program.specs.Commands.{Bytes, IsAnyText, IsTroubleOfListening, IsWritten, Listened, NotListening, Opening, TakesCourse}
-use Rattle.tally_program.specs.Troubles.{IsTroubleOfEnding, IsTroubleOfServing}
+use Rattle.tally_program.specs.Commands.{Bytes, IsAnyText, IsTroubleOfListening, IsWritten, Listened, NotListening, OpeningOutcome, TakesCourse}
+use Rattle.tally_program.specs.Troubles.{IsTroubleOfEnding, IsTroubleBeforeServing}
 
 appends-nothing : (held : Option (List ℕ)) → Appends held held []
 appends-nothing None = tt
@@ -102,13 +103,13 @@ ended-named Same Own Whole own ending (Ok text) r named ends fails = named-weake
 ended-named Same Own Whole own ending (Err t) r named ends fails =
     subst (λ (r : Result (Unit {0}) Trouble). IfErr r Whole) (sym fails.0) (own t named)
 
--- a trouble of listening is one of serving
-pub serving : (Listens : Opening) (t : Trouble) → IsTroubleOfListening Listens t → IsTroubleOfServing t
+-- a trouble of listening is one before serving
+pub serving : (Listens : OpeningOutcome) (t : Trouble) → IsTroubleOfListening Listens t → IsTroubleBeforeServing t
 serving Listens t (inl memory) = inl memory
 serving Listens t (inr port) = inr port.0
 
 -- the course of a server whose office was opened, by what serving came to, and then its ending
-pub takes : {E S : Type 0} (Opens Listens : Opening) (reported : Bytes E) (port count : ℕ) (Same : Type 0) (old new : E) (outcome : Result S Trouble) (r : Result (Unit {0}) Trouble)
+pub takes : {E S : Type 0} (Opens Listens : OpeningOutcome) (reported : Bytes E) (port count : ℕ) (Same : Type 0) (old new : E) (outcome : Result S Trouble) (r : Result (Unit {0}) Trouble)
     → Opens (Ok tt) → OnOk outcome (Listens (Ok tt)) → OnOk outcome (IsReported (reported old) (reported new) (listening_line port count)) → OnErr outcome (new ≡ old) → IfErr outcome (IsTroubleOfListening Listens)
     → OnOk outcome (IfErr r IsTroubleOfEnding) → IfErr outcome (λ t. (r ≡ Err t) × Same) → TakesCourse Opens Listens reported port count old new r
 takes Opens Listens reported port count Same old new (Ok text) r opened listens said silent listening ends fails =

@@ -1,6 +1,6 @@
 -- What a command over an office leaves on the three streams of the program, and its exit status. No
 -- contract says what is in its files.
-use Rattle.std.specs.Prelude.{◌≡◌, ◌⊎◌, ℕ, List, Option, Some, None, Result, Ok, Err, IfErr, take}
+use Rattle.std.specs.Prelude.{◌≡◌, ◌⊎◌, ℕ, List, Option, Result, Ok, Err, IfErr, take}
 use Rattle.std.specs.Io.KnownBytes.{Appends}
 use Rattle.tally_commands.specs.Served.{IsServedText, listening_line}
 use Rattle.tally_commands.specs.Reported.{IsReported}
@@ -81,8 +81,8 @@ pub data Resource : Type 0 where
   AtPort : ℕ → Resource
 
 -- what opening one came to: it is open, or it is not, for this trouble
-abbrev pub Opening : Type 1
-Opening = Result (Unit {0}) Trouble → Type 0
+abbrev pub OpeningOutcome : Type 1
+OpeningOutcome = Result (Unit {0}) Trouble → Type 0
 
 abbrev pub opening_of : {Opened : Type 0} → Result Opened Trouble → Result (Unit {0}) Trouble
 opening_of (Ok opened) = Ok tt
@@ -90,13 +90,13 @@ opening_of (Err t) = Err t
 
 -- Why a server whose office is open does not listen: it is out of memory; or it cannot listen on
 -- its port, which is what opening the port came to.
-abbrev pub IsTroubleOfListening : Opening → Trouble → Type 0
+abbrev pub IsTroubleOfListening : OpeningOutcome → Trouble → Type 0
 IsTroubleOfListening Listens t = (t ≡ Memory) ⊎ ((t ≡ Port) × Listens (Err t))
 
 -- The trouble of a server that does not listen yet is the one for which its office was not opened,
 -- or memory, or the one for which its port was not opened once its office was. One that listened
 -- has opened its office and its port, and its trouble is of its ending.
-abbrev pub IsCourse : Opening → Opening → Course → Type 0
+abbrev pub IsCourse : OpeningOutcome → OpeningOutcome → Course → Type 0
 IsCourse Opens Listens (NotListening t) =
     (IsTroubleOfOpening t × Opens (Err t)) ⊎ (t ≡ Memory)
     ⊎ (Opens (Ok tt) × (t ≡ Port) × Listens (Err t))
@@ -111,7 +111,7 @@ SaysWhere reported port count old new (Listened outcome) =
     IsReported (reported old) (reported new) (listening_line port count)
 
 -- A server took a course, and this is its outcome.
-pub record TakesCourse {E : Type 0} (Opens Listens : Opening) (reported : Bytes E)
+pub record TakesCourse {E : Type 0} (Opens Listens : OpeningOutcome) (reported : Bytes E)
     (port count : ℕ) (old new : E)
     (outcome : Result (Unit {0}) Trouble) : Type 0 where
   pub course : Course
@@ -121,7 +121,7 @@ pub record TakesCourse {E : Type 0} (Opens Listens : Opening) (reported : Bytes 
 
 -- The same as of a command, of a server of so many connections at a port, which says where it
 -- listens before it reports how it ended.
-pub record EndsServer {R W E : Type 0} (Opens Listens : Opening)
+pub record EndsServer {R W E : Type 0} (Opens Listens : OpeningOutcome)
     (held : Bytes W) (reported : Bytes E)
     (port count : ℕ) (old new : Streams R W E) (status : ℕ) : Type 0 where
   pub outcome : Result (Unit {0}) Trouble

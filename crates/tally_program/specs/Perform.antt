@@ -8,8 +8,11 @@ use Rattle.tally_commands.specs.Made.{IsMadeText}
 use Rattle.tally_commands.specs.Reported.{IsReported}
 use Rattle.tally_commands.specs.Trouble.{check_trouble}
 use Rattle.tally_commands.specs.declared.trouble.Trouble.{Trouble}
-use Rattle.tally_line.specs.Line.{CheckSeen, ImportSeen, LacksCon, LineSeen, NewSeen, ServeSeen, ShowSeen, line_of}
-use Rattle.tally_program.specs.Commands.{AtPath, AtPort, Bytes, EndsCommand, EndsServer, IsAnyText, IsOutcomeReported, Opening, Resource, Streams, command_status}
+use Rattle.tally_line.specs.Line.{CheckSeen, ImportSeen, LacksCon, LineSeen, NewSeen, ServeSeen}
+use Rattle.tally_line.specs.Line.{ShowSeen, line_of}
+use Rattle.tally_program.specs.Commands.{AtPath, AtPort, Bytes, EndsCommand, EndsServer, IsAnyText}
+use Rattle.tally_program.specs.Commands.{IsOutcomeReported, OpeningOutcome, Resource, Streams}
+use Rattle.tally_program.specs.Commands.{command_status}
 use Rattle.tally_program.specs.Troubles.{IsTroubleOfImport, IsTroubleOfNew, IsTroubleOfShow}
 
 -- ---- checks
@@ -70,8 +73,9 @@ not_text_line = codes "error: the arguments are not all UTF-8 text\n"
 
 -- What becomes of what the words ask for, where opening an office or a port came to what `Opens`
 -- says. A check may be out of memory before it begins.
-abbrev pub PerformsLine : {R W E : Type 0} → (Resource → Opening) → Bytes R → Bytes W → Bytes E
-    → List (List ℕ) → Option LineSeen → Streams R W E → Streams R W E → ℕ → Type 0
+abbrev pub PerformsLine : {R W E : Type 0} → (Resource → OpeningOutcome)
+    → Bytes R → Bytes W → Bytes E → List (List ℕ) → Option LineSeen
+    → Streams R W E → Streams R W E → ℕ → Type 0
 PerformsLine Opens left held reported words (Some (CheckSeen sep)) old new status =
     EndsCheck left held reported sep old new status
     ⊎ (IsUntouched old new × IsOutOfMemory reported old new status)
@@ -87,7 +91,7 @@ PerformsLine Opens left held reported words None old new status =
     RefusesLine reported words old new status
 
 -- What the program does for these words, its name first.
-abbrev pub Performs : {R W E : Type 0} → (Resource → Opening) → Bytes R → Bytes W → Bytes E
-    → List (List ℕ) → Streams R W E → Streams R W E → ℕ → Type 0
+abbrev pub Performs : {R W E : Type 0} → (Resource → OpeningOutcome)
+    → Bytes R → Bytes W → Bytes E → List (List ℕ) → Streams R W E → Streams R W E → ℕ → Type 0
 Performs Opens left held reported words =
     PerformsLine Opens left held reported words (line_of words)

@@ -1,8 +1,10 @@
 -- Which troubles each command of the program can have, and each part of one.
 use Rattle.std.specs.Prelude.{◌≡◌, ◌⊎◌}
-use Rattle.tally_commands.specs.Trouble.{IsTroubleOfMaking, IsTroubleOfOpening, IsTroubleOfReport, IsTroubleOfText}
+use Rattle.tally_commands.specs.Trouble.{IsTroubleOfMaking, IsTroubleOfOpening, IsTroubleOfReport}
+use Rattle.tally_commands.specs.Trouble.{IsTroubleOfText}
 use Rattle.tally_commands.specs.declared.trouble.Trouble.{Trouble}
-use Rattle.tally_commands.specs.declared.trouble.Trouble.TheVariants.{Memory, Store, File, Read, Write, Port}
+use Rattle.tally_commands.specs.declared.trouble.Trouble.TheVariants.{Memory, Store, File, Read}
+use Rattle.tally_commands.specs.declared.trouble.Trouble.TheVariants.{Write, Port}
 
 -- ---- parts
 
@@ -15,12 +17,12 @@ abbrev pub IsTroubleOfReading : Trouble → Type 0
 IsTroubleOfReading t = IsTroubleOfFile t ⊎ (t ≡ Read)
 
 -- of importing a file into the constituency of a code
-abbrev pub IsTroubleOfImporting : Trouble → Type 0
-IsTroubleOfImporting t = IsTroubleOfFile t ⊎ IsTroubleOfText t
+abbrev pub IsTroubleOfFileImport : Trouble → Type 0
+IsTroubleOfFileImport t = IsTroubleOfFile t ⊎ IsTroubleOfText t
 
--- of serving, before the first connection
-abbrev pub IsTroubleOfServing : Trouble → Type 0
-IsTroubleOfServing t = (t ≡ Memory) ⊎ (t ≡ Port)
+-- of a server that does not listen yet, its office being open
+abbrev pub IsTroubleBeforeServing : Trouble → Type 0
+IsTroubleBeforeServing t = (t ≡ Memory) ⊎ (t ≡ Port)
 
 -- of closing an office and writing what a command came to: never out of memory
 abbrev pub IsTroubleOfEnding : Trouble → Type 0
@@ -32,10 +34,10 @@ abbrev pub IsTroubleOfNew : Trouble → Type 0
 IsTroubleOfNew t = IsTroubleOfReading t ⊎ IsTroubleOfMaking t ⊎ IsTroubleOfEnding t
 
 abbrev pub IsTroubleOfImport : Trouble → Type 0
-IsTroubleOfImport t = IsTroubleOfOpening t ⊎ IsTroubleOfImporting t ⊎ IsTroubleOfEnding t
+IsTroubleOfImport t = IsTroubleOfOpening t ⊎ IsTroubleOfFileImport t ⊎ IsTroubleOfEnding t
 
 abbrev pub IsTroubleOfShow : Trouble → Type 0
 IsTroubleOfShow t = IsTroubleOfOpening t ⊎ IsTroubleOfReport t ⊎ IsTroubleOfEnding t
 
 abbrev pub IsTroubleOfServe : Trouble → Type 0
-IsTroubleOfServe t = IsTroubleOfOpening t ⊎ IsTroubleOfServing t ⊎ IsTroubleOfEnding t
+IsTroubleOfServe t = IsTroubleOfOpening t ⊎ IsTroubleBeforeServing t ⊎ IsTroubleOfEnding t

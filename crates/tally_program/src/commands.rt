@@ -14,7 +14,7 @@ ghost use Rattle.tally_program.specs.Commands.{AtPath, AtPort, IsAnyText, IsTrou
 ghost use Rattle.tally_program.specs.Commands.{IsWritten, TakesCourse};
 ghost use Rattle.tally_program.specs.internal.Served.{IsReportOfServing};
 ghost use Rattle.tally_program.specs.Troubles.{IsTroubleOfEnding, IsTroubleOfImport};
-ghost use Rattle.tally_program.specs.Troubles.{IsTroubleOfImporting, IsTroubleOfNew};
+ghost use Rattle.tally_program.specs.Troubles.{IsTroubleOfFileImport, IsTroubleOfNew};
 ghost use Rattle.tally_program.specs.Troubles.{IsTroubleOfServe, IsTroubleOfShow};
 ghost use Rattle.tally_commands.specs.Trouble.{IsTroubleOfReport};
 ghost use Rattle.tally_program.specs.internal.Worked.{IsFileImported, IsFileTrouble, IsTextShown};
@@ -159,7 +159,7 @@ fn import_file<K: Keeper>(
 ) -> Result<String, Trouble>
     ensures stays { StaysKeeper K.Keeper keeper.old keeper.new }
     ensures text { IfOk result (λ text. IsCountText (string_bytes text)) }
-    ensures named { IfErr result IsTroubleOfImporting }
+    ensures named { IfErr result IsTroubleOfFileImport }
     ensures read { K.IsTrusted keeper.new →
         result ≡ Err Trouble.Read → has_failed watch.new ≡ true }
     ensures all_read { K.IsTrusted keeper.new → OnOk result (NotesNothing watch.old watch.new) }

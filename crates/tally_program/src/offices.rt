@@ -2,7 +2,8 @@
 
 ghost use Rattle.std.specs.Prelude.{◌≡◌, IfErr};
 ghost use Rattle.tally_commands.specs.Trouble.{IsTroubleOfMaking, IsTroubleOfOpening};
-ghost use Rattle.tally_program.specs.Commands.{AtPath, AtPort, Opening, Resource, opening_of};
+ghost use Rattle.tally_program.specs.Commands.{AtPath, AtPort, OpeningOutcome, Resource};
+ghost use Rattle.tally_program.specs.Commands.{opening_of};
 
 use std::net::TcpListener;
 use tally_commands::Trouble;
@@ -16,7 +17,7 @@ pub trait Offices {
 
     /// What opening the office at a path, or a port, came to: it is open, or it is not, for a
     /// trouble. All that is known of it comes of `open_office` and `listen`.
-    ghost Opens: { Self → Resource → Opening };
+    ghost Opens: { Self → Resource → OpeningOutcome };
 
     /// Opens the office at a path. Where there is none, none is made.
     fn open_office(&self, rt: &HostRuntime, path: &str) -> Result<Self::Office, Trouble>

@@ -1,4 +1,5 @@
--- The complete records of a text that was stopped are the first of all that the text would have had.
+-- The complete records of a text that was stopped are the first of all
+-- that the text would have had.
 use Rattle.std.proofs.Common.{◌≡◌, ◌<◌, ◌++◌, ◌∷◌, ◌∙◌, ℕ, zero, suc, List, [], Bool, true, false, Option, Some, None, length, refl, sym, ap, subst, arith}
 use Rattle.std.specs.Prelude.{◌==◌, ◌&&◌, if◌then◌else◌}
 use Rattle.std.specs.Cmp.{first_so, second_so}

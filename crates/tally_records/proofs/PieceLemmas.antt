@@ -386,7 +386,8 @@ at-line-end sep s fields field p c line plain e last none = go (line-end c line)
     go (inr is) = subst (λ b. BeginsAnew sep s fields field (b ∷ [])) (sym is)
         (at-feed sep s fields field p plain (subst (λ b. next_record (config sep) s fields field (b ∷ separator sep ∷ []) ≡ Some p) is e) last none)
 
--- So it does after all bytes that end with a line, where a separator after them begins nothing and no record ended in them.
+-- So it does after all bytes that end with a line, where a separator
+-- after them begins nothing and no record ended in them.
 anew-inside : (sep : Sep) (s : State) (fields : List (List ℕ)) (field : List ℕ) (p : Read) (c : ℕ) (ys : List ℕ)
     → ends_line (c ∷ ys) ≡ true → is_plain s ≡ true → next_record (config sep) s fields field (c ∷ (ys ++ separator sep ∷ [])) ≡ Some p → p.2 ≡ [] → p.0 ≡ nothing
     → BeginsAnew sep s fields field (c ∷ ys)
@@ -430,7 +431,8 @@ next-between sep st.AfterCr (c ∷ rest) between = go (c == 10) refl
     go true is = let same = eqb-true _ _ is in rw same refl
     go false is = rw is refl
 
--- After a piece that ends with a line, and all of whose records but one that a separator begins were passed over, the text begins again.
+-- After a piece that ends with a line, and all of whose records but one that a separator begins
+-- were passed over, the text begins again.
 pub all-anew : (sep : Sep) (k : ℕ) (s : State) (ys : List ℕ)
     → ends_at_end s ≡ false → ends_line ys ≡ true → drop k (all (config sep) s (ys ++ separator sep ∷ [])) ≡ nothing ∷ []
     → (rest : List ℕ) → drop k (all (config sep) s (ys ++ rest)) ≡ all (config sep) st.StartRecord rest

@@ -1,5 +1,6 @@
 -- Which records of an input were given, and what is left of it.
-use Rattle.std.specs.Prelude.{◌≡◌, ◌≤◌, ◌++◌, ◌∷◌, ℕ, Bool, true, List, [], drop, length, Option, Some, None, IfSome, Result, IfOk, ⊤}
+use Rattle.std.specs.Prelude.{◌≡◌, ◌≤◌, ◌++◌, ◌∷◌, ℕ, Bool, true, List, [], drop, length, Option}
+use Rattle.std.specs.Prelude.{Some, None, IfSome, Result, IfOk, ⊤}
 use Rattle.std.specs.Io.KnownBytes.{Consumes}
 use Rattle.tally_records.specs.Input.{AreAll, Gave, complete_records, size_limit}
 use Rattle.tally_records.specs.RecordsValue.{Records}

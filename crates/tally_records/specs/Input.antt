@@ -1,5 +1,6 @@
 -- What a reader gives, and the records in it.
-use Rattle.std.specs.Prelude.{◌≡◌, ◌≤◌, ◌<◌, ◌++◌, if◌then◌else◌, nat_lt, ℕ, List, [], ◌∷◌, take, length, Option, Some, None, IfSome}
+use Rattle.std.specs.Prelude.{◌≡◌, ◌≤◌, ◌<◌, ◌++◌, if◌then◌else◌, nat_lt, ℕ, List, [], ◌∷◌, take}
+use Rattle.std.specs.Prelude.{length, Option, Some, None, IfSome}
 use Rattle.std.specs.Io.KnownBytes.{Consumes}
 use Rattle.csv.specs.Reading.{records, strip_bom}
 use Rattle.tally_records.specs.Separator.{separator, config}

@@ -1,7 +1,8 @@
 -- What the texts of the reports are made of. A text is lines, a line is columns with a line end
 -- after them, and a column is a value at the left or at the right of so many places. Names come
 -- last on a line, in no column, and are never cut.
-use Rattle.std.specs.Prelude.{ℕ, ◌+◌, ◌-◌, ◌++◌, Bool, false, List, [], ◌∷◌, length, replicate, slice_index_or, codes}
+use Rattle.std.specs.Prelude.{ℕ, ◌+◌, ◌-◌, ◌++◌, Bool, false, List, [], ◌∷◌, length, replicate}
+use Rattle.std.specs.Prelude.{slice_index_or, codes}
 use Rattle.std.specs.Fmt.{decimal}
 use Rattle.tally_rules.specs.Constituency.{Constituency, ListEntry}
 use Rattle.tally_rules.specs.Threshold.{eligible_lists}

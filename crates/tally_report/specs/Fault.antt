@@ -5,7 +5,8 @@ use Rattle.tally_frac.specs.declared.divisors.DivisorRule.{DivisorRule}
 use Rattle.tally_rules.specs.Constituency.{Constituency}
 use Rattle.tally_rules.specs.Method.{divisor_rule_of}
 use Rattle.tally_report.specs.declared.fault.ReportFault.{ReportFault}
-use Rattle.tally_report.specs.declared.fault.ReportFault.TheVariants.{NotCertified, OtherMethod, Memory}
+use Rattle.tally_report.specs.declared.fault.ReportFault.TheVariants.{NotCertified, OtherMethod}
+use Rattle.tally_report.specs.declared.fault.ReportFault.TheVariants.{Memory}
 
 -- the fault of a report of a certified constituency's seats, where it is certified or not
 abbrev pub unless_certified : Bool → Option ReportFault → Option ReportFault

@@ -5,13 +5,15 @@
 --     A                   1 Ana
 --     B                   - empty
 --     B                   - empty
-use Rattle.std.specs.Prelude.{ℕ, ◌+◌, ◌-◌, ◌++◌, List, [], length, slice_index, slice_index_or, codes}
+use Rattle.std.specs.Prelude.{ℕ, ◌+◌, ◌-◌, ◌++◌, List, [], length, slice_index, slice_index_or}
+use Rattle.std.specs.Prelude.{codes}
 use Rattle.std.specs.List.{flat_map, repeat}
 use Rattle.tally_rules.specs.Constituency.{Constituency, ListEntry}
 use Rattle.tally_returns.specs.View.{View}
 use Rattle.tally_steps.specs.Certification.{gone_of}
 use Rattle.tally_steps.specs.Holders.{holders}
-use Rattle.tally_report.specs.Columns.{code_width, heading, left_cell, line_end, list_lines, number, right_cell}
+use Rattle.tally_report.specs.Columns.{code_width, heading, left_cell, line_end, list_lines, number}
+use Rattle.tally_report.specs.Columns.{right_cell}
 
 -- the line of a candidate, at this place of the list from 1
 abbrev pub holder_line : ListEntry → ℕ → List ℕ

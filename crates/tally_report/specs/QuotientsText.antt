@@ -4,13 +4,15 @@
 --     QUOTIENTS c1 Twin Town
 --     A               *        100          50          33
 --     B               *        100*         50          33
-use Rattle.std.specs.Prelude.{ℕ, ◌+◌, ◌*◌, ◌/◌, ◌++◌, nat_le, max, List, [], ◌∷◌, slice_index, if◌then◌else◌, codes}
+use Rattle.std.specs.Prelude.{ℕ, ◌+◌, ◌*◌, ◌/◌, ◌++◌, nat_le, max, List, [], ◌∷◌, slice_index}
+use Rattle.std.specs.Prelude.{if◌then◌else◌, codes}
 use Rattle.std.specs.List.{flat_map, range_with_len}
 use Rattle.tally_rules.specs.Constituency.{Constituency, ListEntry}
 use Rattle.tally_law.specs.Allotment.{Rule, divisors, hare}
 use Rattle.tally_returns.specs.View.{View}
 use Rattle.tally_steps.specs.Outcome.{rule_in}
-use Rattle.tally_report.specs.Columns.{code_width, heading, is_eligible_at, left_cell, line_end, list_lines, number}
+use Rattle.tally_report.specs.Columns.{code_width, heading, is_eligible_at, left_cell, line_end}
+use Rattle.tally_report.specs.Columns.{list_lines, number}
 
 -- the greatest of these numbers
 abbrev pub most : List ℕ → ℕ

@@ -4,12 +4,14 @@
 --     SHORT c1 Twin Town
 --     A                   1           1
 --     B                   2         200
-use Rattle.std.specs.Prelude.{◌≡◌, ℕ, ◌++◌, Option, Some, None, List, [], slice_index, slice_index_or, if◌then◌else◌, codes}
+use Rattle.std.specs.Prelude.{◌≡◌, ℕ, ◌++◌, Option, Some, None, List, [], slice_index}
+use Rattle.std.specs.Prelude.{slice_index_or, if◌then◌else◌, codes}
 use Rattle.tally_rules.specs.Constituency.{Constituency, ListEntry}
 use Rattle.tally_allot.specs.VotesShort.{AreVotesShort}
 use Rattle.tally_steps.specs.Outcome.{poll_in, rule_in}
 use Rattle.tally_returns.specs.View.{View}
-use Rattle.tally_report.specs.Columns.{code_width, heading, is_eligible_at, left_cell, line_end, list_lines, number, right_cell}
+use Rattle.tally_report.specs.Columns.{code_width, heading, is_eligible_at, left_cell, line_end}
+use Rattle.tally_report.specs.Columns.{list_lines, number, right_cell}
 
 -- a number of votes, and a dash where there is none
 abbrev pub votes_column : Option ℕ → List ℕ

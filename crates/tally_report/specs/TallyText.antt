@@ -6,13 +6,15 @@
 --     valid 200 blank 0 spoiled 0
 --     A                        100   50.00 in  Alpha
 --     B                        100   50.00 in  Beta
-use Rattle.std.specs.Prelude.{ℕ, ◌+◌, ◌*◌, ◌/◌, ◌%◌, ◌++◌, ◌==◌, Bool, true, false, List, slice_index, sum, if◌then◌else◌, codes}
+use Rattle.std.specs.Prelude.{ℕ, ◌+◌, ◌*◌, ◌/◌, ◌%◌, ◌++◌, ◌==◌, Bool, true, false, List}
+use Rattle.std.specs.Prelude.{slice_index, sum, if◌then◌else◌, codes}
 use Rattle.std.specs.Fmt.{decimal}
 use Rattle.tally_frac.specs.Limits.{whole_base}
 use Rattle.tally_rules.specs.Constituency.{Constituency, ListEntry}
 use Rattle.tally_rules.specs.Threshold.{base_of}
 use Rattle.tally_returns.specs.View.{View}
-use Rattle.tally_report.specs.Columns.{code_width, heading, is_eligible_at, left_cell, line_end, list_lines, number, right_cell}
+use Rattle.tally_report.specs.Columns.{code_width, heading, is_eligible_at, left_cell, line_end}
+use Rattle.tally_report.specs.Columns.{list_lines, number, right_cell}
 
 -- the line of the valid votes, which are those of the lists and the blank ones (LOREG article 96.5)
 abbrev pub valid_line : View → List ℕ

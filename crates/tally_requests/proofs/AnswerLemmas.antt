@@ -1,4 +1,5 @@
--- What is answered to a request on a constituency, and to the one that shows how far constituencies have come, in a transaction.
+-- What is answered to a request on a constituency, and to the one that
+-- shows how far constituencies have come, in a transaction.
 use Rattle.std.proofs.Common.{◌≡◌, ◌≢◌, ◌∙◌, ◌⊎◌, ◌+◌, ◌++◌, ◌∷◌, ◌<◌, ℕ, List, [], Bool, Option, Some, None, Result, Ok, Err, IfOk, inl, inr, length, refl, sym, ap, subst, map, take}
 use Rattle.std.specs.Prelude.{is_some, slice_index_or}
 use Rattle.std.specs.FinMap.{get, insert}
@@ -141,9 +142,6 @@ rows-more f cons i con rows more row less con_is before row_is after =
 -- what a call left as it was
 pub still-unchanged : (old new : Seen) → IsUnchanged old new → IsInside old → IsStill old new
 still-unchanged old new same inside = record { inside = inside_still old new same inside; same = same.0.now_is }
-
-pub still-then : (old mid new : Seen) → IsStill old mid → IsStill mid new → IsStill old new
-still-then old mid new one two = record { inside = two.inside; same = two.same ∙ one.same }
 
 -- so the tables are those of the state still
 pub still-state : (setup : List Constituency) (text : List ℕ) (s : State) (old new : Seen) → IsStill old new → AreTables setup text s old.now.trees → IsInState setup text s new

@@ -20,7 +20,7 @@ use Rattle.tally_rules.specs.Setup.{constituency_with}
 use Rattle.tally_returns.specs.GoneCandidate.{GoneCandidate}
 use Rattle.tally_returns.specs.Named.{con_named}
 use Rattle.tally_returns.specs.PastSeats.{PastSeats}
-use Rattle.tally_returns.specs.Return.{Returns as Office}
+use Rattle.tally_returns.specs.Return.{Returns as StationReturns}
 use Rattle.tally_returns.specs.State.{State, ConState, con_state, opening_con}
 use Rattle.tally_returns.specs.View.{View, past_records, view_of, view_with}
 use Rattle.tally_returns.specs.declared.ask.Ask.{Ask}
@@ -58,7 +58,7 @@ lots_keyed e = items_keyed e.0 (numbers_with_places 1 e.1.lot)
 pub seats_keyed : (given : List ℕ → List ℕ) → AreKeyedBy (seat_rows given)
 seats_keyed given e = items_keyed e.0 (numbers_with_places 1 (given e.0))
 
-pub totals_keyed : (setup : List Constituency) (returns : Office) → AreKeyedBy (total_rows setup returns)
+pub totals_keyed : (setup : List Constituency) (returns : StationReturns) → AreKeyedBy (total_rows setup returns)
 totals_keyed setup returns e = items_keyed e.0 (items_of (totals_of setup returns e.0))
 
 each_keyed : {X : Type 0} (key : List ℕ) (f : X → Row) → ((x : X) → column (f x) 0 ≡ Text key) → (xs : List X) → AllByRecursion (λ c. column c 0 ≡ Text key) (map f xs)
@@ -123,7 +123,7 @@ seats_after setup s con given next now known was has others code other found = g
 abbrev pub HasGoneMoved : List ℕ → GoneCandidate → Seen → Seen → Type 0
 HasGoneMoved code gone old new = ChangesOnly Gone old new × MovesRows Gone gone_rows code (HasGone gone) old new
 
-gone_right : (con : Constituency) (c : ConState) (returns : Office) (seats key note : List ℕ) (b : Bool) → HasSeats con (view_with con c returns seats) b
+gone_right : (con : Constituency) (c : ConState) (returns : StationReturns) (seats key note : List ℕ) (b : Bool) → HasSeats con (view_with con c returns seats) b
     → HasSeats con (view_with con (record c { gone = insert c.gone key note }) returns seats) b
 gone_right con c returns seats key note true has = has
 gone_right con c returns seats key note false has = has
@@ -173,7 +173,7 @@ pub record AreOf (con : Constituency) (view : View) (key : List ℕ) (edition : 
   pub edition_is : edition ≡ view.edition + 1
 
 -- one that is not certified has no seats
-open_seats : (con : Constituency) (before now : ConState) (returns : Office) (seats : List ℕ) (b : Bool) → before.certified ≡ false → b ≡ false → HasSeats con (view_with con before returns seats) before.certified
+open_seats : (con : Constituency) (before now : ConState) (returns : StationReturns) (seats : List ℕ) (b : Bool) → before.certified ≡ false → b ≡ false → HasSeats con (view_with con before returns seats) before.certified
     → HasSeats con (view_with con now returns seats) b
 open_seats con before now returns seats b was is has =
     let none : seats ≡ [] = subst (λ (x : Bool). HasSeats con (view_with con before returns seats) x) was has in

@@ -52,7 +52,8 @@ use Rattle.tally_requests.proofs.LodgedLemmas.{found-is}
 pub few-lists : (setup : List Constituency) (station : List ℕ) (con : Constituency) (place : Station) → IsSetup setup → station_with station setup ≡ Some (con, place) → length con.lists ≤ 60
 few-lists setup station con place limits known = (con-limits setup con limits (station-found setup station con place known).0).lists
 
--- where the checks passed, a return was in a status from which the command starts, and the constituency was not certified
+-- where the checks passed, a return was in a status from which the
+-- command starts, and the constituency was not certified
 record IsPassed (certified : Bool) (found : Option StationReturn) (may_start : Status → Bool) (checks : List (Option Refusal)) (next : StationReturn → StationReturn) (change : Change) : Type 0 where
   before : StationReturn
   found_is : found ≡ Some before

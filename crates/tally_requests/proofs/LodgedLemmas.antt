@@ -150,12 +150,6 @@ pub answer-at : (setup : List Constituency) (returns : Returns) (station slip : 
 answer-at setup returns station slip counts con place is =
     ap (λ found. reply_at_code (option_map (λ (p : Constituency × Station). limits_of p.0 p.1) found) (get returns station) slip counts) (sym is)
 
--- and where there is none
-pub answer-nowhere : (setup : List Constituency) (returns : Returns) (station slip : List ℕ) (counts : VoteCounts) → station_with station setup ≡ None
-    → Err NoStation ≡ lodge_answer (stations_of setup) returns station slip counts
-answer-nowhere setup returns station slip counts is =
-    ap (λ found. reply_at_code (option_map (λ (p : Constituency × Station). limits_of p.0 p.1) found) (get returns station) slip counts) (sym is)
-
 -- what was decided of what was found is what is answered
 pub decided-is : (setup : List Constituency) (text : List ℕ) (s : State) (station slip : List ℕ) (counts : VoteCounts) (con : Constituency) (place : Station) (lists : ℕ) (old : Seen) (found copied : Option StationReturn) (r : Result LodgeReply Refusal)
     → IsSetup setup → IsLawfulState setup s → AreTables setup text s old.now.trees → station_with station setup ≡ Some (con, place) → lists ≡ length con.lists → FindsReturn setup station old found

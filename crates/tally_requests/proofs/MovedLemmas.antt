@@ -16,7 +16,7 @@ use Rattle.tally_rules.specs.declared.constituency.Station.{Station}
 use Rattle.tally_returns.specs.Decide.{limits_of}
 use Rattle.tally_returns.specs.Lawful.{IsLawfulAt}
 use Rattle.tally_returns.specs.Lodge.{StationLimits}
-use Rattle.tally_returns.specs.Return.{StationReturn, Returns as Office}
+use Rattle.tally_returns.specs.Return.{StationReturn, Returns as StationReturns}
 use Rattle.tally_returns.specs.State.{ConState, State, con_state, opening_con}
 use Rattle.tally_returns.specs.View.{closed_counts, counts_if_closed, view_of, view_with}
 use Rattle.tally_returns.specs.declared.returns.Status.{Status}
@@ -94,7 +94,7 @@ seats_stay setup s t con place station r given limits at was_open is_open put ot
         let distinct : other.code ≢ con.code = λ same. let tied : bytes_eq other.code con.code ≡ true = (bytes_eq-Decides other.code con.code).1 same in cc in
         let elsewhere = station-elsewhere setup code station con other place limits at found distinct in
         let closed : closed_counts t.returns other.stations ≡ closed_counts s.returns other.stations =
-        ap (λ (m : Office). closed_counts m other.stations) put ∙ closed_counts-same (insert s.returns station r) s.returns other.stations (put-elsewhere s.returns station r other.stations elsewhere) in
+        ap (λ (m : StationReturns). closed_counts m other.stations) put ∙ closed_counts-same (insert s.returns station r) s.returns other.stations (put-elsewhere s.returns station r other.stations elsewhere) in
         subst (λ (c : ConState). HasSeats other (view_with other c t.returns (given other.code)) c.certified) (sym (others other.code distinct))
         (seats-put other (con_state s other.code) s.returns t.returns (given other.code) (con_state s other.code).certified closed (was code other found))
 

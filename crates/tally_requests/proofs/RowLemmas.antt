@@ -1,7 +1,6 @@
 -- An import in a transaction, so far.
 use Rattle.std.proofs.Common.{◌≡◌, ◌≤◌, ◌+◌, ◌∙◌, ℕ, List, [], ◌++◌, ◌∷◌, None, Some, Ok, Err, length, refl, sym, ap, subst, arith, length-append}
 use Rattle.std.specs.FinMap.{empty}
-use Rattle.std.specs.Prelude.{IfSome}
 use Rattle.sqlite.specs.State.{State as Seen}
 use Rattle.tally_rules.specs.Constituency.{Constituency}
 use Rattle.tally_rules.specs.Limits.{IsSetup}
@@ -10,15 +9,14 @@ use Rattle.tally_returns.specs.Return.{Returns}
 use Rattle.tally_returns.specs.State.{State, stations_of}
 use Rattle.tally_steps.specs.LawfulState.{IsLawfulState}
 use Rattle.tally_ledger.specs.Kept.{Kept}
-use Rattle.tally_keeper.specs.Import.{IsBelow, IsCodedRow, RowAnswer, after_row, count_of, count_with_row, row_answer}
+use Rattle.tally_keeper.specs.Import.{IsCodedRow, RowAnswer, after_row, count_of, count_with_row, row_answer}
 use Rattle.tally_keeper.specs.Keeper.{IsImportFault, IsOwnFault}
-use Rattle.tally_keeper.specs.Source.{GaveAll, IsWithinRowLimit, SourceAt, row_limit}
+use Rattle.tally_keeper.specs.Source.{GaveAll, SourceAt, row_limit}
 use Rattle.tally_keeper.specs.declared.import.ImportCount.{ImportCount}
 use Rattle.tally_keeper.specs.declared.import.Row.{Row}
 use Rattle.tally_keeper.specs.declared.source.ImportFault.{ImportFault}
-use Rattle.tally_keeper.specs.declared.source.ImportFault.TheVariants.{TooLong}
-use Rattle.tally_keeper.proofs.ImportLemmas.{count_of-below, push_is}
-use Rattle.tally_keeper.proofs.TakenLemmas.{GivesAt, SoFar, SoFar-end, SoFar-fault, SoFar-many, SoFar-next, SoFar-own, SoFar-start, all-given}
+use Rattle.tally_keeper.proofs.ImportLemmas.{push_is}
+use Rattle.tally_keeper.proofs.TakenLemmas.{GivesAt, SoFar, SoFar-end, SoFar-fault, SoFar-next, SoFar-own, SoFar-start, all-given}
 use Rattle.tally_requests.specs.Known.{AreKnown, Known}
 use Rattle.tally_requests.specs.internal.Counting.{known_after_row as after_row_known}
 use Rattle.tally_requests.specs.Requests.{IsImportedKnown, IsInState}
@@ -56,9 +54,6 @@ came-fault all left next many fault was given = SoFar-fault no_stations empty wa
 pub came-own : (all left next : SourceAt) (many : ℕ) (r : Row) (fault : ImportFault) → Came all left many → GivesAt left (Ok (Some r)) next → IsOwnFault fault → IsImportFault (record { start = all; finish = next }) fault
 came-own all left next many r fault was given own = SoFar-own no_stations empty was.1 all left next was.0 many r fault was.2 given own
 
-pub came-many : (all left : SourceAt) (many : ℕ) → Came all left many → many ≡ row_limit + 1 → IfSome all.coming IsWithinRowLimit → IsImportFault (record { start = all; finish = left }) TooLong
-came-many all left many was over within = SoFar-many no_stations empty was.1 all left was.0 many was.2 over within
-
 -- so many answers were counted
 abbrev pub Counted : ImportCount → ℕ → Type 0
 Counted count many = (answered : List RowAnswer) × (count ≡ count_of answered) × (length answered ≡ many)
@@ -69,9 +64,6 @@ counted-next count more many answer was is = (
   push_is count more was.0 answer (many + 1) was.1 (ap (λ n. n + 1) (sym was.2)) is,
   length-append was.0 (answer ∷ []) ∙ ap (λ n. n + 1) was.2,
 )
-
-pub counted-below : (count : ImportCount) (many : ℕ) → Counted count many → IsBelow count (many + 1)
-counted-below count many was = subst (λ c. IsBelow c (many + 1)) (sym was.1) (count_of-below was.0 (many + 1) (ap (λ n. n + 1) (sym was.2)))
 
 -- ---- what is known of the tables of a lawful state
 

@@ -1,4 +1,5 @@
--- The sums of closed votes where a return is put in place of one whose counts are closed too, or no longer.
+-- The sums of closed votes where a return is put in place of one whose
+-- counts are closed too, or no longer.
 use Rattle.std.proofs.Common.{◌≡◌, ◌≢◌, ◌≤◌, ◌<◌, ◌⊎◌, ◌+◌, ◌-◌, ◌∷◌, ◌∙◌, ℕ, zero, suc, List, [], Bool, true, false, length, map, Option, Some, None, Result, inl, inr, refl, sym, ap, subst, arith}
 use Rattle.std.specs.Prelude.{OnOk, is_some, slice_index, sum_by}
 use Rattle.std.specs.FinMap.{get, insert}

@@ -104,10 +104,6 @@ constituency_with-code setup code con is = sym ((bytes_eq-Decides code con.code)
 pub constituency_with-own : (setup : List Constituency) (code : List ℕ) (con : Constituency) → constituency_with code setup ≡ Some con → constituency_with con.code setup ≡ Some con
 constituency_with-own setup code con is = subst (λ q. constituency_with q setup ≡ Some con) (sym (constituency_with-code setup code con is)) is
 
--- what holds of each constituency of a setup holds of the one of a code
-pub constituency_with-All : (P : Constituency → Type 0) (setup : List Constituency) (code : List ℕ) (con : Constituency) → All P setup → constituency_with code setup ≡ Some con → P con
-constituency_with-All P setup code con = found-All P (λ (c : Constituency). bytes_eq code c.code) setup con
-
 own-con : (setup : List Constituency) (code : List ℕ) (con : Constituency) (station : Station) → AreDistinct (constituency_codes setup)
     → station_with code setup ≡ Some (con, station) → constituency_with con.code setup ≡ Some con
 own-con [] code con station distinct is = cc
@@ -228,7 +224,8 @@ closed_counts-same a b (x ∷ stations) all =
     ap (λ found. counts_if_closed found ++ closed_counts a stations) (All-head (IsSameAt a b) x stations all)
     ∙ ap (λ counts. counts_if_closed (fin.get b x.code) ++ counts) (closed_counts-same a b stations (All-tail (IsSameAt a b) x stations all))
 
--- what is seen of a constituency, by how many of its returns are in each status and by the counts of the closed ones
+-- what is seen of a constituency, by how many of its returns are in
+-- each status and by the counts of the closed ones
 abbrev seen : Constituency → ConState → List ℕ → ℕ → ℕ → ℕ → ℕ → List VoteCounts → View
 seen con c seats received queried corrected closed counts = record {
   edition = c.edition;

@@ -17,11 +17,13 @@ place_with code = find (λ (place : Constituency × Station). bytes_eq code plac
 abbrev pub station_of : List ℕ → List Station → Option Station
 station_of code = find (λ (x : Station). bytes_eq code x.code)
 
--- the constituency is this one and the station was found there, or the place is in what comes after it
+-- the constituency is this one and the station was found there, or the
+-- place is in what comes after it
 abbrev pub IsEither : List ℕ → Constituency → Station → Constituency → List (Constituency × Station) → Option Station → Type 0
 IsEither code con station c more found = ((c ≡ con) × (found ≡ Some station)) ⊎ (place_with code more ≡ Some (con, station))
 
--- the first place of a code is among a constituency's own stations, the first there, or else after them
+-- the first place of a code is among a constituency's own stations, the
+-- first there, or else after them
 pub either-in : (code : List ℕ) (con c : Constituency) (station : Station) (stations : List Station) (more : List (Constituency × Station))
     → place_with code (places c stations ++ more) ≡ Some (con, station)
     → IsEither code con station c more (station_of code stations)

@@ -1,6 +1,7 @@
 -- What is decided of a command on the return of a station: the refusal of the first check that
 -- fails, or what is changed.
-use Rattle.std.specs.Prelude.{◌≡◌, ◌≢◌, ℕ, Bool, List, [], ◌∷◌, Option, Some, None, Result, Ok, Err, is_some, string_bytes, length, option_and_then, option_map}
+use Rattle.std.specs.Prelude.{◌≡◌, ◌≢◌, ℕ, Bool, List, [], ◌∷◌, Option, Some, None, Result, Ok, Err}
+use Rattle.std.specs.Prelude.{is_some, string_bytes, length, option_and_then, option_map}
 use Rattle.std.specs.List.{find}
 use Rattle.std.specs.Str.{bytes_eq}
 use Rattle.tally_rules.specs.Constituency.{Constituency}
@@ -8,11 +9,13 @@ use Rattle.tally_rules.specs.declared.constituency.Station.{Station}
 use Rattle.tally_returns.specs.Return.{StationReturn, first_return}
 use Rattle.tally_returns.specs.Counts.{VoteCounts}
 use Rattle.tally_returns.specs.Lodge.{StationLimits, reply_at_code, limits_for}
-use Rattle.tally_returns.specs.Moves.{query_checks, correct_checks, close_checks, queried_return, corrected_return, closed_return}
+use Rattle.tally_returns.specs.Moves.{query_checks, correct_checks, close_checks, queried_return}
+use Rattle.tally_returns.specs.Moves.{corrected_return, closed_return}
 use Rattle.tally_returns.specs.Named.{station_named}
 use Rattle.tally_returns.specs.Checks.{check, first_refusal, refused_or}
 use Rattle.tally_returns.specs.declared.ask.Ask.{Ask}
-use Rattle.tally_returns.specs.declared.ask.Ask.TheVariants.{Lodge, Query, Correct, Close, ShowReturn}
+use Rattle.tally_returns.specs.declared.ask.Ask.TheVariants.{Lodge, Query, Correct, Close}
+use Rattle.tally_returns.specs.declared.ask.Ask.TheVariants.{ShowReturn}
 use Rattle.tally_returns.specs.declared.change.Change.{Change}
 use Rattle.tally_returns.specs.declared.change.Change.TheVariants.{Same, PutReturn}
 use Rattle.tally_returns.specs.declared.refusal.Refusal.{Refusal}

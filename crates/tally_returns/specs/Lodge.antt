@@ -1,12 +1,14 @@
 -- Lodging a return: what is answered, and the returns that are then recorded.
-use Rattle.std.specs.Prelude.{◌&&◌, if◌then◌else◌, ℕ, nat_eq, nat_le, List, [], ◌∷◌, Option, Some, None, Result, Ok, Err}
+use Rattle.std.specs.Prelude.{◌&&◌, if◌then◌else◌, ℕ, nat_eq, nat_le, List, [], ◌∷◌, Option, Some}
+use Rattle.std.specs.Prelude.{None, Result, Ok, Err}
 use Rattle.std.specs.Cmp.Lexicographic.{pointwise}
 use Rattle.std.specs.FinMap.{get, insert}
 use Rattle.tally_returns.specs.Counts.{VoteCounts, are_counts, all_votes, same_counts}
 use Rattle.tally_returns.specs.Return.{StationReturn, Returns, first_return}
 use Rattle.tally_returns.specs.Checks.{check, first_refusal, refused_or}
 use Rattle.tally_returns.specs.declared.refusal.Refusal.{Refusal}
-use Rattle.tally_returns.specs.declared.refusal.Refusal.TheVariants.{NoStation, BadCounts, TooManyVotes, Differs}
+use Rattle.tally_returns.specs.declared.refusal.Refusal.TheVariants.{NoStation, BadCounts}
+use Rattle.tally_returns.specs.declared.refusal.Refusal.TheVariants.{TooManyVotes, Differs}
 use Rattle.tally_returns.specs.declared.reply.LodgeReply.{LodgeReply}
 use Rattle.tally_returns.specs.declared.reply.LodgeReply.TheVariants.{Lodged, Same}
 

@@ -1,5 +1,6 @@
 -- Query, Correct and Close: the checks of each in their order, and the return that it leaves.
-use Rattle.std.specs.Prelude.{◌+◌, ◌==◌, not, ℕ, Bool, true, false, List, [], ◌∷◌, ◌++◌, Option, is_some}
+use Rattle.std.specs.Prelude.{◌+◌, ◌==◌, not, ℕ, Bool, true, false, List, [], ◌∷◌, ◌++◌, Option}
+use Rattle.std.specs.Prelude.{is_some}
 use Rattle.std.specs.Option.{option_map_or}
 use Rattle.tally_rules.specs.Text.{is_note}
 use Rattle.tally_returns.specs.Counts.{VoteCounts}
@@ -7,9 +8,12 @@ use Rattle.tally_returns.specs.Return.{StationReturn}
 use Rattle.tally_returns.specs.Lodge.{StationLimits, counts_checks}
 use Rattle.tally_returns.specs.Checks.{check, check_found}
 use Rattle.tally_returns.specs.declared.returns.Status.{Status}
-use Rattle.tally_returns.specs.declared.returns.Status.TheVariants.{Received, Queried, Corrected, Closed}
+use Rattle.tally_returns.specs.declared.returns.Status.TheVariants.{Received, Queried, Corrected}
+use Rattle.tally_returns.specs.declared.returns.Status.TheVariants.{Closed}
 use Rattle.tally_returns.specs.declared.refusal.Refusal.{Refusal}
-use Rattle.tally_returns.specs.declared.refusal.Refusal.TheVariants.{NoStation, BadNote, NoReturn, Certified, Stale, Exhausted, WrongStatus}
+use Rattle.tally_returns.specs.declared.refusal.Refusal.TheVariants.{NoStation, BadNote, NoReturn}
+use Rattle.tally_returns.specs.declared.refusal.Refusal.TheVariants.{Certified, Stale, Exhausted}
+use Rattle.tally_returns.specs.declared.refusal.Refusal.TheVariants.{WrongStatus}
 
 -- the last revision that a return can have
 abbrev pub last_revision : ℕ

@@ -3,7 +3,9 @@ use Rattle.std.specs.Prelude.{◌≡◌, true, ℕ, List, Option, Some, None}
 use Rattle.std.specs.Option.{ForSome}
 use Rattle.tally_rules.specs.Code.{is_code}
 use Rattle.tally_returns.specs.declared.ask.Ask.{Ask}
-use Rattle.tally_returns.specs.declared.ask.Ask.TheVariants.{Lodge, Query, Correct, Close, ShowReturn, Draw, Certify, Reopen, Vacate, ShowCon, ShowProgress}
+use Rattle.tally_returns.specs.declared.ask.Ask.TheVariants.{Lodge, Query, Correct, Close}
+use Rattle.tally_returns.specs.declared.ask.Ask.TheVariants.{ShowReturn, Draw, Certify, Reopen}
+use Rattle.tally_returns.specs.declared.ask.Ask.TheVariants.{Vacate, ShowCon, ShowProgress}
 
 -- the station that a command on a return names
 abbrev pub station_named : Ask → Option (List ℕ)

@@ -8,7 +8,8 @@ use Rattle.tally_returns.specs.Return.{StationReturn, Returns}
 use Rattle.tally_returns.specs.State.{State, con_state}
 use Rattle.tally_returns.specs.declared.progress.ProgressRow.{ProgressRow}
 use Rattle.tally_returns.specs.declared.returns.Status.{Status}
-use Rattle.tally_returns.specs.declared.returns.Status.TheVariants.{Received, Queried, Corrected, Closed}
+use Rattle.tally_returns.specs.declared.returns.Status.TheVariants.{Received, Queried, Corrected}
+use Rattle.tally_returns.specs.declared.returns.Status.TheVariants.{Closed}
 
 abbrev pub is_received : Status → Bool
 is_received Received = true

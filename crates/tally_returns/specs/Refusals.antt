@@ -1,7 +1,16 @@
 -- The table of refusals.
 use Rattle.std.specs.Prelude.{ℕ}
 use Rattle.tally_returns.specs.declared.refusal.Refusal.{Refusal}
-use Rattle.tally_returns.specs.declared.refusal.Refusal.TheVariants.{NoStation, NoConstituency, NoCandidate, BadCounts, BadNote, TooManyVotes, Differs, NoReturn, Certified, NotCertified, Stale, Exhausted, WrongStatus, NotAllClosed, NoEligible, LotStands, LotNotNeeded, LotWrongGroup, LotMissing, AlreadyGone, NotHolder, Memory, Store}
+use Rattle.tally_returns.specs.declared.refusal.Refusal.TheVariants.{NoStation, NoConstituency}
+use Rattle.tally_returns.specs.declared.refusal.Refusal.TheVariants.{NoCandidate, BadCounts}
+use Rattle.tally_returns.specs.declared.refusal.Refusal.TheVariants.{BadNote, TooManyVotes, Differs}
+use Rattle.tally_returns.specs.declared.refusal.Refusal.TheVariants.{NoReturn, Certified}
+use Rattle.tally_returns.specs.declared.refusal.Refusal.TheVariants.{NotCertified, Stale, Exhausted}
+use Rattle.tally_returns.specs.declared.refusal.Refusal.TheVariants.{WrongStatus, NotAllClosed}
+use Rattle.tally_returns.specs.declared.refusal.Refusal.TheVariants.{NoEligible, LotStands}
+use Rattle.tally_returns.specs.declared.refusal.Refusal.TheVariants.{LotNotNeeded, LotWrongGroup}
+use Rattle.tally_returns.specs.declared.refusal.Refusal.TheVariants.{LotMissing, AlreadyGone}
+use Rattle.tally_returns.specs.declared.refusal.Refusal.TheVariants.{NotHolder, Memory, Store}
 
 -- the number of a refusal
 abbrev pub refusal_number : Refusal → ℕ

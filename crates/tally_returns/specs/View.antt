@@ -1,6 +1,8 @@
 -- What is seen of a constituency: what it has come to, how many of its returns are in each status,
 -- and its closed votes.
-use Rattle.std.specs.Prelude.{◌≡◌, ◌≤◌, ◌++◌, ◌||◌, ◌==◌, ◌&&◌, nat_lt, ℕ, All, Bool, true, List, [], ◌∷◌, length, map, sum_by, slice_index, Option, Some, None, if◌then◌else◌}
+use Rattle.std.specs.Prelude.{◌≡◌, ◌≤◌, ◌++◌, ◌||◌, ◌==◌, ◌&&◌, nat_lt, ℕ, All, Bool, true, List}
+use Rattle.std.specs.Prelude.{[], ◌∷◌, length, map, sum_by, slice_index, Option, Some, None}
+use Rattle.std.specs.Prelude.{if◌then◌else◌}
 use Rattle.std.specs.List.{range_with_len}
 use Rattle.std.specs.FinMap.{get, entries}
 use Rattle.tally_rules.specs.Constituency.{Constituency}
@@ -10,8 +12,10 @@ use Rattle.tally_returns.specs.GoneCandidate.{GoneCandidate}
 use Rattle.tally_returns.specs.PastSeats.{PastSeats}
 use Rattle.tally_returns.specs.Counts.{VoteCounts}
 use Rattle.tally_returns.specs.Return.{StationReturn, Returns}
-use Rattle.tally_returns.specs.State.{State, ConState, GoneCandidates, PastRecords, con_state, last_edition}
-use Rattle.tally_returns.specs.Progress.{is_received, is_queried, is_corrected, is_closed, count_with_status}
+use Rattle.tally_returns.specs.State.{State, ConState, GoneCandidates, PastRecords, con_state}
+use Rattle.tally_returns.specs.State.{last_edition}
+use Rattle.tally_returns.specs.Progress.{is_received, is_queried, is_corrected, is_closed}
+use Rattle.tally_returns.specs.Progress.{count_with_status}
 
 -- how many stations there are and how many of their returns are in each status; votes, blank and
 -- spoiled ones are those of the closed returns; seats are those of each list where the constituency

@@ -13,7 +13,8 @@ use Rattle.sqlite.specs.State.{State, Writes, ExecutesInside}
 use Rattle.sqlite.proofs.Callers.{IsPlain, command_of, statement_of, runs_as}
 use Rattle.tally_rows.proofs.StatementLemmas.{succeeded, same_value}
 
--- a CREATE TABLE in a schema with no AUTOINCREMENT: the new table has no row, and the others keep theirs
+-- a CREATE TABLE in a schema with no AUTOINCREMENT: the new table has
+-- no row, and the others keep theirs
 pub made_by : (before after : Schema) (table : Table) (sql : List ℕ) (old new : State) (count : ℕ) → old.now.schema ≡ before → command_of (understood before sql) ≡ CreateTable → statement_of sql (understood before sql) ≡ sql → table_defined_by sql ≡ Ok table
     → created before table ≡ after → lacks_sequence after ≡ false → IsPlain (understood before sql) → ExecutesInside 0 sql [] old new (Ok count)
     → (new.now.schema ≡ after) × (new.now.trees (next_tree before) ≡ []) × AllByRecursion (λ t. new.now.trees t.tree ≡ old.now.trees t.tree) before.tables

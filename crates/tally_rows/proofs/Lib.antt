@@ -1,4 +1,3 @@
-pub mod SameLemmas
 pub mod StatementLemmas
 pub mod RowidLemmas
 pub mod EntryLemmas

@@ -1,8 +1,8 @@
 -- Rowids that rise, and so differ.
 use Rattle.std.proofs.Common.{◌≡◌, ℤ, ℕ, ◌<◌, ◌+◌, false, ◌||◌, Option, Some, None, IfSome, List, [], ◌∷◌, ◌++◌, map, take, length, get_or, Ordering, Less, Equal, Greater, refl, sym, ap, subst, ◌∙◌, IsTrue, true≢false}
 use Rattle.std.specs.Prelude.{◌<ℤ◌}
-use Rattle.std.specs.List.{AllByRecursion, list_any}
-use Rattle.std.specs.Ordering.{is_eq, is_gt, int_cmp}
+use Rattle.std.specs.List.{AllByRecursion}
+use Rattle.std.specs.Ordering.{is_eq, is_gt}
 use Rattle.std.proofs.lemmas.List.{take_more}
 use Rattle.std.proofs.lemmas.Bool.{or_parts, or_from}
 use Rattle.std.proofs.lemmas.Cmp.{tied_itself}

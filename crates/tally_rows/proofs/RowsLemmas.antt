@@ -1,5 +1,5 @@
 -- From the rows of a table to the map whose entries they are.
-use Rattle.std.proofs.Common.{◌≡◌, ℕ, Bool, true, false, not, ◌&&◌, cond, T, List, [], ◌∷◌, ◌++◌, map, drop, filter, Option, Some, None, option_to_list, refl, sym, ap, ap₂, subst, subst₂, ◌∙◌, true≢false, arith, append-nil, Ordering, Less}
+use Rattle.std.proofs.Common.{◌≡◌, ℕ, Bool, true, false, not, ◌&&◌, cond, T, List, [], ◌∷◌, ◌++◌, map, filter, Option, Some, None, option_to_list, refl, sym, ap, ap₂, subst, ◌∙◌, arith, append-nil, Ordering, Less}
 use Rattle.std.specs.List.{AllByRecursion, flat_map}
 use Rattle.std.specs.List.Sorted.{IsPermutation}
 use Rattle.std.proofs.lemmas.List.Elements.{filter-append}
@@ -7,7 +7,7 @@ use Rattle.std.proofs.lemmas.List.Sorted.{IsPermutation-refl, IsPermutation-sym,
 use Rattle.std.specs.Cmp.{IsTotalOrder, eq_by_cmp_equiv}
 use Rattle.std.specs.Cmp.Lexicographic.{nat_list_cmp_total}
 use Rattle.std.specs.Ordering.{eq_by_cmp, is_eq}
-use Rattle.std.specs.FinMap.{FinMap, IsAntisymmetric, entries, entries_sorted, get, insert, find, get-entries, get-insert, get_tied, same_map, slice_cmp-IsAntisymmetric, nat_cmp-IsAntisymmetric}
+use Rattle.std.specs.FinMap.{FinMap, IsAntisymmetric, entries, get, insert, find, get-entries, get-insert, get_tied, same_map, slice_cmp-IsAntisymmetric, nat_cmp-IsAntisymmetric}
 use Rattle.std.specs.FinMap.Entries.{is_sorted, below_all}
 use Rattle.sqlite_value.specs.declared.value.Value.TheVariants.{Text}
 use Rattle.sqlite_value.specs.Order.{Row, column, value_cmp}
@@ -159,7 +159,8 @@ module _ {X : Type 0} (rows_of : List ℕ × X → List Row) (keyed : AreKeyedBy
       let found : filter (has_key k) (flat_map rows_of (entries s)) ≡ rows_at s k = filter-rows rows_of (has_key k) (λ e. eq_by_cmp text_cmp k e.0) (has_key_is k) (entries s) ∙ ap (flat_map rows_of) (with_key_is s k) in
       subst (λ l. IsPermutation l (filter (has_key k) (cells rows))) found (IsPermutation-filter (has_key k) _ _ h.each)
 
-  -- where these are the rows of the key now, and those of other keys are as they were, the map has the entry
+  -- where these are the rows of the key now, and those of other keys
+  -- are as they were, the map has the entry
   pub put_rows : (s : FinMap text_cmp X) (k : List ℕ) (v : X) (old new : List Row) → AreRowsOf rows_of s old → IsPermutation (rows_of (k, v) ++ others k (cells old)) (cells new) → AreRowsOf rows_of (insert s k v) new
   put_rows s k v old new h put =
       let all : IsPermutation (rows_of (k, v) ++ flat_map rows_of (other_entries text_total text_exact k (entries s))) (flat_map rows_of (entries (insert s k v))) = IsPermutation-flat_map rows_of _ _ (inserted text_total text_exact s k v) in

@@ -1,5 +1,5 @@
 -- Small facts that the proofs of all statements use.
-use Rattle.std.proofs.Common.{◌≡◌, ◌⊎◌, inl, inr, ℤ, Bool, true, false, cond, List, [], ◌∷◌, Ok, Err, Result, OnOk, Ordering, Less, Equal, Greater, refl, sym, true≢false}
+use Rattle.std.proofs.Common.{◌≡◌, ◌⊎◌, inl, inr, ℤ, Bool, true, false, cond, List, [], ◌∷◌, Ok, Err, Result, Ordering, Less, Equal, Greater, refl, sym, true≢false}
 use Rattle.std.specs.List.Sorted.{IsPermutation}
 use Rattle.std.proofs.Common.{filter}
 use Rattle.sqlite_rules.specs.Lists.{Has}
@@ -53,10 +53,6 @@ pub equal_is : (o : Ordering) → is_eq o ≡ true → o ≡ Equal
 equal_is Less h = absurd (true≢false (sym h))
 equal_is Equal h = refl
 equal_is Greater h = absurd (true≢false (sym h))
-
-pub always_ok : {T E : Type 0} (r : Result T E) (P : Type 0) → P → OnOk r P
-always_ok (Ok x) P p = p
-always_ok (Err e) P p = tt
 
 pub kept_by : {X : Type 0} (p : X → Bool) (xs : List X) (x : X) → Has xs x → p x ≡ true → Has (filter p xs) x
 kept_by p (y ∷ xs) x (inl same) is = rw (sym same, is) (inl refl)

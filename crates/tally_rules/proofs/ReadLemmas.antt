@@ -54,9 +54,6 @@ pub record IsReadTo {A : Type 0} (read : List A → Data → Result A Fault) (en
   pub whole : in_turn read [] (map view entries) ≡ in_turn read so_far (map view (drop i entries))
   pub count : length so_far ≡ i
 
-pub read-start : {A : Type 0} (read : List A → Data → Result A Fault) (entries : List Value) → IsReadTo read entries [] 0
-read-start read entries = record { whole = refl; count = refl }
-
 -- one more entry
 pub read-more : {A : Type 0} (read : List A → Data → Result A Fault) (entries : List Value) (so_far : List A) (i : ℕ) (entry : Value) (a : A) → IsReadTo read entries so_far i → i < length entries → entry ≡ get_or entries i entry → read so_far (view entry) ≡ Ok a → IsReadTo read entries (so_far ++ a ∷ []) (i + 1)
 unfolding in_turn

@@ -1,5 +1,6 @@
 -- What making the tables leaves.
-use Rattle.std.specs.Prelude.{◌≡◌, ◌+◌, ◌||◌, ◌&&◌, ℕ, Bool, false, IsTrue, is_some, option_map, unwrap_or, List, [], ◌∷◌, codes, Result, Ok, OnOk}
+use Rattle.std.specs.Prelude.{◌≡◌, ◌+◌, ◌||◌, ◌&&◌, ℕ, Bool, false, IsTrue, is_some, option_map}
+use Rattle.std.specs.Prelude.{unwrap_or, List, [], ◌∷◌, codes, Result, Ok, OnOk}
 use Rattle.std.specs.List.{AllByRecursion, list_all, list_any}
 use Rattle.sqlite_schema.specs.declared.schema.Schema.{Schema}
 use Rattle.sqlite_schema.specs.declared.schema.Table.{Table}

@@ -1,5 +1,6 @@
 -- The tables of the office in a transaction, and what a statement does to the rows of one of them.
-use Rattle.std.specs.Prelude.{◌≡◌, ◌≢◌, ℕ, pos, List, [], ◌∷◌, IsTrue, IsPermutation, map, Result, Ok, IfOk, OnOk, Bool, ◌&&◌, filter, Vec}
+use Rattle.std.specs.Prelude.{◌≡◌, ◌≢◌, ℕ, pos, List, [], ◌∷◌, IsTrue, IsPermutation, map, Result}
+use Rattle.std.specs.Prelude.{Ok, IfOk, OnOk, Bool, ◌&&◌, filter, Vec}
 use Rattle.std.specs.declared.alloc.Global.{Global}
 use Rattle.std.specs.List.{AllByRecursion}
 use Rattle.std.specs.Ordering.{is_eq}
@@ -14,9 +15,14 @@ use Rattle.sqlite.specs.Effect.{IsDatabase}
 use Rattle.sqlite.specs.State.{State as Seen, HasCleanDisk, ExecutesInside}
 use Rattle.tally_rows.specs.Rows.{cells, has_key, others, HaveDistinctRowids}
 use Rattle.tally_schema.specs.Cells.{flag, setup_row}
-use Rattle.tally_schema.specs.Tables.{office_schema, setup_tree, returns_table, returns_tree, counts_table, counts_tree, cons_table, cons_tree, lots_table, lots_tree, seats_table, seats_tree, gone_table, gone_tree, totals_table, totals_tree, past_table, past_tree}
+use Rattle.tally_schema.specs.Tables.{office_schema, setup_tree, returns_table, returns_tree}
+use Rattle.tally_schema.specs.Tables.{counts_table, counts_tree, cons_table, cons_tree, lots_table}
+use Rattle.tally_schema.specs.Tables.{lots_tree, seats_table, seats_tree, gone_table, gone_tree}
+use Rattle.tally_schema.specs.Tables.{totals_table, totals_tree, past_table, past_tree}
 use Rattle.tally_statements.specs.declared.table.KeyedTable.{KeyedTable}
-use Rattle.tally_statements.specs.declared.table.KeyedTable.TheVariants.{Returns, Counts, Cons, Lots, Seats, Gone, Totals, Past}
+use Rattle.tally_statements.specs.declared.table.KeyedTable.TheVariants.{Returns, Counts, Cons}
+use Rattle.tally_statements.specs.declared.table.KeyedTable.TheVariants.{Lots, Seats, Gone, Totals}
+use Rattle.tally_statements.specs.declared.table.KeyedTable.TheVariants.{Past}
 
 -- ---- the tables
 

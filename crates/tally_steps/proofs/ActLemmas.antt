@@ -106,7 +106,8 @@ changes-is s code (Ok no_change) e = cc
 changes-is s code (Ok other) e = record { change = other; is = refl; some = refl; new = refl }
 changes-is s code (Err refusal) e = cc
 
--- A command on the constituency of a code that acted: what was decided by its view, and the state after.
+-- A command on the constituency of a code that acted: what was decided
+-- by its view, and the state after.
 pub record IsConAct (setup : List Constituency) (code : List ℕ) (s : State) (ask : Ask) (t : State) : Type 0 where
   pub con : Constituency
   pub found : constituency_with code setup ≡ Some con

@@ -1,4 +1,5 @@
--- In a lawful state each command is decided: its votes come to something, and of that something is decided.
+-- In a lawful state each command is decided: its votes come to
+-- something, and of that something is decided.
 use Rattle.std.proofs.Common.{◌≡◌, ◌≤◌, ◌∷◌, ◌⊎◌, ℕ, zero, suc, List, [], Bool, true, false, Option, Some, None, Result, Err, get_or, length, refl, inl, inr, arith}
 use Rattle.std.proofs.lemmas.Bool.{false≢true}
 use Rattle.tally_rules.specs.Constituency.{Constituency}

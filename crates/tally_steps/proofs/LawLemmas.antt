@@ -195,7 +195,8 @@ certifies-reported con view edition group n certifies = at (first_refusal (count
         (some ∙ ap Some same)
         )
 
--- a step of Certify, by the view of the constituency; views of one state differ in their seats at most
+-- a step of Certify, by the view of the constituency; views of one
+-- state differ in their seats at most
 record IsCertifyStep (con : Constituency) (s : State) (edition : ℕ) (r : Result Reply Refusal) : Type 0 where
   seats : List ℕ
   result : Result (List ℕ) Refusal

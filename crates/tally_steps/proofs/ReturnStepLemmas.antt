@@ -45,7 +45,8 @@ use Rattle.tally_steps.proofs.PastLemmas.{no-past}
 
 -- ---- what is lawful of a constituency
 
--- a constituency stays lawful where what it has come to is the same, and so are the returns of its stations
+-- a constituency stays lawful where what it has come to is the same,
+-- and so are the returns of its stations
 pub IsLawfulIn-same : (con : Constituency) (s t : State) → con_state t con.code ≡ con_state s con.code → All (IsSameAt t.returns s.returns) con.stations → IsLawfulIn con s → IsLawfulIn con t
 IsLawfulIn-same con s t same returns lawful = record {
   seen = subst (IsLawfulCon con) seen lawful.seen;
@@ -89,7 +90,8 @@ open-station setup s code con station lawful is is_open = (no_lot lawful.seen.lo
 
 -- ---- a return that is put
 
--- a state in which a return was put at a station, and the lot of the constituency of this code has gone
+-- a state in which a return was put at a station, and the lot of the
+-- constituency of this code has gone
 pub record IsPut (s t : State) (code station : List ℕ) (r : StationReturn) : Type 0 where
   pub returns : t.returns ≡ fin.insert s.returns station r
   pub here : con_state t code ≡ record (con_state s code) { lot = [] }
@@ -163,7 +165,8 @@ with_lot-put s code station r known = record {
 
 -- ---- the decisions that put a return
 
--- a return that moves was in a status that the command starts from, and its constituency is not certified
+-- a return that moves was in a status that the command starts from, and
+-- its constituency is not certified
 pub record IsMoved (certified : Bool) (found : Option StationReturn) (may_start : Status → Bool) : Type 0 where
   pub standing : StationReturn
   pub found_is : found ≡ Some standing

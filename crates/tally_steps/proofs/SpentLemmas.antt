@@ -1,4 +1,5 @@
--- What a command acts on is used up when it acts: it names the revision, the edition or the candidate.
+-- What a command acts on is used up when it acts: it names the
+-- revision, the edition or the candidate.
 use Rattle.std.proofs.Common.{◌≡◌, ◌≤◌, ◌+◌, ◌∷◌, ◌∙◌, ℕ, List, [], Bool, true, false, cond, map, Option, Some, None, Result, Ok, Err, refl, sym, ap, inl, inr, arith}
 use Rattle.std.specs.Prelude.{◌-◌, ◌==◌, ◌||◌, not, is_some, nat_eq, string_bytes, slice_index}
 use Rattle.std.specs.FinMap as fin
@@ -33,8 +34,8 @@ use Rattle.tally_returns.proofs.DecideLemmas.{passed-first, passed-rest}
 use Rattle.tally_steps.proofs.LifeLemmas.{rev_at, named_rev, acts, acts-stood, acts-rises}
 use Rattle.tally_steps.proofs.OnwardLemmas.{IsOnward, answered-onward}
 
--- what a command acts on: a revision of a station's return, an edition of a constituency, the candidate at a place of a list in a
--- constituency, or nothing
+-- what a command acts on: a revision of a station's return, an edition of a constituency, the
+-- candidate at a place of a list in a constituency, or nothing
 pub data Mark : Type 0 where
   revision : List ℕ → ℕ → Mark
   edition : List ℕ → ℕ → Mark
@@ -85,7 +86,8 @@ mark-seen ShowProgress = refl
 pub same-mark : (ask other : Ask) → IsSameCommand ask other → mark ask ≡ mark other
 same-mark ask other alike = mark-seen ask ∙ ap mark_seen alike ∙ sym (mark-seen other)
 
--- whether the candidate at a place of a list is gone, where the constituency and the list are in the setup
+-- whether the candidate at a place of a list is gone, where the
+-- constituency and the list are in the setup
 pub record IsGoneFlag (setup : List Constituency) (code list : List ℕ) (place : ℕ) (s : State) (b : Bool) : Type 0 where
   pub con : Constituency
   pub found : constituency_with code setup ≡ Some con

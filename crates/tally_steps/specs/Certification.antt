@@ -1,5 +1,7 @@
 -- Draw, Certify, Reopen and Vacate: the checks of each in their order, and what it then sets.
-use Rattle.std.specs.Prelude.{◌≡◌, ◌≢◌, ◌⊎◌, if◌then◌else◌, ◌+◌, ◌-◌, ◌==◌, ◌&&◌, not, ℕ, nat_le, Bool, true, false, List, [], ◌∷◌, length, map, slice_index, Option, Some, None, Result, Ok, Err, is_some, option_map}
+use Rattle.std.specs.Prelude.{◌≡◌, ◌≢◌, ◌⊎◌, if◌then◌else◌, ◌+◌, ◌-◌, ◌==◌, ◌&&◌, not, ℕ, nat_le}
+use Rattle.std.specs.Prelude.{Bool, true, false, List, [], ◌∷◌, length, map, slice_index, Option}
+use Rattle.std.specs.Prelude.{Some, None, Result, Ok, Err, is_some, option_map}
 use Rattle.std.specs.List.{list_all, filter}
 use Rattle.std.specs.Str.{bytes_eq}
 use Rattle.tally_rules.specs.Constituency.{Constituency, ListEntry}
@@ -12,9 +14,16 @@ use Rattle.tally_returns.specs.GoneCandidate.{GoneCandidate}
 use Rattle.tally_returns.specs.PastSeats.{PastSeats}
 use Rattle.tally_returns.specs.State.{last_edition}
 use Rattle.tally_returns.specs.View.{View}
-use Rattle.tally_steps.specs.Outcome.{Outcome, nobody, lot_missing, allotted, HasWrongLot, IsOutcome, poll_in}
+use Rattle.tally_steps.specs.Outcome.{Outcome, nobody, lot_missing, allotted, HasWrongLot}
+use Rattle.tally_steps.specs.Outcome.{IsOutcome, poll_in}
 use Rattle.tally_returns.specs.declared.refusal.Refusal.{Refusal}
-use Rattle.tally_returns.specs.declared.refusal.Refusal.TheVariants.{NoCandidate, BadNote, Certified, NotCertified, Stale, Exhausted, NotAllClosed, NoEligible, LotStands, LotNotNeeded, LotWrongGroup, LotMissing, AlreadyGone, NotHolder, Memory, Store}
+use Rattle.tally_returns.specs.declared.refusal.Refusal.TheVariants.{NoCandidate, BadNote}
+use Rattle.tally_returns.specs.declared.refusal.Refusal.TheVariants.{Certified, NotCertified, Stale}
+use Rattle.tally_returns.specs.declared.refusal.Refusal.TheVariants.{Exhausted, NotAllClosed}
+use Rattle.tally_returns.specs.declared.refusal.Refusal.TheVariants.{NoEligible, LotStands}
+use Rattle.tally_returns.specs.declared.refusal.Refusal.TheVariants.{LotNotNeeded, LotWrongGroup}
+use Rattle.tally_returns.specs.declared.refusal.Refusal.TheVariants.{LotMissing, AlreadyGone}
+use Rattle.tally_returns.specs.declared.refusal.Refusal.TheVariants.{NotHolder, Memory, Store}
 
 -- the checks of Draw and of Certify before the votes are looked at
 abbrev pub count_checks : View → ℕ → List (Option Refusal)

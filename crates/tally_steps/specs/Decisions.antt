@@ -1,6 +1,7 @@
 -- What a decision has to do with a step: where it was made of what a state says, its refusal is
 -- that of the step, or its change leads to the state of the step. These are the statements of laws.
-use Rattle.std.specs.Prelude.{◌≡◌, ◌<◌, ◌≤◌, ◌≢◌, ◌∷◌, ℕ, All, List, [], Option, Some, None, Result, Ok, Err}
+use Rattle.std.specs.Prelude.{◌≡◌, ◌<◌, ◌≤◌, ◌≢◌, ◌∷◌, ℕ, All, List, [], Option, Some, None, Result}
+use Rattle.std.specs.Prelude.{Ok, Err}
 use Rattle.std.specs.FinMap.{get}
 use Rattle.tally_rules.specs.Constituency.{Constituency}
 use Rattle.tally_rules.specs.Limits.{IsSetup}
@@ -12,14 +13,18 @@ use Rattle.tally_returns.specs.PastSeats.{PastSeats}
 use Rattle.tally_returns.specs.Named.{con_named, station_named}
 use Rattle.tally_returns.specs.Return.{StationReturn}
 use Rattle.tally_returns.specs.State.{State, con_state, last_edition, stations_of}
-use Rattle.tally_steps.specs.Step.{state_after, ConChange, Decides, IsView, after_change, con_state_after, gone_for_good, open_again, Answer, IsStepSeen, con_answer, lodged, moved, return_shown, same}
+use Rattle.tally_steps.specs.Step.{state_after, ConChange, Decides, IsView, after_change}
+use Rattle.tally_steps.specs.Step.{con_state_after, gone_for_good, open_again, Answer, IsStepSeen}
+use Rattle.tally_steps.specs.Step.{con_answer, lodged, moved, return_shown, same}
 use Rattle.tally_returns.specs.View.{View, past_records}
 use Rattle.tally_returns.specs.declared.ask.Ask.{Ask}
-use Rattle.tally_returns.specs.declared.ask.Ask.TheVariants.{Lodge, Query, Correct, Close, ShowReturn}
+use Rattle.tally_returns.specs.declared.ask.Ask.TheVariants.{Lodge, Query, Correct, Close}
+use Rattle.tally_returns.specs.declared.ask.Ask.TheVariants.{ShowReturn}
 use Rattle.tally_returns.specs.declared.change.Change.{Change}
 use Rattle.tally_returns.specs.declared.change.Change.TheVariants.{Same, PutReturn}
 use Rattle.tally_returns.specs.declared.refusal.Refusal.{Refusal}
-use Rattle.tally_returns.specs.declared.refusal.Refusal.TheVariants.{Memory, NoConstituency, NoStation, Store}
+use Rattle.tally_returns.specs.declared.refusal.Refusal.TheVariants.{Memory, NoConstituency}
+use Rattle.tally_returns.specs.declared.refusal.Refusal.TheVariants.{NoStation, Store}
 use Rattle.tally_steps.specs.Kinds.{IsAnswerTo}
 use Rattle.tally_steps.specs.LawfulState.{IsLawfulState}
 

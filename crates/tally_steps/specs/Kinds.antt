@@ -4,9 +4,12 @@ use Rattle.tally_rules.specs.Constituency.{Constituency}
 use Rattle.tally_rules.specs.Setup.{constituency_with}
 use Rattle.tally_returns.specs.View.{FitsView}
 use Rattle.tally_returns.specs.declared.ask.Ask.{Ask}
-use Rattle.tally_returns.specs.declared.ask.Ask.TheVariants.{Lodge, Query, Correct, Close, ShowReturn, Draw, Certify, Reopen, Vacate, ShowCon, ShowProgress}
+use Rattle.tally_returns.specs.declared.ask.Ask.TheVariants.{Lodge, Query, Correct, Close}
+use Rattle.tally_returns.specs.declared.ask.Ask.TheVariants.{ShowReturn, Draw, Certify, Reopen}
+use Rattle.tally_returns.specs.declared.ask.Ask.TheVariants.{Vacate, ShowCon, ShowProgress}
 use Rattle.tally_returns.specs.declared.reply.Reply.{Reply}
-use Rattle.tally_steps.specs.Step.{Answer, answer_seen, con_shown, edition_now, lodged, moved, progress_shown, return_shown, same, vacated}
+use Rattle.tally_steps.specs.Step.{Answer, answer_seen, con_shown, edition_now, lodged, moved}
+use Rattle.tally_steps.specs.Step.{progress_shown, return_shown, same, vacated}
 
 -- An accepted command is answered so. A view that is shown fits the constituency that was named.
 abbrev pub IsAnswerTo : List Constituency → Ask → Answer → Type 0

@@ -1,6 +1,8 @@
--- The laws of states, steps and runs. Each is proved as a clause of a function of `src/laws.rt`.
--- What is said of decisions is in `Decisions`, and of certificates that were reopened in `Records`.
-use Rattle.std.specs.Prelude.{◌≡◌, ◌↔◌, ◌<◌, ℕ, All, Bool, List, [], ◌∷◌, Some, None, Err, Result, true, false, is_some, slice_get}
+-- The laws of states, steps and runs. Each is proved as a clause of a function of `laws` in
+-- `tally_machine`. What is said of decisions is in `Decisions`, and of certificates that were
+-- reopened in `Records`.
+use Rattle.std.specs.Prelude.{◌≡◌, ◌↔◌, ◌<◌, ℕ, All, Bool, List, [], ◌∷◌, Some, None, Err, Result}
+use Rattle.std.specs.Prelude.{true, false, is_some, slice_get}
 use Rattle.std.specs.FinMap.{get}
 use Rattle.std.specs.List.{filter}
 use Rattle.tally_rules.specs.Constituency.{Constituency}
@@ -18,9 +20,11 @@ use Rattle.tally_returns.specs.declared.refusal.Refusal.{Refusal}
 use Rattle.tally_returns.specs.declared.refusal.Refusal.TheVariants.{LotMissing}
 use Rattle.tally_returns.specs.declared.reply.Reply.{Reply}
 use Rattle.tally_steps.specs.Certification.{count_checks}
-use Rattle.tally_steps.specs.Step.{ConChange, Decides, IsAnswered, IsView, Answer, IsStep, IsStepSeen}
+use Rattle.tally_steps.specs.Step.{ConChange, Decides, IsAnswered, IsView, Answer, IsStep}
+use Rattle.tally_steps.specs.Step.{IsStepSeen}
 use Rattle.tally_steps.specs.LawfulState.{IsLawfulState}
-use Rattle.tally_steps.specs.Outcome.{Outcome, HasWrongLot, IsCertificate, IsLawfulView, IsOutcome, poll_in, rule_in}
+use Rattle.tally_steps.specs.Outcome.{Outcome, HasWrongLot, IsCertificate, IsLawfulView, IsOutcome}
+use Rattle.tally_steps.specs.Outcome.{poll_in, rule_in}
 use Rattle.tally_steps.specs.Runs.{IsRun, is_act, IsSameCommand, acting_asks, kept_elements}
 
 -- ---- lawful states

@@ -1,12 +1,14 @@
 -- What closed votes and a lot come to, and the views that a lawful state has.
-use Rattle.std.specs.Prelude.{◌≡◌, ◌≢◌, ◌<◌, ◌≤◌, ◌⊎◌, ◌&&◌, ◌-◌, ℕ, nat_le, Bool, true, false, List, [], All, length, slice_get, sum}
+use Rattle.std.specs.Prelude.{◌≡◌, ◌≢◌, ◌<◌, ◌≤◌, ◌⊎◌, ◌&&◌, ◌-◌, ℕ, nat_le, Bool, true, false}
+use Rattle.std.specs.Prelude.{List, [], All, length, slice_get, sum}
 use Rattle.std.specs.Option.{option_map_or}
 use Rattle.tally_frac.specs.Limits.{most_lists}
 use Rattle.tally_rules.specs.Constituency.{Constituency, ListEntry}
 use Rattle.tally_rules.specs.Limits.{most_stations}
 use Rattle.tally_law.specs.Poll.{Poll, HasEligible}
 use Rattle.tally_law.specs.Allotment.{Rule}
-use Rattle.tally_law.specs.LotNeed.{IsLotNeeded, IsLotTaken, IsLotWrong, IsNeed, IsAllotmentUnderLot}
+use Rattle.tally_law.specs.LotNeed.{IsLotNeeded, IsLotTaken, IsLotWrong, IsNeed}
+use Rattle.tally_law.specs.LotNeed.{IsAllotmentUnderLot}
 use Rattle.tally_law.specs.Rules.{rule_of, poll_of}
 use Rattle.tally_returns.specs.GoneCandidate.{GoneCandidate}
 use Rattle.tally_returns.specs.Lawful.{is_kept_note, is_note_or_empty}

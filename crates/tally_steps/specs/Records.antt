@@ -1,6 +1,7 @@
 -- Certificates that were reopened: they stay on record, and what is on record is what was
 -- certified. These are the statements of laws.
-use Rattle.std.specs.Prelude.{◌≡◌, ◌⊎◌, ◌+◌, ℕ, All, true, List, Some, Result, Ok, slice_get, take, drop}
+use Rattle.std.specs.Prelude.{◌≡◌, ◌⊎◌, ◌+◌, ℕ, All, true, List, Some, Result, Ok, slice_get, take}
+use Rattle.std.specs.Prelude.{drop}
 use Rattle.std.specs.FinMap.{get}
 use Rattle.tally_rules.specs.Constituency.{Constituency}
 use Rattle.tally_rules.specs.Limits.{IsSetup}

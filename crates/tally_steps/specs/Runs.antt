@@ -1,12 +1,14 @@
 -- Runs, their equal commands, and what is left of a run where some requests are left out.
-use Rattle.std.specs.Prelude.{◌≡◌, if◌then◌else◌, ◌+◌, ℕ, Bool, true, false, List, [], ◌∷◌, Result, Ok, Err}
+use Rattle.std.specs.Prelude.{◌≡◌, if◌then◌else◌, ◌+◌, ℕ, Bool, true, false, List, [], ◌∷◌, Result}
+use Rattle.std.specs.Prelude.{Ok, Err}
 use Rattle.tally_rules.specs.Constituency.{Constituency}
 use Rattle.tally_steps.specs.Step.{IsAnswered}
 use Rattle.tally_returns.specs.AskSeen.{ask_seen}
 use Rattle.tally_returns.specs.declared.ask.Ask.{Ask}
 use Rattle.tally_returns.specs.declared.refusal.Refusal.{Refusal}
 use Rattle.tally_returns.specs.declared.reply.Reply.{Reply}
-use Rattle.tally_returns.specs.declared.reply.Reply.TheVariants.{Lodged, Same, Moved, Return, Edition, Vacated, Con, Progress}
+use Rattle.tally_returns.specs.declared.reply.Reply.TheVariants.{Lodged, Same, Moved, Return}
+use Rattle.tally_returns.specs.declared.reply.Reply.TheVariants.{Edition, Vacated, Con, Progress}
 use Rattle.tally_returns.specs.State.{State}
 
 -- A run: requests one after the other, their answers and the last state.

@@ -1,7 +1,8 @@
 -- Step: what a command is answered in a state, and the state that it leaves. What a command on a
 -- return is refused for is in `Decide` of tally_returns, and what one on a constituency is refused
 -- for in `Certification`.
-use Rattle.std.specs.Prelude.{◌≡◌, ◌≢◌, ◌+◌, ◌∷◌, ◌⊎◌, ℕ, Bool, true, false, List, [], Option, Some, None, Result, Ok, Err, option_map, string_bytes}
+use Rattle.std.specs.Prelude.{◌≡◌, ◌≢◌, ◌+◌, ◌∷◌, ◌⊎◌, ℕ, Bool, true, false, List, [], Option, Some}
+use Rattle.std.specs.Prelude.{None, Result, Ok, Err, option_map, string_bytes}
 use Rattle.std.specs.Option.{option_map_or}
 use Rattle.std.specs.FinMap.{get, insert}
 use Rattle.tally_rules.specs.Constituency.{Constituency}
@@ -18,17 +19,23 @@ use Rattle.tally_returns.specs.Return.{StationReturn}
 use Rattle.tally_returns.specs.State.{State, ConState, con_state, stations_of}
 use Rattle.tally_returns.specs.View.{View, view_of}
 use Rattle.tally_returns.specs.declared.ask.Ask.{Ask}
-use Rattle.tally_returns.specs.declared.ask.Ask.TheVariants.{Lodge, Query, ShowReturn, Draw, Certify, Reopen, Vacate, ShowCon, ShowProgress}
+use Rattle.tally_returns.specs.declared.ask.Ask.TheVariants.{Lodge, Query, ShowReturn, Draw}
+use Rattle.tally_returns.specs.declared.ask.Ask.TheVariants.{Certify, Reopen, Vacate, ShowCon}
+use Rattle.tally_returns.specs.declared.ask.Ask.TheVariants.{ShowProgress}
 use Rattle.tally_returns.specs.declared.change.Change.{Change}
-use Rattle.tally_returns.specs.declared.change.Change.TheVariants.{Same, PutReturn, SetLot, SetCertified, SetReopened, SetGone}
+use Rattle.tally_returns.specs.declared.change.Change.TheVariants.{Same, PutReturn, SetLot}
+use Rattle.tally_returns.specs.declared.change.Change.TheVariants.{SetCertified, SetReopened}
+use Rattle.tally_returns.specs.declared.change.Change.TheVariants.{SetGone}
 use Rattle.tally_returns.specs.declared.progress.ProgressRow.{ProgressRow}
 use Rattle.tally_returns.specs.declared.refusal.Refusal.{Refusal}
-use Rattle.tally_returns.specs.declared.refusal.Refusal.TheVariants.{NoConstituency, NoReturn, Memory, Store}
+use Rattle.tally_returns.specs.declared.refusal.Refusal.TheVariants.{NoConstituency, NoReturn}
+use Rattle.tally_returns.specs.declared.refusal.Refusal.TheVariants.{Memory, Store}
 use Rattle.tally_returns.specs.declared.reply.LodgeReply.{LodgeReply}
 use Rattle.tally_returns.specs.declared.reply.LodgeReply.TheVariants as lodge
 use Rattle.tally_returns.specs.declared.reply.Reply.{Reply}
 use Rattle.tally_returns.specs.declared.reply.Reply.TheVariants as reply
-use Rattle.tally_steps.specs.Certification.{Certifies, Draws, IsCertifyRefusal, IsDrawRefusal, reopen_result, vacate_result}
+use Rattle.tally_steps.specs.Certification.{Certifies, Draws, IsCertifyRefusal, IsDrawRefusal}
+use Rattle.tally_steps.specs.Certification.{reopen_result, vacate_result}
 use Rattle.tally_steps.specs.Outcome.{HasSeats}
 
 -- ---- answers

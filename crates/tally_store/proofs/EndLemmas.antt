@@ -2,7 +2,6 @@
 use Rattle.std.proofs.Common.{◌≡◌, ◌⊎◌, ◌∙◌, inl, inr, ℕ, true, false, IsOk, IsTrue, IfOk, OnOk, List, Result, Ok, Err, refl, sym, ap, subst, arith, true≢false}
 use Rattle.std.proofs.lemmas.Result.{IfOk-at_ok}
 use Rattle.sqlite.proofs.StateLemmas.{survives_then, survives_weaker}
-use Rattle.sqlite.specs.Effect.{Database}
 use Rattle.sqlite.specs.State.{State as Seen, HasCleanDisk, IsUnchanged, KeepsCommit, Survives}
 use Rattle.sqlite.specs.declared.error.Error.{Error}
 use Rattle.tally_rules.specs.Constituency.{Constituency}

@@ -1,5 +1,6 @@
 -- The state that the tables of an office read as.
-use Rattle.std.specs.Prelude.{if◌then◌else◌, List, [], ◌∷◌, map, Option, Some, None, option_and_then, option_map, unwrap_or, ℕ}
+use Rattle.std.specs.Prelude.{if◌then◌else◌, List, [], ◌∷◌, map, Option, Some, None}
+use Rattle.std.specs.Prelude.{option_and_then, option_map, unwrap_or, ℕ}
 use Rattle.std.specs.FinMap.{from_entries, from_sorted}
 use Rattle.std.specs.declared.cmp.Ordering.{Ordering}
 use Rattle.sqlite_keyed.specs.Lists.{sort_by}
@@ -13,7 +14,9 @@ use Rattle.tally_returns.specs.State.{ConState, State, opening}
 use Rattle.tally_returns.specs.View.{View}
 use Rattle.tally_ledger.specs.Kept.{Kept, opening_kept, view_in}
 use Rattle.tally_statements.specs.declared.table.KeyedTable.{KeyedTable}
-use Rattle.tally_statements.specs.declared.table.KeyedTable.TheVariants.{Returns, Counts, Cons, Lots, Seats, Gone, Totals, Past}
+use Rattle.tally_statements.specs.declared.table.KeyedTable.TheVariants.{Returns, Counts, Cons}
+use Rattle.tally_statements.specs.declared.table.KeyedTable.TheVariants.{Lots, Seats, Gone, Totals}
+use Rattle.tally_statements.specs.declared.table.KeyedTable.TheVariants.{Past}
 use Rattle.tally_statements.specs.Office.{key_cells, rows_in}
 use Rattle.tally_tables.specs.Reading.{entries_in}
 use Rattle.tally_tables.specs.Views.{views_from}

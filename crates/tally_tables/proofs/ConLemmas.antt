@@ -3,7 +3,7 @@ use Rattle.std.proofs.Common.{◌≡◌, ◌<◌, ◌≤◌, ◌^◌, ◌+◌, �
 use Rattle.std.specs.Prelude.{option_and_then, option_map, slice_index_or, nat_le, ◌==◌}
 use Rattle.std.specs.List.{AllByRecursion, flat_map}
 use Rattle.std.specs.Str.{is_utf8}
-use Rattle.std.proofs.lemmas.Bool.{eqb-true, eq-eqb, leb-true, le-leb}
+use Rattle.std.proofs.lemmas.Bool.{eqb-true, eq-eqb, le-leb}
 use Rattle.std.proofs.lemmas.List.{take_at, drop_at, length-map}
 use Rattle.sqlite_value.specs.declared.value.Value.{Value}
 use Rattle.sqlite_value.specs.declared.value.Value.TheVariants.{Int, Text}
@@ -16,7 +16,7 @@ use Rattle.tally_returns.specs.View.{View}
 use Rattle.tally_rows.specs.Cells.{text_of, number_of, wide_number_of}
 use Rattle.tally_schema.specs.Cells.{flag}
 use Rattle.tally_tables.specs.Cells.{item_row, numbers_with_places, items_of, gone_row, past_row, record_rows}
-use Rattle.tally_tables.specs.Reading.{with_text, utf8_of, numbers_from, sums_of, flag_of, note_in, standing_of, gone_in_row, all_gone_of, past_for, past_from, record_of, records_of, past_of, read_all}
+use Rattle.tally_tables.specs.Reading.{utf8_of, numbers_from, sums_of, flag_of, note_in, standing_of, gone_in_row, all_gone_of, past_for, past_from, record_of, records_of, past_of, read_all}
 use Rattle.tally_tables.specs.Views.{Tables, statuses_of, view_from_tables}
 use Rattle.tally_tables.specs.declared.views.Statuses.{Statuses}
 use Rattle.tally_tables.proofs.ItemLemmas.{and_then_some, map_some, if_some, text_is, number_is, wide_number_is, number_reads, with_text_is, with_text_there, IsRead, number_rows, items_are, items_again}

@@ -1,5 +1,5 @@
 -- Rows that read as a return are its rows, and the rows of a return read as it.
-use Rattle.std.proofs.Common.{◌≡◌, ◌<◌, ◌≤◌, ◌^◌, ◌+◌, ◌-◌, ℕ, suc, pos, Bool, true, false, cond, Option, Some, None, List, [], ◌∷◌, ◌++◌, map, length, take, drop, append_assoc, append-nil, take-append-drop, length-append, get_or, refl, sym, ap, ap₂, subst, ◌∙◌, arith}
+use Rattle.std.proofs.Common.{◌≡◌, ◌<◌, ◌≤◌, ◌^◌, ◌+◌, ◌-◌, ℕ, suc, pos, Bool, true, false, cond, Option, Some, None, List, [], ◌∷◌, ◌++◌, map, length, take, drop, append_assoc, take-append-drop, length-append, get_or, refl, sym, ap, ap₂, subst, ◌∙◌, arith}
 use Rattle.std.specs.Prelude.{option_and_then, option_map, slice_index_or, slice_range, nat_le, ◌==◌}
 use Rattle.std.specs.List.{AllByRecursion, flat_map}
 use Rattle.std.specs.Str.{is_utf8}
@@ -19,7 +19,7 @@ use Rattle.tally_returns.specs.declared.returns.Status.TheVariants.{Received, Qu
 use Rattle.tally_rows.specs.Cells.{text_of, number_of}
 use Rattle.tally_tables.specs.Cells.{status_number, item_row, numbers_with_places, items_of, spoiled_item, constituency_of, return_row, return_rows, count_rows}
 use Rattle.tally_tables.specs.Reading.{with_text, utf8_of, status_of, item_for, items_from, counts_by, counts_of, return_of, station_of_row, entry_of, next_entry, entries_in}
-use Rattle.tally_tables.proofs.ItemLemmas.{and_then_some, map_some, if_some, text_is, number_is, number_reads, same_text, with_text_is, with_text_there, IsExact, IsRead, item_for_is, item_again, number_rows, items_are, items_again}
+use Rattle.tally_tables.proofs.ItemLemmas.{and_then_some, map_some, if_some, text_is, number_is, number_reads, with_text_is, with_text_there, IsExact, IsRead, item_for_is, item_again, number_rows, items_are, items_again}
 
 -- ---- the first row, those between, and the last
 
@@ -269,22 +269,12 @@ entries_again setup (e ∷ es) h =
 abbrev pub Reading : List Constituency → List (List ℕ × StationReturn) → List Row → List Row → Option (List (List ℕ × StationReturn))
 Reading setup so_far rows counts = option_map (λ es. so_far ++ es) (entries_in setup rows counts)
 
-pub reading_starts : (setup : List Constituency) (rows counts : List Row) → Reading setup [] rows counts ≡ entries_in setup rows counts
-reading_starts setup rows counts = go (entries_in setup rows counts)
-  where
-    go : (o : Option (List (List ℕ × StationReturn))) → option_map (λ (es : List (List ℕ × StationReturn)). [] ++ es) o ≡ o
-    go None = refl
-    go (Some es) = refl
-
 -- the row at a place of the loop, by the station that it names
 at_row : (setup : List Constituency) (so_far : List (List ℕ × StationReturn)) (rows counts : List Row) (i : ℕ) (row : Row) (o : Option (Constituency × Station)) → i < length rows → row ≡ get_or rows i row → o ≡ station_of_row setup row
     → Reading setup so_far (drop i rows) counts ≡ option_map (λ es. so_far ++ es) (option_and_then (λ place. next_entry (entries_in setup (drop (i + 1) rows)) (length place.0.lists + 2) place row counts) o)
 at_row setup so_far rows counts i row o low at is =
     ap (λ l. Reading setup so_far l counts) (drop_more rows i row low ∙ ap (λ r. r ∷ drop (i + 1) rows) (sym at))
     ∙ ap (λ p. option_map (λ es. so_far ++ es) (option_and_then (λ (place : Constituency × Station). next_entry (entries_in setup (drop (i + 1) rows)) (length place.0.lists + 2) place row counts) p)) (sym is)
-
-pub no_place : (setup : List Constituency) (so_far : List (List ℕ × StationReturn)) (rows counts : List Row) (i : ℕ) (row : Row) → i < length rows → row ≡ get_or rows i row → None ≡ station_of_row setup row → Reading setup so_far (drop i rows) counts ≡ None
-no_place setup so_far rows counts i row low at is = at_row setup so_far rows counts i row None low at is
 
 pub too_few : (setup : List Constituency) (so_far : List (List ℕ × StationReturn)) (rows counts : List Row) (i : ℕ) (row : Row) (place : Constituency × Station) → i < length rows → row ≡ get_or rows i row → Some place ≡ station_of_row setup row
     → length counts < length place.0.lists + 2 → Reading setup so_far (drop i rows) counts ≡ None
@@ -301,10 +291,6 @@ with_entry setup so_far rows counts i row place o low at is enough e =
     ∙ ap (λ b. option_map (λ es. so_far ++ es) (cond b (option_and_then (λ x. option_map (λ l. x ∷ l) (entries_in setup (drop (i + 1) rows) (drop (length place.0.lists + 2) counts))) (entry_of place.0.code place.1.code row (take (length place.0.lists + 2) counts))) None)) (le-leb (length place.0.lists + 2) (length counts) enough)
     ∙ ap (λ p. option_map (λ es. so_far ++ es) (option_and_then (λ x. option_map (λ l. x ∷ l) (entries_in setup (drop (i + 1) rows) (drop (length place.0.lists + 2) counts))) p)) (sym e)
 
-pub no_entry : (setup : List Constituency) (so_far : List (List ℕ × StationReturn)) (rows counts : List Row) (i : ℕ) (row : Row) (place : Constituency × Station) → i < length rows → row ≡ get_or rows i row → Some place ≡ station_of_row setup row
-    → length place.0.lists + 2 ≤ length counts → None ≡ entry_of place.0.code place.1.code row (take (length place.0.lists + 2) counts) → Reading setup so_far (drop i rows) counts ≡ None
-no_entry setup so_far rows counts i row place low at is enough e = with_entry setup so_far rows counts i row place None low at is enough e
-
 pub one_entry : (setup : List Constituency) (so_far : List (List ℕ × StationReturn)) (rows counts : List Row) (i : ℕ) (row : Row) (place : Constituency × Station) (e : List ℕ × StationReturn) → i < length rows → row ≡ get_or rows i row → Some place ≡ station_of_row setup row
     → length place.0.lists + 2 ≤ length counts → Some e ≡ entry_of place.0.code place.1.code row (take (length place.0.lists + 2) counts)
     → Reading setup so_far (drop i rows) counts ≡ Reading setup (so_far ++ e ∷ []) (drop (i + 1) rows) (drop (length place.0.lists + 2) counts)
@@ -314,10 +300,6 @@ one_entry setup so_far rows counts i row place e low at is enough found =
     moved : (o : Option (List (List ℕ × StationReturn))) → option_map (λ es. so_far ++ es) (option_map (λ l. e ∷ l) o) ≡ option_map (λ es. (so_far ++ e ∷ []) ++ es) o
     moved None = refl
     moved (Some es) = ap Some (sym (append_assoc so_far (e ∷ []) es))
-
--- all rows of `returns` were read
-pub reading_ends : (setup : List Constituency) (so_far : List (List ℕ × StationReturn)) (rows : List Row) (i : ℕ) → length rows ≤ i → Reading setup so_far (drop i rows) [] ≡ Some so_far
-reading_ends setup so_far rows i past = ap (λ l. Reading setup so_far l []) (drop_all i rows past) ∙ ap Some (append-nil so_far)
 
 pub too_many : (setup : List Constituency) (so_far : List (List ℕ × StationReturn)) (rows counts : List Row) (i : ℕ) → length rows ≤ i → 0 < length counts → Reading setup so_far (drop i rows) counts ≡ None
 too_many setup so_far rows [] i past some = absurd (omega (arith, some))

@@ -1,9 +1,9 @@
 -- Rows of whole tables that read as constituencies are their rows, and their rows read as them.
-use Rattle.std.proofs.Common.{◌≡◌, ◌<◌, ◌≤◌, ◌+◌, ◌&&◌, ℕ, zero, suc, Bool, true, false, cond, Option, Some, None, List, [], ◌∷◌, ◌++◌, map, length, take, drop, take-append-drop, append_assoc, append-nil, get_or, true≢false, Less, refl, sym, ap, ap₂, subst, ◌∙◌, arith}
+use Rattle.std.proofs.Common.{◌≡◌, ◌<◌, ◌≤◌, ◌+◌, ◌&&◌, ℕ, Bool, true, false, cond, Option, Some, None, List, [], ◌∷◌, ◌++◌, map, length, drop, take-append-drop, append_assoc, get_or, true≢false, Less, refl, sym, ap, ap₂, subst, ◌∙◌, arith}
 use Rattle.std.specs.Prelude.{option_and_then, option_map, bytes_eq, ◌==◌}
 use Rattle.std.specs.Option.{option_map_or}
 use Rattle.std.specs.Ordering.{is_eq}
-use Rattle.std.specs.List.{AllByRecursion, flat_map, prefix_len}
+use Rattle.std.specs.List.{AllByRecursion, flat_map}
 use Rattle.std.proofs.lemmas.Bool.{and_parts, eqb-true, false_from_ne_true}
 use Rattle.std.proofs.lemmas.List.{take_at, drop_at, drop_more, drop_all}
 use Rattle.std.proofs.lemmas.Slice.Eq.{bytes_eq-Decides}
@@ -11,7 +11,7 @@ use Rattle.sqlite_keyed.proofs.ListLemmas.{all-append, all_weaker}
 use Rattle.sqlite_trees.specs.Tree.{IsAscending}
 use Rattle.sqlite_value.specs.declared.value.Value.TheVariants.{Text}
 use Rattle.sqlite_value.specs.Order.{Row, column}
-use Rattle.tally_rules.specs.Code.{is_code, code_of}
+use Rattle.tally_rules.specs.Code.{is_code}
 use Rattle.tally_rules.specs.Constituency.{Constituency}
 use Rattle.tally_rules.specs.Setup.{constituency_with}
 use Rattle.tally_returns.specs.PastSeats.{PastSeats}
@@ -225,13 +225,6 @@ views_again setup counted (e ∷ vs) fine up =
 abbrev pub Reading : List Constituency → (Constituency → View) → List (List ℕ × View) → List Row → Tables → Option (List (List ℕ × View))
 Reading setup counted so_far rows tables = option_map (λ es. so_far ++ es) (views_from setup counted rows tables)
 
-pub reading_starts : (setup : List Constituency) (counted : Constituency → View) (rows : List Row) (tables : Tables) → Reading setup counted [] rows tables ≡ views_from setup counted rows tables
-reading_starts setup counted rows tables = go (views_from setup counted rows tables)
-  where
-    go : (o : Option (List (List ℕ × View))) → option_map (λ (es : List (List ℕ × View)). [] ++ es) o ≡ o
-    go None = refl
-    go (Some es) = refl
-
 -- the row at a place of the loop, by the constituency that it names
 at_row : (setup : List Constituency) (counted : Constituency → View) (so_far : List (List ℕ × View)) (rows : List Row) (tables : Tables) (i : ℕ) (row : Row) (o : Option Constituency) → i < length rows → row ≡ get_or rows i row → o ≡ con_at setup row
     → Reading setup counted so_far (drop i rows) tables ≡ option_map (λ es. so_far ++ es) (option_and_then (λ con. next_view (views_from setup counted (drop (i + 1) rows)) (counted con) row tables con) o)
@@ -264,11 +257,6 @@ one_found setup counted so_far rows tables i row con e low at is found =
     moved : (o : Option (List (List ℕ × View))) → option_map (λ es. so_far ++ es) (option_map (λ es. e ∷ es) o) ≡ option_map (λ es. (so_far ++ e ∷ []) ++ es) o
     moved None = refl
     moved (Some es) = ap Some (sym (append_assoc so_far (e ∷ []) es))
-
--- all rows of `cons` were read
-pub reading_ends : (setup : List Constituency) (counted : Constituency → View) (so_far : List (List ℕ × View)) (rows : List Row) (tables : Tables) (i : ℕ) → length rows ≤ i → is_empty tables ≡ true → Reading setup counted so_far (drop i rows) tables ≡ Some so_far
-reading_ends setup counted so_far rows tables i past none =
-    ap (λ l. Reading setup counted so_far l tables) (drop_all i rows past) ∙ ap (λ b. option_map (λ es. so_far ++ es) (cond b (Some []) None)) none ∙ ap Some (append-nil so_far)
 
 pub rows_left : (setup : List Constituency) (counted : Constituency → View) (so_far : List (List ℕ × View)) (rows : List Row) (tables : Tables) (i : ℕ) → length rows ≤ i → is_empty tables ≡ false → Reading setup counted so_far (drop i rows) tables ≡ None
 rows_left setup counted so_far rows tables i past some =

@@ -1,25 +1,14 @@
 -- A loop that reads certificates that were reopened.
-use Rattle.std.proofs.Common.{◌≡◌, ◌<◌, ◌≤◌, ◌+◌, ◌-◌, ℕ, zero, suc, Bool, true, false, cond, Option, Some, None, List, [], ◌∷◌, ◌++◌, length, take, drop, append_assoc, append-nil, true≢false, refl, sym, ap, ◌∙◌, arith}
-use Rattle.std.specs.Prelude.{option_and_then, option_map, nat_le, ◌==◌}
+use Rattle.std.proofs.Common.{◌≡◌, ◌<◌, ◌≤◌, ◌+◌, ◌-◌, ℕ, zero, suc, false, cond, Option, Some, None, List, [], ◌∷◌, ◌++◌, length, take, drop, append_assoc, true≢false, refl, sym, ap, ◌∙◌, arith}
+use Rattle.std.specs.Prelude.{option_and_then, option_map, ◌==◌}
 use Rattle.std.proofs.lemmas.Bool.{le-leb, lt-leb}
 use Rattle.sqlite_value.specs.Order.{Row}
 use Rattle.tally_returns.specs.PastSeats.{PastSeats}
-use Rattle.tally_tables.specs.Reading.{record_of, next_record, records_of}
+use Rattle.tally_tables.specs.Reading.{record_of, records_of}
 
 -- what the certificates so far and the other rows come to
 abbrev pub Reading : List ℕ → ℕ → List PastSeats → ℕ → List Row → Option (List PastSeats)
 Reading con lists so_far most rows = option_map (λ rs. so_far ++ rs) (records_of con lists most rows)
-
-pub reading_starts : (con : List ℕ) (lists most : ℕ) (rows : List Row) → Reading con lists [] most rows ≡ records_of con lists most rows
-reading_starts con lists most rows = go (records_of con lists most rows)
-  where
-    go : (o : Option (List PastSeats)) → option_map (λ (rs : List PastSeats). [] ++ rs) o ≡ o
-    go None = refl
-    go (Some rs) = refl
-
-pub reading_ends : (con : List ℕ) (lists : ℕ) (so_far : List PastSeats) (most : ℕ) (rows : List Row) → length rows ≡ 0 → Reading con lists so_far most rows ≡ Some so_far
-reading_ends con lists so_far most [] none = ap Some (append-nil so_far)
-reading_ends con lists so_far most (row ∷ rows) none = absurd (omega (arith, none))
 
 pub too_few : (con : List ℕ) (lists : ℕ) (so_far : List PastSeats) (most : ℕ) (rows : List Row) → 0 < length rows → length rows < lists → Reading con lists so_far most rows ≡ None
 too_few con lists so_far most [] some few = absurd (omega (arith, some))
@@ -40,9 +29,6 @@ with_record con lists so_far most next (row ∷ rows) o is some enough e =
     ap (λ m. Reading con lists so_far m all) is
     ∙ ap (λ b. option_map (λ rs. so_far ++ rs) (cond b (option_and_then (λ r. option_map (λ rs. r ∷ rs) (records_of con lists next (drop lists all))) (record_of con (take lists all))) None)) (le-leb lists (length all) enough)
     ∙ ap (λ p. option_map (λ rs. so_far ++ rs) (option_and_then (λ r. option_map (λ rs. r ∷ rs) (records_of con lists next (drop lists all))) p)) (sym e)
-
-pub no_record : (con : List ℕ) (lists : ℕ) (so_far : List PastSeats) (most i : ℕ) (rows : List Row) → i < most → 0 < length rows → lists ≤ length rows → None ≡ record_of con (take lists rows) → Reading con lists so_far (most - i) rows ≡ None
-no_record con lists so_far most i rows low some enough e = with_record con lists so_far (most - i) (most - (i + 1)) rows None (omega (arith, low)) some enough e
 
 pub one_record : (con : List ℕ) (lists : ℕ) (so_far : List PastSeats) (most i : ℕ) (rows : List Row) (r : PastSeats) → i < most → 0 < length rows → lists ≤ length rows → Some r ≡ record_of con (take lists rows)
     → Reading con lists so_far (most - i) rows ≡ Reading con lists (so_far ++ r ∷ []) (most - (i + 1)) (drop lists rows)

@@ -12,7 +12,8 @@ use Rattle.tally_rules.specs.declared.constituency.Station.{Station}
 use Rattle.tally_returns.specs.Counts.{VoteCounts}
 use Rattle.tally_returns.specs.Return.{StationReturn, Returns}
 use Rattle.tally_returns.specs.declared.returns.Status.{Status}
-use Rattle.tally_returns.specs.declared.returns.Status.TheVariants.{Received, Queried, Corrected, Closed}
+use Rattle.tally_returns.specs.declared.returns.Status.TheVariants.{Received, Queried, Corrected}
+use Rattle.tally_returns.specs.declared.returns.Status.TheVariants.{Closed}
 use Rattle.tally_returns.specs.State.{ConState}
 use Rattle.tally_schema.specs.Cells.{flag}
 use Rattle.tally_returns.specs.View.{closed_counts, votes_of_lists, blank_of, spoiled_of}

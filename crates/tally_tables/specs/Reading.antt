@@ -1,5 +1,8 @@
 -- What rows read as, or nothing. Whether what they read as is lawful is judged elsewhere.
-use Rattle.std.specs.Prelude.{◌==◌, ◌+◌, ◌-◌, if◌then◌else◌, ℕ, zero, suc, nat_le, Bool, true, false, Option, Some, None, option_map, option_and_then, List, [], ◌∷◌, length, bytes_eq, slice_index_or, slice_range, take, drop, ◌≡◌, Result, IfOk, Vec}
+use Rattle.std.specs.Prelude.{◌==◌, ◌+◌, ◌-◌, if◌then◌else◌, ℕ, zero, suc, nat_le, Bool, true}
+use Rattle.std.specs.Prelude.{false, Option, Some, None, option_map, option_and_then, List, [], ◌∷◌}
+use Rattle.std.specs.Prelude.{length, bytes_eq, slice_index_or, slice_range, take, drop, ◌≡◌}
+use Rattle.std.specs.Prelude.{Result, IfOk, Vec}
 use Rattle.std.specs.declared.alloc.Global.{Global}
 use Rattle.std.specs.Option.{option_map_or}
 use Rattle.std.specs.Str.{is_utf8}
@@ -15,7 +18,8 @@ use Rattle.tally_returns.specs.GoneCandidate.{GoneCandidate}
 use Rattle.tally_returns.specs.PastSeats.{PastSeats}
 use Rattle.tally_returns.specs.Return.{StationReturn}
 use Rattle.tally_returns.specs.declared.returns.Status.{Status}
-use Rattle.tally_returns.specs.declared.returns.Status.TheVariants.{Received, Queried, Corrected, Closed}
+use Rattle.tally_returns.specs.declared.returns.Status.TheVariants.{Received, Queried, Corrected}
+use Rattle.tally_returns.specs.declared.returns.Status.TheVariants.{Closed}
 use Rattle.tally_tables.specs.Cells.{spoiled_item}
 
 -- one thing read after another, as far as the first that reads as nothing

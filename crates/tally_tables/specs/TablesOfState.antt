@@ -9,8 +9,10 @@ use Rattle.tally_returns.specs.State.{State, con_state}
 use Rattle.tally_returns.specs.View.{view_of}
 use Rattle.tally_steps.specs.Outcome.{HasSeats}
 use Rattle.tally_schema.specs.Cells.{setup_row}
-use Rattle.tally_schema.specs.Tables.{setup_tree, returns_tree, counts_tree, cons_tree, lots_tree, seats_tree, gone_tree, totals_tree, past_tree}
-use Rattle.tally_tables.specs.Cells.{return_rows, count_rows, con_rows, lot_rows, seat_rows, gone_rows, total_rows, past_rows}
+use Rattle.tally_schema.specs.Tables.{setup_tree, returns_tree, counts_tree, cons_tree, lots_tree}
+use Rattle.tally_schema.specs.Tables.{seats_tree, gone_tree, totals_tree, past_tree}
+use Rattle.tally_tables.specs.Cells.{return_rows, count_rows, con_rows, lot_rows, seat_rows}
+use Rattle.tally_tables.specs.Cells.{gone_rows, total_rows, past_rows}
 
 -- the version of the tables
 abbrev pub version : ℕ

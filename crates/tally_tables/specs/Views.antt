@@ -1,5 +1,6 @@
 -- Constituencies, as their rows read.
-use Rattle.std.specs.Prelude.{◌==◌, ◌&&◌, if◌then◌else◌, ℕ, Bool, List, [], ◌∷◌, length, take, drop, Option, Some, None, option_and_then, option_map}
+use Rattle.std.specs.Prelude.{◌==◌, ◌&&◌, if◌then◌else◌, ℕ, Bool, List, [], ◌∷◌, length, take, drop}
+use Rattle.std.specs.Prelude.{Option, Some, None, option_and_then, option_map}
 use Rattle.std.specs.List.{prefix_len}
 use Rattle.sqlite_value.specs.Order.{Row, column}
 use Rattle.tally_rows.specs.Cells.{text_of}
@@ -7,7 +8,8 @@ use Rattle.tally_rules.specs.Code.{code_of}
 use Rattle.tally_rules.specs.Constituency.{Constituency}
 use Rattle.tally_rules.specs.Setup.{constituency_with}
 use Rattle.tally_returns.specs.View.{View}
-use Rattle.tally_tables.specs.Reading.{◌>>=◌, has_text, standing_of, numbers_from, all_gone_of, sums_of, past_of}
+use Rattle.tally_tables.specs.Reading.{◌>>=◌, has_text, standing_of, numbers_from, all_gone_of}
+use Rattle.tally_tables.specs.Reading.{sums_of, past_of}
 use Rattle.tally_tables.specs.declared.constituencies.Standing.{Standing}
 use Rattle.tally_tables.specs.declared.parts.ConTables.{ConTables}
 use Rattle.tally_tables.specs.declared.views.Statuses.{Statuses}

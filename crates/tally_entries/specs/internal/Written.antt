@@ -1,5 +1,6 @@
 -- What a call writes: rows that are added, the row of a return, the numbers of a key.
-use Rattle.std.specs.Prelude.{◌≡◌, ◌++◌, ℕ, List, [], length, map, filter, IsPermutation, Result, OnOk, ◌∷◌}
+use Rattle.std.specs.Prelude.{◌≡◌, ◌++◌, ℕ, List, [], length, map, filter, IsPermutation, Result}
+use Rattle.std.specs.Prelude.{OnOk, ◌∷◌}
 use Rattle.sqlite_value.specs.Order.{Row}
 use Rattle.sqlite.specs.declared.error.Error.{Error}
 use Rattle.sqlite.specs.State.{State as Seen, HasCleanDisk}
@@ -23,7 +24,9 @@ AddsRows t rows old new result = HasCleanDisk new → IsInside old → OnOk resu
 -- the row of a return of this constituency takes the place of the row of its station
 abbrev pub ReplacesHead : List ℕ → StationReturn → Seen → Seen → Result Unit Error → Type 0
 ReplacesHead station standing old new result =
-    (con : List ℕ) (before : StationReturn) → Replaces Heads station (return_row con (station, before)) (return_row con (station, standing)) old new result
+    (con : List ℕ) (before : StationReturn) →
+    Replaces Heads station (return_row con (station, before))
+    (return_row con (station, standing)) old new result
 
 -- the table has the rows of these numbers of a key, beside these rows
 abbrev pub HasItems : KeyedTable → List ℕ → VoteCounts → List Row → Seen → Seen → Type 0
@@ -32,13 +35,17 @@ HasItems t key c rest old new = HasRows t (map (item_row key) (items_of c) ++ re
 -- the numbers of the lists of a key are these, where it had rows for as many lists
 abbrev pub SetsNumbers : KeyedTable → List ℕ → List ℕ → Seen → Seen → Result Unit Error → Type 0
 SetsNumbers t key votes old new result =
-    HasCleanDisk new → IsInside old → (c : VoteCounts) (rest : List Row) → length c.votes ≡ length votes → filter (has_key key) rest ≡ [] → IsPermutation (map (item_row key) (items_of c) ++ rest) (rows_in t old)
+    HasCleanDisk new → IsInside old → (c : VoteCounts) (rest : List Row) →
+    length c.votes ≡ length votes → filter (has_key key) rest ≡ [] →
+    IsPermutation (map (item_row key) (items_of c) ++ rest) (rows_in t old)
     → OnOk result (HasItems t key (record c { votes = votes }) rest old new)
 
 -- and so are the blank and the spoiled ones
 abbrev pub SetsItems : KeyedTable → List ℕ → VoteCounts → Seen → Seen → Result Unit Error → Type 0
 SetsItems t key counts old new result =
-    HasCleanDisk new → IsInside old → (c : VoteCounts) (rest : List Row) → length c.votes ≡ length counts.votes → filter (has_key key) rest ≡ [] → IsPermutation (map (item_row key) (items_of c) ++ rest) (rows_in t old)
+    HasCleanDisk new → IsInside old → (c : VoteCounts) (rest : List Row) →
+    length c.votes ≡ length counts.votes → filter (has_key key) rest ≡ [] →
+    IsPermutation (map (item_row key) (items_of c) ++ rest) (rows_in t old)
     → OnOk result (HasItems t key counts rest old new)
 
 abbrev pub HasCounts : List ℕ → VoteCounts → List Row → Seen → Seen → Type 0

@@ -22,30 +22,35 @@ modified-positive k first = by_cases (cases_eq k 1)
     by_cases (inl e) = omega (arith, first_is k e)
     by_cases (inr ne) = omega (arith, later_is k ne)
 
-pub modified-rises : (j k : ℕ) → 1 ≤ j → j < k → modified_sainte_lague_divisor j < modified_sainte_lague_divisor k
+pub modified-rises : (j k : ℕ) → 1 ≤ j → j < k →
+    modified_sainte_lague_divisor j < modified_sainte_lague_divisor k
 modified-rises j k first later = by_cases (cases_eq j 1)
   where
     at_k : modified_sainte_lague_divisor k ≡ 10 * k - 5
     at_k = later_is k (λ e. omega (arith, e, first, later))
 
-    by_cases : (j ≡ 1) ⊎ (j ≡ 1 → ⊥) → modified_sainte_lague_divisor j < modified_sainte_lague_divisor k
+    by_cases : (j ≡ 1) ⊎ (j ≡ 1 → ⊥) →
+        modified_sainte_lague_divisor j < modified_sainte_lague_divisor k
     by_cases (inl e) = omega (arith, first_is j e, at_k, later)
     by_cases (inr ne) = omega (arith, later_is j ne, at_k, first, later)
 
-pub modified-at_most : (k : ℕ) → 1 ≤ k → k ≤ last_divisor → modified_sainte_lague_divisor k ≤ greatest_divisor
+pub modified-at_most : (k : ℕ) → 1 ≤ k → k ≤ last_divisor →
+    modified_sainte_lague_divisor k ≤ greatest_divisor
 modified-at_most k first last = by_cases (cases_eq k 1)
   where
     by_cases : (k ≡ 1) ⊎ (k ≡ 1 → ⊥) → modified_sainte_lague_divisor k ≤ greatest_divisor
     by_cases (inl e) = omega (arith, first_is k e)
     by_cases (inr ne) = omega (arith, later_is k ne, last)
 
-pub modified-rises_slowly : (k : ℕ) → 1 ≤ k → modified_sainte_lague_divisor (k + 1) ≤ 3 * modified_sainte_lague_divisor k
+pub modified-rises_slowly : (k : ℕ) → 1 ≤ k →
+    modified_sainte_lague_divisor (k + 1) ≤ 3 * modified_sainte_lague_divisor k
 modified-rises_slowly k first = by_cases (cases_eq k 1)
   where
     next : modified_sainte_lague_divisor (k + 1) ≡ 10 * (k + 1) - 5
     next = later_is (k + 1) (λ e. omega (arith, first, e))
 
-    by_cases : (k ≡ 1) ⊎ (k ≡ 1 → ⊥) → modified_sainte_lague_divisor (k + 1) ≤ 3 * modified_sainte_lague_divisor k
+    by_cases : (k ≡ 1) ⊎ (k ≡ 1 → ⊥) →
+        modified_sainte_lague_divisor (k + 1) ≤ 3 * modified_sainte_lague_divisor k
     by_cases (inl e) = omega (arith, next, first_is k e, e)
     by_cases (inr ne) = omega (arith, next, later_is k ne, first)
 

@@ -56,30 +56,40 @@ chain_le_le a b c d e f p h k =
     le_of_mul-le-mul_right both p
 
 -- the same answer for other facts
-match_ordering : {P Q R P' Q' R' : Type 0} → (P → P') → (Q → Q') → (R → R') → (r : Ordering) → MatchOrdering r P Q R → MatchOrdering r P' Q' R'
+match_ordering : {P Q R P' Q' R' : Type 0} → (P → P') → (Q → Q') → (R → R') → (r : Ordering) →
+    MatchOrdering r P Q R → MatchOrdering r P' Q' R'
 match_ordering f g h Less m = f m
 match_ordering f g h Equal m = g m
 match_ordering f g h Greater m = h m
 
 -- values that have fractions, in the order of these
 module _ {K : Type 0} (f : K → Fraction) (positive : (x : K) → 1 ≤ (f x).den) where
-  fractions_trans : (x y z : K) → fraction_cmp (f x) (f y) ≡ Less → fraction_cmp (f y) (f z) ≡ Less → fraction_cmp (f x) (f z) ≡ Less
+  fractions_trans : (x y z : K) → fraction_cmp (f x) (f y) ≡ Less →
+      fraction_cmp (f y) (f z) ≡ Less → fraction_cmp (f x) (f z) ≡ Less
   fractions_trans x y z h k =
       let first : (f x).num * (f y).den < (f y).num * (f x).den = less_means _ _ h in
       let second : (f y).num * (f z).den < (f z).num * (f y).den = less_means _ _ k in
-      is_less _ _ (chain_lt_le (f x).num (f x).den (f y).num (f y).den (f z).num (f z).den (positive z) first (omega arith))
+      is_less _ _ (chain_lt_le (f x).num (f x).den (f y).num (f y).den (f z).num (f z).den
+      (positive z) first (omega arith))
 
-  fractions_congr : (x y z : K) → fraction_cmp (f x) (f y) ≡ Equal → fraction_cmp (f x) (f z) ≡ fraction_cmp (f y) (f z)
+  fractions_congr : (x y z : K) → fraction_cmp (f x) (f y) ≡ Equal →
+      fraction_cmp (f x) (f z) ≡ fraction_cmp (f y) (f z)
   fractions_congr x y z h =
       let level : (f x).num * (f y).den ≡ (f y).num * (f x).den = equal_means _ _ h in
       nat_cmp_is _ _ (fraction_cmp (f x) (f z))
       (match_ordering
-      (λ less. chain_le_lt (f y).num (f y).den (f x).num (f x).den (f z).num (f z).den (positive y) (omega arith) less)
+      (λ less. chain_le_lt (f y).num (f y).den (f x).num (f x).den (f z).num (f z).den (positive y)
+      (omega arith) less)
       (λ same.
-      let up : (f y).num * (f z).den ≤ (f z).num * (f y).den = chain_le_le (f y).num (f y).den (f x).num (f x).den (f z).num (f z).den (positive x) (omega arith) (omega arith) in
-      let down : (f z).num * (f y).den ≤ (f y).num * (f z).den = chain_le_le (f z).num (f z).den (f x).num (f x).den (f y).num (f y).den (positive x) (omega arith) (omega arith) in
+      let up : (f y).num * (f z).den ≤ (f z).num * (f y).den =
+      chain_le_le (f y).num (f y).den (f x).num (f x).den (f z).num (f z).den (positive x)
+      (omega arith) (omega arith) in
+      let down : (f z).num * (f y).den ≤ (f y).num * (f z).den =
+      chain_le_le (f z).num (f z).den (f x).num (f x).den (f y).num (f y).den (positive x)
+      (omega arith) (omega arith) in
       omega arith)
-      (λ greater. chain_lt_le (f z).num (f z).den (f x).num (f x).den (f y).num (f y).den (positive y) greater (omega arith))
+      (λ greater. chain_lt_le (f z).num (f z).den (f x).num (f x).den (f y).num (f y).den
+      (positive y) greater (omega arith))
       (fraction_cmp (f x) (f z))
       (ranks ((f x).num * (f z).den) ((f z).num * (f x).den)))
 

@@ -4,7 +4,7 @@ use Rattle.std.specs.Prelude.{nat_eq}
 use Rattle.std.specs.declared.cmp.Ordering.{Ordering}
 use Rattle.std.specs.declared.cmp.Ordering.TheVariants.{Less, Equal, Greater}
 use Rattle.std.specs.Ordering.{nat_cmp, on, flip_args, then_cmp, ordering_then, ordering_reverse}
-use Rattle.std.specs.Ordering.{eq_of_both, eq_by_cmp, is_eq, MatchOrdering}
+use Rattle.std.specs.Ordering.{eq_of_both, eq_by_cmp, is_eq}
 use Rattle.std.specs.Cmp.{IsTotalOrder, IsEquivalence, nat_cmp_total, nat_eq_equiv, then_total}
 use Rattle.std.specs.Cmp.{on_total, back_total, and_equiv, on_equiv, first_so, second_so, both_ways}
 use Rattle.std.specs.Cmp.{tied_itself, Equal-is}
@@ -37,7 +37,8 @@ read_quotient-positive : (p : Pair) → 1 ≤ (read_quotient p).den
 read_quotient-positive p = omega arith
 
 pub weak_cmp-total : IsTotalOrder weak_cmp
-weak_cmp-total = then_total (fractions_total read_quotient read_quotient-positive) (on_total (λ p. p.votes) nat_cmp_total)
+weak_cmp-total = then_total (fractions_total read_quotient read_quotient-positive)
+    (on_total (λ p. p.votes) nat_cmp_total)
 
 pub strict_cmp-total : IsTotalOrder strict_cmp
 strict_cmp-total = then_total weak_cmp-total (back_total (on_total (λ p. p.place) nat_cmp_total))
@@ -47,15 +48,18 @@ rank_cmp-total = then_total strict_cmp-total (on_total (λ p. p.divisor) nat_cmp
 
 -- every part alike
 abbrev pub same_pair : Pair → Pair → Bool
-same_pair = eq_of_both (on (λ p. p.votes) nat_eq) (eq_of_both (on (λ p. p.divisor) nat_eq) (on (λ p. p.place) nat_eq))
+same_pair = eq_of_both (on (λ p. p.votes) nat_eq)
+    (eq_of_both (on (λ p. p.divisor) nat_eq) (on (λ p. p.place) nat_eq))
 
 pub same_pair-equiv : IsEquivalence same_pair
-same_pair-equiv = and_equiv (on_equiv (λ p. p.votes) nat_eq_equiv) (and_equiv (on_equiv (λ p. p.divisor) nat_eq_equiv) (on_equiv (λ p. p.place) nat_eq_equiv))
+same_pair-equiv = and_equiv (on_equiv (λ p. p.votes) nat_eq_equiv)
+    (and_equiv (on_equiv (λ p. p.divisor) nat_eq_equiv) (on_equiv (λ p. p.place) nat_eq_equiv))
 
 pub same_pair-means : (p q : Pair) → same_pair p q ≡ true → p ≡ q
 same_pair-means p q e =
     let votes : p.votes ≡ q.votes = eqb-true _ _ (first_so _ _ e) in
-    let rest = second_so (p.votes == q.votes) ((p.divisor == q.divisor) && (p.place == q.place)) e in
+    let rest =
+    second_so (p.votes == q.votes) ((p.divisor == q.divisor) && (p.place == q.place)) e in
     let divisor : p.divisor ≡ q.divisor = eqb-true _ _ (first_so _ _ rest) in
     let place : p.place ≡ q.place = eqb-true _ _ (second_so (p.divisor == q.divisor) _ rest) in
     λ i. record { votes = votes i; divisor = divisor i; place = place i }
@@ -78,17 +82,21 @@ rank_cmp-equal p q e =
 pub same_pair-ties : (p q : Pair) → same_pair p q ≡ eq_by_cmp rank_cmp p q
 same_pair-ties p q =
     both_ways (same_pair p q) (eq_by_cmp rank_cmp p q)
-    (λ e. subst (λ r. eq_by_cmp rank_cmp p r ≡ true) (same_pair-means p q e) (ap is_eq (tied_itself rank_cmp-total p)))
-    (λ e. subst (λ r. same_pair p r ≡ true) (rank_cmp-equal p q ((Equal-is (rank_cmp p q)).0 e)) (same_pair-equiv.refl p))
+    (λ e. subst (λ r. eq_by_cmp rank_cmp p r ≡ true) (same_pair-means p q e)
+    (ap is_eq (tied_itself rank_cmp-total p)))
+    (λ e. subst (λ r. same_pair p r ≡ true) (rank_cmp-equal p q ((Equal-is (rank_cmp p q)).0 e))
+    (same_pair-equiv.refl p))
 
 -- ---- The answers and the ranks
 
-then-greater : (a b : Ordering) → ordering_then a b ≡ Greater → (a ≡ Greater) ⊎ ((a ≡ Equal) × (b ≡ Greater))
+then-greater : (a b : Ordering) → ordering_then a b ≡ Greater → (a ≡ Greater) ⊎
+    ((a ≡ Equal) × (b ≡ Greater))
 then-greater Less b e = cc
 then-greater Equal b e = inr (refl, e)
 then-greater Greater b e = inl refl
 
-is_then-greater : (a b : Ordering) → (a ≡ Greater) ⊎ ((a ≡ Equal) × (b ≡ Greater)) → ordering_then a b ≡ Greater
+is_then-greater : (a b : Ordering) → (a ≡ Greater) ⊎ ((a ≡ Equal) × (b ≡ Greater)) →
+    ordering_then a b ≡ Greater
 is_then-greater a b (inl h) = ap (λ r. ordering_then r b) h
 is_then-greater a b (inr h) = ap (λ r. ordering_then r b) h.0 ∙ h.1
 
@@ -105,18 +113,21 @@ pub tie-divisor : (p q : Pair) → 1 ≤ p.votes → TiesByVotes p q → p.divis
 tie-divisor p q some h =
     let same : p.votes ≡ q.votes = h.1 in
     let cross : p.votes * q.divisor ≡ q.votes * p.divisor = h.0 in
-    let level : p.votes * q.divisor ≡ p.votes * p.divisor = cross ∙ ap (λ n. n * p.divisor) (sym same) in
+    let level : p.votes * q.divisor ≡ p.votes * p.divisor =
+    cross ∙ ap (λ n. n * p.divisor) (sym same) in
     let below : p.divisor ≤ q.divisor = le_of_mul-le-mul_left {k = p.votes} (omega arith) some in
     let above : q.divisor ≤ p.divisor = le_of_mul-le-mul_left {k = p.votes} (omega arith) some in
     omega arith
 
 module _ (p q : Pair) (first : 1 ≤ p.divisor) (second : 1 ≤ q.divisor) where
-  read_alike : fraction_cmp (read_quotient p) (read_quotient q) ≡ fraction_cmp (quotient p) (quotient q)
+  read_alike : fraction_cmp (read_quotient p) (read_quotient q)
+      ≡ fraction_cmp (quotient p) (quotient q)
   read_alike i = fraction_cmp (read_quotient-same p first i) (read_quotient-same q second i)
 
   weak_forth : (weak_cmp p q ≡ Greater) → RanksAboveByVotes p q
   weak_forth e =
-      elim (then-greater (fraction_cmp (read_quotient p) (read_quotient q)) (nat_cmp p.votes q.votes) e) [
+      elim (then-greater (fraction_cmp (read_quotient p) (read_quotient q))
+      (nat_cmp p.votes q.votes) e) [
         | inl h ↦ inl (greater_means _ _ (sym read_alike ∙ h))
         | inr h ↦ inr (equal_means _ _ (sym read_alike ∙ h.0), greater_means _ _ h.1)
       ]
@@ -130,7 +141,8 @@ module _ (p q : Pair) (first : 1 ≤ p.divisor) (second : 1 ≤ q.divisor) where
 
   ties_forth : (weak_cmp p q ≡ Equal) → TiesByVotes p q
   ties_forth e =
-      let parts = then-equal (fraction_cmp (read_quotient p) (read_quotient q)) (nat_cmp p.votes q.votes) e in
+      let parts = then-equal (fraction_cmp (read_quotient p) (read_quotient q))
+      (nat_cmp p.votes q.votes) e in
       (equal_means _ _ (sym read_alike ∙ parts.0), equal_means _ _ parts.1)
 
   ties_back : TiesByVotes p q → (weak_cmp p q ≡ Equal)
@@ -181,14 +193,8 @@ module _ (p q : Pair) (at_p : IsWithinLimits p) (at_q : IsWithinLimits q) where
 
   pub rank_cmp-less : (rank_cmp p q ≡ Less) ↔ RanksAbove q p
   rank_cmp-less =
-      let other_way : (rank_cmp q p ≡ Greater) ↔ RanksAbove q p = rank_cmp-above q p at_q.some_divisor at_p.some_divisor at_q.some_votes in
-      (λ e. other_way.0 (greater_if_less _ _ (rank_cmp-total.antisymm p q) e), λ h. rank_cmp-total.antisymm p q ∙ ap ordering_reverse (other_way.1 h))
-
-  -- what an answer on two keys says of their pairs
-  pub rank_cmp-means : (answer : Ordering) → rank_cmp p q ≡ answer → MatchOrdering answer (RanksAbove q p) (p ≡ q) (RanksAbove p q)
-  rank_cmp-means Less e = rank_cmp-less.0 e
-  rank_cmp-means Equal e = rank_cmp-equal p q e
-  rank_cmp-means Greater e = rank_cmp-greater.0 e
-
-pub rank_cmp-same : (p q : Pair) → (rank_cmp p q ≡ Equal) ↔ (p ≡ q)
-rank_cmp-same p q = (rank_cmp-equal p q, λ e. subst (λ r. rank_cmp p r ≡ Equal) e (tied_itself rank_cmp-total p))
+      let other_way : (rank_cmp q p ≡ Greater) ↔ RanksAbove q p =
+      rank_cmp-above q p at_q.some_divisor at_p.some_divisor at_q.some_votes in (
+        λ e. other_way.0 (greater_if_less _ _ (rank_cmp-total.antisymm p q) e),
+        λ h. rank_cmp-total.antisymm p q ∙ ap ordering_reverse (other_way.1 h),
+      )

@@ -9,7 +9,8 @@ use Rattle.tally_frac.specs.Limits.{most_lists}
 use Rattle.tally_returns.specs.Counts.{VoteCounts}
 use Rattle.tally_returns.specs.Return.{StationReturn, Returns}
 use Rattle.tally_returns.specs.Lodge.{Stations, lodge_answer}
-use Rattle.tally_keeper.specs.Import.{RowAnswer, answers, row_answer, returns_after_import, count_of, lodged_counts}
+use Rattle.tally_keeper.specs.Import.{RowAnswer, answers, row_answer, returns_after_import}
+use Rattle.tally_keeper.specs.Import.{count_of, lodged_counts}
 use Rattle.tally_keeper.specs.declared.import.Row.{Row}
 use Rattle.tally_returns.specs.declared.refusal.Refusal.{Refusal}
 use Rattle.tally_returns.specs.declared.reply.LodgeReply.{LodgeReply}
@@ -28,11 +29,14 @@ Holds held returns = (code : List ℕ) → table.get (pointwise nat_eq) held cod
 
 -- the answer to a row where the table holds the returns, and every code is a station
 abbrev pub IsRowAnswer : ℕ → Table → Row → RowAnswer → Type 0
-IsRowAnswer lists held row answer = (returns : Returns) → Holds held returns → row_answer (every_code lists) returns row ≡ answer
+IsRowAnswer lists held row answer =
+    (returns : Returns) → Holds held returns → row_answer (every_code lists) returns row ≡ answer
 
 -- the answer to the lodging of a return there: its station, its slip and its counts
-abbrev pub IsHeldLodgeAnswer : ℕ → Table → List ℕ → List ℕ → VoteCounts → Result LodgeReply Refusal → Type 0
-IsHeldLodgeAnswer lists held station slip counts answer = (returns : Returns) → Holds held returns → answer ≡ lodge_answer (every_code lists) returns station slip counts
+abbrev pub IsHeldLodgeAnswer : ℕ → Table → List ℕ → List ℕ → VoteCounts →
+    Result LodgeReply Refusal → Type 0
+IsHeldLodgeAnswer lists held station slip counts answer = (returns : Returns) → Holds held returns →
+    answer ≡ lodge_answer (every_code lists) returns station slip counts
 
 -- a table that held some returns holds what they have become
 abbrev pub TableMoves : Table → Table → (Returns → Returns) → Type 0

@@ -1,5 +1,6 @@
 -- What the parts of a check leave.
-use Rattle.std.specs.Prelude.{◌≡◌, ◌<◌, ◌≤◌, ◌++◌, ◌⊎◌, ⊤, ℕ, Bool, true, List, length, Option, Some, None, IfSome, option_map, Result, Ok, Err, String, string_bytes}
+use Rattle.std.specs.Prelude.{◌≡◌, ◌<◌, ◌≤◌, ◌++◌, ◌⊎◌, ⊤, ℕ, Bool, true, List, length, Option}
+use Rattle.std.specs.Prelude.{Some, None, IfSome, option_map, Result, Ok, Err, String, string_bytes}
 use Rattle.std.specs.declared.alloc.Global.{Global}
 use Rattle.tally_keeper.specs.Source.{row_limit}
 use Rattle.tally_import.specs.Check.{Found, check_fault, rows_of_records}
@@ -9,7 +10,8 @@ use Rattle.tally_records.specs.Given.{HasGiven, sep_of}
 use Rattle.tally_records.specs.declared.end.Stop.{Stop}
 use Rattle.tally_records.specs.RecordsValue.{Records}
 use Rattle.tally_import.specs.declared.check.CheckFault.{CheckFault}
-use Rattle.tally_import.specs.declared.check.CheckFault.TheVariants.{BadHeader, TooLong, Read, Memory, Write}
+use Rattle.tally_import.specs.declared.check.CheckFault.TheVariants.{BadHeader, TooLong, Read}
+use Rattle.tally_import.specs.declared.check.CheckFault.TheVariants.{Memory, Write}
 use Rattle.tally_import.specs.declared.import.Import.{Import}
 use Rattle.tally_records.specs.declared.separator.Sep.{Sep}
 
@@ -19,22 +21,31 @@ ended_import None import = Ok import
 ended_import (Some stop) import = Err (check_fault stop)
 
 -- After the records given so far these are the complete ones of what comes of a text.
-abbrev pub AreRecordsAfter : Option (List ℕ) → Option (List ℕ) → Records → List (List (List ℕ)) → Option Stop → Type 0
-AreRecordsAfter old_left left r rows stop = (text : Option (List ℕ)) (before : List (List (List ℕ))) → HasGiven text old_left before r → AreAll (sep_of r) text left (before ++ rows) stop
+abbrev pub AreRecordsAfter : Option (List ℕ) → Option (List ℕ) → Records → List (List (List ℕ)) →
+    Option Stop → Type 0
+AreRecordsAfter old_left left r rows stop =
+    (text : Option (List ℕ)) (before : List (List (List ℕ))) → HasGiven text old_left before r →
+    AreAll (sep_of r) text left (before ++ rows) stop
 
 -- The import, under a header of so many lists, of rows that are all, or the fault of too many, or
 -- what stopped them. Out of memory may come at any place.
-abbrev pub ImportsRecords : ℕ → (List (List (List ℕ)) → Option Stop → Type 0) → Result Import CheckFault → Type 0
+abbrev pub ImportsRecords : ℕ → (List (List (List ℕ)) → Option Stop → Type 0) →
+    Result Import CheckFault → Type 0
 ImportsRecords lists AreRows (Ok import) = (rows : List (List (List ℕ))) × AreRows rows None
-    × HasTaken (record { lists = lists; rows = rows_of_records lists rows }) import × (length rows ≤ row_limit)
-ImportsRecords lists AreRows (Err fault) = (fault ≡ Memory) ⊎ ((rows : List (List (List ℕ))) × (stop : Option Stop) × AreRows rows stop
-    × (((fault ≡ TooLong) × (row_limit < length rows)) ⊎ ((option_map check_fault stop ≡ Some fault) × (length rows ≤ row_limit))))
+    × HasTaken (record { lists = lists; rows = rows_of_records lists rows }) import ×
+    (length rows ≤ row_limit)
+ImportsRecords lists AreRows (Err fault) =
+    (fault ≡ Memory) ⊎ ((rows : List (List (List ℕ))) × (stop : Option Stop) × AreRows rows stop
+    × (((fault ≡ TooLong) × (row_limit < length rows)) ⊎
+    ((option_map check_fault stop ≡ Some fault) × (length rows ≤ row_limit))))
 
 -- The check text that is found in a text, or the fault that comes first; out of memory may come at
 -- any place.
-abbrev pub FindsCheckText : Sep → List ℕ → Option (List ℕ) → Result (String Global) CheckFault → Type 0
+abbrev pub FindsCheckText : Sep → List ℕ → Option (List ℕ) →
+    Result (String Global) CheckFault → Type 0
 FindsCheckText sep text left (Ok found) = Found sep text left (λ f. f ≡ Ok (string_bytes found))
-FindsCheckText sep text left (Err fault) = (fault ≡ Memory) ⊎ Found sep text left (λ f. f ≡ Err fault)
+FindsCheckText sep text left (Err fault) =
+    (fault ≡ Memory) ⊎ Found sep text left (λ f. f ≡ Err fault)
 
 -- The same of the text of which these records were given so far.
 abbrev pub FindsAfter : List (List (List ℕ)) → Records → Option (List ℕ) → Option (List ℕ)

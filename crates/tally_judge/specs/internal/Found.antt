@@ -1,5 +1,6 @@
 -- Constituencies that were read and are those of a lawful state.
-use Rattle.std.specs.Prelude.{◌≡◌, ◌==◌, ◌&&◌, ℕ, Bool, true, List, [], ◌∷◌, Option, Some, All, length, option_map}
+use Rattle.std.specs.Prelude.{◌≡◌, ◌==◌, ◌&&◌, ℕ, Bool, true, List, [], ◌∷◌, Option, Some, All}
+use Rattle.std.specs.Prelude.{length, option_map}
 use Rattle.std.specs.Prelude.{nat_eq}
 use Rattle.std.specs.Ordering.{nat_cmp}
 use Rattle.std.specs.Cmp.Lexicographic.{pointwise}
@@ -16,7 +17,8 @@ use Rattle.tally_judge.specs.internal.Entries.{rises, rises_on}
 use Rattle.tally_tables.specs.Views.{Tables, con_at, views_from}
 
 -- the constituency that a row of `cons` names, and what is seen of it by its returns
-abbrev pub con_counted : List Constituency → (Constituency → View) → Row → Option (Constituency × View)
+abbrev pub con_counted : List Constituency → (Constituency → View) → Row →
+    Option (Constituency × View)
 con_counted setup counted row = option_map (λ con. (con, counted con)) (con_at setup row)
 
 -- the same numbers of returns and the same sums

@@ -1,5 +1,6 @@
 -- Sums of closed votes that are moved by a return.
-use Rattle.std.specs.Prelude.{◌≡◌, ◌≤◌, ◌<◌, if◌then◌else◌, ℕ, Bool, true, List, map, slice_index, length}
+use Rattle.std.specs.Prelude.{◌≡◌, ◌≤◌, ◌<◌, if◌then◌else◌, ℕ, Bool, true, List, map, slice_index}
+use Rattle.std.specs.Prelude.{length}
 use Rattle.std.specs.List.{range_with_len}
 use Rattle.tally_rules.specs.Limits.{most_stations}
 use Rattle.tally_returns.specs.Counts.{VoteCounts}

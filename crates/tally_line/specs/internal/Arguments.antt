@@ -30,9 +30,11 @@ abbrev pub has_arguments : Text × List Row → Bool
 has_arguments p =
     if bytes_eq p.0 (codes "check") then true
     else if bytes_eq p.0 (codes "new") then has (codes "db") p.1 && has (codes "setup") p.1
-    else if bytes_eq p.0 (codes "import") then has (codes "db") p.1 && (has (codes "con") p.1 && has (codes "csv") p.1)
+    else if bytes_eq p.0 (codes "import")
+    then has (codes "db") p.1 && (has (codes "con") p.1 && has (codes "csv") p.1)
     else if bytes_eq p.0 (codes "show") then has (codes "db") p.1 && has (codes "report") p.1
-    else if bytes_eq p.0 (codes "serve") then has (codes "db") p.1 && (has_port p.1 && has_count p.1)
+    else if bytes_eq p.0 (codes "serve")
+    then has (codes "db") p.1 && (has_port p.1 && has_count p.1)
     else false
 
 -- why there is no line

@@ -1,10 +1,14 @@
 -- What the steps of reading a message leave.
-use Rattle.std.specs.Prelude.{◌≡◌, ℕ, ◌<◌, ◌≤◌, Bool, true, false, List, [], ◌++◌, length, take, Result, Ok, Err, IfOk, IfErr, ⊤}
+use Rattle.std.specs.Prelude.{◌≡◌, ℕ, ◌<◌, ◌≤◌, Bool, true, false, List, [], ◌++◌, length, take}
+use Rattle.std.specs.Prelude.{Result, Ok, Err, IfOk, IfErr, ⊤}
 use Rattle.tally_door.specs.Connection.{Connection}
 use Rattle.httparse.specs.declared.spans.RequestSpans.{RequestSpans}
 use Rattle.tally_message.specs.Message.{OnlyReadsInput, IsFault, FailsAs}
 use Rattle.tally_message.specs.declared.message.MessageFault.{MessageFault}
-use Rattle.tally_message.specs.declared.message.MessageFault.TheVariants.{BadHead, HeadTooLong, LengthRequired, BadLength, BodyTooLong, EndedEarly, Read, Memory}
+use Rattle.tally_message.specs.declared.message.MessageFault.TheVariants.{BadHead, HeadTooLong}
+use Rattle.tally_message.specs.declared.message.MessageFault.TheVariants.{LengthRequired, BadLength}
+use Rattle.tally_message.specs.declared.message.MessageFault.TheVariants.{BodyTooLong, EndedEarly}
+use Rattle.tally_message.specs.declared.message.MessageFault.TheVariants.{Read, Memory}
 use Rattle.tally_message.specs.declared.input.Input.{Input}
 use Rattle.tally_message.specs.declared.input.Input.TheVariants.{Bytes, End, Failure}
 

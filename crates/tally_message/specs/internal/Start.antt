@@ -4,7 +4,10 @@ use Rattle.httparse.specs.Grammar.{RequestHead}
 use Rattle.tally_message.specs.Message.{Announces, HasFaultyHead}
 use Rattle.tally_message.specs.declared.start.Start.{Start}
 use Rattle.tally_message.specs.declared.message.MessageFault.{MessageFault}
-use Rattle.tally_message.specs.declared.message.MessageFault.TheVariants.{BadHead, HeadTooLong, LengthRequired, BadLength, BodyTooLong, EndedEarly, Read, Memory}
+use Rattle.tally_message.specs.declared.message.MessageFault.TheVariants.{BadHead, HeadTooLong}
+use Rattle.tally_message.specs.declared.message.MessageFault.TheVariants.{LengthRequired, BadLength}
+use Rattle.tally_message.specs.declared.message.MessageFault.TheVariants.{BodyTooLong, EndedEarly}
+use Rattle.tally_message.specs.declared.message.MessageFault.TheVariants.{Read, Memory}
 
 pub record IsStartOf
     (bytes : List ℕ) (s : Start) (head : RequestHead) (rest : List ℕ)

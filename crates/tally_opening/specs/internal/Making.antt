@@ -1,5 +1,6 @@
 -- What the steps of making an office leave in a transaction. No public contract speaks of this.
-use Rattle.std.specs.Prelude.{◌≡◌, ◌≢◌, ◌++◌, ℕ, pos, List, [], ◌∷◌, map, length, IsOk, IsPermutation, Result, OnOk}
+use Rattle.std.specs.Prelude.{◌≡◌, ◌≢◌, ◌++◌, ℕ, pos, List, [], ◌∷◌, map, length, IsOk}
+use Rattle.std.specs.Prelude.{IsPermutation, Result, OnOk}
 use Rattle.std.specs.List.{flat_map}
 use Rattle.sqlite_value.specs.declared.value.Value.TheVariants.{Int, Text}
 use Rattle.sqlite_value.specs.Order.{Row}

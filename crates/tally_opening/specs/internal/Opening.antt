@@ -1,5 +1,7 @@
 -- What the steps of an opening see in a transaction. No public contract speaks of this.
-use Rattle.std.specs.Prelude.{◌≡◌, ◌≢◌, ◌⊎◌, ◌==◌, if◌then◌else◌, List, [], ◌∷◌, ℕ, Option, None, Some, Result, Ok, IfOk, OnSome, codes, false, length, option_and_then, option_map, slice_index_or, true}
+use Rattle.std.specs.Prelude.{◌≡◌, ◌≢◌, ◌⊎◌, ◌==◌, if◌then◌else◌, List, [], ◌∷◌, ℕ, Option, None}
+use Rattle.std.specs.Prelude.{Some, Result, Ok, IfOk, OnSome, codes, false, length, option_and_then}
+use Rattle.std.specs.Prelude.{option_map, slice_index_or, true}
 use Rattle.std.specs.BTreeMap.{BTreeMap}
 use Rattle.sqlite.specs.declared.error.Error.{Error}
 use Rattle.sqlite.specs.declared.transaction.Transaction.{Transaction}
@@ -12,14 +14,17 @@ use Rattle.sqlite_trees.specs.Tree.{Trees}
 use Rattle.tally_rules.specs.Constituency.{Constituency}
 use Rattle.tally_returns.specs.State.{State}
 use Rattle.tally_steps.specs.LawfulState.{IsLawfulState}
-use Rattle.tally_statements.specs.declared.table.KeyedTable.TheVariants.{Returns, Counts, Cons, Lots, Seats, Gone, Totals, Past}
+use Rattle.tally_statements.specs.declared.table.KeyedTable.TheVariants.{Returns, Counts, Cons}
+use Rattle.tally_statements.specs.declared.table.KeyedTable.TheVariants.{Lots, Seats, Gone, Totals}
+use Rattle.tally_statements.specs.declared.table.KeyedTable.TheVariants.{Past}
 use Rattle.sqlite_value.specs.Order.{Row, column}
 use Rattle.tally_rows.specs.Cells.{number_of, text_of}
 use Rattle.tally_rules.specs.Fault.{IsFaultIn}
 use Rattle.tally_rules.specs.Reading.{setup_of_text}
 use Rattle.tally_rules.specs.declared.fault.SetupFault.TheVariants as setup_fault
 use Rattle.tally_faults.specs.declared.fault.OpenFault.{OpenFault}
-use Rattle.tally_faults.specs.declared.fault.OpenFault.TheVariants.{BadTables, Memory, NoTables, Setup, Store}
+use Rattle.tally_faults.specs.declared.fault.OpenFault.TheVariants.{BadTables, Memory, NoTables}
+use Rattle.tally_faults.specs.declared.fault.OpenFault.TheVariants.{Setup, Store}
 use Rattle.tally_rows.specs.Rows.{HaveDistinctRowids}
 use Rattle.tally_schema.specs.Cells.{setup_row}
 use Rattle.tally_schema.specs.Made.{HasFirstTables, has_former_tables, has_table}
@@ -28,7 +33,8 @@ use Rattle.tally_statements.specs.declared.table.KeyedTable.{KeyedTable}
 use Rattle.tally_statements.specs.Office.{HasTables, IsInside, ShowsTable, tree_of}
 use Rattle.tally_tables.specs.TablesOfState.{AreTables, version}
 use Rattle.tally_tables.specs.declared.views.Statuses.{Statuses}
-use Rattle.tally_opening.specs.Open.{AreFormerTables, HasSetup, IsTakenOver, former_version, tables_taken_over}
+use Rattle.tally_opening.specs.Open.{AreFormerTables, HasSetup, IsTakenOver, former_version}
+use Rattle.tally_opening.specs.Open.{tables_taken_over}
 use Rattle.tally_opening.specs.declared.judging.FoundRows.{FoundRows}
 use Rattle.tally_judge.specs.Numbers.{HasNumbers, numbers_of}
 use Rattle.tally_judge.specs.OfficeRows.{RowsInOrder}

@@ -7,7 +7,8 @@ use Rattle.tally_returns.specs.State.{State}
 use Rattle.tally_report.specs.declared.report.Report.{Report}
 use Rattle.tally_records.specs.declared.separator.Sep.{Sep}
 use Rattle.tally_commands.specs.Imported.{IsTextImported, IsTextTrouble}
-use Rattle.tally_commands.specs.Show.{IsProgressShown, IsProgressTrouble, IsReportShown, IsReportTrouble}
+use Rattle.tally_commands.specs.Show.{IsProgressShown, IsProgressTrouble, IsReportShown}
+use Rattle.tally_commands.specs.Show.{IsReportTrouble}
 use Rattle.tally_commands.specs.declared.trouble.Trouble.{Trouble}
 use Rattle.tally_program.specs.Troubles.{IsTroubleOfFile}
 
@@ -16,11 +17,13 @@ use Rattle.tally_program.specs.Troubles.{IsTroubleOfFile}
 abbrev pub IsTextShown : List Constituency → Option State → Option Report → Option (List ℕ) → List ℕ
     → Option State → Type 0
 IsTextShown setup old None code text new = IsProgressShown setup old text new
-IsTextShown setup old (Some which) (Some code) text new = IsReportShown setup old code which text new
+IsTextShown setup old (Some which) (Some code) text new =
+    IsReportShown setup old code which text new
 IsTextShown setup old (Some which) None text new = ⊥
 
 -- Why it is not shown.
-abbrev pub IsShowTrouble : List Constituency → Option State → Option Report → Option (List ℕ) → Trouble
+abbrev pub IsShowTrouble : List Constituency → Option State → Option Report →
+    Option (List ℕ) → Trouble
     → Option State → Type 0
 IsShowTrouble setup old None code t new = IsProgressTrouble setup old t new
 IsShowTrouble setup old (Some which) (Some code) t new = IsReportTrouble setup old code which t new

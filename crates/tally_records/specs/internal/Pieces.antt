@@ -1,5 +1,7 @@
 -- A text that is read by pieces.
-use Rattle.std.specs.Prelude.{◌≡◌, ◌≤◌, ◌+◌, ◌-◌, ◌*◌, ◌==◌, ◌||◌, ◌++◌, if◌then◌else◌, ℕ, Bool, true, false, List, [], ◌∷◌, take, drop, length, Option, Some, None, IfSome, is_none}
+use Rattle.std.specs.Prelude.{◌≡◌, ◌≤◌, ◌+◌, ◌-◌, ◌*◌, ◌==◌, ◌||◌, ◌++◌, if◌then◌else◌, ℕ, Bool}
+use Rattle.std.specs.Prelude.{true, false, List, [], ◌∷◌, take, drop, length, Option, Some, None}
+use Rattle.std.specs.Prelude.{IfSome, is_none}
 use Rattle.std.specs.Io.KnownBytes.{Consumes}
 use Rattle.csv.specs.Reading.{records, strip_bom}
 use Rattle.csv.specs.Records.{fields_of}
@@ -29,7 +31,8 @@ ends_line (c ∷ d ∷ rest) = ends_line (d ∷ rest)
 
 -- no longer front of these bytes ends a line
 abbrev pub EndsNoLineAfter : ℕ → List ℕ → Type 0
-EndsNoLineAfter most bytes = (size : ℕ) → size ≤ length bytes → ends_line (take size bytes) ≡ true → size ≤ most
+EndsNoLineAfter most bytes =
+    (size : ℕ) → size ≤ length bytes → ends_line (take size bytes) ≡ true → size ≤ most
 
 -- ---- the input
 
@@ -37,20 +40,25 @@ EndsNoLineAfter most bytes = (size : ℕ) → size ≤ length bytes → ends_lin
 -- are held and how many the input gave.
 abbrev pub Fills : Option (List ℕ) → Option (List ℕ) → List ℕ → ℕ → List ℕ → ℕ → Option End → Type 0
 Fills old_left left old old_taken new new_taken end = (came : List ℕ) × (new ≡ old ++ came)
-    × ((text : Option (List ℕ)) (bytes : List ℕ) → Consumes text old_left bytes → old_taken ≡ length bytes → Came text left (bytes ++ came) new_taken end)
+    × ((text : Option (List ℕ)) (bytes : List ℕ) → Consumes text old_left bytes →
+    old_taken ≡ length bytes → Came text left (bytes ++ came) new_taken end)
 
 -- the same of bytes that are held
 abbrev pub FillsHeld : Option (List ℕ) → Option (List ℕ) → Held → Held → Option End → Type 0
-FillsHeld old_left left old new end = Fills old_left left old.bytes.items old.taken new.bytes.items new.taken end
+FillsHeld old_left left old new end =
+    Fills old_left left old.bytes.items old.taken new.bytes.items new.taken end
 
 -- bytes came, and are held after those that were; none may have come
 abbrev pub HoldsMore : Option (List ℕ) → Option (List ℕ) → Held → Held → Type 0
-HoldsMore old_left left old new = (came : List ℕ) × (new.bytes.items ≡ old.bytes.items ++ came) × (new.taken ≡ old.taken + length came)
-    × ((text : Option (List ℕ)) (bytes : List ℕ) → Consumes text old_left bytes → Consumes text left (bytes ++ came))
+HoldsMore old_left left old new = (came : List ℕ) × (new.bytes.items ≡ old.bytes.items ++ came) ×
+    (new.taken ≡ old.taken + length came)
+    × ((text : Option (List ℕ)) (bytes : List ℕ) → Consumes text old_left bytes →
+    Consumes text left (bytes ++ came))
 
 -- the input ended with what came before, of itself or by a read that failed
 abbrev pub Ends : Option (List ℕ) → Option (List ℕ) → Option Stop → Type 0
-Ends old_left left stop = (text : Option (List ℕ)) (bytes : List ℕ) → Consumes text old_left bytes → length bytes ≤ size_limit → IfSome text (λ t. Gave t left bytes stop)
+Ends old_left left stop = (text : Option (List ℕ)) (bytes : List ℕ) → Consumes text old_left bytes →
+    length bytes ≤ size_limit → IfSome text (λ t. Gave t left bytes stop)
 
 -- all that came is held, after what was held before
 abbrev pub HoldsAllThatCame : Held → Held → Type 0
@@ -112,12 +120,14 @@ bytes_of r = bytes_at r.end r.held r.last.value
 
 -- What a read did of bytes that were held: they are taken up with what came after them.
 abbrev pub TakesUp : Option (List ℕ) → Option (List ℕ) → Held → Work → Type 0
-TakesUp old_left left held r = Fills old_left left held.bytes.items held.taken (bytes_of r) r.held.taken r.end
+TakesUp old_left left held r =
+    Fills old_left left held.bytes.items held.taken (bytes_of r) r.held.taken r.end
 
 -- the records of an input, at work
 pub record IsWorking (r : Work) : Type 0 where
   pub reading : IsReading r.rest.reader.reader.value
-  pub rest : IsRest (is_whole r.end) (drop r.given (piece_rows r.sep r.end (take r.piece (bytes_of r)))) r.rest
+  pub rest : IsRest (is_whole r.end)
+      (drop r.given (piece_rows r.sep r.end (take r.piece (bytes_of r)))) r.rest
   pub piece : IsPiece r.end (bytes_of r) r.piece
   pub within : r.end ≡ None → r.piece ≤ length (bytes_of r)
   pub limit : r.end ≡ None → r.held.taken ≤ size_limit
@@ -131,7 +141,8 @@ IsLast false rows rest = rows ≡ fields_of rest.ahead ∷ []
 
 -- the records of an input, after all that their piece has
 pub record IsSpent (r : Work) : Type 0 where
-  pub last : IsLast (is_whole r.end) (drop r.given (piece_rows r.sep r.end (take r.piece (bytes_of r)))) r.rest
+  pub last : IsLast (is_whole r.end)
+      (drop r.given (piece_rows r.sep r.end (take r.piece (bytes_of r)))) r.rest
   pub piece : IsPiece r.end (bytes_of r) r.piece
   pub within : r.end ≡ None → r.piece ≤ length (bytes_of r)
   pub limit : r.end ≡ None → r.held.taken ≤ size_limit
@@ -140,12 +151,14 @@ pub record IsSpent (r : Work) : Type 0 where
 -- These bytes are held since the last line after which nothing was given, and so many of their
 -- records were given: another one is begun after those.
 abbrev pub Begun : Sep → List ℕ → ℕ → Type 0
-Begun sep bytes given = (piece : ℕ) × (last : List (List ℕ)) × (piece ≤ length bytes) × (ends_line (take piece bytes) ≡ true)
+Begun sep bytes given = (piece : ℕ) × (last : List (List ℕ)) × (piece ≤ length bytes) ×
+    (ends_line (take piece bytes) ≡ true)
     × (drop given (piece_rows sep None (take piece bytes)) ≡ last ∷ [])
 
 -- The same of the first of these bytes: the others came after them.
 abbrev pub IsBegunIn : Sep → List ℕ → ℕ → Type 0
-IsBegunIn sep bytes given = (front : List ℕ) × (came : List ℕ) × (bytes ≡ front ++ came) × Begun sep front given
+IsBegunIn sep bytes given =
+    (front : List ℕ) × (came : List ℕ) × (bytes ≡ front ++ came) × Begun sep front given
 
 -- It falls with each piece, and is 0 at the end.
 abbrev pub size_left : Option End → ℕ → ℕ → ℕ
@@ -159,7 +172,14 @@ left_size r = size_left r.end r.held.taken (length r.held.bytes.items)
 
 -- the records, and whether more of them can be asked for
 abbrev pub records_of_work : Work → Bool → Records
-records_of_work work at_work = record { sep = work.sep; bytes = bytes_of work; given = work.given; taken = work.held.taken; end = work.end; at_work = at_work }
+records_of_work work at_work = record {
+  sep = work.sep;
+  bytes = bytes_of work;
+  given = work.given;
+  taken = work.held.taken;
+  end = work.end;
+  at_work = at_work;
+}
 
 -- these are the records of this text that were given so far
 abbrev pub HasGivenAt : Option (List ℕ) → Option (List ℕ) → List (List (List ℕ)) → Work → Type 0
@@ -167,7 +187,8 @@ HasGivenAt text left given work = HasGiven text left given (records_of_work work
 
 -- one more record was given
 abbrev pub GivesRecordAt : Option (List ℕ) → Option (List ℕ) → List (List ℕ) → Work → Work → Type 0
-GivesRecordAt old_left left fields old new = GivesRecord old_left left fields (records_of_work old true) (records_of_work new true)
+GivesRecordAt old_left left fields old new =
+    GivesRecord old_left left fields (records_of_work old true) (records_of_work new true)
 
 -- nothing is read, and one more record was given of what was read before
 abbrev pub GivesOfPiece : List (List ℕ) → Work → Work → Type 0

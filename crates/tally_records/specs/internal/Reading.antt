@@ -1,7 +1,9 @@
 -- What a reader of a text in memory still gives.
-use Rattle.std.specs.Prelude.{◌≡◌, ◌+◌, ◌∷◌, if◌then◌else◌, ℕ, Bool, true, false, List, [], length, Option, Some, None, IsSome}
+use Rattle.std.specs.Prelude.{◌≡◌, ◌+◌, ◌∷◌, if◌then◌else◌, ℕ, Bool, true, false, List, [], length}
+use Rattle.std.specs.Prelude.{Option, Some, None, IsSome}
 use Rattle.csv.specs.Machine.{ends_at_end}
-use Rattle.csv.specs.Reading.{Ready, source_of, is_flexible, reader_config, reader_state, reader_trim, records_from}
+use Rattle.csv.specs.Reading.{Ready, source_of, is_flexible, reader_config, reader_state}
+use Rattle.csv.specs.Reading.{reader_trim, records_from}
 use Rattle.csv.specs.declared.reader.Reader.{Reader}
 use Rattle.csv.specs.declared.reader.Trim.TheVariants as trim
 use Rattle.tally_records.specs.internal.Text.{text_left}
@@ -13,7 +15,8 @@ unread_bytes reader = source_of text_left reader
 
 abbrev pub records_read_from : Reader Text → Option (List ℕ) → List (List (List ℕ))
 records_read_from reader None = []
-records_read_from reader (Some text) = records_from (reader_config reader) (length text + 1) (reader_state reader) text
+records_read_from reader (Some text) =
+    records_from (reader_config reader) (length text + 1) (reader_state reader) text
 
 -- the records that it still gives
 abbrev pub rows_left : Reader Text → List (List (List ℕ))
@@ -21,7 +24,8 @@ rows_left reader = records_read_from reader (unread_bytes reader)
 
 -- it gives this record next, if it found one, and else none is left
 abbrev pub GivesNextRecord : Reader Text → Reader Text → List (List ℕ) → Bool → Type 0
-GivesNextRecord old new fields found = rows_left old ≡ (if found then fields ∷ rows_left new else [])
+GivesNextRecord old new fields found =
+    rows_left old ≡ (if found then fields ∷ rows_left new else [])
 
 -- it is between two records, and reads the next one, of any length, just as it is, with no header
 -- row of its own

@@ -11,7 +11,8 @@ bytes_of_parts parts = flat_map (λ (part : Vec ℕ Global). part.items) parts
 
 -- the bytes that are not read yet
 abbrev pub bytes_left : Text → List ℕ
-bytes_left text = drop (cursor_position text.front) (cursor_inner text.front).items ++ bytes_of_parts text.later.value.items
+bytes_left text = drop (cursor_position text.front) (cursor_inner text.front).items ++
+    bytes_of_parts text.later.value.items
 
 -- the same, as the contract of `Read` has them: they are always known
 abbrev pub text_left : Text → Option (List ℕ)

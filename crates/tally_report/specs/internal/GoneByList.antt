@@ -1,5 +1,6 @@
 -- Those who are gone, list by list. No public contract speaks of it.
-use Rattle.std.specs.Prelude.{◌≡◌, ◌+◌, ◌<◌, ◌++◌, ◌==◌, if◌then◌else◌, ℕ, List, [], ◌∷◌, length, map, slice_index_or}
+use Rattle.std.specs.Prelude.{◌≡◌, ◌+◌, ◌<◌, ◌++◌, ◌==◌, if◌then◌else◌, ℕ, List, [], ◌∷◌, length}
+use Rattle.std.specs.Prelude.{map, slice_index_or}
 use Rattle.std.specs.List.{filter}
 use Rattle.tally_returns.specs.GoneCandidate.{GoneCandidate}
 
@@ -17,4 +18,5 @@ pub record AreByList (gone : List GoneCandidate) (lists : ℕ) (places : List (L
 pub record IsOneMore (list place : ℕ) (old new : List (List ℕ)) : Type 0 where
   pub count : length new ≡ length old
   pub each : (l : ℕ) → l < length old
-      → slice_index_or new l [] ≡ slice_index_or old l [] ++ (if list == l + 1 then place ∷ [] else [])
+      → slice_index_or new l [] ≡ slice_index_or old l [] ++
+      (if list == l + 1 then place ∷ [] else [])

@@ -14,7 +14,9 @@ use Rattle.tally_requests.specs.Requests.{WritesOnlyActs}
 
 -- The reply is of the request's kind, whatever the tables are. The request is carried out so. One
 -- that does not act writes nothing.
-pub record AnswersSo {S : Type 0} (g : Ghosts S) (setup : List Constituency) (ask : Ask) (Carries : Seen → Seen → Result (Result Reply Refusal) Error → Type 0) (old new : Transaction S) (result : Result (Result Reply Refusal) Error) : Type 0 where
+pub record AnswersSo {S : Type 0} (g : Ghosts S) (setup : List Constituency) (ask : Ask)
+    (Carries : Seen → Seen → Result (Result Reply Refusal) Error → Type 0) (old new : Transaction S)
+    (result : Result (Result Reply Refusal) Error) : Type 0 where
   pub kind : IfOk result (λ r. IfOk r (IsReplyTo setup ask))
   pub step : InDatabase g Carries old new result
   pub unwritten : InDatabase g WritesOnlyActs old new result

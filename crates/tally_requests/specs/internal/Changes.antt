@@ -12,7 +12,8 @@ use Rattle.tally_returns.specs.PastSeats.{PastSeats}
 use Rattle.tally_returns.specs.View.{View}
 use Rattle.tally_returns.specs.declared.reply.Reply.{Reply}
 use Rattle.tally_steps.specs.LawfulState.{IsLawfulState}
-use Rattle.tally_steps.specs.Step.{ConChange, IsView, after_change, answer_seen, con_answer, con_change}
+use Rattle.tally_steps.specs.Step.{ConChange, IsView, after_change, answer_seen, con_answer}
+use Rattle.tally_steps.specs.Step.{con_change}
 use Rattle.tally_schema.specs.Tables.{setup_tree}
 use Rattle.tally_statements.specs.declared.table.KeyedTable.{KeyedTable}
 use Rattle.tally_statements.specs.declared.table.KeyedTable.TheVariants.{Cons, Lots, Seats, Past}
@@ -20,31 +21,36 @@ use Rattle.tally_statements.specs.Office.{IsInside, tree_of}
 use Rattle.tally_tables.specs.Cells.{con_rows, lot_rows, past_rows}
 use Rattle.tally_tables.specs.TablesOfState.{AreTables}
 use Rattle.tally_entries.specs.Entries.{stored_in}
-use Rattle.tally_entries.specs.Constituencies.{HasLot, HasRecord, HasEdition, MovesRows, MovesSeats, with_past_of}
+use Rattle.tally_entries.specs.Constituencies.{HasLot, HasRecord, HasEdition, MovesRows, MovesSeats}
+use Rattle.tally_entries.specs.Constituencies.{with_past_of}
 use Rattle.tally_requests.specs.Requests.{IsInState}
 use Rattle.tally_returns.specs.declared.change.Change.{Change}
 
 -- The office's tables are open in a transaction, and only these may have changed.
 pub record ChangesAmong (tables : List KeyedTable) (old new : Seen) : Type 0 where
   pub inside : IsInside new
-  pub others : (u : KeyedTable) → AllByRecursion (λ t. tree_of u ≢ tree_of t) tables → stored_in u new ≡ stored_in u old
+  pub others : (u : KeyedTable) → AllByRecursion (λ t. tree_of u ≢ tree_of t) tables →
+      stored_in u new ≡ stored_in u old
   pub setup_is : new.now.trees setup_tree ≡ old.now.trees setup_tree
 
 -- The rows of `cons` and of `lots` of a constituency are these.
-pub record HasWrittenLot (code : List ℕ) (edition : ℕ) (certified : Bool) (note lot : List ℕ) (old new : Seen) : Type 0 where
+pub record HasWrittenLot (code : List ℕ) (edition : ℕ) (certified : Bool) (note lot : List ℕ)
+    (old new : Seen) : Type 0 where
   pub only : ChangesAmong (Cons ∷ Lots ∷ []) old new
   pub cons : MovesRows Cons con_rows code (HasEdition edition certified note) old new
   pub lots : MovesRows Lots lot_rows code (HasLot lot) old new
 
 -- The rows of `cons` and of `seats` of a constituency are these.
-pub record HasWrittenSeats (code : List ℕ) (edition : ℕ) (certified : Bool) (note given : List ℕ) (old new : Seen) : Type 0 where
+pub record HasWrittenSeats (code : List ℕ) (edition : ℕ) (certified : Bool) (note given : List ℕ)
+    (old new : Seen) : Type 0 where
   pub only : ChangesAmong (Cons ∷ Seats ∷ []) old new
   pub cons : MovesRows Cons con_rows code (HasEdition edition certified note) old new
   pub seats : MovesSeats code given old new
 
 -- The rows of `cons` of a constituency are these. It has none in `seats`, and one certificate more
 -- is on record.
-pub record HasWrittenRecord (code : List ℕ) (edition : ℕ) (note : List ℕ) (standing : PastSeats) (old new : Seen) : Type 0 where
+pub record HasWrittenRecord (code : List ℕ) (edition : ℕ) (note : List ℕ) (standing : PastSeats)
+    (old new : Seen) : Type 0 where
   pub only : ChangesAmong (Cons ∷ Seats ∷ Past ∷ []) old new
   pub cons : MovesRows Cons con_rows code (HasEdition edition false note) old new
   pub seats : MovesSeats code [] old new
@@ -60,23 +66,33 @@ pub record HoldsCon (code : List ℕ) (s : Seen) : Type 0 where
 -- What holds after a call that writes this of a constituency that was there, where the disk
 -- returned what was written.
 abbrev pub WritesSo : List ℕ → (Seen → Seen → Type 0) → Seen → Seen → Result Unit Error → Type 0
-WritesSo code Written old new result = HasCleanDisk new → IsInside old → HoldsCon code old → OnOk result (Written old new)
+WritesSo code Written old new result =
+    HasCleanDisk new → IsInside old → HoldsCon code old → OnOk result (Written old new)
 
 -- A change of a constituency was carried out as decided in this state. The reply is that of the
 -- step, and the tables are those of the state after it.
-pub record IsChangeCarriedOut (setup : List Constituency) (text : List ℕ) (s : State) (con : Constituency) (view : View) (decided : ConChange) (reply : Reply) (new : Seen) : Type 0 where
+pub record IsChangeCarriedOut (setup : List Constituency) (text : List ℕ) (s : State)
+    (con : Constituency) (view : View) (decided : ConChange) (reply : Reply)
+    (new : Seen) : Type 0 where
   pub answered : Ok (answer_seen reply) ≡ con_answer view (Ok decided)
   pub in_state : IsInState setup text (after_change s con.code (Ok decided)) new
 
 -- What holds after a call that carries out what was decided, where the disk returned what was
 -- written and this was seen, whatever was seen of the certificates on record.
-abbrev pub CarriesDecided : List Constituency → Constituency → View → ConChange → Seen → Seen → Result Reply Error → Type 0
+abbrev pub CarriesDecided : List Constituency → Constituency → View → ConChange → Seen → Seen →
+    Result Reply Error → Type 0
 CarriesDecided setup con view decided old new result =
-    HasCleanDisk new → IsInside old → IfOk result (λ reply. (text : List ℕ) (s : State) → IsLawfulState setup s → IsView con s (with_past_of con s view) → AreTables setup text s old.now.trees
+    HasCleanDisk new → IsInside old →
+    IfOk result (λ reply. (text : List ℕ) (s : State) → IsLawfulState setup s →
+    IsView con s (with_past_of con s view) → AreTables setup text s old.now.trees
     → IsChangeCarriedOut setup text s con (with_past_of con s view) decided reply new)
 
 -- the same of what the machine decided
-abbrev pub CarriesChange : List Constituency → Constituency → View → Change → Seen → Seen → Result Reply Error → Type 0
+abbrev pub CarriesChange : List Constituency → Constituency → View → Change → Seen → Seen →
+    Result Reply Error → Type 0
 CarriesChange setup con view change old new result =
-    HasCleanDisk new → IsInside old → IfOk result (λ reply. (text : List ℕ) (s : State) (decided : ConChange) → con_change change ≡ Some decided → IsLawfulState setup s → IsView con s (with_past_of con s view) → AreTables setup text s old.now.trees
+    HasCleanDisk new → IsInside old →
+    IfOk result (λ reply. (text : List ℕ) (s : State) (decided : ConChange) →
+    con_change change ≡ Some decided → IsLawfulState setup s →
+    IsView con s (with_past_of con s view) → AreTables setup text s old.now.trees
     → IsChangeCarriedOut setup text s con (with_past_of con s view) decided reply new)

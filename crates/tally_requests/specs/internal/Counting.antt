@@ -1,5 +1,6 @@
 -- What is known of constituencies after a return was lodged or has moved.
-use Rattle.std.specs.Prelude.{◌≡◌, ◌+◌, ◌-◌, ◌^◌, if◌then◌else◌, ℕ, Bool, false, List, min, Option, None, Some, Result, Ok, IfOk}
+use Rattle.std.specs.Prelude.{◌≡◌, ◌+◌, ◌-◌, ◌^◌, if◌then◌else◌, ℕ, Bool, false, List, min, Option}
+use Rattle.std.specs.Prelude.{None, Some, Result, Ok, IfOk}
 use Rattle.std.specs.BTreeMap.{BTreeMap}
 use Rattle.std.specs.FinMap.{get, insert}
 use Rattle.std.specs.Option.{option_map_or}
@@ -12,7 +13,8 @@ use Rattle.tally_returns.specs.declared.refusal.Refusal.{Refusal}
 use Rattle.tally_returns.specs.declared.reply.LodgeReply.{LodgeReply}
 use Rattle.tally_returns.specs.declared.reply.LodgeReply.TheVariants.{Lodged}
 use Rattle.tally_returns.specs.declared.returns.Status.{Status}
-use Rattle.tally_returns.specs.declared.returns.Status.TheVariants.{Received, Queried, Corrected, Closed}
+use Rattle.tally_returns.specs.declared.returns.Status.TheVariants.{Received, Queried, Corrected}
+use Rattle.tally_returns.specs.declared.returns.Status.TheVariants.{Closed}
 use Rattle.tally_keeper.specs.Import.{RowAnswer}
 use Rattle.tally_keeper.specs.declared.import.Row.{Row}
 use Rattle.tally_keeper.specs.declared.import.Row.TheVariants as row
@@ -23,7 +25,13 @@ use Rattle.tally_requests.specs.Known.{Known, known_of}
 
 -- the numbers in the row that shows how far a constituency has come
 abbrev pub statuses_of_row : ProgressRow → Statuses
-statuses_of_row row = record { stations = row.stations; received = row.received; queried = row.queried; corrected = row.corrected; closed = row.closed }
+statuses_of_row row = record {
+  stations = row.stations;
+  received = row.received;
+  queried = row.queried;
+  corrected = row.corrected;
+  closed = row.closed;
+}
 
 -- ---- a return that moves
 
@@ -81,12 +89,14 @@ known_after_lodge_in (Some con) known = known_after_move con None Received known
 -- where a return was lodged, one is received
 abbrev pub known_after_lodge : List Constituency → List ℕ → Result LodgeReply Refusal → Known
     → Known
-known_after_lodge setup station (Ok (Lodged rev)) known = known_after_lodge_in (con_of_station setup station) known
+known_after_lodge setup station (Ok (Lodged rev)) known =
+    known_after_lodge_in (con_of_station setup station) known
 known_after_lodge setup station other known = known
 
 abbrev pub known_after_lodge_row : List Constituency → Row → Result LodgeReply Refusal → Known
     → Known
-known_after_lodge_row setup (row.Lodge (ask.Lodge station slip counts)) answer known = known_after_lodge setup station answer known
+known_after_lodge_row setup (row.Lodge (ask.Lodge station slip counts)) answer known =
+    known_after_lodge setup station answer known
 known_after_lodge_row setup other answer known = known
 
 -- the same of a row
@@ -95,12 +105,16 @@ known_after_row setup r None known = known
 known_after_row setup r (Some answer) known = known_after_lodge_row setup r answer known
 
 -- What is known after a call that lodges a return, whatever was known before.
-abbrev pub CountsLodge : {E : Type 0} → List Constituency → List ℕ → BTreeMap (List ℕ) Statuses → BTreeMap (List ℕ) Statuses → Result (Result LodgeReply Refusal) E → Type 0
-CountsLodge setup station old new result = IfOk result (λ r. known_of new ≡ known_after_lodge setup station r (known_of old))
+abbrev pub CountsLodge : {E : Type 0} → List Constituency → List ℕ → BTreeMap (List ℕ) Statuses →
+    BTreeMap (List ℕ) Statuses → Result (Result LodgeReply Refusal) E → Type 0
+CountsLodge setup station old new result =
+    IfOk result (λ r. known_of new ≡ known_after_lodge setup station r (known_of old))
 
 -- and after one that takes a row
-abbrev pub CountsRow : {E : Type 0} → List Constituency → Row → BTreeMap (List ℕ) Statuses → BTreeMap (List ℕ) Statuses → Result RowAnswer E → Type 0
-CountsRow setup row old new result = IfOk result (λ answer. known_of new ≡ known_after_row setup row answer (known_of old))
+abbrev pub CountsRow : {E : Type 0} → List Constituency → Row → BTreeMap (List ℕ) Statuses →
+    BTreeMap (List ℕ) Statuses → Result RowAnswer E → Type 0
+CountsRow setup row old new result =
+    IfOk result (λ answer. known_of new ≡ known_after_row setup row answer (known_of old))
 
 -- ---- after a command that moves a return
 
@@ -116,4 +130,7 @@ after_status con before None known = known
 after_status con before (Some standing) known = known_after_move con before standing known
 
 abbrev pub after_command : List ℕ → Ask → Option Status → Bool → Known → Known
-after_command con command before accepted known = if accepted then after_status con before (status_after command) known else known
+after_command con command before accepted known =
+    if accepted
+    then after_status con before (status_after command) known
+    else known

@@ -28,10 +28,13 @@ IsLawfulIfFound con place found = ForSome found (IsLawful (limits_of con place))
 
 -- A command turns the return that was recorded into this one.
 abbrev pub MovesTo : Constituency → Ask → StationReturn → StationReturn → Type 0
-MovesTo con (Query station rev note) before standing = (standing.status ≡ Queried) × (before.counts ≡ standing.counts)
+MovesTo con (Query station rev note) before standing =
+    (standing.status ≡ Queried) × (before.counts ≡ standing.counts)
 MovesTo con (Correct station rev slip counts) before standing =
-    (before.status ≡ Queried) × (standing.status ≡ Corrected) × (length standing.counts.votes ≡ length con.lists)
-MovesTo con (Close station rev) before standing = (before.status ≢ Closed) × (standing.status ≡ Closed) × (before.counts ≡ standing.counts)
+    (before.status ≡ Queried) × (standing.status ≡ Corrected) ×
+    (length standing.counts.votes ≡ length con.lists)
+MovesTo con (Close station rev) before standing =
+    (before.status ≢ Closed) × (standing.status ≡ Closed) × (before.counts ≡ standing.counts)
 MovesTo con other before standing = ⊥
 
 -- a query takes the lot of the constituency with it
@@ -46,13 +49,19 @@ after_move con station ask standing s = with_return (after_lot con ask s) (Some 
 -- What holds after a call that answers a command on the return of a station, where the disk
 -- returned what was written. It holds for every lawful state whose tables were there, in which the
 -- constituency is certified or not as was found, and the return is the one that was found.
-abbrev pub CarriesOutFound : List Constituency → Constituency → List ℕ → Bool → Option StationReturn → Ask → Seen → Seen → Result (Result Reply Refusal) Error → Type 0
+abbrev pub CarriesOutFound : List Constituency → Constituency → List ℕ → Bool →
+    Option StationReturn → Ask → Seen → Seen → Result (Result Reply Refusal) Error → Type 0
 CarriesOutFound setup con station certified found ask old new result =
-    HasCleanDisk new → IsInside old → IfOk result (λ r. (text : List ℕ) (s : State) → IsLawfulState setup s → certified ≡ (con_state s con.code).certified → found ≡ get s.returns station
+    HasCleanDisk new → IsInside old →
+    IfOk result (λ r. (text : List ℕ) (s : State) → IsLawfulState setup s →
+    certified ≡ (con_state s con.code).certified → found ≡ get s.returns station
     → AreTables setup text s old.now.trees → IsCarriedOut setup text s ask r new)
 
 -- What holds after a call that answers a request, where the disk returned what was written. It
 -- holds for every lawful state whose tables were there.
-abbrev pub CarriesOut : List Constituency → Ask → Seen → Seen → Result (Result Reply Refusal) Error → Type 0
+abbrev pub CarriesOut : List Constituency → Ask → Seen → Seen →
+    Result (Result Reply Refusal) Error → Type 0
 CarriesOut setup ask old new result =
-    HasCleanDisk new → IsInside old → IfOk result (λ r. (text : List ℕ) (s : State) → IsLawfulState setup s → AreTables setup text s old.now.trees → IsCarriedOut setup text s ask r new)
+    HasCleanDisk new → IsInside old →
+    IfOk result (λ r. (text : List ℕ) (s : State) → IsLawfulState setup s →
+    AreTables setup text s old.now.trees → IsCarriedOut setup text s ask r new)

@@ -27,9 +27,13 @@ shows_con other = false
 
 -- What holds after a call that answers a request, where the disk returned what was written. It
 -- holds for every lawful state whose tables were there and of which this was seen.
-abbrev pub CarriesOutSeen : List Constituency → Constituency → View → Ask → Seen → Seen → Result (Result Reply Refusal) Error → Type 0
+abbrev pub CarriesOutSeen : List Constituency → Constituency → View → Ask → Seen → Seen →
+    Result (Result Reply Refusal) Error → Type 0
 CarriesOutSeen setup con view ask old new result =
-    HasCleanDisk new → IsInside old → IfOk result (λ r. (text : List ℕ) (s : State) → IsLawfulState setup s → IsViewWith (shows_con ask) con s view → AreTables setup text s old.now.trees → IsCarriedOut setup text s ask r new)
+    HasCleanDisk new → IsInside old →
+    IfOk result (λ r. (text : List ℕ) (s : State) → IsLawfulState setup s →
+    IsViewWith (shows_con ask) con s view → AreTables setup text s old.now.trees →
+    IsCarriedOut setup text s ask r new)
 
 -- The office's tables are open in a transaction, and they are what they were.
 pub record IsStill (old new : Seen) : Type 0 where
@@ -44,4 +48,5 @@ LooksUp old new result = HasCleanDisk new → IsInside old → OnOk result (IsSt
 -- whose tables are there, where all that is known is true of it.
 abbrev pub FindsProgress : List Constituency → Known → Seen → List ProgressRow → Type 0
 FindsProgress setup known seen rows =
-    (text : List ℕ) (s : State) → IsLawfulState setup s → AreKnown setup s.returns known → AreTables setup text s seen.now.trees → rows ≡ progress setup s
+    (text : List ℕ) (s : State) → IsLawfulState setup s → AreKnown setup s.returns known →
+    AreTables setup text s seen.now.trees → rows ≡ progress setup s

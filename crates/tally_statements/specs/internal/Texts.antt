@@ -1,12 +1,15 @@
 -- The statements of the store, as sqlite is given them.
 use Rattle.std.specs.Prelude.{List, ℕ, codes}
 use Rattle.tally_statements.specs.declared.table.KeyedTable.{KeyedTable}
-use Rattle.tally_statements.specs.declared.table.KeyedTable.TheVariants.{Returns, Counts, Cons, Lots, Seats, Gone, Totals, Past}
+use Rattle.tally_statements.specs.declared.table.KeyedTable.TheVariants.{Returns, Counts, Cons}
+use Rattle.tally_statements.specs.declared.table.KeyedTable.TheVariants.{Lots, Seats, Gone, Totals}
+use Rattle.tally_statements.specs.declared.table.KeyedTable.TheVariants.{Past}
 
 -- ---- INSERT of one row
 
 abbrev pub insert_return_text : List ℕ
-insert_return_text = codes "INSERT INTO returns (station, con, rev, slip, status, note) VALUES (?1, ?2, ?3, ?4, ?5, ?6)"
+insert_return_text = codes
+    "INSERT INTO returns (station, con, rev, slip, status, note) VALUES (?1, ?2, ?3, ?4, ?5, ?6)"
 
 abbrev pub insert_count_text : List ℕ
 insert_count_text = codes "INSERT INTO counts (station, item, n) VALUES (?1, ?2, ?3)"
@@ -35,7 +38,8 @@ insert_setup_text = codes "INSERT INTO setup (id, version, text) VALUES (1, ?1, 
 -- ---- UPDATE of one row
 
 abbrev pub update_return_text : List ℕ
-update_return_text = codes "UPDATE returns SET rev = ?2, slip = ?3, status = ?4, note = ?5 WHERE station = ?1"
+update_return_text =
+    codes "UPDATE returns SET rev = ?2, slip = ?3, status = ?4, note = ?5 WHERE station = ?1"
 
 abbrev pub update_count_text : List ℕ
 update_count_text = codes "UPDATE counts SET n = ?3 WHERE station = ?1 AND item = ?2"
@@ -60,19 +64,25 @@ delete_seats_text = codes "DELETE FROM seats WHERE con = ?1"
 -- ---- SELECT of the rows of a key, in the order of the table's whole key
 
 abbrev pub rows_of_text : KeyedTable → List ℕ
-rows_of_text Returns = codes "SELECT station, con, rev, slip, status, note FROM returns WHERE station = ?1 ORDER BY station"
-rows_of_text Counts = codes "SELECT station, item, n FROM counts WHERE station = ?1 ORDER BY station, item"
-rows_of_text Cons = codes "SELECT con, edition, certified, note FROM cons WHERE con = ?1 ORDER BY con"
+rows_of_text Returns =
+    codes "SELECT station, con, rev, slip, status, note FROM returns WHERE station = ?1 ORDER BY station"
+rows_of_text Counts =
+    codes "SELECT station, item, n FROM counts WHERE station = ?1 ORDER BY station, item"
+rows_of_text Cons =
+    codes "SELECT con, edition, certified, note FROM cons WHERE con = ?1 ORDER BY con"
 rows_of_text Lots = codes "SELECT con, place, list FROM lots WHERE con = ?1 ORDER BY con, place"
 rows_of_text Seats = codes "SELECT con, list, n FROM seats WHERE con = ?1 ORDER BY con, list"
-rows_of_text Gone = codes "SELECT con, list, place, note FROM gone WHERE con = ?1 ORDER BY con, list, place"
+rows_of_text Gone =
+    codes "SELECT con, list, place, note FROM gone WHERE con = ?1 ORDER BY con, list, place"
 rows_of_text Totals = codes "SELECT con, item, n FROM totals WHERE con = ?1 ORDER BY con, item"
-rows_of_text Past = codes "SELECT con, edition, list, n FROM past WHERE con = ?1 ORDER BY con, edition, list"
+rows_of_text Past =
+    codes "SELECT con, edition, list, n FROM past WHERE con = ?1 ORDER BY con, edition, list"
 
 -- ---- SELECT of all rows, in the order of the table's key
 
 abbrev pub all_rows_text : KeyedTable → List ℕ
-all_rows_text Returns = codes "SELECT station, con, rev, slip, status, note FROM returns ORDER BY station"
+all_rows_text Returns =
+    codes "SELECT station, con, rev, slip, status, note FROM returns ORDER BY station"
 all_rows_text Counts = codes "SELECT station, item, n FROM counts ORDER BY station, item"
 all_rows_text Cons = codes "SELECT con, edition, certified, note FROM cons ORDER BY con"
 all_rows_text Lots = codes "SELECT con, place, list FROM lots ORDER BY con, place"

@@ -1,7 +1,9 @@
 -- What a request or an import leaves of a connection. No public contract speaks of this.
-use Rattle.std.specs.Prelude.{◌≡◌, ◌⊎◌, false, List, ℕ, IsOk, IsTrue, None, OnOk, Some, Result, Ok, Err}
+use Rattle.std.specs.Prelude.{◌≡◌, ◌⊎◌, false, List, ℕ, IsOk, IsTrue, None, OnOk, Some, Result, Ok}
+use Rattle.std.specs.Prelude.{Err}
 use Rattle.std.specs.FinMap.{get}
-use Rattle.sqlite.specs.State.{State as Seen, HasCleanDisk, IsRolledBack, KeepsCounts, Shows, Survives}
+use Rattle.sqlite.specs.State.{State as Seen, HasCleanDisk, IsRolledBack, KeepsCounts, Shows}
+use Rattle.sqlite.specs.State.{Survives}
 use Rattle.sqlite.specs.declared.error.Error.{Error}
 use Rattle.sqlite_trees.specs.Tree.{Trees}
 use Rattle.tally_rules.specs.Constituency.{Constituency}
@@ -39,7 +41,8 @@ abbrev pub EndsImport : List Constituency → Delivery → Seen → Seen → Typ
 EndsImport setup d old new = EndsFrom (LeavesImported setup d old) old new
 
 -- A request was answered as in this state, and the database is that of the state after it.
-pub record IsDone (setup : List Constituency) (text : List ℕ) (s : State) (ask : Ask) (r : Result Reply Refusal) (new : Seen) : Type 0 where
+pub record IsDone (setup : List Constituency) (text : List ℕ) (s : State) (ask : Ask)
+    (r : Result Reply Refusal) (new : Seen) : Type 0 where
   pub state : State
   pub answered : IsAnswered setup s ask r state
   pub has : HasState setup text state new
@@ -48,11 +51,13 @@ pub record IsDone (setup : List Constituency) (text : List ℕ) (s : State) (ask
 -- and has not failed
 abbrev pub Does : List Constituency → Ask → Seen → Seen → Result Reply Refusal → Type 0
 Does setup ask old new r =
-    HasCleanDisk new → IsTrue new.is_open → (text : List ℕ) (s : State) → IsLawfulState setup s → HasState setup text s old → IsDone setup text s ask r new
+    HasCleanDisk new → IsTrue new.is_open → (text : List ℕ) (s : State) → IsLawfulState setup s →
+    HasState setup text s old → IsDone setup text s ask r new
 
 -- A ShowCon was answered, as in this state, with what was shown and some certificates on record,
 -- and the database is that of the state after it.
-abbrev pub IsConShown : List Constituency → List ℕ → State → List ℕ → Result View Refusal → Seen → Type 0
+abbrev pub IsConShown : List Constituency → List ℕ → State → List ℕ →
+    Result View Refusal → Seen → Type 0
 IsConShown setup text s con shown new =
     (past : List PastSeats) × IsDone setup text s (ShowCon con) (con_with past shown) new
 
@@ -65,21 +70,25 @@ DoesShow setup con old new shown =
 
 -- All rows that a source gave were lodged as in this state, and the database is that of the state
 -- after that.
-pub record IsAllDone (setup : List Constituency) (text : List ℕ) (s : State) (d : Delivery) (count : ImportCount) (new : Seen) : Type 0 where
+pub record IsAllDone (setup : List Constituency) (text : List ℕ) (s : State) (d : Delivery)
+    (count : ImportCount) (new : Seen) : Type 0 where
   pub state : State
   pub imported : IsImportOf setup (Some s) d count (Some state)
   pub has : HasState setup text state new
 
 -- that, or with a fault the database is still that of the same state
-abbrev pub IsImportDone : List Constituency → List ℕ → State → Delivery → Result ImportCount ImportFault → Seen → Type 0
+abbrev pub IsImportDone : List Constituency → List ℕ → State → Delivery →
+    Result ImportCount ImportFault → Seen → Type 0
 IsImportDone setup text s d (Ok count) new = IsAllDone setup text s d count new
 IsImportDone setup text s d (Err fault) new = HasState setup text s new
 
 -- and so for every lawful state that the database was of, where the disk returned what was written
 -- and has not failed
-abbrev pub DoesImport : List Constituency → Delivery → Seen → Seen → Result ImportCount ImportFault → Type 0
+abbrev pub DoesImport : List Constituency → Delivery → Seen → Seen →
+    Result ImportCount ImportFault → Type 0
 DoesImport setup d old new r =
-    HasCleanDisk new → IsTrue new.is_open → (text : List ℕ) (s : State) → IsLawfulState setup s → HasState setup text s old → IsImportDone setup text s d r new
+    HasCleanDisk new → IsTrue new.is_open → (text : List ℕ) (s : State) → IsLawfulState setup s →
+    HasState setup text s old → IsImportDone setup text s d r new
 
 -- ---- what is known
 
@@ -88,9 +97,13 @@ IsNothing known = (code : List ℕ) → get known code ≡ None
 
 -- After a request, where the disk returned what was written, nothing is known, or the connection is
 -- open and what is known is true of the state after it.
-abbrev pub KnowsAfter : List Constituency → Ask → Seen → Seen → Result Reply Refusal → Known → Type 0
+abbrev pub KnowsAfter : List Constituency → Ask → Seen → Seen → Result Reply Refusal →
+    Known → Type 0
 KnowsAfter setup ask old new r after =
-    HasCleanDisk new → IsNothing after ⊎ (IsTrue new.is_open × ((text : List ℕ) (s t : State) → IsLawfulState setup s → HasState setup text s old → IsAnswered setup s ask r t → AreKnown setup t.returns after))
+    HasCleanDisk new → IsNothing after ⊎
+    (IsTrue new.is_open ×
+    ((text : List ℕ) (s t : State) → IsLawfulState setup s → HasState setup text s old →
+    IsAnswered setup s ask r t → AreKnown setup t.returns after))
 
 -- After something was shown, where the disk returned what was written, nothing is known, or the
 -- connection is open and what is known is true of the state that the database was of.
@@ -101,20 +114,26 @@ KnowsStill setup old new after =
     → AreKnown setup s.returns after))
 
 -- All rows that a source gave were lodged, and what is known is true of the state after that.
-abbrev pub IsAllKnown : List Constituency → List ℕ → State → Delivery → ImportCount → Seen → Known → Type 0
-IsAllKnown setup text s d count new after = (done : IsAllDone setup text s d count new) × AreKnown setup done.state.returns after
+abbrev pub IsAllKnown : List Constituency → List ℕ → State → Delivery → ImportCount → Seen →
+    Known → Type 0
+IsAllKnown setup text s d count new after =
+    (done : IsAllDone setup text s d count new) × AreKnown setup done.state.returns after
 
 -- After an import, where the disk returned what was written, the connection is open and what is
 -- known is true of the state after it. With a fault nothing is known.
-abbrev pub KnowsImported : List Constituency → Delivery → Seen → Seen → Result ImportCount ImportFault → Known → Type 0
+abbrev pub KnowsImported : List Constituency → Delivery → Seen → Seen →
+    Result ImportCount ImportFault → Known → Type 0
 KnowsImported setup d old new (Ok count) after =
-    HasCleanDisk new → IsTrue new.is_open × ((text : List ℕ) (s : State) → IsLawfulState setup s → HasState setup text s old → IsAllKnown setup text s d count new after)
+    HasCleanDisk new → IsTrue new.is_open ×
+    ((text : List ℕ) (s : State) → IsLawfulState setup s → HasState setup text s old →
+    IsAllKnown setup text s d count new after)
 KnowsImported setup d old new (Err fault) after = IsNothing after
 
 -- ---- the end of a transaction in which a request was answered
 
 -- The answer is what was got. What was written is committed, and what was known is known still.
-pub record CommitsAnswer {T : Type 0} (got : Result (Result T Refusal) Error) (before after : Known) (last new : Seen) (r : Result T Refusal) : Type 0 where
+pub record CommitsAnswer {T : Type 0} (got : Result (Result T Refusal) Error) (before after : Known)
+    (last new : Seen) (r : Result T Refusal) : Type 0 where
   pub is : got ≡ Ok r
   pub known : after ≡ before
   pub shown : HasCleanDisk new → Shows last new last.now last.now false
@@ -122,7 +141,8 @@ pub record CommitsAnswer {T : Type 0} (got : Result (Result T Refusal) Error) (b
 
 -- The request is not accepted, and nothing is known. What was written is undone; after an answer
 -- that is said only of a transaction that had not ended before.
-pub record UndoesRequest {T : Type 0} (got : Result (Result T Refusal) Error) (after : Known) (last new : Seen) (r : Result T Refusal) : Type 0 where
+pub record UndoesRequest {T : Type 0} (got : Result (Result T Refusal) Error) (after : Known)
+    (last new : Seen) (r : Result T Refusal) : Type 0 where
   pub why : Refusal
   pub is : r ≡ Err why
   pub own : (why ≡ Memory) ⊎ (why ≡ Store)
@@ -130,7 +150,8 @@ pub record UndoesRequest {T : Type 0} (got : Result (Result T Refusal) Error) (a
   pub undone : HasCleanDisk new → OnOk got (IsTrue last.in_transaction) → IsRolledBack last new
 
 -- One of the two. A crash leaves what it could leave before, or, after an answer, what was written.
-pub record EndsTransaction {T : Type 0} (got : Result (Result T Refusal) Error) (before after : Known) (last new : Seen) (r : Result T Refusal) : Type 0 where
+pub record EndsTransaction {T : Type 0} (got : Result (Result T Refusal) Error)
+    (before after : Known) (last new : Seen) (r : Result T Refusal) : Type 0 where
   pub ended : new.in_transaction ≡ false
   pub was_open : HasCleanDisk new → IsTrue new.is_open → IsTrue last.is_open
   pub survives : Survives last new (λ db. IsOk got × (db ≡ last.now.trees))

@@ -14,10 +14,10 @@ returns g c =
     let nth = g.D.Divisors.divisor c.args.divisors.now in
     let unit = g.D.Divisors.unit_of c.args.divisors.now in
     let poll = kept_poll p in
-    let given = c.args.given.now in
+    let awarded = c.args.awarded.now in
     let d : AreDivisors nth = record { positive = g.met.D.Divisors.positive c.args.divisors.now; rises = g.met.D.Divisors.rises c.args.divisors.now } in
     λ lot_rule lot seats proper allotment won.
-    let all = take_all c.loop-row.row-index given.rows.items (omega (arith, c.loop-row-test.false, ap length c.deref-row-items.ensures.value)) in
-    let e : map (award_of nth unit poll) given.rows.items ≡ c.loop-row.awards.items = ap (map (award_of nth unit poll)) (sym all) ∙ sym c.loop-row.invariant in
-    let P : List Award → Type 0 = AreAwardsOf nth unit lot_rule poll lot given.seats.items in
-    (given.seats.items, allotment, subst P e (awards_of_won nth unit lot_rule d (g.met.D.Divisors.unit_from_one c.args.divisors.now) poll (sound_under p.threshold p.base p.votes.now) lot proper seats given.seats.items given.rows.items won))
+    let all = take_all c.loop-row.row-index awarded.pairs.items (omega (arith, c.loop-row-test.false, ap length c.deref-row-items.ensures.value)) in
+    let e : map (award_of nth unit poll) awarded.pairs.items ≡ c.loop-row.awards.items = ap (map (award_of nth unit poll)) (sym all) ∙ sym c.loop-row.invariant in
+    let P : List Award → Type 0 = AreAwardsOf nth unit lot_rule poll lot awarded.seats.items in
+    (awarded.seats.items, allotment, subst P e (awards_of_won nth unit lot_rule d (g.met.D.Divisors.unit_from_one c.args.divisors.now) poll (sound_under p.threshold p.base p.votes.now) lot proper seats awarded.seats.items awarded.pairs.items won))

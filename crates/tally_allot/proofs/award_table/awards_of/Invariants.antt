@@ -4,4 +4,4 @@ use Rattle.tally_contest.specs.internal.KeptPoll.{kept_poll}
 use Rattle.tally_allot.proofs.award_table.awards_of.Given as goal
 
 abbrev pub invariant-loop-row : goal.invariant-loop-row
-invariant-loop-row g l = l.awards.items ≡ map (award_of (g.D.Divisors.divisor l.divisors) (g.D.Divisors.unit_of l.divisors) (kept_poll l.poll)) (take l.row-index l.given.rows.items)
+invariant-loop-row g l = l.awards.items ≡ map (award_of (g.D.Divisors.divisor l.divisors) (g.D.Divisors.unit_of l.divisors) (kept_poll l.poll)) (take l.row-index l.awarded.pairs.items)

@@ -30,12 +30,12 @@ returns-in-Right-clause-allotment g c =
     let t = c.args.contest.now in
     let terms = divisor_terms g.D.Divisors.divisor g.D.Divisors.unit_of t in
     let proper = proper_if_may (kept_poll t.poll) t.lot.now (c.if-not-may_be_taken.ensures.0 refl) in
-    from_placed terms (races terms c.requires.sound) proper c.in_ok-given.given.seats.items c.in_ok-given.ensures.fair
+    from_placed terms (races terms c.requires.sound) proper c.in_ok-awarded.awarded.seats.items c.in_ok-awarded.ensures.fair
 
 pub returns-in-Right-clause-rows : goal.returns-in-Right-clause-rows
 returns-in-Right-clause-rows g c =
     let t = c.args.contest.now in
-    rows_of_won (g.D.Divisors.divisor t.divisors) t.lot_rule (kept_poll t.poll) c.requires.sound.poll t.lot.now t.seats c.requires.sound.few_seats c.in_ok-given.given.seats.items c.in_ok-given.given.rows.items c.in_ok-given.ensures.won
+    rows_of_won (g.D.Divisors.divisor t.divisors) t.lot_rule (kept_poll t.poll) c.requires.sound.poll t.lot.now t.seats c.requires.sound.few_seats c.in_ok-awarded.awarded.seats.items c.in_ok-awarded.awarded.pairs.items c.in_ok-awarded.ensures.won
 
 pub returns-in-Right-clause-proper : goal.returns-in-Right-clause-proper
 returns-in-Right-clause-proper g c =

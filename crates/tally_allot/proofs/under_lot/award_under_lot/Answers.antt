@@ -8,13 +8,13 @@ use Rattle.tally_allot.specs.AllotFault.{IsFaultOf}
 use Rattle.tally_allot.proofs.under_lot.award_under_lot.Goals as goal
 
 pub returns-clause-allotment : goal.returns-clause-allotment
-returns-clause-allotment g c = subst (λ (t : Terms). IfOk c.award_in.result (λ given. IsAllotment t.rule t.poll t.lot t.seats given.seats.items)) c.new-contest.ensures.terms c.award_in.ensures.allotment
+returns-clause-allotment g c = subst (λ (t : Terms). IfOk c.award_in.result (λ awarded. IsAllotment t.rule t.poll t.lot t.seats awarded.seats.items)) c.new-contest.ensures.terms c.award_in.ensures.allotment
 
 pub returns-clause-won : goal.returns-clause-won
-returns-clause-won g c = subst (λ (t : Terms). IfOk c.award_in.result (λ given. AreWon (placed_race t) given.seats.items given.rows.items)) c.new-contest.ensures.terms c.award_in.ensures.won
+returns-clause-won g c = subst (λ (t : Terms). IfOk c.award_in.result (λ awarded. AreWon (placed_race t) awarded.seats.items awarded.pairs.items)) c.new-contest.ensures.terms c.award_in.ensures.won
 
 pub returns-clause-rows : goal.returns-clause-rows
-returns-clause-rows g c = subst (λ (t : Terms). IfOk c.award_in.result (λ given. AreRows (length t.poll.votes) given.rows.items)) c.new-contest.ensures.terms c.award_in.ensures.rows
+returns-clause-rows g c = subst (λ (t : Terms). IfOk c.award_in.result (λ awarded. AreRows (length t.poll.votes) awarded.pairs.items)) c.new-contest.ensures.terms c.award_in.ensures.rows
 
 pub returns-clause-proper : goal.returns-clause-proper
 returns-clause-proper g c = subst (λ (t : Terms). OnOk c.award_in.result (IsProperLot t.poll t.lot)) c.new-contest.ensures.terms c.award_in.ensures.proper

@@ -1,18 +1,15 @@
-use Rattle.std.proofs.Common.{◌≡◌, ◌∙◌, ℕ, List, Option, None, Some, Ok, Err, refl, sym, subst, string_bytes}
+use Rattle.std.proofs.Common.{◌≡◌, ◌∙◌, ℕ, List, Option, Some, Ok, Err, sym, subst, string_bytes}
 use Rattle.std.proofs.lemmas.Result.{IfOk-weaker, IfErr-weaker}
-use Rattle.tally_keeper.specs.Keeper.{Happens, request}
 use Rattle.tally_rules.specs.Constituency.{Constituency}
 use Rattle.tally_rules.specs.Setup.{constituency_with}
-use Rattle.tally_returns.specs.declared.ask.Ask.TheVariants.{ShowCon}
 use Rattle.tally_returns.specs.View.{View}
-use Rattle.tally_returns.specs.declared.reply.Reply.TheVariants as reply
 use Rattle.tally_desk.specs.Shown.{ShowsFor}
 use Rattle.tally_desk.proofs.DeskLemmas.{fault-whole, report-whole}
 use Rattle.tally_report.specs.declared.fault.ReportFault.{ReportFault}
 use Rattle.tally_report.specs.Reports.{IsEnoughFor, report_fault}
-use Rattle.tally_commands.specs.Show.{IsGiven, IsReportShown, IsReportTrouble, Shows}
+use Rattle.tally_commands.specs.Show.{IsGiven, IsReportShown, IsReportTrouble}
 use Rattle.tally_commands.specs.internal.Withheld.{IsWithheld}
-use Rattle.tally_commands.proofs.ShowLemmas.{con-known, con-unknown, con-trouble, fault-trouble, known-found}
+use Rattle.tally_commands.proofs.ShowLemmas.{con-known, con-trouble, fault-trouble, known-found}
 use Rattle.tally_commands.proofs.show.show_report.Goals as goal
 
 pub returns-in-Err-clause-unknown : goal.returns-in-Err-clause-unknown

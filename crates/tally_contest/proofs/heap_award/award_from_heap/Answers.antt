@@ -29,10 +29,10 @@ loop-seat-preserved g c =
     let back : take c.loop-seat.seats.len (c.award_next.new.seats ++ drop (length c.award_next.new.seats) a) ≡ c.award_next.new.seats = ap (λ k. take k (c.award_next.new.seats ++ drop (length c.award_next.new.seats) a)) long ∙ take-append_seam c.award_next.new.seats (drop (length c.award_next.new.seats) a) in
     let same : take c.loop-seat.seats.len (c.award_next.new.seats ++ drop (length c.award_next.new.seats) a) ≡ one_more a w.list = back ∙ given in
     let fair : IsFair (placed_race terms) (n + 1) (one_more a w.list) = award (placed_race terms) r.placed (within_placed terms r) n a w.list i.fair h in
-    let won = won_more (placed_race terms) r.placed (within_placed terms r) (total_placed terms r c.requires.proper) n a i.fair w.list h c.loop-seat.rows.items i.won in
+    let won = won_more (placed_race terms) r.placed (within_placed terms r) (total_placed terms r c.requires.proper) n a i.fair w.list h c.loop-seat.pairs.items i.won in
     let A : List ℕ → Type 0 = λ s. IsFair (placed_race terms) (n + 1) s in
-    let B : ℕ → Type 0 = λ k. AreWon (placed_race terms) (one_more a w.list) (c.loop-seat.rows.items ++ record { list = w.list; seat = k } ∷ []) in
-    let C : List Won → Type 0 = λ rows. AreWon (placed_race terms) (one_more a w.list) rows in
+    let B : ℕ → Type 0 = λ k. AreWon (placed_race terms) (one_more a w.list) (c.loop-seat.pairs.items ++ record { list = w.list; seat = k } ∷ []) in
+    let C : List Won → Type 0 = λ pairs. AreWon (placed_race terms) (one_more a w.list) pairs in
     let D : List ℕ → Type 0 = λ s. AreWon (placed_race terms) s c.push.new.self.items in
     let E : List ℕ → Type 0 = λ s. AreNext terms (length t.poll.votes.now) s (heap_items c.award_next.new.next) in
     record {

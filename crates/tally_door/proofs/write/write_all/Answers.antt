@@ -1,4 +1,4 @@
-use Rattle.std.proofs.Common.{◌≡◌, ◌+◌, ◌-◌, ◌≤◌, length, take, drop, subst, sym, ap, ◌∙◌, arith, rules, length-drop}
+use Rattle.std.proofs.Common.{◌≡◌, ◌+◌, ◌-◌, ◌≤◌, length, take, drop, subst, ap, ◌∙◌, arith, rules, length-drop}
 use Rattle.std.proofs.lemmas.List.{length-take-le}
 use Rattle.tally_door.specs.Connection.{Connection, after_write}
 use Rattle.tally_door.proofs.ConnectionLemmas.{after_writes, rest_all}

@@ -1,6 +1,6 @@
 use Rattle.std.proofs.Common.{inl, inr, string_bytes}
 use Rattle.tally_commands.specs.Imported.{IsCountText}
-use Rattle.tally_program.specs.Troubles.{IsTroubleOfImport, IsTroubleOfImporting}
+use Rattle.tally_program.specs.Troubles.{IsTroubleOfImport, IsTroubleOfFileImport}
 use Rattle.tally_program.proofs.WrittenLemmas.{counted, ended, ended-named, unwritten}
 use Rattle.tally_program.proofs.commands.import.Goals as goal
 
@@ -14,5 +14,5 @@ returns-clause-written g c =
 
 pub returns-clause-named : goal.returns-clause-named
 returns-clause-named g c =
-    ended-named _ IsTroubleOfImporting IsTroubleOfImport (λ t is. inr (inl is)) (λ t is. inr (inr is)) c.import_file-outcome.result c.close_and_print.result
+    ended-named _ IsTroubleOfFileImport IsTroubleOfImport (λ t is. inr (inl is)) (λ t is. inr (inr is)) c.import_file-outcome.result c.close_and_print.result
     c.import_file-outcome.ensures.named c.close_and_print.ensures.named c.close_and_print.ensures.trouble

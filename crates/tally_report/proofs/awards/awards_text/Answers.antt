@@ -1,4 +1,4 @@
-use Rattle.std.proofs.Common.{rules, ◌≡◌, arith}
+use Rattle.std.proofs.Common.{rules}
 use Rattle.tally_report.proofs.awards.awards_text.Goals as goal
 
 pub returns-clause-text : goal.returns-clause-text

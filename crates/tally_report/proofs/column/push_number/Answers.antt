@@ -1,7 +1,3 @@
-use Rattle.std.proofs.Common.{◌≡◌, ◌++◌, ◌∙◌, ap, string_bytes}
-use Rattle.std.specs.Prelude.{OnOk}
-use Rattle.std.specs.Fmt.{styled_decimal}
-use Rattle.tally_report.specs.Columns.{number}
 use Rattle.tally_report.proofs.ColumnLemmas.{number-is}
 use Rattle.tally_report.proofs.column.push_number.Goals as goal
 

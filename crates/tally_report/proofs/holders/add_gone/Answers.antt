@@ -1,4 +1,4 @@
-use Rattle.std.proofs.Common.{◌≡◌, ◌≤◌, ◌∙◌, ◌-◌, ◌++◌, ◌∷◌, [], ℕ, Vec, Global, length, slice_set, refl, ap, arith}
+use Rattle.std.proofs.Common.{◌≤◌, ◌∙◌, ◌-◌, ◌++◌, ◌∷◌, [], ℕ, Vec, Global, length, slice_set, refl, ap, arith}
 use Rattle.tally_report.proofs.GoneLemmas.{listed_in}
 use Rattle.tally_report.proofs.holders.add_gone.Goals as goal
 

@@ -1,4 +1,4 @@
-use Rattle.std.proofs.Common.{map, take, length}
+use Rattle.std.proofs.Common.{map, take}
 use Rattle.tally_report.specs.internal.GoneByList.{AreByList}
 use Rattle.tally_report.proofs.holders.gone_by_list.Given as goal
 

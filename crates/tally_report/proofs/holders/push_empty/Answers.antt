@@ -1,4 +1,4 @@
-use Rattle.std.proofs.Common.{◌≡◌, ◌∙◌, ◌+◌, ◌++◌, string_bytes, ap, sym, append_assoc}
+use Rattle.std.proofs.Common.{◌∙◌, ◌++◌, string_bytes, ap, sym, append_assoc}
 use Rattle.std.specs.List.{repeat}
 use Rattle.tally_report.specs.HoldersText.{empty_line}
 use Rattle.tally_report.proofs.HolderLemmas.{repeat-more}

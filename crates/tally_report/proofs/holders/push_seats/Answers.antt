@@ -1,4 +1,4 @@
-use Rattle.std.proofs.Common.{◌≡◌, ◌∙◌, ◌<◌, ◌≤◌, ℕ, List, length, get_or, sym, ap, arith, string_bytes}
+use Rattle.std.proofs.Common.{◌≡◌, ◌∙◌, ℕ, length, ap, arith, string_bytes}
 use Rattle.std.proofs.lemmas.List.{length-map}
 use Rattle.tally_steps.specs.Holders.{holders}
 use Rattle.tally_rules.specs.Constituency.{ListEntry}

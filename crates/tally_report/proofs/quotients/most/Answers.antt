@@ -1,4 +1,4 @@
-use Rattle.std.proofs.Common.{◌≡◌, ◌∙◌, ◌++◌, ◌∷◌, [], take, get_or, ap, sym}
+use Rattle.std.proofs.Common.{◌∙◌, [], take, get_or, ap, sym}
 use Rattle.std.specs.Prelude.{max}
 use Rattle.std.proofs.lemmas.List.{take_more}
 use Rattle.tally_report.specs.QuotientsText.{most}

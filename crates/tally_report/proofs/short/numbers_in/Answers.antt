@@ -1,4 +1,4 @@
-use Rattle.std.proofs.Common.{rules, ◌≡◌, ◌≤◌, ◌∙◌, ℕ, List, ap, arith}
+use Rattle.std.proofs.Common.{rules, ◌≤◌, ◌∙◌, ℕ, List, ap, arith}
 use Rattle.tally_allot.specs.AllotFault.{IsFaultOf}
 use Rattle.tally_law.specs.Rules.{poll_of, rule_of}
 use Rattle.tally_steps.specs.Outcome.{poll_in, rule_in}

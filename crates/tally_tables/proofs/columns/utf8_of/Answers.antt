@@ -1,4 +1,4 @@
-use Rattle.std.proofs.Common.{Bool, cond, Some, None, sym, ap, ◌∙◌}
+use Rattle.std.proofs.Common.{cond, Some, None, sym, ap, ◌∙◌}
 use Rattle.tally_tables.proofs.Utf8Lemmas.{is_text, is_no_text}
 use Rattle.tally_tables.proofs.columns.utf8_of.Goals as goal
 

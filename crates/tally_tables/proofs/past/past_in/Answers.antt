@@ -1,4 +1,4 @@
-use Rattle.std.proofs.Common.{◌≡◌, ◌∙◌, ◌+◌, ◌-◌, Some, length, take, ap, ap₂, sym, arith}
+use Rattle.std.proofs.Common.{◌∙◌, ◌+◌, ◌-◌, length, ap, ap₂, sym, arith}
 use Rattle.tally_tables.specs.Reading.{record_of}
 use Rattle.tally_tables.proofs.PastLemmas.{Reading, one_record, some_left}
 use Rattle.tally_tables.proofs.past.past_in.Goals as goal

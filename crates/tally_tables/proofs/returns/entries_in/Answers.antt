@@ -1,4 +1,4 @@
-use Rattle.std.proofs.Common.{◌≡◌, rules, arith, ap, ap₂, sym, ◌∙◌, ◌+◌, length, take, drop, Some}
+use Rattle.std.proofs.Common.{◌≡◌, rules, arith, ap, ap₂, sym, ◌∙◌, ◌+◌, length, take, drop}
 use Rattle.tally_rules.specs.Constituency.{Constituency}
 use Rattle.tally_rules.specs.declared.constituency.Station.{Station}
 use Rattle.tally_tables.specs.Reading.{entry_of}

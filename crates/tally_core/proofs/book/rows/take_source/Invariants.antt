@@ -5,7 +5,8 @@ use Rattle.tally_keeper.specs.internal.Held.{returns_without}
 use Rattle.tally_keeper.proofs.TakenLemmas.{SoFar}
 use Rattle.tally_core.proofs.book.rows.take_source.Given as goal
 
--- the import so far, which has changed the returns alone; without what it lodged they are those of its start
+-- the import so far, which has changed the returns alone; without what
+-- it lodged they are those of its start
 abbrev pub invariant-loop-before : goal.invariant-loop-before
 invariant-loop-before g l =
     let left = source_at g.R.RowSource in

@@ -1,4 +1,4 @@
-use Rattle.std.proofs.Common.{◌≡◌, ◌≤◌, ◌<◌, ◌+◌, ◌-◌, ◌++◌, List, ℕ, [], false, length, take, drop, min, subst, sym, ◌∙◌, ap, arith, rules, Ok}
+use Rattle.std.proofs.Common.{◌≡◌, ◌<◌, ◌+◌, ◌-◌, ◌++◌, List, ℕ, [], false, length, take, drop, min, subst, sym, ◌∙◌, ap, arith, rules, Ok}
 use Rattle.tally_door.specs.Connection.{Connection, HasRead}
 use Rattle.tally_door.proofs.ConnectionLemmas.{read_some, rest_all, no_length}
 use Rattle.tally_door.proofs.memory.MemoryConn.read.Goals as goal
