@@ -58,7 +58,7 @@ def votes_alike(numbers):
     return [1 + numbers.below(MOST_VOTES // LISTS)] * LISTS, places
 
 
-# The workloads by name: how a poll is made, how many polls, and whether the goals are set for them.
+# The workloads by name: how a poll is made, and how many polls.
 WORKLOADS = {
     "votes apart": (votes_apart, POLLS),
     "votes alike, a lot": (votes_alike, POLLS // 10),

@@ -22,9 +22,10 @@ from pathlib import Path
 
 HERE = Path(__file__).resolve().parent
 ROOT = HERE.parent
-PROGRAM = "tally_office"
+TOP = "tally_office"
+PROGRAM = ROOT / "crates" / TOP / "out" / TOP
 RECORD = HERE / "crate_seconds.txt"
-ENDS = ROOT / "crates" / PROGRAM / "out" / "office.ends"
+ENDS = PROGRAM.with_name("office.ends")
 
 BUILD = """load("@rattle//bazel/rattle:crate.bzl", "rattle_crate")
 
@@ -150,7 +151,7 @@ def processor():
     return (names or ["an unknown processor"])[0]
 
 
-def crates_in_turn(tops=(PROGRAM,)):
+def crates_in_turn(tops=(TOP,)):
     """These crates and those below them, with those of the repository that each uses, in the order in which `rt` takes them: by
     how many are below.
     """
@@ -191,7 +192,7 @@ def seconds_of_ends(ends):
         if how[crate] == ["new"]:
             took[crate] = ended[crate] - begun
     if "building" in ended:
-        took["building"] = ended["building"] - ended[PROGRAM]
+        took["building"] = ended["building"] - ended[TOP]
     return took
 
 
@@ -205,10 +206,10 @@ def seconds_of_files():
         out = ROOT / "crates" / crate / "out"
         modules = [it.stat().st_mtime for it in (out / "incremental").rglob("*") if it.is_file()]
         stamp = out / "rlib" / "stamp"
-        if not modules or (crate != PROGRAM and not stamp.is_file()):
+        if not modules or (crate != TOP and not stamp.is_file()):
             continue
         begun, ended = min(modules), max(modules)
-        if crate != PROGRAM:
+        if crate != TOP:
             ended = stamp.stat().st_mtime
             made = float(subprocess.check_output(["stat", "-c", "%.W", stamp.parent]))
             if begun < made < ended:
@@ -225,7 +226,7 @@ def longest_chain(seconds):
     for crate, used in crates_in_turn().items():
         longest, names = max((chains[it] for it in used), default=(0, []))
         chains[crate] = longest + seconds.get(crate, 0), [*names, crate]
-    return chains[PROGRAM]
+    return chains[TOP]
 
 
 def write_record(took):

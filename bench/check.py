@@ -22,11 +22,9 @@ from pathlib import Path
 
 # What is imported from here is not to be left beside it in compiled form.
 sys.dont_write_bytecode = True
-from building import build_office, build_plain
+from building import HERE, PROGRAM, build_office, build_plain
 from measuring import Numbers, number_text, run
 
-HERE = Path(__file__).resolve().parent
-PROGRAM = HERE.parent / "crates" / "tally_office" / "out" / "tally_office"
 PLAIN = HERE / "check_plain.py"
 
 ROWS = 20_000

@@ -6,15 +6,13 @@ import tempfile
 from dataclasses import dataclass, field
 from pathlib import Path
 
-from building import HERE, ROOT
+from building import ROOT
 from check import ELECTORS, LISTS, codes, short_row
 from measuring import Numbers, run_timed
 from serving import office, post
 
 sys.path.append(str(ROOT / "tests"))
 from office import constituency, party_list, profile, station
-
-PROGRAM = HERE.parent / "crates" / "tally_office" / "out" / "tally_office"
 
 # Where files are kept in memory.
 MEMORY = Path("/dev/shm")

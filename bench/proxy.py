@@ -1,10 +1,10 @@
 #!/usr/bin/env python3
 """Measures tables asked of the proxy of `deploy/`, from its cache and without one, beside the desk alone.
 
-Clients ask for the tally of a constituency of 60 lists, all of whose 100 stations are closed, or as many as are given: over TLS with a connection each
-that stays open, of the proxy as it is and of one whose cache is taken out; and without TLS of the desk itself, which takes
-one message a connection. All run on this machine, so the clients take processors from what they ask. Rates are medians of the
-rounds, in which the three are asked in turn.
+Clients ask for the tally of a constituency of 60 lists and 100 closed stations, or as many as are given. They ask a proxy
+over TLS, each on one connection that stays open: the proxy as it is, and one without its cache. They ask the desk itself
+without TLS, on a new connection for each message. All run on this machine, so the clients take processors from what they
+ask. Rates are medians of the rounds, in which the three are asked in turn.
 
     bench/proxy.py [--program PATH] [--rounds N] [--clients N] [--requests N] [--lists N] [--stations N]
 """
@@ -24,9 +24,10 @@ sys.path.insert(0, str(Path(__file__).resolve().parent.parent / "tests"))
 import deploy
 from office import CONSTITUENCY, PROFILE, party_list, station
 
-# A client in a process of its own: threads that ask, over TLS or without.
+# Clients in a process of their own: threads that ask, over TLS or without. Where one of them fails, so does the process.
 CLIENT = """
-import socket, ssl, sys, threading, time
+import socket, ssl, sys, time
+from concurrent.futures import ThreadPoolExecutor
 port, certificate, first, clients, asks = int(sys.argv[1]), sys.argv[2], *map(int, sys.argv[3:])
 tls = ssl.create_default_context(cafile=certificate) if certificate else None
 request = b"GET /con/c1/tally HTTP/1.1\\r\\nHost: office.example\\r\\n\\r\\n"
@@ -40,20 +41,21 @@ def read(client):
     for _ in range(asks):
         it = it if tls else connected(client)
         it.sendall(request)
-        answer = it.recv(65536)
-        while b"\\r\\n\\r\\n" not in answer or not answer.endswith(b"\\n"):
-            answer += it.recv(65536)
+        answer = b""
+        # (a head alone ends like a body)
+        while b"\\r\\n\\r\\n" not in answer[:-4] or not answer.endswith(b"\\n"):
+            part = it.recv(65536)
+            if not part:
+                sys.exit(f"ended after {answer[:60]}")
+            answer += part
         if not answer.startswith(b"HTTP/1.1 200 "):
             sys.exit(f"answered {answer[:60]}")
         if not tls:
             it.close()
 
-threads = [threading.Thread(target=read, args=(client,)) for client in range(clients)]
 began = time.monotonic()
-for thread in threads:
-    thread.start()
-for thread in threads:
-    thread.join()
+with ThreadPoolExecutor(clients) as threads:
+    list(threads.map(read, range(clients)))
 print(clients * asks / (time.monotonic() - began))
 """
 

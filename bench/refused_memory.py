@@ -21,8 +21,9 @@ import sys
 import tempfile
 from pathlib import Path
 
-HERE = Path(__file__).resolve().parent
-PROGRAM = HERE.parent / "crates" / "tally_office" / "out" / "tally_office"
+# What is imported from here is not to be left beside it in compiled form.
+sys.dont_write_bytecode = True
+from building import PROGRAM
 
 # Counts the requests, and writes how many there were when the program listens for connections, and at
 # the end.
@@ -204,7 +205,7 @@ def has_no_compiler():
 def main():
     words = argparse.ArgumentParser(description=__doc__.splitlines()[0])
     words.add_argument("--program", type=Path, default=PROGRAM)
-    words.add_argument("--every", type=int, default=1, metavar="N", help="refuse every Nth request alone")
+    words.add_argument("--every", type=int, default=1, metavar="N", help="refuse only every Nth request")
     given = words.parse_args()
     if has_no_compiler():
         return ended(0, 0, 1)

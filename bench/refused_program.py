@@ -41,9 +41,10 @@ from pathlib import Path
 sys.dont_write_bytecode = True
 ROOT = Path(__file__).resolve().parent.parent
 sys.path[:0] = [str(ROOT / "bench"), str(ROOT / "tests")]
+from building import PROGRAM
 from office import RETURNS, SETUP, THREE_STATIONS, constituency, party_list, profile, station
 from program import SCRIPT, close_return, database
-from refused_memory import PROGRAM, WHOLE, Runs, ended, has_no_compiler, library_in
+from refused_memory import WHOLE, NotPromised, Runs, ended, has_no_compiler, library_in
 
 DB, LOG = "office.db", "office.db-wal"
 
@@ -73,10 +74,10 @@ def message(path, body=None):
     return f"POST {path} HTTP/1.1\r\nContent-Length: {len(text)}\r\n\r\n{text}".encode()
 
 
-# A client that is gone in the middle of its message.
-GONE = message("/station/s1/lodge", {"slip": "p1", "votes": [50, 40], "blank": 2, "spoiled": 1})[:60]
-
 LODGE = message("/station/s1/lodge", {"slip": "p1", "votes": [50, 40], "blank": 2, "spoiled": 1})
+
+# Of a client that is gone in the middle of its message.
+GONE = LODGE[:60]
 
 PROGRESS = message("/progress")
 
@@ -115,10 +116,6 @@ def ask(port, text):
 def status_and_body(answer):
     head, _, body = answer.decode().partition("\r\n\r\n")
     return int(head.split()[1]), body
-
-
-class NotPromised(Exception):
-    """What a server did that it may not."""
 
 
 # ---- what lies in a folder
@@ -522,7 +519,7 @@ def main():
     words.add_argument("names", nargs="*", metavar="NAME", help="parts of names of workloads")
     words.add_argument("--program", type=Path, default=PROGRAM)
     words.add_argument("--jobs", type=int, default=2, help="how many runs at a time")
-    words.add_argument("--every", type=int, default=1, metavar="N", help="refuse every Nth request alone")
+    words.add_argument("--every", type=int, default=1, metavar="N", help="refuse only every Nth request")
     given = words.parse_args()
     if has_no_compiler():
         return ended(0, 0, 1)

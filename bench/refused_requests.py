@@ -179,7 +179,7 @@ def main():
     words = argparse.ArgumentParser(description=__doc__.splitlines()[0])
     words.add_argument("--program", type=Path, help="the program that asks, as it was built before")
     words.add_argument("--built", action="store_true", help="build nothing")
-    words.add_argument("--every", type=int, default=1, metavar="N", help="refuse every Nth request alone")
+    words.add_argument("--every", type=int, default=1, metavar="N", help="refuse only every Nth request")
     given = words.parse_args()
     if has_no_compiler():
         return ended(0, 0, 1)

@@ -34,9 +34,9 @@ from pathlib import Path
 
 # What is imported from here is not to be left beside it in compiled form.
 sys.dont_write_bytecode = True
-from building import build_office, processor
+from building import PROGRAM, build_office, processor
 from check import LISTS, codes
-from databases import MEMORY, PROGRAM, Con, closes_of, make, setup_of
+from databases import MEMORY, Con, closes_of, make, setup_of
 from serving import Server, free_port, get, office, post, rest_of
 
 STATIONS = 5_000
@@ -117,13 +117,15 @@ def measure(folder, program, built, con, names, rounds, asked):
     taken, answers = {kind: {} for kind in kinds}, {}
     for _ in range(rounds):
         for name in names:
-            with start(name, folder, program, built, asked * len(kinds)) as server:
-                for kind, messages in kinds.items():
-                    found = server.ask_all(messages)
-                    taken[kind].setdefault(name, []).append((found.clock, found.spent))
-                    if answers.setdefault(kind, found.answers) != found.answers:
-                        sys.exit(f"{name} answers {kind} in another way")
-            remove_served(folder)
+            try:
+                with start(name, folder, program, built, asked * len(kinds)) as server:
+                    for kind, messages in kinds.items():
+                        found = server.ask_all(messages)
+                        taken[kind].setdefault(name, []).append((found.clock, found.spent))
+                        if answers.setdefault(kind, found.answers) != found.answers:
+                            sys.exit(f"{name} answers {kind} in another way")
+            finally:
+                remove_served(folder)
     return {
         kind: {name: medians_and_least(times) for name, times in by_name.items()} for kind, by_name in taken.items()
     }

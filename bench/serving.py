@@ -8,6 +8,11 @@ import time
 from dataclasses import dataclass
 from pathlib import Path
 
+from building import ROOT
+
+sys.path.append(str(ROOT / "tests"))
+from running import free_port
+
 
 @dataclass
 class Taken:
@@ -16,12 +21,6 @@ class Taken:
     clock: float
     spent: float
     answers: list
-
-
-def free_port():
-    with socket.socket() as it:
-        it.bind(("127.0.0.1", 0))
-        return it.getsockname()[1]
 
 
 def get(path):

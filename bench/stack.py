@@ -19,9 +19,8 @@ from pathlib import Path
 
 # What is imported from here is not to be left beside it in compiled form.
 sys.dont_write_bytecode = True
-from building import build_office
+from building import PROGRAM, build_office
 from check import HOSTILE, WORKLOADS, text_of
-from refused_memory import PROGRAM
 
 EXAMPLE = Path(__file__).resolve().parent.parent / "examples" / "returns.csv"
 

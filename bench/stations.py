@@ -28,9 +28,9 @@ from pathlib import Path
 
 # What is imported from here is not to be left beside it in compiled form.
 sys.dont_write_bytecode = True
-from building import Kept, processor
+from building import PROGRAM, Kept, processor
 from check import LISTS, codes
-from databases import PROGRAM, Con, ask_in_memory, certify, closes_of, import_message, import_returns, make, reopen, setup_of
+from databases import Con, ask_in_memory, certify, closes_of, import_message, import_returns, make, reopen, setup_of
 from serve import PROGRAMS
 from serving import Server, free_port, get, office, post
 from store import CONSTITUENCIES, COUNTRY_LISTS, cons_of

@@ -39,11 +39,10 @@ from pathlib import Path
 
 # What is imported from here is not to be left beside it in compiled form.
 sys.dont_write_bytecode = True
-from building import HERE, build_office, processor
+from building import HERE, PROGRAM, build_office, processor
 from check import LISTS, codes
 from databases import (
     MEMORY,
-    PROGRAM,
     Con,
     ask_in_memory,
     certify,

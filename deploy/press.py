@@ -596,8 +596,8 @@ def mark_old(file, moment):
     text = file.read_text(encoding="utf-8")
     since = re.search(r'<time datetime="([^"]+)">', text)
     age = moment - datetime.fromisoformat(since[1])
-    line = (f'<p class="old" role="status"><b>The office did not answer at {moment.strftime("%H:%M:%S")}.</b> This page is '
-            f"{age_text(age.total_seconds())} old and stays as it is until the office answers.</p>")
+    line = (f'<p class="old" role="status"><b>The office gave no answer that could be used at {moment.strftime("%H:%M:%S")}.</b> '
+            f"This page is {age_text(age.total_seconds())} old and stays as it is until there is one.</p>")
     put(file.parent, file.name, re.sub(r"<!--age-->.*?<!--/age-->", lambda _: f"<!--age-->{line}<!--/age-->", text, count=1, flags=re.S))
     return True
 
@@ -645,7 +645,8 @@ def write_index(folder, progress, text, cons, setup, seen):
     names = {code: entry["name"] for code, entry in setup.items()} | {code: con["tally"]["name"] for code, con in cons.items()}
     moment = datetime.now().astimezone()
     put(folder, "index.html", index_page(progress, text, cons, names, moment))
-    put(folder, "index.csv", csv_text(progress[0].keys(), [[str(value).lower() for value in row.values()] for row in progress]))
+    put(folder, "index.csv", csv_text(progress[0].keys(), [
+        [str(value).lower() if isinstance(value, bool) else value for value in row.values()] for row in progress]))
     put(folder, "index.json", json_text({"time": moment.isoformat(timespec="seconds"), "constituencies": progress}))
     put(folder, "results.csv", results_csv({row["con"]: seen[row["con"]] for row in progress if row["con"] in seen}))
 

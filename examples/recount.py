@@ -95,5 +95,5 @@ command = argparse.ArgumentParser(description=__doc__.splitlines()[0])
 command.add_argument("file", type=Path)
 try:
     sys.exit(main(command.parse_args().file.resolve()))
-except sqlite3.Error as error:
-    command.error(str(error))
+except Exception as error:  # whatever it is: status 1 is that of a difference
+    command.error(f"{type(error).__name__}: {error}")

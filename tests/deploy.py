@@ -122,8 +122,8 @@ class Office:
 @contextlib.contextmanager
 def serving(setup, db="office.db"):
     it = Office(new(setup, db), free_port())
-    it.start()
     try:
+        it.start()
         yield it
     finally:
         it.end()
@@ -244,8 +244,8 @@ Answer = collections.namedtuple("Answer", "status body head")
 def proxy(desk):
     it = Proxy(desk)
     it.configure()
-    it.start()
     try:
+        it.start()
         yield it
     finally:
         it.end()
@@ -300,7 +300,10 @@ def whole_message(connection):
     head, body = read.split(b"\r\n\r\n", 1)
     length = re.search(rb"(?i)^content-length: *(\d+)", head, re.M)
     while length and len(body) < int(length[1]):
-        body += connection.recv(65536)
+        part = connection.recv(65536)
+        if not part:
+            break
+        body += part
     return head, body
 
 
@@ -331,11 +334,11 @@ def test_each_role_against_each_route():
     with office_and_proxy(with_stations(2)) as (_, front):
         for name in ("s1", "s2"):
             front.name("stations", name)
-        for who, statuses in ROLES.items():
+        for number, (who, statuses) in enumerate(ROLES.items(), 1):
             # Each from an address of its own, so that no limit is reached.
             name, _, how = who.partition(" with ")
             password = {"another password": "other", "the password of s1": front.passwords["s1"]}.get(how)
-            asks = {"name": None if name == "nobody" else name, "password": password, "source": f"127.0.2.{len(who)}"}
+            asks = {"name": None if name == "nobody" else name, "password": password, "source": f"127.0.2.{number}"}
             for targets, wanted in zip((["/station/s1/lodge"], OF_CLERKS, OF_BOARD), statuses):
                 for target in targets:
                     found = front.ask("POST", target, {}, **asks)
@@ -346,9 +349,10 @@ def test_each_role_against_each_route():
                 # Nothing is lodged or certified: the desk says so, to everybody alike.
                 word = b"no_return" if "station" in target else b"not_certified"
                 assert found.status == 200 or word in found.body, f"{who}: GET {target}: {found}"
-        record = front.record(10 * len(ROLES))
+        # Without 403: 10 of nobody, 1 of s1, 6 of clara, 4 of berta; with wrong passwords 6, 4, 1 and 6.
+        record = front.record(38)
         recorded = collections.Counter((line["name"], line["status"]) for line in record)
-        same((recorded[("clara", 400)], recorded[("", 401)]), (6, 10))
+        same((len(record), recorded[("clara", 400)], recorded[("clara", 401)], recorded[("", 401)]), (38, 6, 12, 10))
         assert all((line["desk"] == "400") == (line["status"] == 400) for line in record), record
 
 
@@ -379,6 +383,21 @@ def test_a_forgotten_password():
         assert front.passwords["clara"] != old["clara"] and len(front.passwords["clara"]) >= 16
         same(front.ask("POST", "/station/s1/close", {}, "clara", password=old["clara"]).status, 401)
         same([front.ask("POST", "/station/s1/close", {}, name).status for name in ("clara", "bruno")], [200, 200])
+
+
+@needs("nginx", "openssl")
+def test_passwords_of_names_like_numbers():
+    """Names that are one number are two names; and a hash is a fast one, since the proxy computes it for each request."""
+    names = ("007", "7", "1e2", "100")
+    with recording_desk() as (port, _), proxy(port) as front:
+        for name in names:
+            front.name("stations", name)
+        same([front.ask("POST", f"/station/{name}/lodge", {}, name).status for name in names], [200] * 4)
+        same(front.ask("POST", "/station/7/lodge", {}, "7", password=front.passwords["007"]).status, 401)
+        for line in (front.folder / "office/stations.htpasswd").read_text().splitlines():
+            name, hashed = line.split(":{SSHA}")
+            salted = base64.b64decode(hashed)
+            same(hashlib.sha1(front.passwords[name].encode() + salted[20:]).digest(), salted[:20])
 
 
 # ---- other sites
@@ -427,6 +446,29 @@ def test_another_name_of_the_site():
         same(messages, [])
 
 
+@needs("nginx", "openssl")
+def test_what_each_answer_carries():
+    """Pages, tables and refusals have the same fields that a browser goes by, each once, and TLS is of the newest version."""
+    once = {"Strict-Transport-Security": "max-age=31536000", "X-Content-Type-Options": "nosniff", "X-Frame-Options": "DENY",
+            "Referrer-Policy": "no-referrer"}
+    with recording_desk() as (port, _), proxy(port) as front:
+        (front.folder / "pages/index.html").write_text("a page", encoding="utf-8")
+        for method, target, name, status, kept in (
+            ("GET", "/", None, 200, "max-age=5"), ("GET", "/progress", None, 200, "max-age=1"),
+            ("GET", "/clerk.html", "clara", 200, "no-store"), ("HEAD", "/clerk.html", "clara", 200, "no-store"),
+            ("GET", "/clerk.html", None, 401, "no-store"), ("GET", "/nonesuch/x", None, 404, "no-store"),
+            ("POST", "/station/s1/close", "clara", 200, "no-store"), ("POST", "/station/s1/close", "berta", 403, "no-store"),
+            ("POST", "/progress", None, 405, "no-store"), ("POST", "/now/progress", "clara", 405, "no-store"),
+            ("PUT", "/station/s1/close", "clara", 405, "no-store"),
+        ):
+            found = front.ask(method, target, name=name)
+            same((method, target, found.status), (method, target, status))
+            for field, value in (once | {"Cache-Control": kept}).items():
+                same((method, target, field, found.head.get_all(field)), (method, target, field, [value]))
+        with front.connect() as it:
+            same(it.version(), "TLSv1.3")
+
+
 # ---- what gets to the desk
 
 
@@ -466,23 +508,21 @@ def test_what_never_gets_to_the_desk():
 
 @needs("nginx", "openssl")
 def test_bodies():
-    """A chunked body gets to the desk whole, with its length; one of 1,048,576 bytes too, and one byte more gets nowhere."""
+    """A body of 1,048,576 bytes gets to the desk and into the record, and one byte more, or one in chunks, gets nowhere."""
     with recording_desk() as (port, messages), proxy(port) as front:
-        parts = [b'{"slip":"p1","votes":[1,2],', b'"blank":0,"spoiled":0}']
-        chunked = b"".join(b"%x\r\n%s\r\n" % (len(part), part) for part in [*parts, b""])
+        # One chunk of two bytes, with an extension that no buffer of the proxy holds.
         head = (f"POST /station/s1/lodge HTTP/1.1\r\nHost: {NAME}\r\nAuthorization: {front.authorization('clara')}\r\n"
-                "Transfer-Encoding: chunked\r\nConnection: close\r\n\r\n").encode()
-        with front.connect() as it:
-            it.sendall(head + chunked)
-            assert it.recv(65536).startswith(b"HTTP/1.1 200 "), "chunked"
-        same((messages[0][1], b"chunked" in messages[0][0]), (b"".join(parts), False))
-        same(front.record(1)[-1]["body"], b"".join(parts).decode())
+                "Transfer-Encoding: chunked\r\nConnection: close\r\n\r\n")
+        for extension in ("", f";{'x' * 1_100_000}"):
+            with front.connect() as it:
+                it.sendall(f"{head}2{extension}\r\n{{}}\r\n0\r\n\r\n".encode())
+                same(it.recv(65536)[:13], b"HTTP/1.1 411 ")
+        same(messages, [])
         largest = b"x" * 1_048_576
         same(front.ask("POST", "/con/c1/import", largest, "clara").status, 200)
-        same(messages[1][1], largest)
-        same(front.record(2)[-1]["body"], largest.decode())
+        same([body for _, body in messages], [largest])
         same(front.ask("POST", "/con/c1/import", largest + b"x", "clara").status, 413)
-        same(len(messages), 2)
+        same((len(messages), [line["body"] for line in front.record(1)]), (1, [largest.decode()]))
 
 
 @needs("nginx", "openssl")
@@ -508,21 +548,41 @@ def until(true, seconds):
 # ---- limits
 
 
+def pipelined(front, asked, times, source, headers=""):
+    """Asks so often at once over one connection; how many answers have each status."""
+    with front.connect(source) as it:
+        it.sendall(f"{asked} HTTP/1.1\r\nHost: {NAME}\r\n{headers}Content-Length: 0\r\n\r\n".encode() * times)
+        answers = b""
+        while len(statuses := re.findall(rb"^HTTP/1.1 (\d+) ", answers, re.M)) < times or not answers.endswith(b"</html>\r\n"):
+            part = it.recv(65536)
+            assert part, answers[-500:]
+            answers += part
+    return collections.Counter(statuses)
+
+
 @needs("nginx", "openssl")
 def test_who_asks_too_often():
     """300 guesses at once from one address: most are refused with 429 and not recorded, and another address is served."""
-    guess = f"POST /con/c1/certify HTTP/1.1\r\nHost: {NAME}\r\nContent-Length: 0\r\n\r\n".encode()
     with recording_desk() as (port, messages), proxy(port) as front:
-        with front.connect("127.0.3.1") as it:
-            it.sendall(guess * 300)
-            answers = b""
-            while len(statuses := re.findall(rb"^HTTP/1.1 (\d+) ", answers, re.M)) < 300 or not answers.endswith(b"</html>\r\n"):
-                answers += it.recv(65536)
-        counted = collections.Counter(statuses)
+        counted = pipelined(front, "POST /con/c1/certify", 300, "127.0.3.1")
         # 100 at once, and 20 a second while they came.
         assert set(counted) == {b"401", b"429"} and 100 <= counted[b"401"] <= 200, counted
         same((len(messages), len(front.record(counted[b"401"]))), (0, counted[b"401"]))
         same(front.ask("POST", "/con/c1/certify", {}, "berta", source="127.0.3.2").status, 200)
+
+
+@needs("nginx", "openssl")
+def test_what_no_limit_counts():
+    """What breaks a rule is answered at once, however often it comes, and is written into no file."""
+    with recording_desk() as (port, messages), proxy(port) as front:
+        for asked, headers, status in (
+            ("POST /con/c1/certify?x", "", b"404"), ("PUT /con/c1/certify", "", b"405"), ("GET /nonesuch.html", "", b"404"),
+            ("POST /con/c1/certify", "Origin: null\r\n", b"403"),
+            ("POST /con/c1/certify", f"Authorization: {front.authorization('clara', 'x')}\r\n", b"403"),
+        ):
+            same(pipelined(front, asked, 300, "127.0.3.3", headers), {status: 300})
+        same(front.ask("POST", "/con/c1/certify", {}, "berta", source="127.0.3.3").status, 200)
+        same((len(front.record(1)), (front.folder / "log/error.log").read_text()[:500]), (1, ""))
 
 
 @needs("nginx", "openssl")
@@ -642,6 +702,24 @@ def test_the_desk_is_asked_once_a_second_for_a_table():
 
 
 @needs("nginx", "openssl")
+def test_the_desk_is_asked_once_a_second_for_what_it_refuses():
+    """No certificate yet, a station without a return, an office that was shut: of forty readers at once the desk hears one."""
+    refusals = {"/con/c1/seats": 409, "/station/s1": 404, "/progress": 503}
+    slow = {target: lambda status=status: time.sleep(0.2) or (status, "{}") for target, status in refusals.items()}
+    with answering_desk(slow) as (port, asked), proxy(port) as front:
+        for target, status in refusals.items():
+            began, answers = time.monotonic(), []
+            threads = [threading.Thread(target=lambda: answers.append(front.ask("GET", target))) for _ in range(40)]
+            for thread in threads:
+                thread.start()
+            for thread in threads:
+                thread.join(timeout=60)
+            took = time.monotonic() - began
+            same([(one.status, one.body) for one in answers], [(status, b"{}")] * 40)
+            assert 1 <= asked.count(target) <= took + 2, f"{target}: {asked.count(target)} in {took} s"
+
+
+@needs("nginx", "openssl")
 def test_a_table_that_takes_long():
     """Thirty readers ask for a table that the desk takes seven seconds for: it is asked once, and each gets the answer."""
     with recording_desk(b"TALLY c1 Twin Town\n", wait=7) as (port, messages), proxy(port) as front:
@@ -721,11 +799,11 @@ def test_the_record_replayed():
             assert found.status == status, f"{target} {body}: {found}"
 
         elect(ask)
-        record = front.record(29)
+        record = front.record(28)
         desk.end()
     keys = {"time", "name", "role", "address", "request", "body", "status", "desk"}
     assert all(set(line) == keys for line in record)
-    same(collections.Counter(line["status"] for line in record), {200: 25, 409: 2, 403: 1, 400: 1})
+    same(collections.Counter(line["status"] for line in record), {200: 25, 409: 2, 400: 1})
     same([line["role"] for line in record[:3]], ["clerk", "station", "station"])
     assert all(re.fullmatch(r"\d{4}-\d\d-\d\dT\d\d:\d\d:\d\d[+-]\d\d:\d\d", line["time"]) for line in record)
     with serving(EXAMPLES, "again.db") as desk:
@@ -739,11 +817,45 @@ def test_the_record_replayed():
 
 
 def replay(desk, front, *words):
-    with open(front.folder / "log/commands.log", "rb") as log:
-        done = subprocess.run([DEPLOY / "replay", f"http://127.0.0.1:{desk.port}", *words], stdin=log, capture_output=True, text=True,
-                              timeout=120)
-    same(done.stderr, "")
-    return done.returncode, done.stdout
+    return replayed(desk.port, (front.folder / "log/commands.log").read_bytes(), *words)
+
+
+def replayed(port, record, *words):
+    # What cannot be encoded is an error here, whatever the locale is.
+    done = subprocess.run([DEPLOY / "replay", f"http://127.0.0.1:{port}", *words], input=record, capture_output=True, timeout=120,
+                          env={**os.environ, "PYTHONIOENCODING": "utf-8:strict"})
+    same(done.stderr, b"")
+    return done.returncode, done.stdout.decode()
+
+
+def test_a_record_of_troubles():
+    """What may have been done is named and not sent. A body that is no UTF-8 is sent as it is; so is what comes after it, and
+    after a command that has no answer."""
+    def line(body, status, desk):
+        return (b'{"time":"2026-11-26T22:14:00+00:00","name":"clara","role":"clerk","address":"127.0.0.1",'
+                b'"request":"POST /con/c1/import HTTP/1.1","body":"%s","status":%d,"desk":"%s"}\n' % (body, status, desk))
+
+    latin = "p\u00e9".encode("latin-1")
+    record = b"".join(line(*words) for words in (
+        (latin, 504, b"504"), (b"full", 503, b"503"), (b"down", 502, b"502"), (latin, 200, b"200"), (b"cut", 200, b"200"),
+        (b"wrong", 400, b"400"), (b"", 401, b""))) + b'{"time":"2026\n' + line(b"last", 200, b"200")
+    messages = []
+
+    def answered(_, body):
+        messages.append(body)
+        return b"" if body == b"cut" else answer_of((409 if body == latin else 200, "{}"))
+
+    with desk_with(answered) as port:
+        status, said = replayed(port, record)
+    same((status, messages), (1, [latin, b"cut", b"last"]))
+    head = "2026-11-26T22:14:00+00:00 clara POST /con/c1/import HTTP/1.1"
+    unknown = "it was not sent: nobody knows whether it was done"
+    same(re.sub("(no answer): .*", r"\1", said).splitlines(), [
+        f"{head} p\\udce9:  {unknown}", f"{head} full:  {unknown}", f"{head} down:  {unknown}", f"{head} p\\udce9: 409 {{}}",
+        f"{head} cut:  no answer", 'no whole line of a record: {"time":"2026', "sent 3, to look at 6"])
+    for words in ("127.0.0.1:8080", "localhost:8080", "https://127.0.0.1", "http://127.0.0.1 --since 2026-11-26T22:14:00"):
+        done = subprocess.run([DEPLOY / "replay", *words.split()], input=record, capture_output=True, timeout=60)
+        same((done.returncode, done.stdout, b"begins with http://" in done.stderr), (2, b"", True))
 
 
 def plain(port, method, target, body=None):
@@ -990,6 +1102,17 @@ def test_a_page_of_the_press():
     same([name for name in os.listdir("pages") if name.startswith(".")], [])
 
 
+def test_a_code_in_capitals():
+    """Codes differ by the case of their letters: each file has them as they are."""
+    answers = {target.replace("c1", "C1"): said.replace("c1", "C1") if isinstance(said, str) else said | {"con": "C1"}
+               for target, said in TWIN.items()}
+    with answering_desk(answers) as (port, _):
+        press(port)
+    same(read("index.csv").splitlines()[1:], ["C1,1,0,0,0,0,1,3,true"])
+    same([line.split(",")[0] for line in read("results.csv").splitlines()[1:]], ["C1", "C1"])
+    same(json.loads(read("index.json"))["constituencies"][0]["con"], "C1")
+
+
 def test_a_page_without_a_certificate():
     """A reopened constituency: no seat is shown as given, and the certificate is shown as withdrawn, with the note."""
     with answering_desk(REOPENED) as (port, _):
@@ -1065,8 +1188,8 @@ def test_a_page_that_gets_old():
             assert " pages 1 failed 1 " in said, said
             answers[target] = TWIN[target]
             old = read("con-c1.html")
-            assert re.search(r"<!--age--><p class=\"old\" role=\"status\"><b>The office did not answer at [\d:]{8}\.</b> This page is \d+ "
-                             r"(second|minute)s? old", old), old[:9000]
+            assert re.search(r'<!--age--><p class="old" role="status"><b>The office gave no answer that could be used at '
+                             r"[\d:]{8}\.</b> This page is \d+ (second|minute)s? old", old), old[:9000]
             same(re.sub("<!--age-->.*<!--/age-->", "<!--age--><!--/age-->", old), first["con-c1.html"])
             same(read("con-c1.csv"), first["con-c1.csv"])
             page_of("con-c1.html")
@@ -1339,8 +1462,8 @@ BOTH = EXAMPLES + "\n" + with_stations(1).replace('"d0"', '"d1"')
 
 
 @contextlib.contextmanager
-def clerks_browser(front, name):
-    """A browser of somebody who gave name and password, with the clerks' page."""
+def clerks_browser(front, name, words="This is what the office has now."):
+    """A browser of somebody who gave name and password, with the clerks' page, once it says this."""
     folder = Path.cwd() / f"browser-{name}"
     folder.mkdir()
     with browser.browser(folder, f"--host-resolver-rules=MAP {NAME} 127.0.0.1") as it:
@@ -1348,7 +1471,7 @@ def clerks_browser(front, name):
         it.command("Network.enable")
         it.command("Network.setExtraHTTPHeaders", headers={"Authorization": front.authorization(name)})
         it.open(f"https://{NAME}:{front.port}/clerk.html")
-        said(it, "This is what the office has now.")
+        said(it, words)
         yield it
 
 
@@ -1360,9 +1483,9 @@ def said(it, words):
         raise AssertionError(f"wanted {words!r}, and it says {it.text('#said')!r}") from error
 
 
-def choose_station(it, code):
+def choose_station(it, code, words="This is what the office has now."):
     it.run("const e = document.getElementById('station'); e.value = arguments[0]; e.dispatchEvent(new Event('change'))", code)
-    said(it, "This is what the office has now.")
+    said(it, words)
 
 
 def choose_con(it, code):
@@ -1443,7 +1566,11 @@ def clerks_part(it, desk):
     choose_con(it, "c1")
     it.click("#find")
     it.wait("return document.getElementById('open-stations').textContent === 'Not closed: s1 (no return).'")
-    choose_station(it, "s1")
+    # A station of another constituency is shown beside the lists of its own.
+    for code, con, first in ((STATIONS[0], "montehondo", "ROBLE Lista del Roble"), ("s1", "c1", "A Alpha")):
+        choose_station(it, code)
+        same(it.run("return document.getElementById('con').value"), con)
+        same(it.text("#lodge .counts label"), first)
     enter(it, "lodge", {"slip": "p1", "votes": [100, 100], "blank": 0, "spoiled": 0})
     said(it, "Lodged, revision 1.")
 
@@ -1520,6 +1647,26 @@ def test_a_station_in_the_clerks_page():
         same(json.loads(plain(desk.port, "GET", "/station/s1").body)["votes"], [20, 30])
 
 
+@needs("chromium", "nginx", "openssl")
+def test_a_station_that_the_clerks_page_does_not_know():
+    """The office has it and setup.json does not: no form is shown for it, neither to its own name nor to a clerk."""
+    with office_and_proxy(with_stations(3)) as (desk, front):
+        Path("setup.toml").write_text(with_stations(1), encoding="utf-8")
+        press(desk.port, "--setup", "setup.toml", folder=str(front.folder / "pages"))
+        front.name("stations", "s2")
+        lodged = '{"slip":"p1","votes":[1,2],"blank":0,"spoiled":0}'
+        same(plain(desk.port, "POST", "/station/s3/lodge", lodged).status, 200)
+        unknown = "setup.json has no station of this code."
+        with clerks_browser(front, "s2", unknown) as it:
+            same(it.visible("#lodge"), False)
+        with clerks_browser(front, "clara") as it:
+            for code, words in (("s2", unknown), ("s3", unknown), ("s4", "The office has no station of this code.")):
+                choose_station(it, code, words)
+                same(([it.visible(f"#{form}") for form in ("lodge", "close", "query")], it.text("#return")), ([False] * 3, ""))
+            choose_station(it, "s1")
+            same(it.visible("#lodge"), True)
+
+
 def test_what_the_clerks_page_is():
     """It is short, has a sentence for each refusal, nothing of another site, and its policy names its script."""
     text = (DEPLOY / "www/clerk.html").read_text(encoding="utf-8")
@@ -1530,6 +1677,7 @@ def test_what_the_clerks_page_is():
     same(len(words), 34)
     lost = [word for word in words if not re.search(rf"^  {word}: \(a?\)? ?=> [\"`]|^  {word}: \(a?\) => ", text, re.M)]
     same(lost, [])
+    assert re.search("^  unavailable: .*it may have been done", text, re.M)
     script = re.search("<script>(.*?)</script>", text, re.S)[1]
     wanted = base64.b64encode(hashlib.sha256(script.encode()).digest()).decode()
     assert f"script-src 'sha256-{wanted}'" in text, f"the policy of clerk.html has to name its script: 'sha256-{wanted}'"

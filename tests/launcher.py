@@ -591,7 +591,7 @@ def a_build_notes_when_its_parts_ended(copy):
     assert written["tally_door"] == "40" and 3 <= int(written["reading"]) <= 8 and int(written["tally_frac"]) <= 3, written
 
 
-def a_build_that_is_silent_is_spoken_of_every_half_minute(copy):
+def a_build_that_is_silent_is_spoken_of_all_the_same(copy):
     copy.plan("echo '== tally_frac'; exec sleep 60")
     ran = copy.start("check")
     begun, seen = time.monotonic(), []
@@ -635,7 +635,7 @@ def after_a_build_that_was_ended_the_next_in_line_builds(copy):
 
 
 TESTS = [
-    a_build_that_is_silent_is_spoken_of_every_half_minute,
+    a_build_that_is_silent_is_spoken_of_all_the_same,
     first_launch_builds_and_the_next_does_not,
     input_and_folder_are_the_callers,
     two_launches_at_once_build_once,
@@ -677,6 +677,10 @@ def passes(test):
 
 def main():
     take_signals()
+    lost = set(sys.argv[1:]) - {test.__name__ for test in TESTS}
+    if lost:
+        print(f"no such test: {' '.join(sorted(lost))}\n0 passed, 1 failed")
+        sys.exit(1)
     chosen = [test for test in TESTS if not sys.argv[1:] or test.__name__ in sys.argv[1:]]
     # The first only waits, so it runs beside the others; those run one at a time.
     with ThreadPoolExecutor(2) as pool:

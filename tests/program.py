@@ -34,7 +34,7 @@ from pathlib import Path
 import model
 import openapi
 from office import PROFILE, RETURNS, SETUP, TABLES, THREE_STATIONS, constituency, party_list, profile, station
-from running import Skipped, run_tests, take_signals
+from running import Skipped, free_port, run_tests, take_signals
 
 ROOT = Path(__file__).resolve().parent.parent
 PROGRAM = ROOT / "crates/tally_office/out/tally_office"
@@ -925,14 +925,26 @@ def test_a_recount_of_any_path():
         same(os.listdir(folder) if folder != "." else [name], [name])
 
 
+def cannot_be_counted(name):
+    ran = subprocess.run([sys.executable, ROOT / "examples/recount.py", name], capture_output=True, text=True, timeout=120)
+    assert (ran.returncode, ran.stdout) == (2, "") and "error: " in ran.stderr and "Traceback" not in ran.stderr, ran
+
+
 def test_a_recount_makes_no_file():
     os.mkdir("folder")
     write("text.db", "this is no database, and it is long enough to be looked at as one " * 20)
     for name in ("nowhere.db", "folder", "text.db"):
-        words = [sys.executable, ROOT / "examples/recount.py", name]
-        ran = subprocess.run(words, capture_output=True, text=True, timeout=120)
-        assert (ran.returncode, ran.stdout) == (2, "") and "error: " in ran.stderr and "Traceback" not in ran.stderr, ran
+        cannot_be_counted(name)
     only("folder", "text.db")
+
+
+def test_a_recount_of_an_office_that_lacks_a_part():
+    """It does not end as where something differs."""
+    for sql in ("UPDATE setup SET text = '[['", "UPDATE setup SET text = ''", "DELETE FROM setup", "DELETE FROM cons", "DROP TABLE lots"):
+        twin_town()
+        change(sql)
+        cannot_be_counted("office.db")
+        os.remove("office.db")
 
 
 def test_an_output_that_takes_nothing():
@@ -978,10 +990,8 @@ SCRIPT = (
 )
 
 
-def free_port():
-    with socket.socket() as it:
-        it.bind(("127.0.0.1", 0))
-        return it.getsockname()[1]
+# The servers that a test starts. Those that still run at its end are killed.
+STARTED = []
 
 
 class Desk:
@@ -991,6 +1001,7 @@ class Desk:
         self.port, self.count = port or free_port(), count
         words = [PROGRAM, "serve", "--db", db, "--port", str(self.port), "--count", str(count)]
         self.process = subprocess.Popen(words, stdout=subprocess.PIPE, stderr=subprocess.PIPE, **how)
+        STARTED.append(self.process)
         same(self.process.stderr.readline().decode(), f"listening on 127.0.0.1:{self.port} for {count} connections\n")
 
     def ask(self, method, path, body=None):
@@ -1031,13 +1042,13 @@ def reset(connection):
 
 @contextlib.contextmanager
 def serving(db, count, failed=0):
+    """A desk for so many connections, of which so many fail; with None, as many as it says."""
     desk = Desk(db, count)
-    try:
-        yield desk
-        same(desk.end(), Ran(0, f"answered {count - failed} failed {failed}\n", ""))
-    finally:
-        desk.process.kill()
-        desk.process.wait()
+    yield desk
+    ran = desk.end()
+    if failed is None:
+        failed = int(ran.out.rpartition(" ")[2] or -1)
+    same(ran, Ran(0, f"answered {count - failed} failed {failed}\n", ""))
 
 
 def take(desk, step):
@@ -1142,7 +1153,7 @@ def test_how_clients_send():
         assert desk.send(head + b"\r\n" + body + b"GET /progress HTTP/1.1\r\n\r\n").endswith(b'{"ok":"same","rev":1}')
         found = desk.send(b"GET /progress HTTP/1.0\r\n\r\n")
         assert found.endswith(b"0      1      0      0      0      1 open\n"), found
-    with serving_any("office.db", 2) as desk:
+    with serving("office.db", 2, failed=None) as desk:
         desk.send(b"GET /progress HTTP/1.1\r\n\r\n", hang_up=True)
         assert desk.send(b"GET /progress HTTP/1.1\r\n\r\n").startswith(b"HTTP/1.1 200 OK")
 
@@ -1221,20 +1232,6 @@ def test_clients_that_keep_the_office_waiting():
     assert 9.5 <= silent <= 14, silent
     assert 29 <= slow <= 35, slow
     assert head.startswith(b"HTTP/1.1 200 OK\r\n") and body == past, (head, len(body), len(past))
-
-
-@contextlib.contextmanager
-def serving_any(db, count):
-    """As serving, where it is not known how many connections fail."""
-    desk = Desk(db, count)
-    try:
-        yield desk
-        ran = desk.end()
-        words = ran.out.split()
-        assert ran.status == 0 and words[::2] == ["answered", "failed"] and int(words[1]) + int(words[3]) == count, ran
-    finally:
-        desk.process.kill()
-        desk.process.wait()
 
 
 def test_an_import_over_http():
@@ -1831,16 +1828,12 @@ def test_what_is_answered_where_the_disk_is_full():
     sent = [it for it in unavailable if it[0].startswith("lodge ")]
     new()
     desk = Desk("office.db", len(sent) + 1, restore_signals=False)
-    try:
-        resource.prlimit(desk.process.pid, resource.RLIMIT_FSIZE, (0, 0))
-        wrong = wrongly_answered(desk, sent)
-        same(desk.ask("GET", "/station/s1")[0], 404)
-        # Whether the closing fails too depends on what there is left to write.
-        ran = desk.end()
-        assert ran in (Ran(0, f"answered {len(sent) + 1} failed 0\n", ""), Ran(3, "", "failed: store\n")), ran
-    finally:
-        desk.process.kill()
-        desk.process.wait()
+    resource.prlimit(desk.process.pid, resource.RLIMIT_FSIZE, (0, 0))
+    wrong = wrongly_answered(desk, sent)
+    same(desk.ask("GET", "/station/s1")[0], 404)
+    # Whether the closing fails too depends on what there is left to write.
+    ran = desk.end()
+    assert ran in (Ran(0, f"answered {len(sent) + 1} failed 0\n", ""), Ran(3, "", "failed: store\n")), ran
     assert sent and not wrong, "\n" + "\n".join(wrong)
     shows("progress", PROGRESS, con=None)
 
@@ -1857,20 +1850,16 @@ def test_nothing_that_is_shown_changes_where_the_disk_is_full():
         shutil.copy(f"{state}.db", "copy.db")
         before = rows("copy.db")
         desk = Desk("copy.db", 2 * len(paths) + 1, restore_signals=False)
-        try:
-            shown = [desk.ask("GET", path)[::2] for path in paths]
-            resource.prlimit(desk.process.pid, resource.RLIMIT_FSIZE, (0, 0))
-            found = desk.send(message)
-            # A return that is recorded already is the same, and takes no write.
-            assert found.endswith(shut[1].encode()) or found == answer and (b'"ok":"same"' in answer or b'"lodged":0' in answer), (name, found)
-            after = [desk.ask("GET", path)[::2] for path in paths]
-            same((name, [now if then != shut else then for then, now in zip(after, shown)]), (name, after))
-            # An office that was shut says so; else whether the closing fails too depends on what there is left to write.
-            ran = desk.end()
-            assert ran == Ran(3, "", "failed: store\n") or shut not in after and ran.status == 0, (name, ran)
-        finally:
-            desk.process.kill()
-            desk.process.wait()
+        shown = [desk.ask("GET", path)[::2] for path in paths]
+        resource.prlimit(desk.process.pid, resource.RLIMIT_FSIZE, (0, 0))
+        found = desk.send(message)
+        # A return that is recorded already is the same, and takes no write.
+        assert found.endswith(shut[1].encode()) or found == answer and (b'"ok":"same"' in answer or b'"lodged":0' in answer), (name, found)
+        after = [desk.ask("GET", path)[::2] for path in paths]
+        same((name, [now if then != shut else then for then, now in zip(after, shown)]), (name, after))
+        # An office that was shut says so; else whether the closing fails too depends on what there is left to write.
+        ran = desk.end()
+        assert ran == Ran(3, "", "failed: store\n") or shut not in after and ran.status == 0, (name, ran)
         same(show("progress", con=None, db="copy.db"), Ran(0, shown[0][1], ""))
         same((name, rows("copy.db")), (name, before))
 
@@ -1914,17 +1903,13 @@ def test_a_disk_that_fails_shuts_an_office():
     lodge = json.dumps({"slip": "p1", "votes": [100, 100], "blank": 0, "spoiled": 0})
     new()
     desk = Desk("office.db", 5, env=library)
-    try:
-        same(desk.ask("GET", "/progress")[0], 200)
-        write("broken", "")
-        same(desk.ask("POST", "/station/s1/lodge", lodge)[::2], shut)
-        os.remove("broken")
-        for words in (("GET", "/progress"), ("GET", "/con/c1/tally"), ("POST", "/station/s1/lodge", lodge)):
-            same((words, desk.ask(*words)[::2]), (words, shut))
-        same(desk.end(), Ran(3, "", "failed: store\n"))
-    finally:
-        desk.process.kill()
-        desk.process.wait()
+    same(desk.ask("GET", "/progress")[0], 200)
+    write("broken", "")
+    same(desk.ask("POST", "/station/s1/lodge", lodge)[::2], shut)
+    os.remove("broken")
+    for words in (("GET", "/progress"), ("GET", "/con/c1/tally"), ("POST", "/station/s1/lodge", lodge)):
+        same((words, desk.ask(*words)[::2]), (words, shut))
+    same(desk.end(), Ran(3, "", "failed: store\n"))
     # Whether the return that was not acknowledged is there only this opening says.
     lodged = "c1                    1      0      1      0      0      0      1 open\n"
     assert show("progress", con=None) in (Ran(0, PROGRESS, ""), Ran(0, lodged, "")), show("progress", con=None)
@@ -1956,8 +1941,13 @@ def replay(text):
             script += "while ! grep -q listening said; do sleep 0.05; done\n"
     environment = {**os.environ, "PATH": f"{os.getcwd()}/bin:{os.environ['PATH']}"}
     with open("said", "w", encoding="utf-8") as said:
-        ran = subprocess.run(["bash", "-c", script], stdout=subprocess.PIPE, stderr=said, env=environment, timeout=120)
-    same((ran.returncode, re.findall(r'\{.*?\}|[^{\n]+', ran.stdout.decode())), (0, wanted))
+        ran = subprocess.Popen(["bash", "-c", script], stdout=subprocess.PIPE, stderr=said, env=environment, start_new_session=True)
+    try:
+        out, _ = ran.communicate(timeout=120)
+    finally:
+        with contextlib.suppress(ProcessLookupError):
+            os.killpg(ran.pid, signal.SIGKILL)
+    same((ran.returncode, re.findall(r'\{.*?\}|[^{\n]+', out.decode())), (0, wanted))
 
 
 def test_the_first_election_of_the_readme():
@@ -2009,6 +1999,7 @@ def starts_to_serve(words):
     """A server of a document's line, on a port that is free, is ended once it listens."""
     words = re.sub(r"--port \d+", f"--port {free_port()}", words)
     process = subprocess.Popen(["bash", "-c", "exec " + words], stdout=subprocess.PIPE, stderr=subprocess.PIPE)
+    STARTED.append(process)
     said = process.stderr.readline().decode()
     process.terminate()
     process.communicate(timeout=60)
@@ -2032,9 +2023,15 @@ print(end=answer.read().decode())
 
 @contextlib.contextmanager
 def recounted():
-    """A test with a recount of the databases that it leaves."""
+    """A test with a recount of the databases that it leaves. No server runs on after it."""
     SPOILED.clear()
-    yield
+    try:
+        yield
+    finally:
+        for process in STARTED:
+            process.kill()
+            process.wait()
+        STARTED.clear()
     recount_all()
 
 

@@ -3,6 +3,7 @@
 import contextlib
 import os
 import signal
+import socket
 import tempfile
 import time
 import traceback
@@ -18,11 +19,22 @@ def take_signals():
         signal.signal(number, signal.SIG_DFL)
 
 
+def free_port():
+    with socket.socket() as it:
+        it.bind(("127.0.0.1", 0))
+        return it.getsockname()[1]
+
+
+def too_long(*_):
+    raise AssertionError("it takes more than half an hour")
+
+
 def run_tests(names, asked, program, around=contextlib.nullcontext, **room):
     """Runs the tests among these names, or those of them that are asked for: the exit status.
 
     Each runs in a temporary folder of its own, which is made with the words of `room`; `around` is entered before a test and left
-    after it. With TIMES=1 the time of each is printed. The last line is `N passed, M failed, K skipped`.
+    after it. One that takes more than half an hour fails. With TIMES=1 the time of each is printed. The last line is
+    `N passed, M failed, K skipped`.
     """
     tests = {name.removeprefix("test_"): test for name, test in names.items() if name.startswith("test_")}
     lost = set(asked) - set(tests)
@@ -31,10 +43,12 @@ def run_tests(names, asked, program, around=contextlib.nullcontext, **room):
         print("0 passed, 1 failed, 0 skipped")
         return 1
     passed = failures = skipped = 0
+    signal.signal(signal.SIGALRM, too_long)
     for name in asked or tests:
         with tempfile.TemporaryDirectory(**room) as folder:
             os.chdir(folder)
             began = time.monotonic()
+            signal.alarm(1800)
             try:
                 with around():
                     tests[name]()
@@ -47,6 +61,7 @@ def run_tests(names, asked, program, around=contextlib.nullcontext, **room):
             except Exception:
                 failures += 1
                 print(f"FAILED: {name}\n{traceback.format_exc(limit=-4)}", flush=True)
+            signal.alarm(0)
             os.chdir("/")
     print(f"{passed} passed, {failures} failed, {skipped} skipped")
     return 1 if failures else 0

@@ -44,9 +44,9 @@ def try_edits(folder, crates):
 
 def main():
     crates = sys.argv[1:] or sorted(it.name for it in EDITS.iterdir())
-    unknown = [it for it in crates if not (EDITS / it).is_dir()]
+    unknown = [it for it in crates if not any((EDITS / it).glob("*.edit"))]
     if unknown:
-        print(f"wrong_bodies: no wrong body of {unknown[0]} is there")
+        print(f"wrong_bodies: no wrong body of {unknown[0]} is there\n0 passed, 1 failed")
         return 2
     edits = [f"{it}/{edit.name}" for it in crates for edit in sorted((EDITS / it).glob("*.edit"))]
     with tempfile.TemporaryDirectory(prefix="wrong-bodies-") as room:
