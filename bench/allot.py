@@ -40,7 +40,8 @@ CALLS = ["allot", "lot_need", "is_allotment", "votes_short"]
 # At most so many times the time of the plain program's award.
 GOALS = {"allot": 1.3, "lot_need": 20, "is_allotment": 20}
 
-# votes_short takes at most so many times the time of one allot of this repository, not the plain one's.
+# votes_short takes at most so many times the time of one allot of this repository, not the plain
+# one's.
 MOST_ALLOTS = 3
 
 

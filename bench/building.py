@@ -197,7 +197,7 @@ def seconds_of_ends(ends):
 
 
 def seconds_of_files():
-    """What each crate took, by the times of the files that its check left: the folder of the library is made anew when the
+    """What each crate took, by the times of the files that its check left: the folder of the library is made again when the
     check begins, and its stamp is written last. In a copy, whose folders are newer, and for the program itself the first
     module stands for the folder. A crate that was proved in several goes is left out.
     """

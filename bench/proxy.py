@@ -24,7 +24,8 @@ sys.path.insert(0, str(Path(__file__).resolve().parent.parent / "tests"))
 import deploy
 from office import CONSTITUENCY, PROFILE, party_list, station
 
-# Clients in a process of their own: threads that ask, over TLS or without. Where one of them fails, so does the process.
+# Clients in a process of their own: threads that ask, over TLS or without. Where one of them fails,
+# so does the process.
 CLIENT = """
 import socket, ssl, sys, time
 from concurrent.futures import ThreadPoolExecutor

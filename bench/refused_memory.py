@@ -25,8 +25,8 @@ from pathlib import Path
 sys.dont_write_bytecode = True
 from building import PROGRAM
 
-# Counts the requests, and writes how many there were when the program listens for connections, and at
-# the end.
+# Counts the requests, and writes how many there were when the program listens for connections, and
+# at the end.
 LIBRARY = r"""
 #define _GNU_SOURCE
 #include <dlfcn.h>

@@ -81,7 +81,8 @@ GONE = LODGE[:60]
 
 PROGRESS = message("/progress")
 
-# What leaves both constituencies certified, the first one for the second time, and a candidate of it gone.
+# What leaves both constituencies certified, the first one for the second time, and a candidate of
+# it gone.
 ELECTION = (
     message("/con/c1/import", RETURNS),
     *(message(f"/station/s{n}/close", {"rev": 1}) for n in (1, 2, 3)),
@@ -228,8 +229,8 @@ class Command:
     def __init__(self, bench, name, words, files, first=1, takes_over=False, opens=True):
         self.bench, self.name, self.files, self.first = bench, name, files, first
         self.words = [bench.program, *words]
-        # Whether it opens a database of version 1, which is then taken over though the command fails after that; whether the
-        # database is one that opens.
+        # Whether it opens a database of version 1, which is then taken over though the command
+        # fails after that; whether the database is one that opens.
         self.takes_over, self.opens = takes_over, opens
 
     def ample(self):
@@ -251,7 +252,8 @@ class Command:
         asked, answer, state, left = self.run(first, last)
         if asked is None or asked < first:
             return f"{answer} after {asked} requests", False
-        # The log may be left, as where its name or the opening found no memory, but the rows are in the file.
+        # The log may be left, as where its name or the opening found no memory, but the rows are in
+        # the file.
         is_whole = state == self.bench.judge.state(self.bench.own.folder, [DB])
         beside = ", a log is left" if LOG in left else ""
         if is_whole and answer == self.answer and state == self.after:
@@ -278,7 +280,8 @@ class Server:
 
     def __init__(self, bench, name, files, messages, wanted=None, starts=False):
         self.bench, self.name, self.files, self.messages = bench, name, files, messages
-        # The statuses and the bodies of the answers, where they are known; whether only its start is refused its memory.
+        # The statuses and the bodies of the answers, where they are known; whether only its start
+        # is refused its memory.
         self.wanted, self.starts = wanted, starts
 
     def ample(self):

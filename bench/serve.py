@@ -48,8 +48,8 @@ WHOLE_MESSAGES = 200
 PIECED_MESSAGES = 5
 READS = 200
 
-# At most so many microseconds a request may be spent in the desk, and so many times as long may a message
-# take that comes byte by byte.
+# At most so many microseconds a request may be spent in the desk, and so many times as long may a
+# message take that comes byte by byte.
 DESK_GOAL = 100
 PIECES_GOAL = 10
 
@@ -80,7 +80,7 @@ def kinds_of(con, asked):
 
 
 def start(name, folder, program, built, count):
-    """The server of this name, started anew, on a database without returns."""
+    """The server of this name, started again, on a database without returns."""
     if name == "desk":
         return beside(built["serve_office"], [folder / "setup.toml"], count)
     if name == "alone":

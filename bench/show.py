@@ -51,7 +51,8 @@ SEATS = 500
 FEW_RETURNS = 500
 GROWING = [500, 1_000, 2_000, 4_000]
 
-# How many times as long as an opening a report may take, and as an award the printing of the awards.
+# How many times as long as an opening a report may take, and as an award the printing of the
+# awards.
 SHOW_GOAL = 1.3
 AWARDS_GOAL = 2
 

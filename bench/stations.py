@@ -42,8 +42,9 @@ COUNTRY_STATIONS = 60_000
 # How often the constituency was certified before where certificates are on record.
 ON_RECORD = 100
 
-# How many times as long as with few stations, and as of a keeper in memory, requests may take, and as without them where
-# certificates are on record: no longer there, but two medians of the same work may differ by so much.
+# How many times as long as with few stations, and as of a keeper in memory, requests may take, and
+# as without them where certificates are on record: no longer there, but two medians of the same
+# work may differ by so much.
 GOALS = [
     ("GET con", "few stations", 1.3),
     ("GET tally", "few stations", 1.3),

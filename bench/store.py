@@ -128,7 +128,7 @@ def imports(folder, program, alone, con, rounds):
 
 
 def begin_once(begin):
-    """Begins anew before each third command, so that the copies of the last round are left."""
+    """Begins again before each third command, so that the copies of the last round are left."""
     count = 0
 
     def before():

@@ -1,12 +1,14 @@
-# Prints how long the rest of a build takes, as "about 38 min", or nothing where the record is empty.
+# Prints how long the rest of a build takes, as "about 38 min", or nothing where the record is
+# empty.
 #
 #     awk -v now=SECONDS -v workers=NUMBER -f time_left.awk RECORD ENDS QUEUE
 #
-# RECORD has lines `PART SECONDS`, ENDS lines `PART SECONDS HOW` of what has ended, in seconds from the start of the build,
-# and QUEUE lines `PART HOW USED..` in the order of the build. A worker takes the next part of the queue and begins it once
-# the parts that it uses have ended. A part that has not ended takes its seconds of the record (the mean of all, where it is
-# not there), by the ratio of measured to recorded seconds of those that have ended. Parts that are `new` and those that
-# are proved `again` have a ratio each; what is `kept` takes no time.
+# RECORD has lines `PART SECONDS`, ENDS lines `PART SECONDS HOW` of what has ended, in seconds from
+# the start of the build, and QUEUE lines `PART HOW USED..` in the order of the build. A worker
+# takes the next part of the queue and begins it once the parts that it uses have ended. A part that
+# has not ended takes its seconds of the record (the mean of all, where it is not there), by the
+# ratio of measured to recorded seconds of those that have ended. Parts that are `new` and those
+# that are proved `again` have a ratio each; what is `kept` takes no time.
 
 # Goes through the whole build, and returns when it ends.
 function play(    i, k, w, n, used, free, start) {
@@ -72,6 +74,6 @@ END {
     measure()
     measure()
     left = int((play() - now) / 60 + 0.5)
-    # (nothing tells how long a crate takes that is proved again, before one of them has ended)
+    # (nothing shows how long a crate takes that is proved again, before one of them has ended)
     print (again[0] && !again[1] ? "at most " : "about ") (left > 1 ? left : 1) " min"
 }

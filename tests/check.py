@@ -194,14 +194,16 @@ def test_sixteen_mebibytes_and_one_more():
 
 
 def test_lines_within_quotes_where_the_input_is_cut():
-    # Records with line ends in quotes, and one that is longer than what is read at once, after so many empty lines.
+    # Records with line ends in quotes, and one that is longer than what is read at once, after so
+    # many empty lines.
     for empty in range(20):
         text = HEADER + "\n" * empty + '"xxxxxxxx\n\nxxxxxx"\r' * 18000 + "x" * 800000 + "\n" + ROW
         counted(text, "1, 0, 0, 0, 18001, 1 0, 0, 0, 1, 2")
 
 
 def test_rows_after_a_long_record():
-    # What comes after a record longer than what is read at once is held in parts; a part may end anywhere in a row.
+    # What comes after a record longer than what is read at once is held in parts; a part may end
+    # anywhere in a row.
     count = 19000
     rows = "".join(f"station-{n:08d},slip-{n:011d},000000000,000000000,000000001,000000002\n" for n in range(count))
     for longer in range(15):

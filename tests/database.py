@@ -166,14 +166,15 @@ def each_answered(text):
     assert lines and not wrong, "\n" + "\n".join(wrong)
 
 
-# What a text is changed to: the codes of two constituencies and a station, no text, a note that is no code, a text that is neither,
-# and a number, which is stored as a text.
+# What a text is changed to: the codes of two constituencies and a station, no text, a note that is
+# no code, a text that is neither, and a number, which is stored as a text.
 TEXTS = ("'c1'", "'c2'", "'t1'", "''", "'x y'", "'\n'", "0")
 
 # What a number is changed to: its neighbours, 0, the largest number, and a text.
 NUMBERS = ("+ 1", "- 1", "* 0", "* 0 + 9223372036854775807", "|| 'x'")
 
-# The letters are `o` for an office that is opened, `b` for bad tables, and `-` for a change that the table itself refuses.
+# The letters are `o` for an office that is opened, `b` for bad tables, and `-` for a change that
+# the table itself refuses.
 LETTERS = {"opened": "o", "bad_tables": "b", None: "-"}
 
 
@@ -229,8 +230,8 @@ def differing(found, wanted):
 
 LONG_SHORE = constituency("c2", "Long Shore", 2, "d0") + party_list("A", "Alpha", "Ada") + station("t1") + station("t2")
 
-# In c1 a lot was drawn; a certificate was reopened and another one given; a candidate is gone. In c2 a return is queried and one is
-# closed.
+# In c1 a lot was drawn; a certificate was reopened and another one given; a candidate is gone. In
+# c2 a return is queried and one is closed.
 TWO_TOWNS = """\
 lodge s1 p1 100,100 = lodged 1
 close s1 1 = moved 2
@@ -277,7 +278,8 @@ past c1,3,1,1: obbbbbb bbbb- -bbb- bbbb- -b
 past c1,3,2,2: obbbbbb bbbb- b-bb- bbbb- -b
 """
 
-# The votes of both lists of c1 are the same, and so are the blank votes of c2 and the spoiled ones of c1. A record has any seats.
+# The votes of both lists of c1 are the same, and so are the blank votes of c2 and the spoiled ones
+# of c1. A record has any seats.
 TWO_TOWNS_EXCHANGED = """\
 lots b
 seats b
@@ -302,8 +304,8 @@ THREE_RIVERS = "\n" + profile("h5", "hare", 500) + constituency("c2", "Three Riv
         ("A", ("Ana", "Abel", "Ada")), ("B", ("Bea", "Ben")), ("C", ("Cid",)), ("D", ("Dan",)))
 ) + station("r1", 1000) + station("r2", 1000)
 
-# In c1 lots alternate: the lot B, A is turned round for second seats, so that the third seat is A's. A certificate was reopened and
-# another one given; a candidate is gone.
+# In c1 lots alternate: the lot B, A is turned round for second seats, so that the third seat is
+# A's. A certificate was reopened and another one given; a candidate is gone.
 IN_C1 = """\
 lodge s1 p1 100,100 = lodged 1
 close s1 1 = moved 2
@@ -314,9 +316,11 @@ certify c1 4 = edition 5
 vacate c1 B 1 resigned = vacated None
 """
 
-# In c2 list D has 59 of 1,181 valid votes, which is less than a twentieth by one vote: 590,000 and not 590,500. Of the other 942 votes A
-# has 2 quotas and 266 over, B and C have 1 and 338 each: the fifth seat is C's by the lot. With D there would be 1,001 votes, of which D
-# has 295 over and B and C 279: the fifth seat would be D's. At first B had one vote more: of 943 votes 342 over, and C 337.
+# In c2 list D has 59 of 1,181 valid votes, which is less than a twentieth by one vote: 590,000 and
+# not 590,500. Of the other 942 votes A has 2 quotas and 266 over, B and C have 1 and 338 each: the
+# fifth seat is C's by the lot. With D there would be 1,001 votes, of which D has 295 over and B and
+# C 279: the fifth seat would be D's. At first B had one vote more: of 943 votes 342 over, and C
+# 337.
 IN_C2 = """\
 lodge r1 p1 230,156,156,30 80 = lodged 1
 lodge r2 q1 200,101,100,29 100 = lodged 1
@@ -377,7 +381,8 @@ past c1,3,1,2: obbbbbb bbbb- -bbb- bbbb- -b
 past c1,3,2,1: obbbbbb bbbb- b-bb- bbbb- -b
 """
 
-# The seats of the lot B, A where it does not alternate, and those of the lot A, B where it does, are 1 and 2.
+# The seats of the lot B, A where it does not alternate, and those of the lot A, B where it does,
+# are 1 and 2.
 ALTERNATING_EXCHANGED = """\
 lots b
 seats b
@@ -386,7 +391,8 @@ totals bob
 past o
 """
 
-# With one vote more in r2 list D has a twentieth, 600,000 and not less than 591,000: of 1,002 votes it has 300 over, B and C 278.
+# With one vote more in r2 list D has a twentieth, 600,000 and not less than 591,000: of 1,002 votes
+# it has 300 over, B and C 278.
 TOGETHER = """\
 opened: UPDATE lots SET list = 3 - list WHERE con = 'c1'; UPDATE seats SET n = 3 - n WHERE con = 'c1'
 opened: UPDATE lots SET list = 5 - list WHERE con = 'c2'; UPDATE seats SET n = 3 - n WHERE con = 'c2' AND list > 1 AND list < 4

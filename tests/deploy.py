@@ -314,7 +314,8 @@ GETS = ("/progress", "/station/s1", "/con/c1", *(f"/con/c1/{name}" for name in (
     "tally", "seats", "quotients", "awards", "quota", "short", "holders", "past")))
 OF_CLERKS = ("/station/s1/query", "/station/s1/correct", "/station/s1/close", "/con/c1/import", "/con/c1/import/semicolon")
 OF_BOARD = ("/con/c1/draw", "/con/c1/certify", "/con/c1/reopen", "/con/c1/vacate")
-# Who asks, and what each is answered: lodging for s1, the clerks' commands, the board's. 400 is the desk's: {} is no command.
+# Who asks, and what each is answered: lodging for s1, the clerks' commands, the board's. 400 is the
+# desk's: {} is no command.
 ROLES = {
     "nobody": (401, 401, 401),
     "s1": (400, 403, 403),
@@ -349,7 +350,8 @@ def test_each_role_against_each_route():
                 # Nothing is lodged or certified: the desk says so, to everybody alike.
                 word = b"no_return" if "station" in target else b"not_certified"
                 assert found.status == 200 or word in found.body, f"{who}: GET {target}: {found}"
-        # Without 403: 10 of nobody, 1 of s1, 6 of clara, 4 of berta; with wrong passwords 6, 4, 1 and 6.
+        # Without 403: 10 of nobody, 1 of s1, 6 of clara, 4 of berta; with wrong passwords 6, 4, 1
+        # and 6.
         record = front.record(38)
         recorded = collections.Counter((line["name"], line["status"]) for line in record)
         same((len(record), recorded[("clara", 400)], recorded[("clara", 401)], recorded[("", 401)]), (38, 6, 12, 10))
@@ -665,8 +667,9 @@ def lodges(front, stations, connection_of):
     return took
 
 
-# How much longer the slowest lodge may take among many readers than the slowest of the same lodges alone, or than ten usual
-# ones: the readers are on this machine too, and take its processors from the proxy.
+# How much longer the slowest lodge may take among many readers than the slowest of the same lodges
+# alone, or than ten usual ones: the readers are on this machine too, and take its processors from
+# the proxy.
 SLOWER = 10
 
 
@@ -808,7 +811,8 @@ def test_the_record_replayed():
     assert all(re.fullmatch(r"\d{4}-\d\d-\d\dT\d\d:\d\d:\d\d[+-]\d\d:\d\d", line["time"]) for line in record)
     with serving(EXAMPLES, "again.db") as desk:
         same(replay(desk, front), (0, "sent 25, to look at 0\n"))
-        # Once more: the import and the two returns are the same, and nothing else is done a second time.
+        # Once more: the import and the two returns are the same, and nothing else is done a second
+        # time.
         status, said = replay(desk, front)
         assert status == 1 and said.endswith("\nsent 25, to look at 22\n") and '"word":"stale"' in said, said
         same(replay(desk, front, "--since", "2100-01-01T00:00:00+00:00"), (0, "sent 0, to look at 0\n"))
@@ -1243,10 +1247,11 @@ def test_pages_that_are_written_again_and_again():
     same([int(re.search(r"GETs (\d+)", line)[1]) for line in lines], [10, 2, 2, 2, 2, 2])
 
 
-# How many stations each of the 52 constituencies has. With 1154 they are a country of 60,000, which takes some minutes.
+# How many stations each of the 52 constituencies has. With 1154 they are a country of 60,000, which
+# takes some minutes.
 COUNTRY_STATIONS = int(os.environ.get("COUNTRY_STATIONS", 20))
-# What a round of the pages may cost the office, however many stations there are: so many seconds of the processor, and one
-# request of it so many times as much as the request for a return.
+# What a round of the pages may cost the office, however many stations there are: so many seconds of
+# the processor, and one request of it so many times as much as the request for a return.
 ROUND_SECONDS = 5
 BESIDE_A_RETURN = 10
 
@@ -1376,7 +1381,8 @@ def test_the_pages_of_the_first_election():
     same(page_of("con-montehondo.html").tables["Quotients of each list"][1:], [
         ["ROBLE", "1,235 ★ won", "617 ★ won", "411 ★ won", "308 ★ won", "247"], ["ENCINA", "1,134 ★ won", "567 ★ won", "378 ★ won", "283", "226"],
         ["HAYA", "694 ★ won", "347 ★ won", "231", "173", "138"], ["SAUCE", "299", "149", "99", "74", "59"]])
-    # What is published can be added up again by the office's own check: all rows lodged, and the votes of above.
+    # What is published can be added up again by the office's own check: all rows lodged, and the
+    # votes of above.
     checked = subprocess.run([PROGRAM, "check"], input=read("stations-montehondo-2.csv"), capture_output=True, text=True, timeout=60)
     same(checked.stdout, "lodged 15\nsame 0\ndiffers 0\nrefused 0\nbad 0\nfirst -\nblank 44\nspoiled 22\n"
                          "ROBLE 1235\nENCINA 1134\nHAYA 694\nSAUCE 299\nOLIVO 65\n")
@@ -1384,8 +1390,9 @@ def test_the_pages_of_the_first_election():
 
 # ---- the pages in a browser
 
-# What is wrong with how a page is shown: an element that is wider than the window, unless it may be moved sideways, and a text
-# that has too little contrast with its background (4.5 to 1, after WCAG 2, or 3 to 1 where it is large).
+# What is wrong with how a page is shown: an element that is wider than the window, unless it may be
+# moved sideways, and a text that has too little contrast with its background (4.5 to 1, after WCAG
+# 2, or 3 to 1 where it is large).
 SHOWN_WRONG = """
 const wrong = [], wide = innerWidth;
 if (document.documentElement.scrollWidth > wide) wrong.push("the page is " + document.documentElement.scrollWidth + " wide");
@@ -1467,7 +1474,8 @@ def clerks_browser(front, name, words="This is what the office has now."):
     folder = Path.cwd() / f"browser-{name}"
     folder.mkdir()
     with browser.browser(folder, f"--host-resolver-rules=MAP {NAME} 127.0.0.1") as it:
-        # A driver cannot answer the question for name and password: the browser sends them as it does once they were given.
+        # A driver cannot answer the question for name and password: the browser sends them as it
+        # does once they were given.
         it.command("Network.enable")
         it.command("Network.setExtraHTTPHeaders", headers={"Authorization": front.authorization(name)})
         it.open(f"https://{NAME}:{front.port}/clerk.html")

@@ -24,9 +24,9 @@ ROOT = Path(__file__).resolve().parent.parent
 PARTS = ("src", "specs", "proofs")
 NOBODY = 65534
 
-# The stub's `rt all` does what the file `plan` says. Its `rt run` notes that it ran and builds a program, which is another
-# one at each build: it prints the number of the build, its folder and its arguments, copies its input and ends with
-# status 1; then it does what the file `end` says.
+# The stub's `rt all` does what the file `plan` says. Its `rt run` notes that it ran and builds a
+# program, which is another one at each build: it prints the number of the build, its folder and its
+# arguments, copies its input and ends with status 1; then it does what the file `end` says.
 STUB = r"""#!/usr/bin/env bash
 here=$(dirname "$0")
 if [ "$1" = version ]; then
@@ -150,7 +150,7 @@ class Copy:
         (self.bin / "version").write_text(text + "\n")
 
     def record(self, seconds):
-        """Gives the copy a record of a build, and what tells from it how long one takes."""
+        """Gives the copy a record of a build, and what works out from it how long one takes."""
         (self.root / "bench").mkdir()
         shutil.copy(FORECAST, self.root / "bench")
         (self.root / "bench/crate_seconds.txt").write_text(lines_of(seconds))
@@ -373,7 +373,8 @@ def a_current_program_starts_at_once(copy):
         subprocess.run(words, env=path, check=True)
         return 1000 * (time.perf_counter() - begun)
 
-    # The shortest of many, since other work on the machine only adds to a time: of more, where it does much of that.
+    # The shortest of many, since other work on the machine only adds to a time: of more, where it
+    # does much of that.
     with_launcher, alone = [], []
     for rounds in range(400):
         with_launcher.append(took(copy.root / "office", "check"))

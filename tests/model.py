@@ -1,6 +1,6 @@
 """An office in plain Python: what the law and docs/FORMATS.md say of allotments, reports and commands, in whole numbers.
 
-Tests compare the program with it. It keeps all in dictionaries and counts everything anew at each request. Lots are fixed orders.
+Tests compare the program with it. It keeps all in dictionaries and counts everything again at each request. Lots are fixed orders.
 """
 
 import json

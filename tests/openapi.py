@@ -20,8 +20,9 @@ TESTED = "\n".join(
     for crate in ("tally_desk_tests", "tally_http_tests")
     for path in sorted((ROOT / "crates" / crate / "src").glob("*.rt"))
 ).replace('\\"', '"')
-# The refusals of the checks that a request goes through (`Lodge`, `Moves`, `Decide` of tally_returns; `Certification` of
-# tally_steps). The other routes to a constituency have its own alone.
+# The refusals of the checks that a request goes through (`Lodge`, `Moves`, `Decide` of
+# tally_returns; `Certification` of tally_steps). The other routes to a constituency have its own
+# alone.
 CHECKS = {
     "/station/{s}": {1, 8},
     "/station/{s}/lodge": {1, 4, 6, 7},

@@ -1647,7 +1647,8 @@ CERTIFIED = [*counted([120, 100]), ("/con/c1/certify", {"edition": 1})]
 ROWS = ("/con/c1/import", RETURNS.rstrip())
 WORKED = ("/station/s1/lodge", json.loads(LODGE[LODGE.index(b"{"):]))
 
-# The states in which examples are given: a setup, the requests that lead there, and what is then changed by hand.
+# The states in which examples are given: a setup, the requests that lead there, and what is then
+# changed by hand.
 STATES = {
     "new": (SETUP, []), "received": (SETUP, RECOUNT[:1]), "closed": (SETUP, RECOUNT[:2]), "drawn": (SETUP, RECOUNT[:3]),
     "certified": (SETUP, RECOUNT[:4]), "vacated": (SETUP, RECOUNT[:5]), "reopened": (SETUP, RECOUNT[:6]),
@@ -1743,7 +1744,8 @@ def examples():
                 else:
                     assert name in GIVEN or own in GIVEN, f"nothing is known to lead to the example {name}"
                     state, codes, body, changes = GIVEN.get(name) or GIVEN[own]
-                    # Where an answer is that of the route's own request, it is that of each of its examples.
+                    # Where an answer is that of the route's own request, it is that of each of its
+                    # examples.
                     mine = [body] if body else [{**it, **changes} if changes else it for it in bodies]
                     yield from ((name, state, request(method, path.format(**codes), it), answer) for it in mine)
 
@@ -1857,14 +1859,16 @@ def test_nothing_that_is_shown_changes_where_the_disk_is_full():
         assert found.endswith(shut[1].encode()) or found == answer and (b'"ok":"same"' in answer or b'"lodged":0' in answer), (name, found)
         after = [desk.ask("GET", path)[::2] for path in paths]
         same((name, [now if then != shut else then for then, now in zip(after, shown)]), (name, after))
-        # An office that was shut says so; else whether the closing fails too depends on what there is left to write.
+        # An office that was shut says so; else whether the closing fails too depends on what there
+        # is left to write.
         ran = desk.end()
         assert ran == Ran(3, "", "failed: store\n") or shut not in after and ran.status == 0, (name, ran)
         same(show("progress", con=None, db="copy.db"), Ran(0, shown[0][1], ""))
         same((name, rows("copy.db")), (name, before))
 
 
-# Comes before the C library: while there is a file `broken` in the program's folder, a call that brings a file to its disk fails.
+# Comes before the C library: while there is a file `broken` in the program's folder, a call that
+# brings a file to its disk fails.
 FAILING_DISK = r"""
 #define _GNU_SOURCE
 #include <dlfcn.h>

@@ -75,8 +75,8 @@ electors = 300 => electors = 1000001 => bad_value electors
 [[profile]] => [[ => not_toml
 """
 
-# What is in quotes as the code of a constituency: of up to 16 characters, and beside those that a code may have their
-# neighbours.
+# What is in quotes as the code of a constituency: of up to 16 characters, and beside those that a
+# code may have their neighbours.
 CODES = r"""
 A => read
 ABCDEFGHIJKLMNOP => read

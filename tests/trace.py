@@ -1,6 +1,6 @@
 #!/usr/bin/env python3
-"""Checks what the documents name, where their links lead and the words that they use; and in the sources how long lines
-are, and that each definition and each lemma is cited.
+"""Checks what the documents name, where their links lead and the words that they use; and in the sources and the scripts
+how long lines are, and which words comments use, and that each definition and each lemma is cited.
 
     python3 tests/trace.py
 
@@ -24,15 +24,23 @@ DOCUMENTS = sorted(
     for path in ROOT.glob(pattern)
 )
 LAW = ROOT / "docs/LAW.md"
+PROMISES = ROOT / "docs/PROMISES.md"
 COLUMNS = ["The law or the rule", "Definition", "Code", "Clause", "Test", "Wrong body"]
 LINK = re.compile(r"\[([^\]]*)\]\(([^)\s]+)\)")
+# The scripts, programs and settings outside of the crates, by how they mark a comment.
+PYTHON = ("tests/*.py", "bench/*.py", "deploy/*.py", "deploy/replay", "examples/*.py")
+HASHED = ("office", "test", "deploy/backup", "deploy/password", "deploy/*.conf", "deploy/nginx/*.conf", "deploy/*.service",
+          "bench/*.awk", "bench/crate_seconds.txt", "examples/setup.toml")
+SLASHED = ("bench/*.rattle", "bench/*.rs")
+MARKED = ("deploy/*.css", "deploy/www/*.html")
 # Where a link or a picture leads, in each form that Markdown has for it.
 TARGET = re.compile(r"""\]\(\s*<?([^)\s>]+)|^ {0,3}\[[^\]]+\]:\s*<?([^\s>]+)|\b(?:href|src)=["']([^"'\s]+)""", re.M)
 # A link with a name as its text, and the labels that follow it.
 NAMED = re.compile(r"\[`([^`\]]+)`\]\(([^)\s]+)\)(: `[^`]+`(?:(?:, | and )`[^`]+`)*)?")
 
-# What is not written, and what is written for it. The words are looked for in the documents, in the help texts, in comments and
-# docstrings, and in the names of tests and of edits; not in other names, and not in examples.
+# What is not written, and what is written for it. The words are looked for in the documents, in the
+# help texts, in comments and docstrings, and in the names of tests and of edits; not in other
+# names, and not in examples.
 WORDS = {
     r"\bwant of memory\b|\bmemory ran out\b": "out of memory",
     r"\bstands?\b(?! (?:out|for|alone|apart))": "is, exists, is recorded",
@@ -48,7 +56,7 @@ WORDS = {
     r"\b(?:does not|never) gives? up\b": "returns an answer",
     r"\blet go\b": "freed, dropped",
     r"\bown profile\b": "this project's own rule",
-    r"\b(?:proved|written) anew\b": "proved again, rewritten",
+    r"\banew\b": "again",
     r"\bbehind\b(?! (?:(?:a|the) (?:reverse )?proxy|one address|nginx))": "after",
 }
 
@@ -95,6 +103,25 @@ def words_of_python(path):
             yield node.body[0].lineno, re.sub(r"`[^`]*`", "`", ast.get_docstring(node))
         if isinstance(node, ast.FunctionDef) and node.name.startswith("test_"):
             yield node.lineno, node.name.replace("_", " ")
+
+
+def comments_of_script(path):
+    """The comments of a script or of settings that are lines of their own, each line with its number: those after a `#`,
+    or those within the marks of a page or a style sheet."""
+    text = text_of(path)
+    if path.suffix in (".css", ".html"):
+        for found in re.finditer(r"<!--.*?-->|/\*.*?\*/", text, re.S):
+            yield from enumerate(found[0].split("\n"), text.count("\n", 0, found.start()) + 1)
+    else:
+        yield from ((number, line) for number, line in enumerate(text.split("\n"), 1) if re.match(r"\s*#(?!!)", line))
+
+
+def comments_of_python(path):
+    """The comments of a file of Python that are lines of their own."""
+    with path.open("rb") as file:
+        for token in tokenize.tokenize(file.readline):
+            if token.type == tokenize.COMMENT and token.line.lstrip().startswith("#"):
+                yield token.start[0], token.line.rstrip("\n")
 
 
 def words_of_edit(path):
@@ -223,15 +250,21 @@ def test_the_labels_after_a_link_are_clauses():
 
 
 def test_each_name_of_a_recipe_or_a_page_is_in_the_sources():
-    """Names in backticks in HOW_TO_CHANGE, ARCHITECTURE, PROMISES and the pages of the crates, linked or not, and what
+    """Names in backticks in CONTRIBUTING, in most documents of `docs` and in the pages of the crates, linked or not, and what
     the examples of the pages call."""
     sources = [path for folder in ("crates", "tests", "examples") for path in (ROOT / folder).rglob("*") if "out" not in path.parts]
-    sources = [path for path in sources if path.is_file() and path.suffix != ".md"] + [ROOT / "docs/openapi.json"]
+    sources = [path for path in sources if path.is_file() and path.suffix != ".md"]
+    sources += [ROOT / name for name in ("docs/openapi.json", "office", "test")]
     words = {word for path in sources for word in re.findall(r"\w[\w-]*", path.stem + " " + path.read_text(encoding="utf-8", errors="ignore"))}
-    of_the_kit = {"Host", "Origin", "Some", "Usage", "with_capacity", "is_ok", "is_none"}
+    words |= {word.removeprefix("test_") for word in words}
+    of_the_kit = {"Host", "Origin", "Some", "Usage", "with_capacity", "is_ok", "is_none", "with_items", "Abort"}
+    # (of its goals, its files and its plants, and of the system)
+    of_the_kit |= {"Proof", "f-requires", "f-requires-clause-x", "f-requires-clause-sound", "returns-in-Some-Err", "not-source"}
+    of_the_kit |= {"malloc", "nice"}
     calls = {name for path in found_in("crates/*/src/**/*.rt") for name in re.findall(r"\bfn (\w+)|^    (\w+)\(", text_of(path), re.M)}
     calls = {name for names in calls for name in names} | of_the_kit
-    documents = [ROOT / f"docs/{name}.md" for name in ("HOW_TO_CHANGE", "ARCHITECTURE", "PROMISES")]
+    named_by = ("HOW_TO_CHANGE", "ARCHITECTURE", "PROMISES", "LAW", "ALLOTMENT", "DEFINITIONS", "DECISIONS", "PROOFS")
+    documents = [ROOT / "CONTRIBUTING.md", *(ROOT / f"docs/{name}.md" for name in named_by)]
     documents += [path for path in DOCUMENTS if path.parent.parent == ROOT / "crates"]
     wrong, count = [], 0
     for path in documents:
@@ -309,7 +342,8 @@ def test_each_wrong_body_is_named_by_its_definition():
 
 
 def test_each_wrong_body_can_be_planted():
-    # `rt must-fail` says so only of those that it tries. What an edit takes away has to be there once, after its earlier pairs.
+    # `rt must-fail` says so only of those that it tries. What an edit takes away has to be there
+    # once, after its earlier pairs.
     edits = [*ROOT.glob("crates/*/must-fail/*.edit"), *ROOT.glob("tests/wrong_bodies/*/*.edit")]
     wrong = []
     for path in sorted(edits):
@@ -346,7 +380,7 @@ def found_in(*patterns):
 
 def test_the_words_of_comments_and_of_the_help():
     kinds = ("src/**/*.rt", "specs/**/*.antt", "specs.antt", "proofs/**/*.antt")
-    paths = found_in(*(f"crates/*/{kind}" for kind in kinds), "bench/*.rattle", "bench/*.rs")
+    paths = found_in(*(f"crates/*/{kind}" for kind in kinds), *SLASHED)
     return len(paths), [wrong for path in paths for wrong in unwanted(path, words_of_code(path))]
 
 
@@ -358,8 +392,12 @@ def test_the_words_of_the_description_of_the_routes():
 
 
 def test_the_words_of_scripts():
-    paths = found_in("tests/*.py", "bench/*.py", "deploy/*.py", "deploy/replay", "examples/*.py")
-    return len(paths), [wrong for path in paths for wrong in unwanted(path, words_of_python(path))]
+    paths, others = found_in(*PYTHON), found_in(*HASHED, *MARKED)
+    wrong = [wrong for path in paths for wrong in unwanted(path, words_of_python(path))]
+    for path in others:
+        said = ((number, re.sub(r"`[^`]*`", "`", line)) for number, line in comments_of_script(path))
+        wrong += unwanted(path, said)
+    return len(paths) + len(others), wrong
 
 
 def test_the_words_of_edits():
@@ -379,6 +417,19 @@ def test_no_clause_definition_or_comment_is_above_100_columns():
             if len(line) > 100 and looked_at:
                 wrong.append(f"{shown(path)}:{number}: {len(line)} columns")
     return len(paths), wrong
+
+
+def test_no_comment_of_a_script_is_above_100_columns():
+    """Of the scripts, programs and settings outside of the crates. A docstring may be longer, and a comment beside code."""
+    comments = [(path, comments_of_python(path)) for path in found_in(*PYTHON)]
+    comments += [(path, comments_of_script(path)) for path in found_in(*HASHED, *MARKED)]
+    for path in found_in(*SLASHED):
+        lines = enumerate(text_of(path).split("\n"), 1)
+        comments.append((path, [(number, line) for number, line in lines if re.match(r"\s*//", line)]))
+    wrong = []
+    for path, lines in comments:
+        wrong += [f"{shown(path)}:{number}: {len(line)} columns" for number, line in lines if len(line) > 100]
+    return len(comments), wrong
 
 
 def test_each_definition_and_each_lemma_is_cited():
@@ -406,6 +457,58 @@ def test_each_definition_and_each_lemma_is_cited():
                     defined[own] = path
             cited.update(name for name in words if name != own)
     return len(defined), sorted(f"{shown(path)}: {name}" for name, path in defined.items() if name not in cited)
+
+
+@cache
+def believed():
+    """The files of `specs` that the promises say have to be believed."""
+    lines = [line for line in text_of(PROMISES).splitlines() if line.startswith("To be believed: ")]
+    found = [target for line in lines for _, target in LINK.findall(line) if target.endswith(".antt")]
+    return {(PROMISES.parent / target).resolve() for target in found}
+
+
+# An import from `specs` of this repository: the crate, the path, and the words or the file's name.
+USE = re.compile(r"^\s*(?:ghost )?use Rattle\.(tally_\w+)\.specs\.([\w.]+?)(?:\.\{([^}]*)\}| as (\w+));?$", re.M)
+
+
+def test_the_promises_name_each_file_that_has_to_be_believed():
+    files = {path for path in ROOT.glob("crates/*/specs/*.antt") if path.stem not in ("Lib", "internal")}
+    wrong = [f"{shown(path)}: in no list of PROMISES" for path in sorted(files - believed())]
+    wrong += [f"{shown(path)}: believed, and not right in `specs`" for path in sorted(believed() - files)]
+    return len(files), wrong
+
+
+def test_what_is_believed_names_nothing_else():
+    """What a file that is believed imports of this repository is believed too, or is a type of the code (`declared`)."""
+    wrong, count = [], 0
+    for path in sorted(believed()):
+        for crate, place, _, _ in USE.findall(text_of(path)):
+            first = place.split(".")[0]
+            if first not in ("declared", "contracts"):
+                count += 1
+                if ROOT / "crates" / crate / "specs" / f"{place.replace('.', '/')}.antt" not in believed():
+                    wrong.append(f"{shown(path)}: {crate}, {place}")
+    return count, wrong
+
+
+def test_the_clauses_of_the_promises_use_no_internal_word():
+    wrong, count = [], 0
+    for name, file, labels in named(PROMISES):
+        if file.suffix != ".rt" or not file.is_file():
+            continue
+        internal = set()
+        for _, place, words, alias in USE.findall(text_of(file)):
+            if place.split(".")[0] == "internal":
+                internal.update([alias] if alias else [word.strip().split(" as ")[-1] for word in words.split(",")])
+        for contract in functions(file).get(name.split("::")[-1], []):
+            for clause in re.split(r"\b(?=(?:ensures|requires)\b)", contract)[1:]:
+                label = re.match(r"ensures (\w+)", clause)
+                if label and labels and label[1] not in labels:
+                    continue
+                count += 1
+                for word in sorted(internal & set(re.findall(r"[^\W\d][\w-]*", clause))):
+                    wrong.append(f"{shown(file)}: {name}: {word}")
+    return count, wrong
 
 
 def test_no_document_names_a_place_on_one_machine():

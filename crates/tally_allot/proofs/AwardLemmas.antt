@@ -2,7 +2,7 @@
 use Rattle.std.proofs.Common.{◌≡◌, ℕ, ◌+◌, ◌-◌, ◌<◌, ◌≤◌, List, length, get_or, map, refl, sym, ap, ◌∙◌, subst, arith}
 use Rattle.std.proofs.lemmas.List.{get_or-map, length-map}
 use Rattle.tally_frac.specs.Rank.{RanksAbove}
-use Rattle.tally_contest.specs.declared.won.Won.{Won}
+use Rattle.tally_contest.specs.declared.won.WonSeat.{WonSeat}
 use Rattle.tally_allot.specs.declared.award.Award.{Award}
 use Rattle.tally_law.specs.Poll.{Poll}
 use Rattle.tally_allot.specs.Awards.{award_of, IsAwardOf, AreAwardsOf, IsAwardAbove}
@@ -11,17 +11,17 @@ use Rattle.tally_law.specs.DivisorAllotment.{IsAbove}
 use Rattle.tally_contest.specs.internal.Pairs.{pair_of}
 use Rattle.tally_contest.specs.internal.Race.{IsPair}
 use Rattle.tally_contest.specs.internal.Terms.{AreDivisors, IsProperLot, IsSound, placed_divisor_race}
-use Rattle.tally_contest.specs.internal.Won.{AreRows, AreWon}
+use Rattle.tally_contest.specs.internal.WonSeat.{AreRows, AreWon}
 use Rattle.tally_contest.proofs.DivisorRace.{above_from_placed, runs_if_eligible, seats_for-le}
 
-module _ (nth : ℕ → ℕ) (unit : ℕ) (lot_rule : LotRule) (d : AreDivisors nth) (some_unit : 1 ≤ unit) (poll : Poll) (sound : IsSound poll) (lot : List ℕ) (proper : IsProperLot poll lot) (seats : ℕ) (a : List ℕ) (rows : List Won) (w : AreWon (placed_divisor_race nth lot_rule poll lot seats) a rows) where
+module _ (nth : ℕ → ℕ) (unit : ℕ) (lot_rule : LotRule) (d : AreDivisors nth) (some_unit : 1 ≤ unit) (poll : Poll) (sound : IsSound poll) (lot : List ℕ) (proper : IsProperLot poll lot) (seats : ℕ) (a : List ℕ) (rows : List WonSeat) (w : AreWon (placed_divisor_race nth lot_rule poll lot seats) a rows) where
   abbrev awards : List Award
   awards = map (award_of nth unit poll) rows
 
-  none : Won
+  none : WonSeat
   none = record { list = 0; seat = 0 }
 
-  at : (i : ℕ) (d : Award) (e : Won) → i < length rows → get_or (map (award_of nth unit poll) rows) i d ≡ award_of nth unit poll (get_or rows i e)
+  at : (i : ℕ) (d : Award) (e : WonSeat) → i < length rows → get_or (map (award_of nth unit poll) rows) i d ≡ award_of nth unit poll (get_or rows i e)
   at i d e lt = get_or-map (award_of nth unit poll) rows i e d lt
 
   long : length (map (award_of nth unit poll) rows) ≡ length rows
@@ -45,11 +45,11 @@ module _ (nth : ℕ → ℕ) (unit : ℕ) (lot_rule : LotRule) (d : AreDivisors 
             λ d.
                 let e = at x.0 d none x.1 in
                 let f = x.2 none in
-                (ap (λ (y : Award). y.list) e ∙ ap (λ (y : Won). y.list + 1) f, ap (λ (y : Award). y.k) e ∙ ap (λ (y : Won). y.seat) f),
+                (ap (λ (y : Award). y.list) e ∙ ap (λ (y : WonSeat). y.list + 1) f, ap (λ (y : Award). y.k) e ∙ ap (λ (y : WonSeat). y.seat) f),
           )
 
       -- what is above with its place is above in the strict rank
-      strict : (x y : Won) → IsPair (placed_divisor_race nth lot_rule poll lot seats) x.list x.seat → IsPair (placed_divisor_race nth lot_rule poll lot seats) y.list y.seat → RanksAbove (pair_of nth lot_rule poll lot x.list x.seat) (pair_of nth lot_rule poll lot y.list y.seat) → IsAbove nth unit lot_rule poll lot x.list x.seat y.list y.seat
+      strict : (x y : WonSeat) → IsPair (placed_divisor_race nth lot_rule poll lot seats) x.list x.seat → IsPair (placed_divisor_race nth lot_rule poll lot seats) y.list y.seat → RanksAbove (pair_of nth lot_rule poll lot x.list x.seat) (pair_of nth lot_rule poll lot y.list y.seat) → IsAbove nth unit lot_rule poll lot x.list x.seat y.list y.seat
       strict x y p q above =
           above_from_placed nth d poll sound seats unit some_unit lot_rule lot proper x.list x.seat y.list y.seat p q above
 
@@ -68,7 +68,7 @@ module _ (nth : ℕ → ℕ) (unit : ℕ) (lot_rule : LotRule) (d : AreDivisors 
           subst (P (get_or (map (award_of nth unit poll) rows) i e)) (sym (at j e none inside)) (subst (λ x. P x (award_of nth unit poll (get_or rows j none))) (sym (at i e none before)) f)
 
 -- each seat won is one of a list of the poll
-pub rows_of_won : (nth : ℕ → ℕ) (lot_rule : LotRule) (poll : Poll) → IsSound poll → (lot : List ℕ) (seats : ℕ) → seats ≤ 500 → (a : List ℕ) (rows : List Won) → AreWon (placed_divisor_race nth lot_rule poll lot seats) a rows → AreRows (length poll.votes) rows
+pub rows_of_won : (nth : ℕ → ℕ) (lot_rule : LotRule) (poll : Poll) → IsSound poll → (lot : List ℕ) (seats : ℕ) → seats ≤ 500 → (a : List ℕ) (rows : List WonSeat) → AreWon (placed_divisor_race nth lot_rule poll lot seats) a rows → AreRows (length poll.votes) rows
 rows_of_won nth lot_rule poll s lot seats few a rows w i d lt =
     let x = w.each i d lt in
     let l = (get_or rows i d).list in

@@ -4,12 +4,12 @@ use Rattle.std.specs.Prelude.{slice_index_or}
 use Rattle.tally_rules.specs.declared.profile.LotRule.{LotRule}
 use Rattle.tally_law.specs.Allotment.{Rule, divisors, hare}
 use Rattle.tally_allot.specs.declared.award.Award.{Award}
-use Rattle.tally_contest.specs.declared.won.Won.{Won}
+use Rattle.tally_contest.specs.declared.won.WonSeat.{WonSeat}
 use Rattle.tally_law.specs.Poll.{Poll, IsEligible, votes_of}
 use Rattle.tally_law.specs.DivisorAllotment.{IsAbove, IsDivisorAllotment}
 
 -- the award of a seat that was won: the place of its list, and the quotient
-abbrev pub award_of : (ℕ → ℕ) → ℕ → Poll → Won → Award
+abbrev pub award_of : (ℕ → ℕ) → ℕ → Poll → WonSeat → Award
 award_of nth unit poll row =
     record {
       list = row.list + 1;

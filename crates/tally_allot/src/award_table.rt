@@ -12,7 +12,7 @@ ghost use Rattle.tally_allot.specs.Awards.{AreAwards, AreAwardsBy};
 ghost use Rattle.tally_allot.specs.internal.AwardTable.{IsTableOf};
 ghost use Rattle.tally_law.specs.Conditions.{AreLimitsKept};
 ghost use Rattle.tally_law.specs.Rules.{poll_of, rule_of};
-ghost use Rattle.tally_contest.specs.internal.Won.{AreRows, IsRow};
+ghost use Rattle.tally_contest.specs.internal.WonSeat.{AreRows, IsRow};
 ghost use Rattle.tally_law.specs.LotNeed.{IsLotTaken};
 ghost use Rattle.tally_law.specs.Poll.{HasEligible};
 
@@ -20,7 +20,7 @@ use crate::award::Award;
 use crate::fault::AllotFault;
 use crate::under_lot::award_under_lot;
 use std::alloc::{AllocError, Global};
-use tally_contest::{AwardedSeats, Poll, Won};
+use tally_contest::{AwardedSeats, Poll, WonSeat};
 use tally_frac::Divisors;
 use tally_rules::{LotRule, Profile};
 
@@ -97,7 +97,7 @@ fn awards_of<D: Divisors>(
     Ok(awards)
 }
 
-fn award_of<D: Divisors>(divisors: &D, poll: &Poll, row: Won) -> Award
+fn award_of<D: Divisors>(divisors: &D, poll: &Poll, row: WonSeat) -> Award
     requires { IsRow (length poll.now.votes.now) row }
     ensures { result ≡
         spec.award_of (D.divisor divisors.now) (D.unit_of divisors.now) (kept_poll poll.now) row }

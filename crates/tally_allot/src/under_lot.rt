@@ -12,7 +12,7 @@ ghost use Rattle.tally_law.specs.Poll.{HasEligible};
 ghost use Rattle.tally_law.specs.DivisorAllotment.{IsDivisorAllotment};
 ghost use Rattle.tally_contest.specs.internal.Terms.{AreSound, IsProperLot, placed_divisor_race};
 ghost use Rattle.tally_contest.specs.internal.Terms.{placed_race};
-ghost use Rattle.tally_contest.specs.internal.Won.{AreRows, AreWon};
+ghost use Rattle.tally_contest.specs.internal.WonSeat.{AreRows, AreWon};
 
 use crate::fault::AllotFault;
 use crate::verdict::{LotVerdict, verdict_on_lot};

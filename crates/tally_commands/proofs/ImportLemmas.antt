@@ -6,7 +6,7 @@ use Rattle.tally_keeper.specs.Keeper.{Happens, Imports, IsImportFault, IsOwnFaul
 use Rattle.tally_keeper.specs.Source.{Delivery, SourceAt}
 use Rattle.tally_keeper.proofs.TakenLemmas.{own-first}
 use Rattle.tally_import.specs.ReturnRows.{text_coming}
-use Rattle.tally_import.specs.ReturnRowsValue.{ReturnRows, coming, unread_rows}
+use Rattle.tally_import.specs.ReturnRowsValue.{ReturnRows, rows_to_come, unread_rows}
 use Rattle.tally_records.specs.declared.separator.Sep.{Sep}
 use Rattle.tally_commands.specs.Imported.{IsImportText, IsImportTrouble, IsTroubleIn, coming_of}
 use Rattle.tally_commands.specs.internal.Found.{IsFindTrouble}
@@ -34,13 +34,13 @@ find-trouble (Some con) sep bytes setup old t is =
 
 -- the state of the rows of a text as a source
 abbrev pub rows_at : ReturnRows → SourceAt
-rows_at rows = record { coming = coming rows; given = rows.given; ended = rows.ended }
+rows_at rows = record { coming = rows_to_come rows; given = rows.given; ended = rows.ended }
 
 pub first-coming : (con : Constituency) (sep : Sep) (text : Option (List ℕ)) (rows : ReturnRows)
-    → rows ≡ unread_rows con sep text → coming rows ≡ option_map (text_coming con sep) text
-first-coming con sep text rows is = ap coming is ∙ go text
+    → rows ≡ unread_rows con sep text → rows_to_come rows ≡ option_map (text_coming con sep) text
+first-coming con sep text rows is = ap rows_to_come is ∙ go text
   where
-    go : (o : Option (List ℕ)) → coming (unread_rows con sep o) ≡ option_map (text_coming con sep) o
+    go : (o : Option (List ℕ)) → rows_to_come (unread_rows con sep o) ≡ option_map (text_coming con sep) o
     go None = refl
     go (Some t) = refl
 

@@ -8,7 +8,7 @@ pub mod KeptPoll
 pub mod ContestTerms
 pub mod Quotas
 pub mod Claims
-pub mod Won
+pub mod WonSeat
 pub mod NextPairs
 pub mod Orders
 pub mod Needs

@@ -14,11 +14,11 @@ ghost use Rattle.tally_law.specs.Poll.{IsEligible};
 ghost use Rattle.tally_contest.specs.internal.Race.{IsHighestNext};
 ghost use Rattle.tally_contest.specs.internal.Terms.{AreFairSeats, AreFairSoFar, AreSound};
 ghost use Rattle.tally_contest.specs.internal.Terms.{IsProperLot, pair_on, placed_race};
-ghost use Rattle.tally_contest.specs.internal.Won.{AreWon};
+ghost use Rattle.tally_contest.specs.internal.WonSeat.{AreWon};
 
 use crate::contest::Contest;
 use crate::divisor_contest::DivisorContest;
-use crate::won::{Won, no_seats};
+use crate::won::{WonSeat, no_seats};
 use std::alloc::{AllocError, Global};
 use std::collections::BinaryHeap;
 use tally_frac::{Divisors, RankKey};
@@ -29,7 +29,7 @@ pub struct AwardedSeats {
     /// The seats of each list, in order of place.
     pub seats: Vec<u32>,
     /// One pair for each seat.
-    pub pairs: Vec<Won>,
+    pub pairs: Vec<WonSeat>,
 }
 
 /// Gives all the seats, each to the list whose next pair has the greatest key (LOREG article 163.1
@@ -62,7 +62,7 @@ fn award_next<D: Divisors>(
     contest: &DivisorContest<D>,
     next: &mut BinaryHeap<(RankKey, usize, u32)>,
     seats: &mut [u32],
-) -> Result<Won, AllocError>
+) -> Result<WonSeat, AllocError>
     requires sound { AreSound (divisor_terms D.divisor D.unit_of contest.now) }
     requires keys { HaveKeys (divisor_terms D.divisor D.unit_of contest.now) }
     requires eligible { HasEligible (kept_poll contest.now.poll) }
@@ -88,7 +88,7 @@ fn award_next<D: Divisors>(
     // Even a list that holds all seats now has a next pair: its 501st at most, which never wins.
     next.push(keyed_pair(contest, list, seat + 1))?;
     seats[list] = seat;
-    Ok(Won { list, seat })
+    Ok(WonSeat { list, seat })
 }
 
 /// The first pair of each eligible list.

@@ -24,4 +24,4 @@ pub use need::{Need, may_be_taken, need_of};
 pub use poll::Poll;
 pub use remainder_award::award_remainders;
 pub use scan_award::contested_seats;
-pub use won::Won;
+pub use won::WonSeat;

@@ -43,7 +43,7 @@ pub fn need_of<C: Contest>(contest: &C, seats: &[u32]) -> Option<Need>
     let group = lists_with(contest, tied_votes);
     Some(Need {
         group,
-        seats: holders_of(&group, seats, last_held),
+        seats: count_holding(&group, seats, last_held),
     })
 }
 
@@ -91,7 +91,7 @@ fn lists_with<C: Contest>(contest: &C, votes: u64) -> ListSet
 }
 
 /// How many lists of a group hold so many seats.
-fn holders_of(group: &ListSet, seats: &[u32], held: u32) -> u32
+fn count_holding(group: &ListSet, seats: &[u32], held: u32) -> u32
     requires { length seats.now ≤ most_lists }
     ensures { result ≡ sum_before (holds_at group.now seats.now held) (length seats.now) }
 {

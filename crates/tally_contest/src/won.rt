@@ -1,13 +1,13 @@
 //! The seats won, in order.
 
 ghost use Rattle.std.specs.Prelude.{◌≡◌, IfOk};
-ghost use Rattle.tally_contest.specs.internal.Won.{none_held};
+ghost use Rattle.tally_contest.specs.internal.WonSeat.{none_held};
 
 use std::alloc::{AllocError, Global};
 
 /// A list, by its number from 0, and the number of a seat that it won, from 1.
 #[derive(Clone, Copy)]
-pub struct Won {
+pub struct WonSeat {
     /// The list, by its number from 0.
     pub list: usize,
     /// Which of its seats it is, from 1.

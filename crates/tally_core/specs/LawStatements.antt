@@ -2,7 +2,8 @@
 use Rattle.std.specs.Prelude.{◌≡◌, ◌↔◌, ◌⊎◌, ◌<◌, ℕ, All, Bool, List, Option, Some, None, Result}
 use Rattle.std.specs.Prelude.{true, false, slice_get}
 use Rattle.std.specs.List.{filter}
-use Rattle.tally_keeper.specs.Events.{BringsCodes, acts, answers_of, asks_of, lodges, lodge_answers}
+use Rattle.tally_keeper.specs.Events.{BringsCodes, acts, answers_of, asks_of, lodge_answers}
+use Rattle.tally_keeper.specs.Events.{lodge_commands}
 use Rattle.tally_keeper.specs.Import.{RowAnswer, count_of}
 use Rattle.tally_keeper.specs.Keeper.{Event, HappensInTurn, Happens, IsImport, Runs, whole_import}
 use Rattle.tally_keeper.specs.declared.import.ImportCount.{ImportCount}
@@ -39,7 +40,7 @@ ImportsAreRuns =
     (setup : List Constituency) (rows : List Row) (answered : List RowAnswer) (count : ImportCount)
     (s t : State)
     → IsImport setup s rows answered count t
-    → (count ≡ count_of answered) × IsRun setup s (lodges rows) (lodge_answers answered) t
+    → (count ≡ count_of answered) × IsRun setup s (lodge_commands rows) (lodge_answers answered) t
 
 -- whatever happens to a keeper until a failed disk shuts it is a run
 abbrev pub WhatHappensToAShutKeeperIsARun : Type 0

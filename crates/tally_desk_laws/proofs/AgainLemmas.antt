@@ -17,7 +17,7 @@ use Rattle.tally_returns.specs.declared.reply.Reply.{Reply}
 use Rattle.tally_steps.specs.Decisions.{StepsAreOne}
 use Rattle.tally_steps.specs.Runs.{IsRun, IsSameCommand, is_act}
 use Rattle.tally_steps.specs.Step.{IsAnswered, IsNotAccepted, IsStep, reply_seen}
-use Rattle.tally_keeper.specs.Events.{acts, answers_of, asks_of, lodge_answers, lodges}
+use Rattle.tally_keeper.specs.Events.{acts, answers_of, asks_of, lodge_answers, lodge_commands}
 use Rattle.tally_keeper.specs.Import.{RowAnswer, is_lodged}
 use Rattle.tally_keeper.specs.Keeper.{Event, HappensInTurn, Happens, failed_import, request, whole_import}
 use Rattle.tally_keeper.specs.Keeper as keeper
@@ -39,7 +39,7 @@ use Rattle.tally_answer.specs.Words.{word_text}
 use Rattle.tally_answer.specs.declared.word.Word.{Word}
 use Rattle.tally_answer.specs.declared.word.Word.TheVariants.{BadBody, NoRoute, Unavailable}
 use Rattle.tally_message.specs.LawStatements.{IsSame, IsSameMessage}
-use Rattle.tally_desk_laws.specs.LawStatements.{ComesTo, IsImportRoute, IsOfImport, StateStays, TellsNoImport, TellsNothingLodged}
+use Rattle.tally_desk_laws.specs.LawStatements.{ComesTo, IsImportRoute, IsOfImport, StateStays, ReportsNoImport, ReportsNothingLodged}
 use Rattle.tally_desk.specs.Requests.{ImportsBody, Named, AtNamed, Orders, OrdersOf, Refuses, Says, con_in_target, import_word, imported_text, station_in_target}
 use Rattle.tally_desk.specs.Respond.{Answers, ByMethod, ByRoute, IsAnswer, Office, SaysAny, fault_word, other_method}
 use Rattle.tally_desk_laws.proofs.MessageLemmas.{happen-append}
@@ -85,7 +85,7 @@ asks-last : (events : List Event) (a : Ask) (r : Result Reply Refusal) → asks_
 asks-last [] a r = refl
 asks-last (request b q ∷ events) a r = ap (λ l. b ∷ l) (asks-last events a r)
 asks-last (whole_import rows answered count ∷ events) a r =
-    ap (λ l. lodges rows ++ l) (asks-last events a r) ∙ sym (append_assoc (lodges rows) (asks_of events) (a ∷ []))
+    ap (λ l. lodge_commands rows ++ l) (asks-last events a r) ∙ sym (append_assoc (lodge_commands rows) (asks_of events) (a ∷ []))
 asks-last (failed_import fault ∷ events) a r = asks-last events a r
 
 answers-last : (events : List Event) (a : Ask) (r : Result Reply Refusal) → answers_of (events ++ request a r ∷ []) ≡ answers_of events ++ r ∷ []
@@ -203,9 +203,9 @@ pub record AreImports (setup : List Constituency) (old mid later new : Option St
   pub said_again : other ≡ imported_text outcome_again
 
 -- the second answer leaves the state, and where it is to an import, it
--- tells that nothing was imported
+-- says that nothing was imported
 abbrev pub IsIdle : Type 0 → Option State → Option State → List ℕ → Type 0
-IsIdle IsImport later new other = Keeps later new × (IsImport → TellsNoImport other)
+IsIdle IsImport later new other = Keeps later new × (IsImport → ReportsNoImport other)
 
 -- The second answer leaves the state, or both carried out the same
 -- command, which is no import, or both did the same import.
@@ -412,9 +412,9 @@ twice-acted laws IsImport setup old mid later new text other events changed betw
 
 -- ---- what was accepted
 
--- the second answer to an import leaves the state, and tells that nothing was lodged or imported
+-- the second answer to an import leaves the state, and says that nothing was lodged or imported
 abbrev pub IsVain : Option State → Option State → List ℕ → Type 0
-IsVain later new other = Keeps later new × (TellsNothingLodged other ⊎ TellsNoImport other)
+IsVain later new other = Keeps later new × (ReportsNothingLodged other ⊎ ReportsNoImport other)
 
 -- an import that was not done for a fault of its text is not done later
 failed-again : (setup : List Constituency) (old mid later new : Option State) (coming : Coming) (came again : Delivery) (fault : ImportFault) (count : ImportCount)
@@ -530,7 +530,7 @@ accepted-again laws old mid new message again text other ok same first good seco
 
 pub imported-again : Laws → (old mid later new : Office) (m again : Message) (text other : List ℕ) (events : List Event)
     → IsSameMessage m again → IsOfImport m → Answers old (Ok m) text mid → text ≢ word_text Unavailable → ComesTo mid events later
-    → Answers later (Ok again) other new → StateStays later new × (TellsNothingLodged other ⊎ TellsNoImport other)
+    → Answers later (Ok again) other new → StateStays later new × (ReportsNothingLodged other ⊎ ReportsNoImport other)
 imported-again laws old mid later new m again text other events same is first good between second =
     twice-import laws (IsOfImport m) old.setup old.state mid.state later.state new.state text other events is good
     (subst (λ s. HappensInTurn s mid.state events later.state) first.0 between.1)

@@ -14,7 +14,7 @@ use Rattle.tally_answer.specs.Words.{word_text}
 use Rattle.tally_answer.specs.declared.word.Word.{Word}
 use Rattle.tally_answer.specs.declared.word.Word.TheVariants.{Unavailable}
 use Rattle.tally_desk.specs.Respond.{Answers, Office, SaysAny, fault_word}
-use Rattle.tally_desk_laws.specs.LawStatements.{ComesTo, ImportsLodgeNothingAgain, IsOfImport, IsWrittenTo, StateStays, TellsNoImport, TellsNothingLodged, WhatActedActsNoSecondTime}
+use Rattle.tally_desk_laws.specs.LawStatements.{ComesTo, ImportsLodgeNothingAgain, IsOfImport, IsWrittenTo, StateStays, ReportsNoImport, ReportsNothingLodged, WhatActedActsNoSecondTime}
 
 -- a fault leaves the state, and its answer is a word
 fault-says : (old new : Office) (why : MessageFault) (text : List ℕ) → Answers old (Err why) text new → (w : Word) × (text ≡ word_text w) × (new.state ≡ old.state)
@@ -73,13 +73,13 @@ bytes-acted one acted old mid later new c d again e whole other events same firs
 pub bytes-imported : BytesAreOneMessage → ImportsLodgeNothingAgain → (old mid later new : Office) (c again e : Connection) (m : Message) (text : List ℕ) (other : Bool) (events : List Event)
     → IsMessageOrFault c.input c.fails (Ok m) → IsOfImport m → Answers old (Ok m) text mid → text ≢ word_text Unavailable → ComesTo mid events later
     → again.input ≡ c.input → IsExchange Answers later again other e new
-    → StateStays later new × ((ensured : List ℕ) × IsWrittenTo again e ensured × (TellsNothingLodged ensured ⊎ TellsNoImport ensured))
+    → StateStays later new × ((ensured : List ℕ) × IsWrittenTo again e ensured × (ReportsNothingLodged ensured ⊎ ReportsNoImport ensured))
 bytes-imported one imported old mid later new c again e m text other events is import answered good between same second =
     by second.0 (one c.input c.fails again.fails m second.0 is (subst (λ t. IsMessageOrFault t again.fails second.0) same second.1))
     (follows later new again e other second.0 second.2)
   where
     Vain : Type 0
-    Vain = StateStays later new × ((ensured : List ℕ) × IsWrittenTo again e ensured × (TellsNothingLodged ensured ⊎ TellsNoImport ensured))
+    Vain = StateStays later new × ((ensured : List ℕ) × IsWrittenTo again e ensured × (ReportsNothingLodged ensured ⊎ ReportsNoImport ensured))
 
     sent : (o : Result Message MessageFault) → IsSame (Ok m) o ⊎ (o ≡ Err fault.Memory) → IsSent Answers later again other e new o → Vain
     sent (Ok n) (inl alike) b = let vain = imported old mid later new m n text b.0 events alike import answered good between b.1 in (vain.0, (b.0, inl b.2, vain.1))

@@ -53,12 +53,13 @@ abbrev pub StateStays : Office → Office → Type 0
 StateStays old new = IfSome new.state (λ s. old.state ≡ Some s)
 
 -- an answer with the counts of an import that lodged nothing
-abbrev pub TellsNothingLodged : List ℕ → Type 0
-TellsNothingLodged text = (count : ImportCount) × (count.lodged ≡ 0) × (text ≡ import_text count)
+abbrev pub ReportsNothingLodged : List ℕ → Type 0
+ReportsNothingLodged text = (count : ImportCount) × (count.lodged ≡ 0) × (text ≡ import_text count)
 
 -- an answer that nothing was imported: a word alone, or that the setup has no such constituency
-abbrev pub TellsNoImport : List ℕ → Type 0
-TellsNoImport text = ((why : Word) × (text ≡ word_text why)) ⊎ (text ≡ refusal_text NoConstituency)
+abbrev pub ReportsNoImport : List ℕ → Type 0
+ReportsNoImport text =
+    ((why : Word) × (text ≡ word_text why)) ⊎ (text ≡ refusal_text NoConstituency)
 
 -- ---- what messages do
 
@@ -105,7 +106,7 @@ ImportsLodgeNothingAgain =
     (old mid later new : Office) (m again : Message) (text other : List ℕ) (events : List Event)
     → IsSameMessage m again → IsOfImport m → Answers old (Ok m) text mid
     → text ≢ word_text Unavailable → ComesTo mid events later → Answers later (Ok again) other new
-    → StateStays later new × (TellsNothingLodged other ⊎ TellsNoImport other)
+    → StateStays later new × (ReportsNothingLodged other ⊎ ReportsNoImport other)
 
 -- ---- connections that bring the same bytes
 
@@ -134,4 +135,4 @@ SameBytesLodgeNothingAgain =
     → text ≢ word_text Unavailable → ComesTo mid events later → again.input ≡ c.input
     → IsExchange Answers later again other e new
     → StateStays later new × ((answer : List ℕ) × IsWrittenTo again e answer
-    × (TellsNothingLodged answer ⊎ TellsNoImport answer))
+    × (ReportsNothingLodged answer ⊎ ReportsNoImport answer))

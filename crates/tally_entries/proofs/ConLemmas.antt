@@ -25,8 +25,8 @@ use Rattle.tally_statements.specs.declared.table.KeyedTable.{KeyedTable}
 use Rattle.tally_statements.specs.declared.table.KeyedTable.TheVariants.{Cons, Lots, Seats, Gone, Totals, Past}
 use Rattle.tally_statements.specs.Office.{rows_in, HasRows}
 use Rattle.tally_tables.specs.Cells.{item_row, items_of, numbers_with_places, con_rows, lot_rows, seat_rows, gone_row, gone_rows, past_row, past_rows, record_rows}
-use Rattle.tally_entries.specs.Constituencies.{ChangesOnly, MovesRows, MovesSeats, HasLot, HasGone, HasRecord, HasEdition, sum_rows}
-use Rattle.tally_entries.specs.Entries.{stored_in}
+use Rattle.tally_entries.specs.internal.Constituencies.{ChangesOnly, MovesRows, MovesSeats, HasLot, HasGone, HasRecord, HasEdition, sum_rows}
+use Rattle.tally_entries.specs.internal.Entries.{stored_in}
 use Rattle.tally_entries.specs.internal.Written.{Adds, HasItems}
 use Rattle.tally_entries.proofs.LotLemmas.{lot_put}
 use Rattle.tally_entries.proofs.ReturnLemmas.{items_keyed}

@@ -24,7 +24,7 @@ use Rattle.tally_statements.specs.declared.table.KeyedTable.{KeyedTable}
 use Rattle.tally_statements.specs.declared.table.KeyedTable.TheVariants.{Returns, Counts}
 use Rattle.tally_statements.specs.Office.{rows_in, IsInside, HasRows, item_cells, is_item}
 use Rattle.tally_tables.specs.Cells.{item_row, items_of, numbers_with_places, spoiled_item, return_row, return_rows, count_rows, constituency_of}
-use Rattle.tally_entries.specs.Entries.{AreReturnsIn, PutsReturn, stored_in}
+use Rattle.tally_entries.specs.internal.Entries.{AreReturnsIn, PutsReturn, stored_in}
 use Rattle.tally_entries.specs.internal.Written.{HasCounts, HasItems}
 use Rattle.tally_entries.proofs.FindLemmas.{above, below}
 use Rattle.tally_entries.proofs.ReturnLemmas.{heads_keyed, counts_keyed, counts_apart, heads_apart}

@@ -30,7 +30,7 @@ use Rattle.tally_returns.specs.Lawful.{IsLawfulAt}
 use Rattle.tally_tables.specs.Reading.{entries_in}
 use Rattle.tally_tables.proofs.EntryLemmas.{entries_again}
 use Rattle.tally_tables.proofs.LawfulLemmas.{lawful_is_placed}
-use Rattle.tally_entries.specs.Entries.{AreReturnsIn, FindsReturn, stored_in}
+use Rattle.tally_entries.specs.internal.Entries.{AreReturnsIn, FindsReturn, stored_in}
 use Rattle.tally_entries.proofs.ReturnLemmas.{heads_keyed, counts_keyed}
 
 -- ---- the items of counts rise

@@ -13,7 +13,7 @@ use Rattle.tally_statements.specs.declared.table.KeyedTable.{KeyedTable}
 use Rattle.tally_statements.specs.declared.table.KeyedTable.TheVariants.{Lots}
 use Rattle.tally_statements.specs.Office.{rows_in, HasRows}
 use Rattle.tally_tables.specs.Cells.{item_row, numbers_with_places, lot_rows}
-use Rattle.tally_entries.specs.Entries.{stored_in}
+use Rattle.tally_entries.specs.internal.Entries.{stored_in}
 use Rattle.tally_entries.specs.internal.Written.{Adds}
 use Rattle.tally_entries.proofs.ReturnLemmas.{items_keyed}
 

@@ -15,7 +15,7 @@ use Rattle.tally_returns.specs.Return.{StationReturn, Returns as StationReturns}
 use Rattle.tally_statements.specs.declared.table.KeyedTable.TheVariants.{Returns, Counts}
 use Rattle.tally_statements.specs.Office.{tree_of, rows_in, HasRows}
 use Rattle.tally_tables.specs.Cells.{item_row, items_of, return_row, return_rows, count_rows, constituency_of}
-use Rattle.tally_entries.specs.Entries.{AreReturnsIn, PutsReturn, stored_in}
+use Rattle.tally_entries.specs.internal.Entries.{AreReturnsIn, PutsReturn, stored_in}
 use Rattle.tally_entries.specs.internal.Written.{Adds}
 
 pub heads_keyed : (setup : List Constituency) → AreKeyedBy (return_rows setup)

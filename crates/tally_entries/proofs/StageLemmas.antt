@@ -16,8 +16,8 @@ use Rattle.tally_statements.specs.declared.table.KeyedTable.TheVariants.{Cons}
 use Rattle.tally_statements.specs.Office.{rows_in}
 use Rattle.tally_tables.specs.Reading.{standing_of}
 use Rattle.tally_tables.proofs.ConLemmas.{standing_is}
-use Rattle.tally_entries.specs.Constituencies.{AreCons}
-use Rattle.tally_entries.specs.Entries.{stored_in}
+use Rattle.tally_entries.specs.internal.Constituencies.{AreCons}
+use Rattle.tally_entries.specs.internal.Entries.{stored_in}
 use Rattle.tally_entries.specs.internal.Found.{FindsStage, IsStageAmong}
 use Rattle.tally_entries.proofs.ConLemmas.{only_con}
 use Rattle.tally_entries.proofs.ViewLemmas.{con_row_is}

@@ -25,10 +25,10 @@ use Rattle.tally_statements.specs.Office.{IsFound, tree_of}
 use Rattle.tally_tables.specs.Cells.{return_rows, status_number}
 use Rattle.tally_tables.specs.Reading.{status_of}
 use Rattle.tally_tables.specs.declared.views.Statuses.{Statuses}
-use Rattle.tally_entries.specs.Constituencies.{FindsProgressRow}
+use Rattle.tally_entries.specs.internal.Constituencies.{FindsProgressRow}
 use Rattle.tally_entries.specs.internal.Found.{AreWithin, FindsKnownStatuses, FindsStatus, FindsStatuses, IsStageAmong, row_with, status_in, with_station}
 use Rattle.tally_entries.proofs.StageLemmas.{stage-among}
-use Rattle.tally_entries.specs.Statuses.{statuses_in}
+use Rattle.tally_entries.specs.internal.Statuses.{statuses_in}
 use Rattle.tally_entries.proofs.ReturnLemmas.{heads_keyed}
 use Rattle.tally_entries.proofs.ViewLemmas.{found_none, found_rows}
 

@@ -22,8 +22,8 @@ use Rattle.tally_tables.specs.Reading.{standing_of, sums_of}
 use Rattle.tally_tables.proofs.ConLemmas.{standing_is, standing_row}
 use Rattle.tally_tables.proofs.EntryLemmas.{AreRead, counts_again}
 use Rattle.tally_tables.proofs.ItemLemmas.{IsRead, map_some}
-use Rattle.tally_entries.specs.Constituencies.{FindsCertified, FindsSums}
-use Rattle.tally_entries.specs.Entries.{stored_in}
+use Rattle.tally_entries.specs.internal.Constituencies.{FindsCertified, FindsSums}
+use Rattle.tally_entries.specs.internal.Entries.{stored_in}
 use Rattle.tally_entries.specs.internal.Found.{certified_in}
 use Rattle.tally_entries.proofs.OrderLemmas.{totals_in_order}
 use Rattle.tally_entries.proofs.ReturnLemmas.{items_keyed}

@@ -35,9 +35,9 @@ use Rattle.tally_tables.specs.Views.{Tables, statuses_of, view_from_tables}
 use Rattle.tally_tables.specs.declared.views.Statuses.{Statuses}
 use Rattle.tally_tables.proofs.ConLemmas.{IsReadablePast, all_gone_are, all_gone_rows, all_past_again, all_past_rows, standing_row, sums_of_view}
 use Rattle.tally_tables.proofs.ItemLemmas.{IsRead, and_then_some, items_are, map_some, number_is, number_reads, number_rows}
-use Rattle.tally_entries.specs.Constituencies.{FindsView, IsViewWith, with_past_of}
+use Rattle.tally_entries.specs.internal.Constituencies.{FindsView, IsViewWith, with_past_of}
 use Rattle.tally_entries.specs.internal.Found.{AreRowsFound, FindsKnownStatuses, IsFoundIf, Rows, view_of_rows}
-use Rattle.tally_entries.specs.Statuses.{statuses_in}
+use Rattle.tally_entries.specs.internal.Statuses.{statuses_in}
 use Rattle.tally_entries.proofs.OrderLemmas.{gone_in_order, gone_keyed, lots_items, numbers_in_order, past_in_order, past_keyed, seats_items, sorted_rise, totals_in_order}
 use Rattle.tally_entries.proofs.ReturnLemmas.{items_keyed}
 use Rattle.tally_entries.proofs.ViewLemmas.{con_row_is, cons_keyed, found_rows, one_sums}

@@ -1,4 +1,1 @@
 pub mod internal
-pub mod Entries
-pub mod Statuses
-pub mod Constituencies

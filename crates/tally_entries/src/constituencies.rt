@@ -7,13 +7,15 @@ ghost use Rattle.tally_statements.specs.declared.table.KeyedTable.TheVariants.{C
 ghost use Rattle.tally_statements.specs.declared.table.KeyedTable.TheVariants.{Totals};
 ghost use Rattle.tally_statements.specs.declared.table.KeyedTable.TheVariants as table;
 ghost use Rattle.tally_tables.specs.Cells.{con_rows, gone_rows, lot_rows, past_rows, record_rows};
-ghost use Rattle.tally_entries.specs.Constituencies.{Changes, ChangesSums, HasGone, HasLot};
-ghost use Rattle.tally_entries.specs.Constituencies.{HasRecord, HasEdition, Writes, WritesSeats};
+ghost use Rattle.tally_entries.specs.internal.Constituencies.{Changes, ChangesSums, HasGone};
+ghost use Rattle.tally_entries.specs.internal.Constituencies.{HasLot};
+ghost use Rattle.tally_entries.specs.internal.Constituencies.{HasRecord, HasEdition, Writes};
+ghost use Rattle.tally_entries.specs.internal.Constituencies.{WritesSeats};
 ghost use Rattle.tally_entries.specs.internal.Written.{candidate_row};
-ghost use Rattle.tally_entries.specs.Entries.{PutsNumbers};
+ghost use Rattle.tally_entries.specs.internal.Entries.{PutsNumbers};
 ghost use Rattle.tally_entries.specs.internal.Written.{AddsRows};
 ghost use Rattle.tally_entries.specs.internal.Sums.{MovesItem, MovesItems, MovesNumbers};
-ghost use Rattle.tally_statements.specs.Inside.{InDatabase, Stays};
+ghost use Rattle.tally_statements.specs.internal.Inside.{InDatabase, Stays};
 
 use crate::items::{ItemTable, insert_numbers};
 use sqlite::{Alter, Error, ErrorCode, Transaction};

@@ -2,9 +2,9 @@
 
 ghost use Rattle.std.specs.Prelude.{◌≡◌, [], None, IsErr};
 ghost use Rattle.tally_tables.specs.Reading.{entries_in};
-ghost use Rattle.tally_entries.specs.Entries.{Finds, FindsReturn};
+ghost use Rattle.tally_entries.specs.internal.Entries.{Finds, FindsReturn};
 ghost use Rattle.tally_entries.specs.internal.Found.{FindsNone, FindsOne, GivesOnly};
-ghost use Rattle.tally_statements.specs.Inside.{OnlyReads};
+ghost use Rattle.tally_statements.specs.internal.Inside.{OnlyReads};
 
 use sqlite::{Alter, Error, ErrorCode, Row, Transaction};
 use std::alloc::Global;

@@ -4,9 +4,9 @@ ghost use Rattle.std.specs.Prelude.{◌≤◌, map, length};
 ghost use Rattle.tally_frac.specs.Limits.{most_lists};
 ghost use Rattle.tally_statements.specs.Office.{Inserts, item_cells};
 ghost use Rattle.tally_tables.specs.Cells.{item_row, items_of, numbers_with_places};
-ghost use Rattle.tally_entries.specs.Entries.{keyed_table};
+ghost use Rattle.tally_entries.specs.internal.Entries.{keyed_table};
 ghost use Rattle.tally_entries.specs.internal.Written.{AddsRows, SetsCounts, SetsVotes};
-ghost use Rattle.tally_statements.specs.Inside.{InDatabase, Stays};
+ghost use Rattle.tally_statements.specs.internal.Inside.{InDatabase, Stays};
 ghost use Rattle.tally_statements.specs.declared.table.KeyedTable.TheVariants.{Counts};
 
 use sqlite::{Alter, Error, Transaction};

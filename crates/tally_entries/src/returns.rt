@@ -5,9 +5,9 @@ ghost use Rattle.tally_frac.specs.Limits.{most_lists};
 ghost use Rattle.tally_statements.specs.Office.{Inserts};
 ghost use Rattle.tally_statements.specs.declared.table.KeyedTable.TheVariants.{Returns};
 ghost use Rattle.tally_tables.specs.Cells.{return_row};
-ghost use Rattle.tally_entries.specs.Entries.{AddsReturn, ChangesReturn, CorrectsReturn};
+ghost use Rattle.tally_entries.specs.internal.Entries.{AddsReturn, ChangesReturn, CorrectsReturn};
 ghost use Rattle.tally_entries.specs.internal.Written.{ReplacesHead};
-ghost use Rattle.tally_statements.specs.Inside.{InDatabase, Stays};
+ghost use Rattle.tally_statements.specs.internal.Inside.{InDatabase, Stays};
 
 use crate::items::{insert_counts, update_counts};
 use sqlite::{Alter, Error, Transaction};

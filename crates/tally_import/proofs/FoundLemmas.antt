@@ -58,7 +58,7 @@ pub Imports-ended : (lists : ℕ) (AreRows : List (List (List ℕ)) → Option S
 Imports-ended lists AreRows import rows None are taken few = (rows, are, taken, few)
 Imports-ended lists AreRows import rows (Some fault) are taken few = inr (rows, Some fault, are, inr (refl, few))
 
--- what an import that failed tells of the text
+-- what an import that failed shows of the text
 pub Found-rows : (sep : Sep) (text left : Option (List ℕ)) (header : List (List ℕ)) (lists : List (List ℕ)) (n : ℕ) (fault : CheckFault)
     (AreRows : List (List (List ℕ)) → Option Stop → Type 0)
     → Some lists ≡ header_lists header
@@ -69,7 +69,7 @@ Found-rows sep text left header lists n fault AreRows named all (inl memory) = F
 Found-rows sep text left header lists n fault AreRows named all (inr found) =
     Found-fault sep text left (header ∷ found.0) found.1 fault (all found.0 found.1 found.2) (under-fault header lists found.0 found.1 fault named found.3)
 
--- what a check text that was made of an import tells of the text
+-- what a check text that was made of an import shows of the text
 pub Found-text : (sep : Sep) (text left : Option (List ℕ)) (header : List (List ℕ)) (lists : List (List ℕ)) (rows : List (List (List ℕ))) (result : Result (String Global) CheckFault)
     → Some lists ≡ header_lists header → AreAll sep text left (header ∷ rows) None → length rows ≤ row_limit
     → IfOk result (λ s. string_bytes s ≡ check_text lists (rows_of_records (length lists) rows)) → IfErr result (λ fault. fault ≡ Memory)

@@ -9,13 +9,13 @@ use Rattle.tally_rules.specs.Code.{code_cmp}
 use Rattle.tally_rules.specs.Constituency.{Constituency, list_codes}
 use Rattle.tally_returns.specs.Lodge.{Stations}
 use Rattle.tally_returns.specs.Decide.{station_in, limits_of}
-use Rattle.tally_keeper.specs.Source.{Coming, Ending, GivesNext, IsSudden, row_limit}
+use Rattle.tally_keeper.specs.Source.{Coming, Ending, GivesNext, IsSudden, at_end, row_limit}
 use Rattle.tally_keeper.specs.declared.import.Row.{Row}
 use Rattle.tally_keeper.specs.declared.source.ImportFault.{ImportFault}
 use Rattle.tally_keeper.specs.declared.source.ImportFault.TheVariants as cause
 use Rattle.tally_import.specs.Header.{same_text}
 use Rattle.tally_records.specs.Input.{Gave, complete_records, text_records, text_stop}
-use Rattle.tally_records.specs.Given.{HasGiven, IsReadingOn, TellsTrue, sep_of}
+use Rattle.tally_records.specs.Given.{HasGiven, IsReadingOn, WatchAgrees, sep_of}
 use Rattle.tally_import.specs.Rows.{row_of}
 use Rattle.tally_records.specs.declared.end.Stop.{Stop}
 use Rattle.tally_records.specs.declared.end.Stop.TheVariants as stopped
@@ -180,7 +180,18 @@ came_by Unread = 0
 came_by (Reading rows) = rows.came
 came_by (Ended fault) = 0
 
+-- Where the rows ended before the call, it answers how, and leaves things so.
+abbrev pub EndsAgain : Ending → Result (Option Row) ImportFault → Type 0 → Type 0
+EndsAgain ended result LeavesSo = (fault : Option ImportFault)
+    → ended ≡ Some fault → (result ≡ at_end fault) × LeavesSo
+
 -- ---- failed reads
+
+-- Where a failed read is answered after so many rows, all that was complete before it came first.
+abbrev pub FailsLast : {T : Type 0} → Option (List ℕ) → Constituency → Sep → ℕ
+    → Result T ImportFault → Option (List ℕ) → Type 0
+FailsLast text con sep came result left =
+    result ≡ Err cause.Read → IfSome text (λ t. AllRowsCame con sep came t left)
 
 -- the fault is a failed read only where one of the reader's reads failed
 abbrev pub IsTrueFault : ImportFault → Bool → Type 0
@@ -199,6 +210,6 @@ IsTrueResult (Err fault) failed = IsTrueFault fault failed
 -- the same of all that a stage keeps of how the text was stopped
 abbrev pub IsTrueAt : Stage → Bool → Type 0
 IsTrueAt Unread failed = failed ≡ false
-IsTrueAt (Reading rows) failed = TellsTrue false rows.records failed
+IsTrueAt (Reading rows) failed = WatchAgrees false rows.records failed
 IsTrueAt (Ended None) failed = failed ≡ false
 IsTrueAt (Ended (Some fault)) failed = IsTrueFault fault failed

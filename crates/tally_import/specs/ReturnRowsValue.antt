@@ -53,5 +53,5 @@ coming_at con sep came None text = coming_after came (text_coming con sep text)
 coming_at con sep came (Some fault) text = fault_alone (option_map own_fault fault)
 
 -- What still comes, where the text is known.
-abbrev pub coming : ReturnRows → Option Coming
-coming rows = option_map (coming_at rows.con rows.sep rows.came rows.ended) rows.text
+abbrev pub rows_to_come : ReturnRows → Option Coming
+rows_to_come rows = option_map (coming_at rows.con rows.sep rows.came rows.ended) rows.text

@@ -6,13 +6,13 @@ ghost use Rattle.std.specs.Io.KnownBytes.{Appends};
 ghost use Rattle.tally_frac.specs.Limits.{most_lists};
 ghost use Rattle.tally_import.specs.Check.{Checks, IsSilent, check_result, no_header};
 ghost use Rattle.tally_import.specs.Header.{header_lists};
-ghost use Rattle.tally_records.specs.Given.{IsReadingOn, TellsTrue};
+ghost use Rattle.tally_records.specs.Given.{IsReadingOn, WatchAgrees};
 ghost use Rattle.tally_records.specs.Watch.{flag_after_stop, has_failed};
 ghost use Rattle.tally_import.specs.declared.check.CheckFault.TheVariants as cause;
 ghost use Rattle.tally_import.specs.internal.Rounds.{AreRecordsAfter, FindsCheckText, FindsAfter};
 ghost use Rattle.tally_import.specs.internal.Rounds.{ImportsRecords, IsOfReading, ended_import};
 
-use crate::header::lists_of;
+use crate::header::lists_in_header;
 use crate::import::Import;
 use crate::output::write_watched;
 use crate::row::row_of;
@@ -160,16 +160,16 @@ fn text_of_records<R: Read>(
     requires { IsReadingOn records.old }
     ensures finds { FindsAfter []
         records.old (R.remaining reader.old) (R.remaining reader.new) result }
-    ensures read { (before : Bool) → TellsTrue before records.old (has_failed watch.old)
+    ensures read { (before : Bool) → WatchAgrees before records.old (has_failed watch.old)
         → IfErr result (λ fault. IsOfReading fault (has_failed watch.new)) }
-    ensures all_read { (before : Bool) → TellsTrue before records.old (has_failed watch.old)
+    ensures all_read { (before : Bool) → WatchAgrees before records.old (has_failed watch.old)
         → OnOk result (has_failed watch.new ≡ before) }
 {
     let mut header = ByteRecord::new(alloc);
     if let Some(end) = records.next(alloc, reader, watch, &mut header)? {
         return Err(no_header(end));
     }
-    let Some(lists) = lists_of(alloc, &header)? else {
+    let Some(lists) = lists_in_header(alloc, &header)? else {
         return Err(CheckFault::BadHeader);
     };
     text_under_header(alloc, reader, watch, records, lists.as_slice())
@@ -188,9 +188,9 @@ fn text_under_header<R: Read>(
     ensures finds { (header : List (List ℕ)) → Some lists.now ≡ header_lists header
         → FindsAfter (header ∷ [])
         records.old (R.remaining reader.old) (R.remaining reader.new) result }
-    ensures read { (before : Bool) → TellsTrue before records.old (has_failed watch.old)
+    ensures read { (before : Bool) → WatchAgrees before records.old (has_failed watch.old)
         → IfErr result (λ fault. IsOfReading fault (has_failed watch.new)) }
-    ensures all_read { (before : Bool) → TellsTrue before records.old (has_failed watch.old)
+    ensures all_read { (before : Bool) → WatchAgrees before records.old (has_failed watch.old)
         → OnOk result (has_failed watch.new ≡ before) }
 {
     match check_rows(alloc, reader, watch, records, lists.len()) {
@@ -223,9 +223,9 @@ fn check_rows<R: Read>(
     requires lists { lists ≤ most_lists }
     ensures imports { ImportsRecords lists
         (AreRecordsAfter (R.remaining reader.old) (R.remaining reader.new) records.old) result }
-    ensures read { (before : Bool) → TellsTrue before records.old (has_failed watch.old)
+    ensures read { (before : Bool) → WatchAgrees before records.old (has_failed watch.old)
         → IfErr result (λ fault. IsOfReading fault (has_failed watch.new)) }
-    ensures all_read { (before : Bool) → TellsTrue before records.old (has_failed watch.old)
+    ensures all_read { (before : Bool) → WatchAgrees before records.old (has_failed watch.old)
         → OnOk result (has_failed watch.new ≡ before) }
 {
     let mut import = Import::new(alloc, lists)?;

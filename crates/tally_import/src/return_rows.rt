@@ -13,17 +13,18 @@ ghost use Rattle.tally_returns.specs.Lodge.{Stations};
 ghost use Rattle.tally_keeper.specs.Given.{with_given};
 ghost use Rattle.tally_keeper.specs.Source.{GivesNext, IsLodgeOrBad, at_end, ends_by, row_limit};
 ghost use Rattle.tally_keeper.specs.declared.source.ImportFault.{ImportFault};
-ghost use Rattle.tally_records.specs.Given.{IsReadingOn, TellsTrue};
+ghost use Rattle.tally_records.specs.Given.{IsReadingOn, WatchAgrees};
 ghost use Rattle.tally_records.specs.Watch.{flag_after_stop, has_failed};
 ghost use Rattle.tally_keeper.specs.declared.source.ImportFault.TheVariants as cause;
 ghost use Rattle.tally_import.specs.Rows.{row_of};
 ghost use Rattle.tally_import.specs.declared.return_rows.Stage.TheVariants.{Ended};
 ghost use Rattle.tally_records.specs.declared.separator.Sep.{Sep};
-ghost use Rattle.tally_import.specs.ReturnRowsValue.{HasGivenAll, coming, unread_rows};
-ghost use Rattle.tally_import.specs.internal.NextRow.{AdvancesAny, EndsAgain, FailsLast};
+ghost use Rattle.tally_import.specs.ReturnRowsValue.{HasGivenAll, rows_to_come, unread_rows};
+ghost use Rattle.tally_import.specs.internal.NextRow.{AdvancesAny};
 ghost use Rattle.tally_import.specs.internal.ReturnRowsWithin.{coming-within};
-ghost use Rattle.tally_import.specs.ReturnRows.{Advances, GivesRow, IsAtStage, IsBegun, IsNext};
-ghost use Rattle.tally_import.specs.ReturnRows.{IsReadingRows, IsStarted, IsTrueAt, IsTrueFault};
+ghost use Rattle.tally_import.specs.ReturnRows.{Advances, EndsAgain, FailsLast, GivesRow};
+ghost use Rattle.tally_import.specs.ReturnRows.{IsAtStage, IsBegun, IsNext, IsReadingRows};
+ghost use Rattle.tally_import.specs.ReturnRows.{IsStarted, IsTrueAt, IsTrueFault};
 ghost use Rattle.tally_import.specs.ReturnRows.{IsTrueResult, came_by, ending, import_fault};
 ghost use Rattle.tally_import.specs.ReturnRows.{is_header, fault_without_header, text_coming};
 
@@ -137,7 +138,7 @@ impl<R: Read + Drop> ReturnRows<R> {
 }
 
 impl<R: Read> RowSource for ReturnRows<R> {
-    ghost coming = { coming };
+    ghost coming = { rows_to_come };
 
     ghost given = { λ rows. rows.given };
 
@@ -149,7 +150,7 @@ impl<R: Read> RowSource for ReturnRows<R> {
     /// it were given. A failed read is answered once all that was complete before it was given, and
     /// the end only where no read failed.
     fn next_row(&mut self) -> Result<Option<Row>, ImportFault>
-        ensures gives { GivesNext (coming self.old) result (coming self.new) }
+        ensures gives { GivesNext (rows_to_come self.old) result (rows_to_come self.new) }
         ensures row { IfOk result (λ row. IfSome row IsLodgeOrBad) }
         ensures gave { self.new.given ≡ with_given self.old.given result }
         ensures ends { self.new.ended ≡ ends_by result }
@@ -298,7 +299,7 @@ impl Rows {
         ensures came { IfOk result (λ rows. rows.came ≡ 0) }
         ensures fault { IfErr result (IsNext (R.remaining reader.old) (text_coming con.now sep)) }
         ensures true_at { IfOk result (λ rows.
-            TellsTrue (has_failed watch.old) rows.records (has_failed watch.new)) }
+            WatchAgrees (has_failed watch.old) rows.records (has_failed watch.new)) }
         ensures read { IfErr result (λ fault. IsTrueFault fault (has_failed watch.new)) }
         ensures before { FailsLast
             (R.remaining reader.old) con.now sep 0 result (R.remaining reader.new) }
@@ -335,9 +336,9 @@ impl Rows {
             → IsReadingRows text (R.remaining reader.old) con sep self.old
             → GivesRow text (R.remaining reader.new) con sep self.old result self.new }
         ensures row { IfOk result (λ row. IfSome row IsLodgeOrBad) }
-        ensures true_at { TellsTrue false self.old.records (has_failed watch.old)
-            → OnOk result (TellsTrue false self.new.records (has_failed watch.new)) }
-        ensures read { TellsTrue false self.old.records (has_failed watch.old)
+        ensures true_at { WatchAgrees false self.old.records (has_failed watch.old)
+            → OnOk result (WatchAgrees false self.new.records (has_failed watch.new)) }
+        ensures read { WatchAgrees false self.old.records (has_failed watch.old)
             → IsTrueResult result (has_failed watch.new) }
         ensures before { (text : Option (List ℕ)) (con : Constituency) (sep : Sep)
             → IsReadingRows text (R.remaining reader.old) con sep self.old

@@ -18,7 +18,7 @@ use Rattle.tally_returns.specs.declared.reply.Reply.{Reply}
 use Rattle.tally_steps.proofs.ActLemmas.{answered-idle}
 use Rattle.tally_steps.proofs.LawLemmas.{run-lawful}
 use Rattle.tally_steps.proofs.RunLemmas.{second-idle}
-use Rattle.tally_keeper.specs.Events.{BringsCodes, acts, answers_of, asks_of, lodge_answers, lodges}
+use Rattle.tally_keeper.specs.Events.{BringsCodes, acts, answers_of, asks_of, lodge_answers, lodge_commands}
 use Rattle.tally_keeper.specs.Import.{RowAnswer, IsCodedRow, is_lodged}
 use Rattle.tally_keeper.specs.Keeper.{Event, HappensInTurn, Happens, IsTaken, failed_import, request, whole_import}
 use Rattle.tally_keeper.specs.declared.import.Row.{Row}
@@ -27,19 +27,19 @@ use Rattle.tally_keeper.proofs.KeeperLemmas.{happen-run, import-run, shut-stays,
 
 -- ---- the slips are codes
 
-rows-bring : (rows : List Row) → All IsCodedRow rows → All BringsCode (lodges rows)
+rows-bring : (rows : List Row) → All IsCodedRow rows → All BringsCode (lodge_commands rows)
 rows-bring [] codes = All-nil BringsCode
 rows-bring (row.Lodge (Lodge station slip counts) ∷ rows) codes =
     let its = row.Lodge (Lodge station slip counts) in
     let code : is_code slip ≡ true = All-head IsCodedRow its rows codes in
-    All-cons BringsCode (Lodge station slip counts) (lodges rows) (λ named same. let e : slip ≡ named = cc in subst (λ text. is_code text ≡ true) e code)
+    All-cons BringsCode (Lodge station slip counts) (lodge_commands rows) (λ named same. let e : slip ≡ named = cc in subst (λ text. is_code text ≡ true) e code)
     (rows-bring rows (All-tail IsCodedRow its rows codes))
 rows-bring (other ∷ rows) codes = rows-bring rows (All-tail IsCodedRow other rows codes)
 
 taken-brings : (setup : List Constituency) (s t : State) (event : Event) (events : List Event) → BringsCodes event → IsTaken setup s event t
     → All BringsCode (asks_of events) → All BringsCode (asks_of (event ∷ events))
 taken-brings setup s t (request ask r) events code is rest = All-cons BringsCode ask (asks_of events) code rest
-taken-brings setup s t (whole_import rows answered count) events code is rest = All-append BringsCode (lodges rows) (asks_of events) (rows-bring rows is.4) rest
+taken-brings setup s t (whole_import rows answered count) events code is rest = All-append BringsCode (lodge_commands rows) (asks_of events) (rows-bring rows is.4) rest
 taken-brings setup s t (failed_import fault) events code is rest = rest
 
 pub happen-brings : (setup : List Constituency) (s t : State) (events : List Event) → All BringsCodes events → HappensInTurn setup (Some s) events (Some t) → All BringsCode (asks_of events)
@@ -94,7 +94,7 @@ lodges-act (Some (Err refusal) ∷ answered) = lodges-act answered
 taken-idle : (setup : List Constituency) (s t : State) (event : Event) → IsTaken setup s event t → acts event ≡ false → t ≡ s
 taken-idle setup s t (request ask r) is idle = answered-idle setup s ask r t is idle
 taken-idle setup s t (whole_import rows answered count) is idle =
-    run-idle setup s t (lodges rows) (lodge_answers answered) (import-run setup rows answered count s t is).1 (lodges-act answered ∙ idle)
+    run-idle setup s t (lodge_commands rows) (lodge_answers answered) (import-run setup rows answered count s t is).1 (lodges-act answered ∙ idle)
 taken-idle setup s t (failed_import fault) is idle = is
 
 -- where something that does not act is left out, what happens goes on from the same state

@@ -11,7 +11,7 @@ use Rattle.tally_returns.specs.declared.refusal.Refusal.{Refusal}
 use Rattle.tally_returns.specs.declared.reply.LodgeReply.{LodgeReply}
 use Rattle.tally_returns.specs.declared.reply.LodgeReply.TheVariants.{Lodged, Same}
 use Rattle.tally_returns.specs.declared.reply.Reply.{Reply}
-use Rattle.tally_keeper.specs.Events.{answers_of, as_answer, asks_of, lodge_answers, lodges}
+use Rattle.tally_keeper.specs.Events.{answers_of, as_answer, asks_of, lodge_answers, lodge_commands}
 use Rattle.tally_keeper.specs.Import.{RowAnswer, answers, count_of, returns_after_import}
 use Rattle.tally_keeper.specs.Keeper.{Event, HappensInTurn, Happens, IsImport, IsNotTaken, IsTaken, Runs, failed_import, request, requests, whole_import}
 use Rattle.tally_keeper.specs.declared.import.ImportCount.{ImportCount}
@@ -37,7 +37,7 @@ seen-lodge (Err refusal) = refl
 
 -- rows are the run of their Lodge commands
 rows-run : (setup : List Constituency) (s : State) (rows : List Row)
-    → IsRun setup s (lodges rows) (lodge_answers (answers (stations_of setup) s.returns rows)) (record s { returns = returns_after_import (stations_of setup) s.returns rows })
+    → IsRun setup s (lodge_commands rows) (lodge_answers (answers (stations_of setup) s.returns rows)) (record s { returns = returns_after_import (stations_of setup) s.returns rows })
 rows-run setup s [] = refl
 rows-run setup s (row.Lodge (Lodge station slip counts) ∷ rows) =
     let next = record s { returns = lodge (stations_of setup) s.returns station slip counts } in
@@ -46,11 +46,11 @@ rows-run setup s (other ∷ rows) = rows-run setup s rows
 
 -- an import is the run of its Lodge commands
 pub import-run : (setup : List Constituency) (rows : List Row) (answered : List RowAnswer) (count : ImportCount) (s t : State) → IsImport setup s rows answered count t
-    → (count ≡ count_of answered) × IsRun setup s (lodges rows) (lodge_answers answered) t
+    → (count ≡ count_of answered) × IsRun setup s (lodge_commands rows) (lodge_answers answered) t
 import-run setup rows answered count s t is = (
   is.2,
-  subst (λ a. IsRun setup s (lodges rows) (lodge_answers a) t) (sym is.1)
-      (subst (IsRun setup s (lodges rows) (lodge_answers (answers (stations_of setup) s.returns rows))) (sym is.3) (rows-run setup s rows)),
+  subst (λ a. IsRun setup s (lodge_commands rows) (lodge_answers a) t) (sym is.1)
+      (subst (IsRun setup s (lodge_commands rows) (lodge_answers (answers (stations_of setup) s.returns rows))) (sym is.3) (rows-run setup s rows)),
 )
 
 -- ---- requests and imports
@@ -68,7 +68,7 @@ taken-run : (setup : List Constituency) (s mid t : State) (event : Event) (event
     → IsRun setup mid (asks_of events) (answers_of events) t → IsRun setup s (asks_of (event ∷ events)) (answers_of (event ∷ events)) t
 taken-run setup s mid t (request ask r) events is rest = (mid, is, rest)
 taken-run setup s mid t (whole_import rows answered count) events is rest =
-    run-append setup s mid t (lodges rows) (asks_of events) (lodge_answers answered) (answers_of events) (import-run setup rows answered count s mid is).1 rest
+    run-append setup s mid t (lodge_commands rows) (asks_of events) (lodge_answers answered) (answers_of events) (import-run setup rows answered count s mid is).1 rest
 taken-run setup s mid t (failed_import fault) events is rest = subst (λ (x : State). IsRun setup x (asks_of events) (answers_of events) t) is rest
 
 -- what happened is not taken, and then a run goes on from the same state

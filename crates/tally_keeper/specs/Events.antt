@@ -16,10 +16,11 @@ use Rattle.tally_keeper.specs.declared.import.Row.{Row}
 use Rattle.tally_keeper.specs.declared.import.Row.TheVariants as row
 
 -- the Lodge commands of the rows, in order: the other rows are passed over
-abbrev pub lodges : List Row → List Ask
-lodges [] = []
-lodges (row.Lodge (Lodge station slip counts) ∷ rows) = Lodge station slip counts ∷ lodges rows
-lodges (other ∷ rows) = lodges rows
+abbrev pub lodge_commands : List Row → List Ask
+lodge_commands [] = []
+lodge_commands (row.Lodge (Lodge station slip counts) ∷ rows) =
+    Lodge station slip counts ∷ lodge_commands rows
+lodge_commands (other ∷ rows) = lodge_commands rows
 
 -- what a Lodge is answered, among all replies
 abbrev pub as_answer : Result LodgeReply Refusal → Result Reply Refusal
@@ -36,7 +37,7 @@ lodge_answers (None ∷ answered) = lodge_answers answered
 abbrev pub asks_of : List Event → List Ask
 asks_of [] = []
 asks_of (request ask r ∷ events) = ask ∷ asks_of events
-asks_of (whole_import rows answered count ∷ events) = lodges rows ++ asks_of events
+asks_of (whole_import rows answered count ∷ events) = lodge_commands rows ++ asks_of events
 asks_of (failed_import fault ∷ events) = asks_of events
 
 -- the answers of these requests, in order

@@ -8,3 +8,4 @@ pub mod LotNeed
 pub mod Conditions
 pub mod Reordering
 pub mod LawStatements
+pub mod LawExample

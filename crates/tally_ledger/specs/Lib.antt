@@ -1,4 +1,3 @@
 pub mod internal
 pub mod MapOf
 pub mod Kept
-pub mod Sums

@@ -1,4 +1,6 @@
--- Words of private contracts and of proofs. No promise to a caller speaks of them.
+-- Words of private contracts, of what crates promise one another, and of proofs. No promise to a
+-- program speaks of them.
 pub mod KeptCode
 pub mod Rows
 pub mod Sums
+pub mod MovedSum

@@ -13,7 +13,7 @@ ghost use Rattle.tally_returns.specs.State.{con_state};
 ghost use Rattle.tally_rules.specs.Limits.{IsSetup};
 ghost use Rattle.tally_rules.specs.Setup.{constituency_with};
 
-use crate::returns::{put_return, take_return};
+use crate::returns::{put_return, remove_return};
 use crate::views::{
     drop_lot, opening_views, progress_row, set_certified, set_gone, set_lot, set_reopened, view_at,
 };
@@ -135,7 +135,7 @@ impl Ledger {
     pub fn take_out(&mut self, station: Code)
         ensures { self.new ≡ record self.old { returns = remove self.old.returns station } }
     {
-        take_return(&self.setup, &mut self.returns, &mut self.views, station);
+        remove_return(&self.setup, &mut self.returns, &mut self.views, station);
     }
 
     /// Records a lot, as the places of the lists in its order, and the edition rises.

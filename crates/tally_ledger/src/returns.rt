@@ -44,7 +44,7 @@ pub(crate) fn put_return(
 }
 
 /// Takes the return of a station out, and no longer counts it.
-pub(crate) fn take_return(
+pub(crate) fn remove_return(
     setup: &Setup,
     returns: &mut BTreeMap<Code, Return>,
     views: &mut BTreeMap<Code, ConView>,

@@ -6,9 +6,9 @@ ghost use Rattle.tally_steps.specs.Holders.{holders, newcomer};
 use std::alloc::{AllocError, Global};
 
 /// The places, from 1, of the candidates who hold the seats of a list: its first candidates in
-/// their order, those who are gone left out (LOREG article 163.1 e)). They are fewer than the seats
-/// where the list has no more candidates; those seats stay empty. No candidate is looked at once
-/// all seats are held.
+/// their order (LOREG article 163.1 e)), those who are gone left out (article 164.1). They are
+/// fewer than the seats where the list has no more candidates; those seats stay empty. No candidate
+/// is looked at once all seats are held.
 pub fn holders(
     alloc: Global,
     candidates: u32,

@@ -50,7 +50,7 @@ fn first_value<'b>(before: Option<&'b [u8]>, value: &'b [u8]) -> Result<&'b [u8]
 }
 
 /// The value of a field that may be given once.
-fn value_of<'b>(
+fn field_value<'b>(
     bytes: &'b [u8],
     headers: &[HeaderSpan],
     name: &[u8],
@@ -111,7 +111,7 @@ pub(crate) fn body_length(
     if has_field(bytes, headers, b"transfer-encoding") {
         return Err(MessageFault::LengthRequired);
     }
-    match value_of(bytes, headers, b"content-length")? {
+    match field_value(bytes, headers, b"content-length")? {
         Some(value) => length_of(value),
         None => {
             if method == b"POST".as_slice() {

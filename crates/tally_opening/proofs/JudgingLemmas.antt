@@ -23,7 +23,7 @@ use Rattle.tally_judge.specs.Numbers.{HasNumbersOfRows, numbers_of}
 use Rattle.tally_judge.specs.OfficeRows.{AreLawfulRows, AreRowsOfOneState, RowsInOrder}
 use Rattle.tally_statements.specs.declared.table.KeyedTable.{KeyedTable}
 use Rattle.tally_statements.specs.declared.table.KeyedTable.TheVariants.{Returns, Counts, Cons, Lots, Seats, Gone, Totals, Past}
-use Rattle.tally_statements.specs.Inside.{OnlyReadsFrom}
+use Rattle.tally_statements.specs.internal.Inside.{OnlyReadsFrom}
 use Rattle.tally_statements.proofs.StaysLemmas.{stays-then}
 use Rattle.tally_statements.specs.Office.{HasTables, ShowsRowids, ShowsTable, rows_in, tree_of}
 use Rattle.tally_opening.specs.internal.Opening.{AreReadOf, AreTablesOfNone, CountsTables, HasDistinctRows, IsJudged, IsReadOf, ShowsOffice, trees_with}

@@ -4,7 +4,7 @@ ghost use Rattle.std.specs.Prelude.{◌≡◌, false};
 ghost use Rattle.sqlite.specs.Held.{state};
 ghost use Rattle.tally_schema.specs.Made.{HasFirstTables};
 ghost use Rattle.tally_schema.specs.Tables.{former_schema};
-ghost use Rattle.tally_statements.specs.Inside.{StaysFrom};
+ghost use Rattle.tally_statements.specs.internal.Inside.{StaysFrom};
 ghost use Rattle.tally_opening.specs.Calls.{Accepts, OnDisk, Rejects, Yields};
 ghost use Rattle.tally_opening.specs.Crash.{EndsWhole, LeavesTakenOver};
 ghost use Rattle.tally_opening.specs.Open.{IsOpened};

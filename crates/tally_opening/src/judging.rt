@@ -3,7 +3,7 @@
 ghost use Rattle.std.specs.Prelude.{◌≡◌, IfOk, IfSome, IsSome, OnSome};
 ghost use Rattle.tally_judge.specs.Numbers.{HasNumbersOfRows, numbers_of};
 ghost use Rattle.tally_judge.specs.OfficeRows.{AreLawfulRows, AreRowsOfOneState};
-ghost use Rattle.tally_statements.specs.Inside.{OnlyReadsFrom};
+ghost use Rattle.tally_statements.specs.internal.Inside.{OnlyReadsFrom};
 ghost use Rattle.tally_statements.specs.Office.{HasTables};
 ghost use Rattle.tally_opening.specs.internal.Opening.{AreReadOf, AreTablesOfNone, CountsTables};
 ghost use Rattle.tally_opening.specs.internal.Opening.{HasDistinctRows, IsJudged, IsReadOf, Sees};
@@ -52,7 +52,7 @@ fn read_table<S: Alter>(tx: &mut Transaction<'_, S>, table: KeyedTable) -> Resul
     all_rows(tx, table)
 }
 
-/// The same of two tables. Eight calls in one function are more than the prover follows.
+/// The same of two tables. It takes calls out of a function that has more than the prover follows.
 fn read_two<S: Alter>(
     tx: &mut Transaction<'_, S>,
     first: KeyedTable,

@@ -4,7 +4,7 @@ ghost use Rattle.std.specs.Prelude.{◌≡◌, ◌∷◌, [], false, IsTrue, OnO
 ghost use Rattle.sqlite.specs.Held.{state};
 ghost use Rattle.tally_rules.specs.Limits.{IsSetup};
 ghost use Rattle.tally_schema.specs.Tables.{schema_with};
-ghost use Rattle.tally_statements.specs.Inside.{InDatabase, Stays};
+ghost use Rattle.tally_statements.specs.internal.Inside.{InDatabase, Stays};
 ghost use Rattle.tally_opening.specs.Calls.{OnDisk, Yields};
 ghost use Rattle.tally_opening.specs.Crash.{EndsWhole};
 ghost use Rattle.tally_opening.specs.internal.Ending.{IsSettled};

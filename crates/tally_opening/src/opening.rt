@@ -4,7 +4,7 @@ ghost use Rattle.std.specs.Prelude.{◌≡◌, ◌⊎◌, false, IfErr, IfOk, Is
 ghost use Rattle.sqlite.specs.State.{KeepsCounts};
 ghost use Rattle.sqlite.specs.Held.{state};
 ghost use Rattle.tally_rules.specs.Reading.{setup_of_text};
-ghost use Rattle.tally_statements.specs.Inside.{OnlyReadsFrom};
+ghost use Rattle.tally_statements.specs.internal.Inside.{OnlyReadsFrom};
 ghost use Rattle.tally_statements.specs.Office.{HasTables};
 ghost use Rattle.sqlite.specs.Effect.{IsDatabase};
 ghost use Rattle.tally_schema.specs.Tables.{office_schema};

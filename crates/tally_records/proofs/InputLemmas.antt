@@ -6,7 +6,7 @@ use Rattle.std.proofs.lemmas.List.{take-append-le}
 use Rattle.tally_records.specs.Input.{Gave, size_limit}
 use Rattle.tally_records.specs.declared.end.Stop.TheVariants.{TooLong}
 use Rattle.tally_records.specs.declared.end.End.{End}
-use Rattle.tally_records.specs.declared.held.Held.{Held}
+use Rattle.tally_records.specs.declared.held.HeldText.{HeldText}
 use Rattle.tally_records.specs.internal.Pieces.{Ends, FillsHeld, HoldsMore}
 
 past : (limit : ℕ) (text bytes rest : List ℕ) → text ≡ bytes ++ rest → limit < length bytes → (take limit bytes ≡ take limit text) × (limit < length text)
@@ -46,7 +46,7 @@ Fills-too_long old_left left old items cut came taken n same is one count some c
     cut_at xs n at = ap (λ k. take k (xs ++ came)) at ∙ take-behind xs came (length came - 1)
 
 -- what came, and then what came after it
-pub HoldsMore-on : (old_left mid_left left : Option (List ℕ)) (old mid new : Held)
+pub HoldsMore-on : (old_left mid_left left : Option (List ℕ)) (old mid new : HeldText)
     → HoldsMore old_left mid_left old mid → HoldsMore mid_left left mid new → HoldsMore old_left left old new
 HoldsMore-on old_left mid_left left old mid new one two = (
   one.0 ++ two.0,
@@ -56,10 +56,10 @@ HoldsMore-on old_left mid_left left old mid new one two = (
 )
 
 -- and then the end
-pub HoldsMore-end : (old_left mid_left left : Option (List ℕ)) (old mid new : Held) (end : End)
+pub HoldsMore-end : (old_left mid_left left : Option (List ℕ)) (old mid new : HeldText) (end : End)
     → HoldsMore old_left mid_left old mid → mid.taken ≤ size_limit → new ≡ mid → Ends mid_left left end.stop → FillsHeld old_left left old new (Some end)
 HoldsMore-end old_left mid_left left old mid new end one within same ends = (
   one.0,
-  ap (λ (held : Held). held.bytes.items) same ∙ one.1,
+  ap (λ (held : HeldText). held.bytes.items) same ∙ one.1,
   λ text bytes given counted. ends text (bytes ++ one.0) (one.3 text bytes given) (omega (arith, within, one.2, counted, length-append bytes one.0)),
 )

@@ -1,4 +1,4 @@
--- What a piece of a text tells of the text's records.
+-- What a piece of a text shows of the text's records.
 use Rattle.std.proofs.Common.{◌≡◌, ◌<◌, ◌≤◌, ◌+◌, ◌-◌, ◌++◌, ◌∷◌, ◌∙◌, ℕ, zero, suc, List, [], Bool, true, false, Option, Some, None, length, take, drop, get_or, refl, sym, ap, subst, arith, add-one, length-append}
 use Rattle.std.specs.Prelude.{◌==◌, ◌||◌, ◌⊎◌, if◌then◌else◌, nat_le}
 use Rattle.std.proofs.Common.{inl, inr}

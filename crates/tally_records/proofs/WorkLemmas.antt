@@ -16,7 +16,7 @@ use Rattle.std.specs.declared.alloc.Global.{Global}
 use Rattle.tally_records.specs.declared.end.Stop.{Stop}
 use Rattle.tally_records.specs.declared.end.Stop.TheVariants.{TooLong, Read}
 use Rattle.tally_records.specs.declared.end.End.{End}
-use Rattle.tally_records.specs.declared.held.Held.{Held}
+use Rattle.tally_records.specs.declared.held.HeldText.{HeldText}
 use Rattle.tally_records.specs.declared.piece.Rest.{Rest}
 use Rattle.tally_records.specs.declared.work.Work.{Work}
 use Rattle.tally_records.specs.RecordsValue.{Records}
@@ -165,7 +165,7 @@ anew-at : (sep : Sep) (piece : List ℕ) (k : ℕ) (rest : List ℕ) (stop : Opt
 anew-at sep [] k rest stop some line is = absurd (omega (arith, some))
 anew-at sep (c ∷ ys) k rest stop some line is = anew sep c ys k rest stop line is
 
-pub HasGiven-dropped : (text old_left left : Option (List ℕ)) (given : List (List (List ℕ))) (old new : Work) (middle : Held) (done : ℕ)
+pub HasGiven-dropped : (text old_left left : Option (List ℕ)) (given : List (List (List ℕ))) (old new : Work) (middle : HeldText) (done : ℕ)
     → old.end ≡ None → 0 < done → done ≤ length (bytes_of old)
     → ends_line (take done (bytes_of old)) ≡ true → drop old.given (piece_rows old.sep None (take done (bytes_of old))) ≡ nothing ∷ []
     → middle.bytes.items ≡ 10 ∷ drop done (bytes_of old) → middle.taken ≡ old.held.taken
@@ -258,7 +258,7 @@ Begun-spent r spent goes = (
   subst (λ e. IsLast (is_whole e) (drop r.given (piece_rows r.sep e (take r.piece (bytes_of r)))) r.rest) goes spent.last,
 )
 
-pub HasGiven-new : (old_left left : Option (List ℕ)) (held : Held) (r : Work)
+pub HasGiven-new : (old_left left : Option (List ℕ)) (held : HeldText) (r : Work)
     → held.bytes.items ≡ [] → held.taken ≡ 0 → Fills old_left left held.bytes.items held.taken (bytes_of r) r.held.taken r.end → r.given ≡ 0 → HasGivenAt old_left left [] r
 HasGiven-new old_left left held r none taken fills given = (
   fills.0,

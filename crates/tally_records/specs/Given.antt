@@ -57,8 +57,8 @@ sep_of r = r.sep
 
 -- The watch notes a failed read where one stopped the input, and else what it noted before it was
 -- begun.
-abbrev pub TellsTrue : Bool → Records → Bool → Type 0
-TellsTrue before r failed = failed ≡ flag_after_end r.end before
+abbrev pub WatchAgrees : Bool → Records → Bool → Type 0
+WatchAgrees before r failed = failed ≡ flag_after_end r.end before
 
 -- more records can be asked for
 abbrev pub IsReadingOn : Records → Type 0

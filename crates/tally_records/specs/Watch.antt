@@ -30,6 +30,6 @@ abbrev pub NotesEnd : {S : Type 0} → Watch S → Watch S → Option End → Ty
 NotesEnd old new end = has_failed new ≡ flag_after_end end (has_failed old)
 
 -- Where an input is said to have ended, this is what its watch notes.
-abbrev pub TellsEnd : Bool → Option End → Bool → Type 0
-TellsEnd before None failed = ⊤
-TellsEnd before (Some end) failed = failed ≡ flag_after_stop end.stop before
+abbrev pub WatchAgreesAtEnd : Bool → Option End → Bool → Type 0
+WatchAgreesAtEnd before None failed = ⊤
+WatchAgreesAtEnd before (Some end) failed = failed ≡ flag_after_stop end.stop before

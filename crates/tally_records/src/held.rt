@@ -24,7 +24,7 @@ const ROOM: usize = 262_146;
 
 /// Bytes of an input that are still needed.
 #[derive(Drop)]
-pub(crate) struct Held {
+pub(crate) struct HeldText {
     /// The bytes.
     pub(crate) bytes: Vec<u8>,
     /// How many bytes the input gave.
@@ -32,7 +32,7 @@ pub(crate) struct Held {
     ghost counted: { (vec_len bytes ≤ taken + 1) × (taken ≤ 16777217) },
 }
 
-impl Held {
+impl HeldText {
     ghost use Rattle.tally_records.specs.internal.Pieces.{Ends, Fills, FillsHeld, HoldsAllThatCame};
     ghost use Rattle.tally_records.specs.internal.Pieces.{HoldsMore, HoldsNoMore};
     ghost use Rattle.tally_records.specs.internal.Text.{bytes_of_parts};
@@ -40,11 +40,11 @@ impl Held {
     ghost use Rattle.tally_records.specs.Watch.{NotesEnd};
 
     /// No byte.
-    pub(crate) fn new(alloc: Global) -> Held
+    pub(crate) fn new(alloc: Global) -> HeldText
         ensures bytes { result.bytes.items ≡ [] }
         ensures taken { result.taken ≡ 0 }
     {
-        Held {
+        HeldText {
             bytes: Vec::new(alloc),
             taken: 0,
         }
@@ -137,7 +137,7 @@ impl Held {
     {
         let mut parts = VecDeque::new(alloc);
         loop {
-            let mut part = Held {
+            let mut part = HeldText {
                 bytes: Vec::new(alloc),
                 taken: self.taken,
             };

@@ -35,8 +35,8 @@ impl Model for Records {
 
 impl Records {
     ghost use Rattle.tally_records.specs.Given.{GaveAllRecords, GivesRecord, HasGiven, IfEnded};
-    ghost use Rattle.tally_records.specs.Given.{IfNotEnded, IsReadingOn, TellsTrue, sep_of};
-    ghost use Rattle.tally_records.specs.Watch.{TellsEnd, has_failed};
+    ghost use Rattle.tally_records.specs.Given.{IfNotEnded, IsReadingOn, WatchAgrees, sep_of};
+    ghost use Rattle.tally_records.specs.Watch.{WatchAgreesAtEnd, has_failed};
 
     /// The records of an input, whose first piece is read.
     pub fn new<R: Read>(
@@ -49,7 +49,7 @@ impl Records {
         ensures reading { IfOk result IsReadingOn }
         ensures given { IfOk result (HasGiven (R.remaining input.old) (R.remaining input.new) []) }
         ensures failed { IfOk result (λ records.
-            TellsTrue (has_failed watch.old) records (has_failed watch.new)) }
+            WatchAgrees (has_failed watch.old) records (has_failed watch.new)) }
     {
         let work = Work::new(alloc, input, watch, sep)?;
         Ok(Records {
@@ -74,10 +74,10 @@ impl Records {
             (R.remaining input.new) (fields_of into.new) self.old self.new) }
         ensures all { IfEnded result (λ end. GaveAllRecords
             (R.remaining input.old) (R.remaining input.new) self.old end.stop) }
-        ensures failed { (before : Bool) → TellsTrue before self.old (has_failed watch.old)
-            → IfOk result (λ end. TellsEnd before end (has_failed watch.new)) }
-        ensures tells { (before : Bool) → TellsTrue before self.old (has_failed watch.old)
-            → OnOk result (TellsTrue before self.new (has_failed watch.new)) }
+        ensures failed { (before : Bool) → WatchAgrees before self.old (has_failed watch.old)
+            → IfOk result (λ end. WatchAgreesAtEnd before end (has_failed watch.new)) }
+        ensures agrees { (before : Bool) → WatchAgrees before self.old (has_failed watch.old)
+            → OnOk result (WatchAgrees before self.new (has_failed watch.new)) }
     {
         self.at_work = false;
         let end = self.work.next(alloc, input, watch, into)?;

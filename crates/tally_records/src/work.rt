@@ -6,7 +6,7 @@ ghost use Rattle.csv.specs.Records.{fields_of};
 
 use crate::cut::{ended_itself, given_size, last_text, piece_size, piece_text};
 use crate::end::End;
-use crate::held::Held;
+use crate::held::HeldText;
 use crate::piece::Rest;
 use crate::reading::next_record;
 use crate::separator::Sep;
@@ -27,7 +27,7 @@ const PIECE: usize = 262_144;
 pub(crate) struct Work {
     sep: Sep,
     /// The bytes that are held, unless the input ended: then the reader of the last piece has them.
-    held: Held,
+    held: HeldText,
     /// For clauses alone: once the input ended, the text of the last piece, which is all that was
     /// held.
     last: Snapshot<Text>,
@@ -47,10 +47,10 @@ impl Work {
     ghost use Rattle.tally_records.specs.internal.Pieces.{GivesRecordAt, HasGivenAt};
     ghost use Rattle.tally_records.specs.internal.Pieces.{HoldsAllThatCame, IsBegunIn, IsWorking};
     ghost use Rattle.tally_records.specs.internal.Pieces.{IsSpent, KeepsGiven, TakesUp};
-    ghost use Rattle.tally_records.specs.internal.Pieces.{TellsTrueAt, bytes_of, left_size};
+    ghost use Rattle.tally_records.specs.internal.Pieces.{WatchAgreesAt, bytes_of, left_size};
     ghost use Rattle.tally_records.specs.internal.Text.{bytes_of_parts};
     ghost use Rattle.tally_records.specs.Given.{IfEnded, IfNotEnded};
-    ghost use Rattle.tally_records.specs.Watch.{NotesEnd, TellsEnd, has_failed};
+    ghost use Rattle.tally_records.specs.Watch.{NotesEnd, WatchAgreesAtEnd, has_failed};
 
     /// The records of an input, whose first piece is read.
     pub(crate) fn new<R: Read>(
@@ -65,14 +65,14 @@ impl Work {
             (R.remaining input.old) (R.remaining input.new) []) }
         ensures failed { IfOk result (λ records. NotesEnd watch.old watch.new records.end) }
     {
-        Work::read(alloc, Held::new(alloc), input, watch, sep)
+        Work::read(alloc, HeldText::new(alloc), input, watch, sep)
     }
 
     // Reads until 256 KiB are held or the input ends, and takes up a piece of them, of which no
     // record was given.
     fn read<R: Read>(
         alloc: Global,
-        mut held: Held,
+        mut held: HeldText,
         input: &mut R,
         watch: &mut Watch<R>,
         sep: Sep,
@@ -108,7 +108,7 @@ impl Work {
     // held with all that came.
     fn read_all<R: Read>(
         alloc: Global,
-        mut held: Held,
+        mut held: HeldText,
         input: &mut R,
         watch: &mut Watch<R>,
         sep: Sep,
@@ -131,7 +131,7 @@ impl Work {
     // Takes up all that is held, and what comes after it, as the last piece. No copy is made of it.
     fn last(
         alloc: Global,
-        mut held: Held,
+        mut held: HeldText,
         more: VecDeque<Vec<u8>>,
         end: End,
         sep: Sep,
@@ -180,10 +180,10 @@ impl Work {
             (R.remaining input.new) (fields_of into.new) self.old self.new) }
         ensures all { IfEnded result (λ end. GaveAllAt
             (R.remaining input.old) (R.remaining input.new) self.old end.stop) }
-        ensures failed { (before : Bool) → TellsTrueAt before self.old (has_failed watch.old)
-            → IfOk result (λ end. TellsEnd before end (has_failed watch.new)) }
-        ensures tells { (before : Bool) → TellsTrueAt before self.old (has_failed watch.old)
-            → OnOk result (TellsTrueAt before self.new (has_failed watch.new)) }
+        ensures failed { (before : Bool) → WatchAgreesAt before self.old (has_failed watch.old)
+            → IfOk result (λ end. WatchAgreesAtEnd before end (has_failed watch.new)) }
+        ensures agrees { (before : Bool) → WatchAgreesAt before self.old (has_failed watch.old)
+            → OnOk result (WatchAgreesAt before self.new (has_failed watch.new)) }
     {
         'pieces: while !self.next_in_piece(into)? {
             if let Some(end) = self.end {
@@ -237,13 +237,13 @@ impl Work {
         let done = given_size(alloc, piece, self.sep, self.given, &self.rest.ahead)?;
         if done > 1 {
             held.drop_front(alloc, done)?;
-            let held = mem::replace(held, Held::new(alloc));
+            let held = mem::replace(held, HeldText::new(alloc));
             *self = Work::read(alloc, held, input, watch, self.sep)?;
             return Ok(());
         }
         // The record that goes on is given back, as far as it was read, only when all is read: an
         // allocator may keep room of a size that was given back before, and so the parts.
-        let held = mem::replace(held, Held::new(alloc));
+        let held = mem::replace(held, HeldText::new(alloc));
         *self = Work::read_all(alloc, held, input, watch, self.sep, self.given)?;
         Ok(())
     }

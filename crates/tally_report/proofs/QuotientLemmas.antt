@@ -10,14 +10,14 @@ use Rattle.tally_law.specs.Poll.{Poll}
 use Rattle.tally_steps.specs.Outcome.{HasSeats, IsLawfulView, poll_in, rule_in}
 use Rattle.tally_returns.specs.View.{View}
 use Rattle.tally_rules.specs.Constituency.{Constituency}
-use Rattle.tally_report.specs.QuotientsText.{most}
+use Rattle.tally_report.specs.QuotientsText.{greatest_of}
 
 -- one more number
-pub most-more : (ns : List ℕ) (n : ℕ) → most (ns ++ n ∷ []) ≡ max (most ns) n
+pub most-more : (ns : List ℕ) (n : ℕ) → greatest_of (ns ++ n ∷ []) ≡ max (greatest_of ns) n
 most-more [] n = omega arith
 most-more (x ∷ ns) n = let e = most-more ns n in omega (arith, e)
 
-pub most-sum : (ns : List ℕ) → most ns ≤ sum ns
+pub most-sum : (ns : List ℕ) → greatest_of ns ≤ sum ns
 most-sum [] = omega arith
 most-sum (n ∷ ns) = omega (arith, sum_by-cons (λ n. n) n ns, most-sum ns)
 
@@ -41,7 +41,7 @@ allotted-sum (divisors nth unit lot_rule) poll lot seats a is = is.shares.whole
 allotted-sum hare poll lot seats a is = is.shares.whole
 
 -- a list of a lawful view has no more seats than the constituency
-pub most-lawful : (con : Constituency) (view : View) → con.seats ≤ 500 → view.certified ≡ true → IsLawfulView con view → most view.seats ≤ 500
+pub most-lawful : (con : Constituency) (view : View) → con.seats ≤ 500 → view.certified ≡ true → IsLawfulView con view → greatest_of view.seats ≤ 500
 most-lawful con view few certified lawful =
     let has : HasSeats con view true = subst (HasSeats con view) certified lawful.seats in
     omega (arith, few, most-sum view.seats, allotted-sum (rule_in con) (poll_in con view) view.lot con.seats view.seats has.2)

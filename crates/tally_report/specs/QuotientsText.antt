@@ -15,9 +15,9 @@ use Rattle.tally_report.specs.Columns.{code_width, heading, is_eligible_at, left
 use Rattle.tally_report.specs.Columns.{list_lines, number}
 
 -- the greatest of these numbers
-abbrev pub most : List ℕ → ℕ
-most [] = 0
-most (n ∷ ns) = max n (most ns)
+abbrev pub greatest_of : List ℕ → ℕ
+greatest_of [] = 0
+greatest_of (n ∷ ns) = max n (greatest_of ns)
 
 -- the quotient of a list of so many votes and seats for its k-th seat: its votes, in the unit of
 -- the divisors, over the k-th of them
@@ -41,7 +41,7 @@ quotients_line nth unit last con view place list =
 abbrev pub quotients_by : (ℕ → ℕ) → ℕ → Constituency → View → List ℕ
 quotients_by nth unit con view =
     heading (codes "QUOTIENTS") con
-    ++ list_lines (quotients_line nth unit (most view.seats + 1) con view) con
+    ++ list_lines (quotients_line nth unit (greatest_of view.seats + 1) con view) con
 
 -- the text by the divisors of a rule; Hare's rule has no quotients, and no such report
 abbrev pub quotients_of : Rule → Constituency → View → List ℕ

@@ -19,7 +19,7 @@ use tally_returns::ConView;
 use tally_rules::{Constituency, ListEntry};
 
 /// The candidate who holds each seat of a certified constituency, and the seats that are empty
-/// because their list has no more candidates (LOREG article 163.1 e)).
+/// because their list has no more candidates (LOREG articles 163.1 e) and 164.1).
 pub fn holders_text(
     alloc: Global,
     con: &Constituency,

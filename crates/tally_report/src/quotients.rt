@@ -7,7 +7,7 @@ ghost use Rattle.tally_steps.specs.Outcome.{IsLawfulView};
 ghost use Rattle.tally_returns.specs.View.{FitsView};
 ghost use Rattle.tally_report.specs.Fault.{IsRefused, divisors_fault};
 ghost use Rattle.tally_report.specs.Columns.{list_lines};
-ghost use Rattle.tally_report.specs.QuotientsText.{most, quotient_column, quotients_by};
+ghost use Rattle.tally_report.specs.QuotientsText.{greatest_of, quotient_column, quotients_by};
 ghost use Rattle.tally_report.specs.QuotientsText.{quotients_line, quotients_text};
 ghost use Rattle.tally_report.specs.declared.fault.ReportFault.TheVariants.{Memory};
 ghost use Rattle.tally_rules.specs.Threshold.{eligible_lists};
@@ -50,12 +50,12 @@ fn text_by<D: Divisors>(
 ) -> Result<String, ReportFault>
     requires view { FitsView con.now view.now }
     requires seats { length view.now.seats ≡ length con.now.lists }
-    ensures text { IfOk result (λ text. most view.now.seats ≤ most_seats → string_bytes text
+    ensures text { IfOk result (λ text. greatest_of view.now.seats ≤ most_seats → string_bytes text
         ≡ quotients_by (D.divisor divisors.now) (D.unit_of divisors.now) con.now view.now) }
     ensures fault { IfErr result (λ fault. fault ≡ Memory) }
 {
     let marks = eligible(alloc, &con.profile, &view.votes, view.blank)?;
-    let last = most(&view.seats).min(MOST_SEATS) + 1;
+    let last = greatest_of(&view.seats).min(MOST_SEATS) + 1;
     let mut text = String::new(alloc);
     push_heading(&mut text, "QUOTIENTS", con)?;
     push_lists(&mut text, divisors, con, view, &marks, last)?;
@@ -63,8 +63,8 @@ fn text_by<D: Divisors>(
 }
 
 /// The greatest of these numbers, and 0 where there is none.
-fn most(numbers: &[u32]) -> u32
-    ensures { result ≡ most numbers.now }
+fn greatest_of(numbers: &[u32]) -> u32
+    ensures { result ≡ greatest_of numbers.now }
 {
     let mut most = 0;
     for n in numbers {

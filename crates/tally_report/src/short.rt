@@ -86,14 +86,19 @@ fn push_lists(
 {
     for (place, list) in con.lists.iter().enumerate() {
         if marks[place] {
-            push_list(text, list, view.seats[place], number_at(numbers, place))?;
+            push_list(
+                text,
+                list,
+                view.seats[place],
+                votes_short_at(numbers, place),
+            )?;
         }
     }
     Ok(())
 }
 
 /// The number of the list at a place, if there is one.
-fn number_at(numbers: &[Option<u64>], place: usize) -> Option<u64>
+fn votes_short_at(numbers: &[Option<u64>], place: usize) -> Option<u64>
     ensures { result ≡ slice_index_or numbers.now place None }
 {
     match numbers.get(place) {

@@ -11,7 +11,7 @@ use Rattle.sqlite.specs.Held.{state}
 use Rattle.sqlite_trees.specs.declared.store.Store.{Ghosts}
 use Rattle.sqlite.specs.State.{State as Seen, HasCleanDisk, IsUnchanged}
 use Rattle.std.proofs.lemmas.List.{map-append, take_more}
-use Rattle.tally_statements.specs.Inside.{IsOpenInside, StaysFrom, StaysInside}
+use Rattle.tally_statements.specs.internal.Inside.{IsOpenInside, StaysFrom, StaysInside}
 use Rattle.tally_statements.specs.Office.{IsInside, tree_of}
 use Rattle.tally_statements.proofs.StaysLemmas.{stays-then}
 use Rattle.tally_statements.specs.declared.table.KeyedTable.TheVariants.{Cons}
@@ -40,13 +40,13 @@ use Rattle.tally_steps.proofs.DecisionLemmas.{decisions-steps, unknown-constitue
 use Rattle.tally_steps.proofs.ViewLemmas.{view-lawful}
 use Rattle.tally_keeper.proofs.StepLemmas.{memory-or}
 use Rattle.tally_tables.specs.TablesOfState.{AreTables}
-use Rattle.tally_requests.specs.Requests.{CarriesOutKnown, IsCarriedOut, IsInState, KeepsKnown}
+use Rattle.tally_requests.specs.internal.Requests.{CarriesOutKnown, IsCarriedOut, IsInState, KeepsKnown}
 use Rattle.tally_requests.specs.internal.Found.{CarriesOut}
 use Rattle.tally_requests.specs.internal.Changes.{IsChangeCarriedOut}
 use Rattle.tally_tables.specs.Views.{statuses_of}
 use Rattle.tally_tables.specs.declared.views.Statuses.{Statuses}
-use Rattle.tally_entries.specs.Constituencies.{AreCons, FindsProgressRow, FindsView, IsKnown, IsViewWith, with_past_of}
-use Rattle.tally_requests.specs.Known.{AreKnown, Known}
+use Rattle.tally_entries.specs.internal.Constituencies.{AreCons, FindsProgressRow, FindsView, IsKnown, IsViewWith, with_past_of}
+use Rattle.tally_requests.specs.internal.Known.{AreKnown, Known}
 use Rattle.tally_requests.proofs.KnownLemmas.{con-returns, known-remembered, seen-statuses, shown-returns}
 use Rattle.tally_requests.specs.internal.Seen.{CarriesOutSeen, IsStill, shows_con}
 use Rattle.tally_requests.proofs.RecordLemmas.{decides-whole, refusal-whole, shown-only, whole-view}

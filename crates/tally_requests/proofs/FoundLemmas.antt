@@ -36,12 +36,12 @@ use Rattle.tally_steps.specs.Step.{IsStep, state_after, after_put, after_return,
 use Rattle.tally_steps.proofs.DecisionLemmas.{con_of-found, unknown-station}
 use Rattle.tally_steps.proofs.ReturnStepLemmas.{append-rest}
 use Rattle.tally_tables.specs.TablesOfState.{AreTables}
-use Rattle.tally_entries.specs.Constituencies.{FindsCertified}
-use Rattle.tally_entries.specs.Entries.{FindsReturn}
+use Rattle.tally_entries.specs.internal.Constituencies.{FindsCertified}
+use Rattle.tally_entries.specs.internal.Entries.{FindsReturn}
 use Rattle.tally_keeper.specs.internal.Held.{moves_return}
 use Rattle.tally_keeper.proofs.StepLemmas.{decided-found, memory-or}
 use Rattle.tally_requests.specs.internal.Found.{CarriesOutFound, MovesTo, after_lot, after_move}
-use Rattle.tally_requests.specs.Requests.{IsCarriedOut, IsInState}
+use Rattle.tally_requests.specs.internal.Requests.{IsCarriedOut, IsInState}
 use Rattle.tally_requests.specs.internal.Seen.{IsStill}
 use Rattle.tally_requests.proofs.ChangeLemmas.{stands}
 use Rattle.tally_requests.proofs.LodgedLemmas.{found-is}

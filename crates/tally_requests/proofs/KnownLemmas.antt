@@ -45,10 +45,10 @@ use Rattle.tally_keeper.proofs.LodgeLemmas.{lodged-none}
 use Rattle.tally_steps.specs.Step.{Answer, ConChange, IsAnswered, IsConStepSeen, IsNotAccepted, IsStep, IsStepSeenAt, state_after, after_change, after_put, after_return, certified_with, con_of_station, change_in_state, gone_for_good, lodge_reply, lot_set, move_reply, no_change, open_again, reply_seen, with_return, without_lot}
 use Rattle.tally_tables.specs.Views.{statuses_of}
 use Rattle.tally_tables.specs.declared.views.Statuses.{Statuses}
-use Rattle.tally_entries.specs.Constituencies.{IsKnown}
-use Rattle.tally_entries.specs.Statuses.{statuses_in}
+use Rattle.tally_entries.specs.internal.Constituencies.{IsKnown}
+use Rattle.tally_entries.specs.internal.Statuses.{statuses_in}
 use Rattle.tally_requests.specs.internal.Found.{MovesTo}
-use Rattle.tally_requests.specs.Known.{AreKnown, ForgetsNone, Known, known_of}
+use Rattle.tally_requests.specs.internal.Known.{AreKnown, ForgetsNone, Known, known_of}
 use Rattle.tally_requests.specs.internal.Counting.{after_command, known_after_lodge, known_after_lodge_in, known_after_move, known_after_row, after_status, has_status, one_less_if, one_more_if, status_after, with_statuses_changed, with_known, with_move}
 use Rattle.tally_requests.proofs.FoundLemmas.{IsFound, IsPut, found-decided, put-decided}
 use Rattle.tally_requests.proofs.LodgedLemmas.{shown-stays}

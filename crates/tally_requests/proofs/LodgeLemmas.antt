@@ -20,7 +20,7 @@ use Rattle.tally_keeper.proofs.HeldLemmas.{lodge-step}
 use Rattle.tally_keeper.specs.Import.{IsCodedRow, after_row}
 use Rattle.tally_keeper.specs.declared.import.Row.{Row}
 use Rattle.tally_keeper.specs.declared.import.Row.TheVariants as row
-use Rattle.tally_requests.specs.Requests.{IsCarriedOut}
+use Rattle.tally_requests.specs.internal.Requests.{IsCarriedOut}
 use Rattle.tally_requests.specs.internal.Lodging.{IsLodged, IsRowTaken}
 
 pub seen-reply : (reply : LodgeReply) → reply_seen (Ok (as_reply reply)) ≡ lodge_reply (Ok reply)

@@ -40,11 +40,11 @@ use Rattle.tally_statements.specs.Office.{IsInside, tree_of}
 use Rattle.tally_statements.specs.declared.table.KeyedTable.TheVariants.{Cons, Lots, Seats, Gone, Totals, Past}
 use Rattle.tally_tables.specs.Cells.{con_rows, gone_rows, item_row, items_of, lot_rows, past_rows, seat_rows, total_rows, totals_of}
 use Rattle.tally_tables.specs.TablesOfState.{AreTables}
-use Rattle.tally_entries.specs.Entries.{AddsReturn, FindsReturn, PutsReturn}
+use Rattle.tally_entries.specs.internal.Entries.{AddsReturn, FindsReturn, PutsReturn}
 use Rattle.tally_entries.proofs.FindLemmas.{inside_still}
 use Rattle.tally_keeper.proofs.LodgeLemmas.{lodged-none}
 use Rattle.tally_requests.specs.internal.Lodging.{IsLodgeAnswer}
-use Rattle.tally_requests.specs.Requests.{IsCarriedOut, IsInState}
+use Rattle.tally_requests.specs.internal.Requests.{IsCarriedOut, IsInState}
 use Rattle.tally_requests.specs.internal.Lodging.{IsLodged}
 
 -- ---- closed counts where a return is put whose counts are closed as those before it were

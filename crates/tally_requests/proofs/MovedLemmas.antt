@@ -30,9 +30,9 @@ use Rattle.tally_statements.specs.declared.table.KeyedTable.{KeyedTable}
 use Rattle.tally_statements.specs.declared.table.KeyedTable.TheVariants.{Returns, Counts, Cons, Lots, Seats, Gone, Totals, Past}
 use Rattle.tally_tables.specs.Cells.{con_rows, count_rows, gone_rows, item_row, items_of, lot_rows, past_rows, return_rows, seat_rows, total_rows}
 use Rattle.tally_tables.specs.TablesOfState.{AreSeats, AreTables}
-use Rattle.tally_entries.specs.Constituencies.{ChangesOnly, HasLot}
-use Rattle.tally_entries.specs.Entries.{AreReturnsIn, ChangesReturn, CorrectsReturn, PutsReturn, stored_in}
-use Rattle.tally_requests.specs.Requests.{IsInState}
+use Rattle.tally_entries.specs.internal.Constituencies.{ChangesOnly, HasLot}
+use Rattle.tally_entries.specs.internal.Entries.{AreReturnsIn, ChangesReturn, CorrectsReturn, PutsReturn, stored_in}
+use Rattle.tally_requests.specs.internal.Requests.{IsInState}
 use Rattle.tally_requests.proofs.ChangeLemmas.{cons_keyed, gone_keyed, kept_rows, past_keyed, seats_keyed, stands, totals_keyed}
 use Rattle.tally_requests.proofs.LodgedLemmas.{return-put, seats-put, totals-put}
 use Rattle.tally_requests.proofs.WriteLemmas.{HasMoved, apart}

@@ -15,7 +15,7 @@ use Rattle.tally_steps.specs.Certification.{ByOutcome, ByOutcomeOrWrongLot, Coun
 use Rattle.tally_steps.specs.Outcome.{IsOutcome, Outcome, allotted, lot_missing, nobody}
 use Rattle.tally_steps.specs.Step.{Decides, IsConRefusal, IsView, certified_with, gone_for_good, lot_set, no_change, open_again, ConChange}
 use Rattle.tally_steps.proofs.DecisionLemmas.{given-by}
-use Rattle.tally_entries.specs.Constituencies.{IsViewWith, with_past_of}
+use Rattle.tally_entries.specs.internal.Constituencies.{IsViewWith, with_past_of}
 use Rattle.tally_requests.specs.internal.Seen.{shows_con}
 
 -- ---- what is seen

@@ -17,9 +17,9 @@ use Rattle.tally_keeper.specs.declared.import.Row.{Row}
 use Rattle.tally_keeper.specs.declared.source.ImportFault.{ImportFault}
 use Rattle.tally_keeper.proofs.ImportLemmas.{push_is}
 use Rattle.tally_keeper.proofs.TakenLemmas.{GivesAt, SoFar, SoFar-end, SoFar-fault, SoFar-next, SoFar-own, SoFar-start, all-given}
-use Rattle.tally_requests.specs.Known.{AreKnown, Known}
+use Rattle.tally_requests.specs.internal.Known.{AreKnown, Known}
 use Rattle.tally_requests.specs.internal.Counting.{known_after_row as after_row_known}
-use Rattle.tally_requests.specs.Requests.{IsImportedKnown, IsInState}
+use Rattle.tally_requests.specs.internal.Requests.{IsImportedKnown, IsInState}
 use Rattle.tally_requests.specs.internal.Lodging.{IsRowTaken}
 use Rattle.tally_requests.proofs.KnownLemmas.{known-row}
 use Rattle.tally_requests.proofs.LodgeLemmas.{row-lawful}

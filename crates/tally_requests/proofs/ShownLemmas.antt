@@ -13,9 +13,9 @@ use Rattle.tally_steps.specs.Step.{no_change}
 use Rattle.tally_steps.proofs.DecisionLemmas.{decisions-steps, unknown-constituency}
 use Rattle.tally_tables.specs.Views.{statuses_of}
 use Rattle.tally_tables.specs.declared.views.Statuses.{Statuses}
-use Rattle.tally_entries.specs.Constituencies.{FindsView, IsKnown, IsViewWith, with_past_of}
-use Rattle.tally_requests.specs.Known.{Known}
-use Rattle.tally_requests.specs.Shown.{FindsKnown, FindsShown, IsShownIn}
+use Rattle.tally_entries.specs.internal.Constituencies.{FindsView, IsKnown, IsViewWith, with_past_of}
+use Rattle.tally_requests.specs.internal.Known.{Known}
+use Rattle.tally_requests.specs.internal.Shown.{FindsKnown, FindsShown, IsShownIn}
 use Rattle.tally_requests.proofs.KnownLemmas.{known-remembered, seen-statuses}
 
 -- a code that is no constituency

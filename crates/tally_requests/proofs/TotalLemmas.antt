@@ -22,7 +22,7 @@ use Rattle.tally_returns.specs.Return.{StationReturn, Returns}
 use Rattle.tally_returns.specs.State.{State}
 use Rattle.tally_returns.specs.View.{blank_of, closed_counts, spoiled_of, votes_at, votes_of_lists}
 use Rattle.tally_returns.proofs.ClosedLemmas.{closed_counts-same, get-kept, get-put, put-elsewhere, station-elsewhere}
-use Rattle.tally_ledger.specs.Sums.{moved_sum}
+use Rattle.tally_ledger.specs.internal.MovedSum.{moved_sum}
 use Rattle.tally_ledger.specs.internal.Sums.{moved_sums}
 use Rattle.tally_ledger.proofs.SetupLemmas.{Has, Apart, Differ, apart-has, bytes_flipped, code_of_station, con-found, con-only, not_apart, station-found, stations-differ}
 use Rattle.tally_ledger.proofs.SumLemmas.{at_place, closed-total, if_closed, mapped-same, total}
@@ -31,8 +31,8 @@ use Rattle.tally_schema.specs.Tables.{setup_tree}
 use Rattle.tally_statements.specs.Office.{IsInside, tree_of}
 use Rattle.tally_statements.specs.declared.table.KeyedTable.TheVariants.{Totals}
 use Rattle.tally_tables.specs.Cells.{total_rows, totals_of}
-use Rattle.tally_entries.specs.Constituencies.{ChangesOnly, ChangesSums, DifferBy, FindsSums}
-use Rattle.tally_entries.specs.Entries.{stored_in}
+use Rattle.tally_entries.specs.internal.Constituencies.{ChangesOnly, ChangesSums, DifferBy, FindsSums}
+use Rattle.tally_entries.specs.internal.Entries.{stored_in}
 use Rattle.tally_entries.proofs.FindLemmas.{inside_still}
 use Rattle.tally_requests.specs.internal.Moves.{CountsSo}
 use Rattle.tally_requests.specs.internal.Sums.{with_counts_moved}

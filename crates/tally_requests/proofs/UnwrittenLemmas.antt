@@ -8,7 +8,7 @@ use Rattle.tally_returns.specs.declared.refusal.Refusal.{Refusal}
 use Rattle.tally_returns.specs.declared.reply.Reply.{Reply}
 use Rattle.tally_statements.specs.Office.{IsInside}
 use Rattle.tally_entries.proofs.FindLemmas.{inside_still}
-use Rattle.tally_requests.specs.Requests.{WritesOnlyActs}
+use Rattle.tally_requests.specs.internal.Requests.{WritesOnlyActs}
 
 -- what was done after a call that only reads
 pub unwritten-then : (old mid new : Seen) (r : Result (Result Reply Refusal) Error) → (HasCleanDisk new → HasCleanDisk mid) → (HasCleanDisk mid → IsInside old → IsUnchanged old mid) → WritesOnlyActs mid new r → WritesOnlyActs old new r

@@ -13,8 +13,8 @@ use Rattle.tally_statements.specs.declared.table.KeyedTable.{KeyedTable}
 use Rattle.tally_statements.specs.declared.table.KeyedTable.TheVariants.{Cons, Lots, Seats, Past}
 use Rattle.tally_statements.specs.Office.{tree_of}
 use Rattle.tally_tables.specs.Cells.{con_rows, lot_rows, past_rows, seat_rows}
-use Rattle.tally_entries.specs.Constituencies.{ChangesOnly, HasLot, HasRecord, HasEdition, MovesRows, MovesSeats}
-use Rattle.tally_entries.specs.Entries.{stored_in}
+use Rattle.tally_entries.specs.internal.Constituencies.{ChangesOnly, HasLot, HasRecord, HasEdition, MovesRows, MovesSeats}
+use Rattle.tally_entries.specs.internal.Entries.{stored_in}
 use Rattle.tally_requests.specs.internal.Changes.{ChangesAmong, HasWrittenLot, HoldsCon, HasWrittenRecord, HasWrittenSeats}
 
 pub apart : (u t : KeyedTable) → nat_eq (tree_of u) (tree_of t) ≡ false → tree_of u ≢ tree_of t

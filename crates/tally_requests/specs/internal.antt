@@ -1,4 +1,5 @@
--- Words of private contracts and of proofs. No promise to a caller speaks of them.
+-- Words of private contracts, of what crates promise one another, and of proofs. No promise to a
+-- program speaks of them.
 pub mod Lodging
 pub mod Seen
 pub mod Found
@@ -7,3 +8,7 @@ pub mod Moves
 pub mod Sums
 pub mod Counting
 pub mod Answering
+pub mod Inside
+pub mod Known
+pub mod Requests
+pub mod Shown

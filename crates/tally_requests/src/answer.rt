@@ -1,8 +1,8 @@
 //! A request, answered and carried out.
 
 ghost use Rattle.tally_returns.specs.declared.ask.Ask.TheVariants.{Lodge};
-ghost use Rattle.tally_statements.specs.Inside.{StaysInside};
-ghost use Rattle.tally_requests.specs.Requests.{AnswersIn};
+ghost use Rattle.tally_statements.specs.internal.Inside.{StaysInside};
+ghost use Rattle.tally_requests.specs.internal.Requests.{AnswersIn};
 
 use crate::constituencies::{answer_on_con, show_progress};
 use crate::returns::{lodge, move_on, show_return};

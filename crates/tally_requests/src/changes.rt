@@ -13,7 +13,7 @@ ghost use Rattle.tally_rules.specs.Setup.{constituency_with};
 ghost use Rattle.tally_requests.specs.internal.Changes.{CarriesDecided, HasWrittenLot};
 ghost use Rattle.tally_requests.specs.internal.Changes.{HasWrittenRecord, HasWrittenSeats};
 ghost use Rattle.tally_requests.specs.internal.Changes.{WritesSo};
-ghost use Rattle.tally_statements.specs.Inside.{InDatabase, Stays, StaysInside};
+ghost use Rattle.tally_statements.specs.internal.Inside.{InDatabase, Stays, StaysInside};
 ghost use Rattle.tally_requests.specs.internal.Changes.{CarriesChange};
 
 use sqlite::{Alter, Error, Transaction};

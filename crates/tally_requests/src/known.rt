@@ -4,7 +4,7 @@
 ghost use Rattle.std.specs.Prelude.{◌≡◌, OnOk, option_map};
 ghost use Rattle.std.specs.FinMap.{get, insert};
 ghost use Rattle.tally_returns.specs.Return.{StationReturn};
-ghost use Rattle.tally_requests.specs.Known.{known_of};
+ghost use Rattle.tally_requests.specs.internal.Known.{known_of};
 ghost use Rattle.tally_requests.specs.internal.Counting.{after_command, known_after_move};
 ghost use Rattle.tally_requests.specs.internal.Counting.{statuses_of_row, with_move, with_one};
 ghost use Rattle.tally_requests.specs.internal.Counting.{without_one};

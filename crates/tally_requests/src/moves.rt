@@ -4,7 +4,7 @@ ghost use Rattle.std.specs.Prelude.{◌≡◌, ◌≢◌, ◌≤◌, length};
 ghost use Rattle.tally_frac.specs.Limits.{most_lists};
 ghost use Rattle.tally_returns.specs.declared.returns.Status.TheVariants.{Closed, Corrected};
 ghost use Rattle.tally_returns.specs.declared.returns.Status.TheVariants.{Queried};
-ghost use Rattle.tally_statements.specs.Inside.{InDatabase, StaysInside};
+ghost use Rattle.tally_statements.specs.internal.Inside.{InDatabase, StaysInside};
 ghost use Rattle.tally_requests.specs.internal.Moves.{PutsMoved, Uncounts, with_queried};
 ghost use Rattle.tally_requests.specs.internal.Moves.{with_standing};
 

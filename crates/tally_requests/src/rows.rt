@@ -7,10 +7,10 @@ ghost use Rattle.tally_keeper.specs.Import.{IsCodedRow};
 ghost use Rattle.tally_keeper.specs.Keeper.{IsOwnFault};
 ghost use Rattle.tally_keeper.specs.declared.import.Row.{Row};
 ghost use Rattle.tally_rules.specs.Code.{is_code};
-ghost use Rattle.tally_statements.specs.Inside.{StaysInside};
-ghost use Rattle.tally_requests.specs.Inside.{StaysInState};
+ghost use Rattle.tally_statements.specs.internal.Inside.{StaysInside};
+ghost use Rattle.tally_requests.specs.internal.Inside.{StaysInState};
 ghost use Rattle.tally_requests.specs.internal.Counting.{CountsLodge, CountsRow};
-ghost use Rattle.tally_requests.specs.Requests.{LodgesRows};
+ghost use Rattle.tally_requests.specs.internal.Requests.{LodgesRows};
 ghost use Rattle.tally_requests.specs.internal.Lodging.{Lodges, TakesRow};
 
 use crate::returns::lodge;

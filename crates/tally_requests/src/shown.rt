@@ -4,10 +4,10 @@ ghost use Rattle.std.specs.Prelude.{◌≡◌, [], Some, IfOk, OnOk};
 ghost use Rattle.tally_rules.specs.Constituency as value;
 ghost use Rattle.tally_rules.specs.Setup.{constituency_with};
 ghost use Rattle.tally_returns.specs.View.{FitsView};
-ghost use Rattle.tally_entries.specs.Entries.{Finds};
-ghost use Rattle.tally_statements.specs.Inside.{OnlyReads};
-ghost use Rattle.tally_requests.specs.Known.{ForgetsNone, known_of};
-ghost use Rattle.tally_requests.specs.Shown.{FindsKnown, FindsShown};
+ghost use Rattle.tally_entries.specs.internal.Entries.{Finds};
+ghost use Rattle.tally_statements.specs.internal.Inside.{OnlyReads};
+ghost use Rattle.tally_requests.specs.internal.Known.{ForgetsNone, known_of};
+ghost use Rattle.tally_requests.specs.internal.Shown.{FindsKnown, FindsShown};
 
 use crate::known::{known_at, remember};
 use sqlite::{Alter, Error, Transaction};

@@ -11,11 +11,11 @@ pub record VoteCounts : Type 0 where
   pub spoiled : ℕ
 
 -- the greatest number that a return may hold
-abbrev pub greatest : ℕ
-greatest = 1000000
+abbrev pub most_of_one_number : ℕ
+most_of_one_number = 1000000
 
 abbrev pub is_number : ℕ → Bool
-is_number n = nat_le n greatest
+is_number n = nat_le n most_of_one_number
 
 -- one number for each list, and none above the greatest
 abbrev pub are_counts : ℕ → VoteCounts → Bool

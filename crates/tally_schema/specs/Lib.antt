@@ -2,4 +2,3 @@ pub mod internal
 pub mod Tables
 pub mod Made
 pub mod Cells
-pub mod Stays

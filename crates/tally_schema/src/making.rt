@@ -2,7 +2,7 @@
 
 ghost use Rattle.std.specs.Prelude.{◌≡◌};
 ghost use Rattle.tally_schema.specs.Made.{RunsStatement, Makes, MakesDatabase, MakesPast};
-ghost use Rattle.tally_schema.specs.Stays.{InDatabase, Stays};
+ghost use Rattle.tally_schema.specs.internal.Stays.{InDatabase, Stays};
 ghost use Rattle.tally_schema.specs.internal.Texts.{create_returns_text};
 
 use sqlite::{Alter, Error, Transaction};

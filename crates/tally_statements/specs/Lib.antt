@@ -1,3 +1,2 @@
 pub mod internal
 pub mod Office
-pub mod Inside

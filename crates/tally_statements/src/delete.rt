@@ -1,6 +1,6 @@
 //! DELETE of the rows of a constituency.
 
-ghost use Rattle.tally_statements.specs.Inside.{InDatabase, Stays};
+ghost use Rattle.tally_statements.specs.internal.Inside.{InDatabase, Stays};
 ghost use Rattle.tally_statements.specs.Office.{Deletes};
 ghost use Rattle.tally_statements.specs.declared.table.KeyedTable.TheVariants.{Lots, Seats};
 

@@ -1,7 +1,7 @@
 //! INSERT of one row into a table.
 
 ghost use Rattle.std.specs.Prelude.{◌≡◌, pos, ℕ};
-ghost use Rattle.tally_statements.specs.Inside.{InDatabase, Stays};
+ghost use Rattle.tally_statements.specs.internal.Inside.{InDatabase, Stays};
 ghost use Rattle.tally_statements.specs.Office.{Inserts, con_cells, gone_cells, item_cells};
 ghost use Rattle.tally_statements.specs.Office.{past_cells, return_cells};
 ghost use Rattle.tally_statements.specs.declared.table.KeyedTable.TheVariants.{Returns, Counts};

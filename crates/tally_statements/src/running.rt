@@ -1,7 +1,7 @@
 //! Running a statement in a transaction.
 
 ghost use Rattle.sqlite.specs.Values.{bound};
-ghost use Rattle.tally_statements.specs.Inside.{InDatabase, Stays};
+ghost use Rattle.tally_statements.specs.internal.Inside.{InDatabase, Stays};
 ghost use Rattle.tally_statements.specs.Office.{RunsWithValues};
 
 use sqlite::types::ValueRef;

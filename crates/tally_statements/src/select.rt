@@ -1,7 +1,7 @@
 //! SELECT of the rows of a key, and of whole tables.
 
 ghost use Rattle.std.specs.Prelude.{◌≡◌};
-ghost use Rattle.tally_statements.specs.Inside.{InDatabase, OnlyReads, OnlyReadsFrom};
+ghost use Rattle.tally_statements.specs.internal.Inside.{InDatabase, OnlyReads, OnlyReadsFrom};
 ghost use Rattle.tally_statements.specs.Office.{FindsRows, HasTables, ShowsAllRowids, ShowsAllRows};
 ghost use Rattle.tally_statements.specs.internal.Texts.{rows_of_text, all_rows_text, rowids_text};
 

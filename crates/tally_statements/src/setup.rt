@@ -1,6 +1,6 @@
 //! The table `setup`, which has one row.
 
-ghost use Rattle.tally_statements.specs.Inside.{InDatabase, OnlyReadsFrom, Stays};
+ghost use Rattle.tally_statements.specs.internal.Inside.{InDatabase, OnlyReadsFrom, Stays};
 ghost use Rattle.tally_statements.specs.Office.{HasTables, InsertsSetup, SetsVersion};
 ghost use Rattle.tally_statements.specs.Office.{ShowsAllSetup};
 

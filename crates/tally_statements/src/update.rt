@@ -1,7 +1,7 @@
 //! UPDATE of one row by its key.
 
 ghost use Rattle.std.specs.Prelude.{◌≡◌, pos, ℕ};
-ghost use Rattle.tally_statements.specs.Inside.{InDatabase, Stays};
+ghost use Rattle.tally_statements.specs.internal.Inside.{InDatabase, Stays};
 ghost use Rattle.tally_statements.specs.Office.{SetsItem, UpdatesCon, UpdatesReturn};
 ghost use Rattle.tally_statements.specs.declared.table.KeyedTable.TheVariants.{Counts, Totals};
 

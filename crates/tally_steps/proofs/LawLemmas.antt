@@ -174,7 +174,7 @@ result-reported : (view : View) (result : Result (List ℕ) Refusal) (refusal : 
 result-reported view (Ok seats) refusal is = cc
 result-reported view (Err e) refusal is = cc
 
--- no check before the votes tells of a lot
+-- no check before the votes names a lot
 no_lot-checked : (a b c d : Bool) (now left : ℕ) (group : List Bool) (n : ℕ)
     → first_refusal (check a Certified ∷ check b (Stale now) ∷ check c Exhausted ∷ check d (NotAllClosed left) ∷ []) ≡ Some (LotMissing group n) → ⊥
 no_lot-checked false b c d now left group n is = cc

@@ -239,7 +239,7 @@ records-last setup s con code view ask note past lawful on viewed decides = λ k
 
 -- ---- records are of allotments
 
--- an answer that tells an edition
+-- an answer that has an edition
 reported-edition : (r : Result Reply Refusal) (n : ℕ) → reply_seen r ≡ Ok (edition_now n) → r ≡ Ok (Edition n)
 reported-edition (Ok (Lodged rev)) n is = cc
 reported-edition (Ok (Same rev)) n is = cc

@@ -55,7 +55,7 @@ mark (Vacate con list place note) = candidate con list place
 mark (ShowCon con) = nothing
 mark ShowProgress = nothing
 
--- what is seen of a command tells on what it acts
+-- what is seen of a command says on what it acts
 abbrev mark_seen : AskSeen → Mark
 mark_seen (seen_ask.lodge station slip counts) = revision station 0
 mark_seen (seen_ask.query station rev note) = revision station rev

@@ -1,5 +1,5 @@
--- Who holds a list's seats (LOREG article 163.1 e)): its candidates in their order, those who are
--- gone left out.
+-- Who holds a list's seats: its candidates in their order (LOREG article 163.1 e)), and in place of
+-- one who is gone the next of them (article 164.1).
 use Rattle.std.specs.Prelude.{ℕ, Bool, not, nat_eq, List, take, Option}
 use Rattle.std.specs.List.{list_any, find, filter, range_with_len}
 

@@ -11,8 +11,8 @@ use Rattle.tally_returns.specs.declared.refusal.Refusal.{Refusal}
 use Rattle.tally_returns.specs.declared.reply.Reply.{Reply}
 use Rattle.tally_steps.specs.LawfulState.{IsLawfulState}
 use Rattle.tally_steps.specs.Step.{IsNotAccepted}
-use Rattle.tally_requests.specs.Known.{AreKnown, ForgetsNone, Known}
-use Rattle.tally_requests.specs.Requests.{IsCarriedOut}
+use Rattle.tally_requests.specs.internal.Known.{AreKnown, ForgetsNone, Known}
+use Rattle.tally_requests.specs.internal.Requests.{IsCarriedOut}
 use Rattle.tally_statements.specs.Office.{IsInside}
 use Rattle.tally_tables.specs.TablesOfState.{AreTables}
 use Rattle.tally_opening.specs.Create.{IsAsBefore}
@@ -20,7 +20,8 @@ use Rattle.tally_opening.specs.Office.{HasState, IsOffice}
 use Rattle.tally_opening.proofs.ReturnLemmas.{Began, rolled_back}
 use Rattle.tally_opening.proofs.UnwrittenLemmas.{LeavesCommit}
 use Rattle.tally_store.specs.Crash.{LeavesAfter, WritesNothing}
-use Rattle.tally_store.specs.Store.{IsKnownOf, IsOfLawfulState}
+use Rattle.tally_store.specs.Store.{IsOfLawfulState}
+use Rattle.tally_store.specs.internal.Served.{IsKnownOf}
 use Rattle.tally_store.specs.internal.Requests.{CommitsAnswer, EndsRequest, EndsTransaction, IsDone, IsNothing, UndoesRequest}
 use Rattle.tally_store.proofs.RequestLemmas.{done_committed, done_failed, not_accepted, tables_after, unwritten_commit}
 

@@ -34,10 +34,10 @@ use Rattle.tally_keeper.specs.declared.import.ImportCount.{ImportCount}
 use Rattle.tally_keeper.specs.declared.source.ImportFault.{ImportFault}
 use Rattle.tally_keeper.proofs.EventLemmas.{happen-lawful}
 use Rattle.tally_ledger.proofs.TreeLemmas.{get-tree}
-use Rattle.tally_requests.specs.Inside.{IsLawfulInside, StaysInState}
-use Rattle.tally_requests.specs.Known.{AreKnown, Known, known_of}
-use Rattle.tally_requests.specs.Requests.{IsCarriedOut, IsImported, IsImportedKnown, IsInState}
-use Rattle.tally_statements.specs.Inside.{StaysInside}
+use Rattle.tally_requests.specs.internal.Inside.{IsLawfulInside, StaysInState}
+use Rattle.tally_requests.specs.internal.Known.{AreKnown, Known, known_of}
+use Rattle.tally_requests.specs.internal.Requests.{IsCarriedOut, IsImported, IsImportedKnown, IsInState}
+use Rattle.tally_statements.specs.internal.Inside.{StaysInside}
 use Rattle.tally_statements.specs.declared.table.KeyedTable.{KeyedTable}
 use Rattle.tally_statements.specs.Office.{IsInside, tree_of}
 use Rattle.tally_tables.specs.TablesOfState.{AreTables}
@@ -49,7 +49,8 @@ use Rattle.tally_opening.specs.Create.{IsAsBefore}
 use Rattle.tally_store.specs.internal.Requests.{Does, DoesImport, IsDone, IsAllDone, IsAllKnown, IsImportDone, IsNothing, KnowsAfter, KnowsImported}
 use Rattle.tally_opening.specs.Office.{HasState, IsOffice}
 use Rattle.tally_opening.proofs.UnwrittenLemmas.{LeavesCommit}
-use Rattle.tally_store.specs.Store.{IsServed, IsStored, KeepsText}
+use Rattle.tally_store.specs.Store.{IsStored, KeepsText}
+use Rattle.tally_store.specs.internal.Served.{IsServed}
 use Rattle.tally_opening.proofs.WholeLemmas.{whole_inside}
 use Rattle.tally_store.proofs.ContentLemmas.{content_is, content_shut}
 

@@ -17,15 +17,16 @@ use Rattle.tally_steps.specs.Step.{IsNotAccepted}
 use Rattle.tally_steps.proofs.LawLemmas.{answered-lawful}
 use Rattle.tally_keeper.specs.Keeper.{Happens, request}
 use Rattle.tally_keeper.specs.Shown.{AnswersShowCon, con_with}
-use Rattle.tally_requests.specs.Known.{AreKnown, Known}
-use Rattle.tally_requests.specs.Requests.{IsCarriedOut}
-use Rattle.tally_requests.specs.Shown.{IsShownIn}
+use Rattle.tally_requests.specs.internal.Known.{AreKnown, Known}
+use Rattle.tally_requests.specs.internal.Requests.{IsCarriedOut}
+use Rattle.tally_requests.specs.internal.Shown.{IsShownIn}
 use Rattle.tally_requests.proofs.KnownLemmas.{con-returns}
 use Rattle.tally_statements.specs.Office.{IsInside}
 use Rattle.tally_tables.specs.TablesOfState.{AreTables}
 use Rattle.tally_opening.specs.Office.{HasState, IsOffice}
 use Rattle.tally_store.specs.Content.{content_of}
-use Rattle.tally_store.specs.Store.{IsServed, IsStored, KeepsText}
+use Rattle.tally_store.specs.Store.{IsStored, KeepsText}
+use Rattle.tally_store.specs.internal.Served.{IsServed}
 use Rattle.tally_store.specs.internal.Requests.{DoesShow, IsNothing, IsConShown, KnowsStill}
 use Rattle.tally_store.proofs.ContentLemmas.{content_is, content_shut}
 use Rattle.tally_store.proofs.EndLemmas.{GotSo}

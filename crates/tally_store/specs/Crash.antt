@@ -1,4 +1,6 @@
--- What a crash may leave of a store.
+-- What a crash may leave of a store. The clauses speak of a crash at the end of a call. A disk that
+-- stops within a call refuses every later access, so that the call still ends, and its clause holds
+-- of that stop too. That is an inference: no clause states it.
 use Rattle.std.specs.Prelude.{◌≡◌, ◌⊎◌, List, ℕ, IsTrue, Some, Result}
 use Rattle.sqlite.specs.State.{State as Seen, HasCleanDisk, KeepsCounts}
 use Rattle.sqlite_trees.specs.Tree.{Trees}

@@ -8,7 +8,6 @@ use Rattle.tally_rules.specs.Limits.{IsSetup}
 use Rattle.tally_rules.specs.contracts.setup.Setup.{the_row as setup_row}
 use Rattle.tally_returns.specs.State.{State}
 use Rattle.tally_steps.specs.LawfulState.{IsLawfulState}
-use Rattle.tally_requests.specs.Known.{AreKnown, Known}
 use Rattle.tally_opening.specs.Office.{HasState, IsOffice}
 
 -- a connection to the tables of an office, and the constituencies of its setup
@@ -33,19 +32,6 @@ pub record IsStored (setup : List Constituency) (seen : Seen) : Type 0 where
   pub limits : IsSetup setup
   pub autocommit : seen.in_transaction ≡ false
   pub office : IsOfLawfulState setup seen
-
--- While the connection is open, what is known of constituencies is true of every lawful state whose
--- database it is.
-abbrev pub IsKnownOf : List Constituency → Seen → Known → Type 0
-IsKnownOf setup seen known =
-    HasCleanDisk seen → IsTrue seen.is_open
-    → (text : List ℕ) (s : State) → IsLawfulState setup s → HasState setup text s seen
-    → AreKnown setup s.returns known
-
--- What a store keeps true of its connection, and of what it knows.
-pub record IsServed (setup : List Constituency) (seen : Seen) (known : Known) : Type 0 where
-  pub stored : IsStored setup seen
-  pub true_is : IsKnownOf setup seen known
 
 -- The text of the setup that is on record stays, byte for byte. Where the database was that of a
 -- lawful state over this text, it is that of some state over the same text.

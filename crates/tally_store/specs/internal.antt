@@ -1,3 +1,4 @@
 -- Words of private contracts and of proofs. No promise to a caller speaks of them.
 pub mod Making
 pub mod Requests
+pub mod Served

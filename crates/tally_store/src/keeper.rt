@@ -44,9 +44,9 @@ impl<S: Alter> Keeper for Store<S> {
 
     /// Answers a request in a transaction of its own. The database is then that of the store's
     /// state, with the same text of the setup, or a failed disk has shut the store. A crash at the
-    /// end of the call, and so a disk that stops anywhere within it, leaves what it could leave
-    /// before, or the tables after this request. A request that is refused, that repeats what is
-    /// recorded or that shows something writes nothing.
+    /// end of the call leaves what it could leave before, or the tables after this request. A
+    /// request that is refused, that repeats what is recorded or that shows something writes
+    /// nothing.
     fn answer(&mut self, ask: &Ask) -> Result<Reply, Refusal>
         ensures stays { StaysStore S.Store self.old self.new }
         ensures kind { IfOk result (IsReplyTo self.old.setup ask.now) }
@@ -95,8 +95,8 @@ impl<S: Alter> Keeper for Store<S> {
 
     /// Lodges the rows of a source in one transaction. The database is then that of the store's
     /// state, with the same text of the setup, or a failed disk has shut the store. A crash at the
-    /// end of the call, and so a disk that stops anywhere within it, leaves what it could leave
-    /// before, or the tables after an import of all rows that the source gave until its end.
+    /// end of the call leaves what it could leave before, or the tables after an import of all rows
+    /// that the source gave until its end.
     fn lodge_from<R: RowSource>(&mut self, rows: &mut R) -> Result<ImportCount, ImportFault>
         ensures stays { StaysStore S.Store self.old self.new }
         ensures imported { ImportsIn S.Store

@@ -10,7 +10,7 @@ ghost use Rattle.tally_opening.specs.Create.{IsCreateFault, no_schema};
 ghost use Rattle.tally_opening.specs.Open.{IsOpenFault, IsSetupOf};
 ghost use Rattle.tally_store.specs.Create.{HasOpeningTables, IsGivenBack, ShowsFound};
 ghost use Rattle.tally_store.specs.internal.Making.{ShowsState};
-ghost use Rattle.tally_requests.specs.Known.{known_of};
+ghost use Rattle.tally_requests.specs.internal.Known.{known_of};
 ghost use Rattle.tally_store.specs.Keeping.{conn_left};
 ghost use Rattle.tally_store.specs.Store.{IsStored};
 ghost use Rattle.tally_store.specs.internal.Making.{IsOfKnownState};
@@ -39,8 +39,9 @@ pub struct Store<S: Alter> {
 
 impl<S: Alter> Model for Store<S> {
     ghost use Rattle.sqlite.specs.Held.{state};
-    ghost use Rattle.tally_requests.specs.Known.{known_of};
-    ghost use Rattle.tally_store.specs.Store.{Stored, stored_code, IsServed};
+    ghost use Rattle.tally_requests.specs.internal.Known.{known_of};
+    ghost use Rattle.tally_store.specs.Store.{Stored, stored_code};
+    ghost use Rattle.tally_store.specs.internal.Served.{IsServed};
 
     ghost Value = { Stored S };
 

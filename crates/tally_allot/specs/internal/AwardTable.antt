@@ -2,15 +2,15 @@
 use Rattle.std.specs.Prelude.{ℕ, List}
 use Rattle.tally_allot.specs.Awards.{AreAwards}
 use Rattle.tally_allot.specs.declared.award.Award.{Award}
-use Rattle.tally_contest.specs.declared.won.Won.{Won}
+use Rattle.tally_contest.specs.declared.won.WonSeat.{WonSeat}
 use Rattle.tally_law.specs.DivisorAllotment.{IsDivisorAllotment}
 use Rattle.tally_law.specs.Poll.{Poll}
 use Rattle.tally_contest.specs.internal.Terms.{IsProperLot, placed_divisor_race}
 use Rattle.tally_rules.specs.declared.profile.LotRule.{LotRule}
-use Rattle.tally_contest.specs.internal.Won.{AreWon}
+use Rattle.tally_contest.specs.internal.WonSeat.{AreWon}
 
 -- Under whichever proper lot the seats are the allotment and were won so, these are its awards.
-abbrev pub IsTableOf : (ℕ → ℕ) → ℕ → LotRule → Poll → List ℕ → List Won → List Award → Type 0
+abbrev pub IsTableOf : (ℕ → ℕ) → ℕ → LotRule → Poll → List ℕ → List WonSeat → List Award → Type 0
 IsTableOf nth unit lot_rule poll a rows awards = (lot : List ℕ) (seats : ℕ) → IsProperLot poll lot →
     IsDivisorAllotment nth unit lot_rule poll lot seats a →
     AreWon (placed_divisor_race nth lot_rule poll lot seats) a rows →

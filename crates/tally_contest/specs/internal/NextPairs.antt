@@ -7,7 +7,7 @@ use Rattle.tally_frac.specs.Limits.{last_divisor}
 use Rattle.tally_frac.specs.Rank.{Pair, IsWithinLimits}
 use Rattle.tally_frac.specs.internal.RankOrder.{rank_cmp}
 use Rattle.tally_contest.specs.internal.Terms.{Terms, pair_on}
-use Rattle.tally_contest.specs.internal.Won.{none_held}
+use Rattle.tally_contest.specs.internal.WonSeat.{none_held}
 use Rattle.tally_law.specs.Poll.{Poll, IsEligible}
 
 -- a pair of a list and its k-th seat, with its key first

@@ -26,9 +26,9 @@ use Rattle.tally_tables.specs.Cells.{con_rows, return_rows}
 use Rattle.tally_tables.specs.Reading.{standing_of, status_of}
 use Rattle.tally_tables.specs.Views.{Tables, view_from_tables}
 use Rattle.tally_tables.specs.declared.views.Statuses.{Statuses}
-use Rattle.tally_entries.specs.Constituencies.{IsKnown}
-use Rattle.tally_entries.specs.Entries.{stored_in}
-use Rattle.tally_entries.specs.Statuses.{statuses_in}
+use Rattle.tally_entries.specs.internal.Constituencies.{IsKnown}
+use Rattle.tally_entries.specs.internal.Entries.{stored_in}
+use Rattle.tally_entries.specs.internal.Statuses.{statuses_in}
 
 -- ---- what rows read as
 

@@ -9,7 +9,7 @@ use Rattle.tally_returns.specs.Counts.{VoteCounts}
 use Rattle.tally_statements.specs.declared.table.KeyedTable.{KeyedTable}
 use Rattle.tally_statements.specs.Office.{rows_in, HasRows, IsInside, is_item, item_cells}
 use Rattle.tally_tables.specs.Cells.{item_row, items_of}
-use Rattle.tally_entries.specs.Constituencies.{DifferBy}
+use Rattle.tally_entries.specs.internal.Constituencies.{DifferBy}
 use Rattle.tally_entries.specs.internal.Written.{HasItems}
 
 -- The number of an item of a key is this one, where it was that already or is moved by more than 0.

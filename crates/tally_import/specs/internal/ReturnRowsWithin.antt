@@ -9,7 +9,7 @@ use Rattle.tally_keeper.specs.declared.source.ImportFault.TheVariants as cause
 use Rattle.tally_records.specs.Input.{size_limit, text_records}
 use Rattle.tally_import.specs.ReturnRows.{records_coming, import_fault, is_header, fault_alone}
 use Rattle.tally_import.specs.ReturnRows.{rows_coming, text_coming}
-use Rattle.tally_import.specs.ReturnRowsValue.{ReturnRows, coming, coming_at, own_fault}
+use Rattle.tally_import.specs.ReturnRowsValue.{ReturnRows, rows_to_come, coming_at, own_fault}
 use Rattle.tally_records.specs.declared.end.Stop.TheVariants as stopped
 use Rattle.tally_records.specs.declared.separator.Sep.{Sep}
 
@@ -67,5 +67,5 @@ at-within con sep came None (Some text) =
     (omega (arith, length-drop came (text_coming con sep text).rows, whole.0), whole.1)
 at-within con sep came (Some fault) (Some text) = own-within fault
 
-pub coming-within : (rows : ReturnRows) → IfSome (coming rows) IsWithinRowLimit
+pub coming-within : (rows : ReturnRows) → IfSome (rows_to_come rows) IsWithinRowLimit
 coming-within rows = at-within rows.con rows.sep rows.came rows.ended rows.text

@@ -11,10 +11,10 @@ use Rattle.tally_records.specs.Separator.{separator, config}
 use Rattle.tally_records.specs.internal.Text.{bytes_left}
 use Rattle.tally_records.specs.declared.end.End.{End}
 use Rattle.tally_records.specs.declared.end.Stop.{Stop}
-use Rattle.tally_records.specs.declared.held.Held.{Held}
+use Rattle.tally_records.specs.declared.held.HeldText.{HeldText}
 use Rattle.tally_records.specs.declared.text.Text.{Text}
 use Rattle.tally_records.specs.declared.work.Work.{Work}
-use Rattle.tally_records.specs.Given.{Came, GaveAllRecords, GivesRecord, HasGiven, TellsTrue}
+use Rattle.tally_records.specs.Given.{Came, GaveAllRecords, GivesRecord, HasGiven, WatchAgrees}
 use Rattle.tally_records.specs.RecordsValue.{Records}
 use Rattle.tally_records.specs.declared.piece.Rest.{Rest}
 use Rattle.tally_records.specs.declared.separator.Sep.{Sep}
@@ -44,12 +44,12 @@ Fills old_left left old old_taken new new_taken end = (came : List ℕ) × (new 
     old_taken ≡ length bytes → Came text left (bytes ++ came) new_taken end)
 
 -- the same of bytes that are held
-abbrev pub FillsHeld : Option (List ℕ) → Option (List ℕ) → Held → Held → Option End → Type 0
+abbrev pub FillsHeld : Option (List ℕ) → Option (List ℕ) → HeldText → HeldText → Option End → Type 0
 FillsHeld old_left left old new end =
     Fills old_left left old.bytes.items old.taken new.bytes.items new.taken end
 
 -- bytes came, and are held after those that were; none may have come
-abbrev pub HoldsMore : Option (List ℕ) → Option (List ℕ) → Held → Held → Type 0
+abbrev pub HoldsMore : Option (List ℕ) → Option (List ℕ) → HeldText → HeldText → Type 0
 HoldsMore old_left left old new = (came : List ℕ) × (new.bytes.items ≡ old.bytes.items ++ came) ×
     (new.taken ≡ old.taken + length came)
     × ((text : Option (List ℕ)) (bytes : List ℕ) → Consumes text old_left bytes →
@@ -61,11 +61,11 @@ Ends old_left left stop = (text : Option (List ℕ)) (bytes : List ℕ) → Cons
     length bytes ≤ size_limit → IfSome text (λ t. Gave t left bytes stop)
 
 -- all that came is held, after what was held before
-abbrev pub HoldsAllThatCame : Held → Held → Type 0
+abbrev pub HoldsAllThatCame : HeldText → HeldText → Type 0
 HoldsAllThatCame old new = new.taken + length old.bytes.items ≡ old.taken + length new.bytes.items
 
 -- no more bytes are held than came and were held before
-abbrev pub HoldsNoMore : Held → Held → Type 0
+abbrev pub HoldsNoMore : HeldText → HeldText → Type 0
 HoldsNoMore old new = old.taken + length new.bytes.items ≤ new.taken + length old.bytes.items
 
 -- ---- the records of a piece
@@ -111,7 +111,7 @@ IsPiece None bytes piece = ends_line (take piece bytes) ≡ true
 IsPiece (Some end) bytes piece = take piece bytes ≡ bytes
 
 -- the bytes that are held, or that were as the input ended
-abbrev pub bytes_at : Option End → Held → Text → List ℕ
+abbrev pub bytes_at : Option End → HeldText → Text → List ℕ
 bytes_at None held last = held.bytes.items
 bytes_at (Some end) held last = bytes_left last
 
@@ -119,7 +119,7 @@ abbrev pub bytes_of : Work → List ℕ
 bytes_of r = bytes_at r.end r.held r.last.value
 
 -- What a read did of bytes that were held: they are taken up with what came after them.
-abbrev pub TakesUp : Option (List ℕ) → Option (List ℕ) → Held → Work → Type 0
+abbrev pub TakesUp : Option (List ℕ) → Option (List ℕ) → HeldText → Work → Type 0
 TakesUp old_left left held r =
     Fills old_left left held.bytes.items held.taken (bytes_of r) r.held.taken r.end
 
@@ -199,8 +199,8 @@ abbrev pub GaveAllAt : Option (List ℕ) → Option (List ℕ) → Work → Opti
 GaveAllAt old_left left old stop = GaveAllRecords old_left left (records_of_work old true) stop
 
 -- the watch notes what it noted before, and a failed read where one stopped the input
-abbrev pub TellsTrueAt : Bool → Work → Bool → Type 0
-TellsTrueAt before work failed = TellsTrue before (records_of_work work true) failed
+abbrev pub WatchAgreesAt : Bool → Work → Bool → Type 0
+WatchAgreesAt before work failed = WatchAgrees before (records_of_work work true) failed
 
 -- the records that were given before are those given now
 abbrev pub KeepsGiven : Option (List ℕ) → Option (List ℕ) → Work → Work → Type 0

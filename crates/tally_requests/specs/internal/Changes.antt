@@ -20,10 +20,11 @@ use Rattle.tally_statements.specs.declared.table.KeyedTable.TheVariants.{Cons, L
 use Rattle.tally_statements.specs.Office.{IsInside, tree_of}
 use Rattle.tally_tables.specs.Cells.{con_rows, lot_rows, past_rows}
 use Rattle.tally_tables.specs.TablesOfState.{AreTables}
-use Rattle.tally_entries.specs.Entries.{stored_in}
-use Rattle.tally_entries.specs.Constituencies.{HasLot, HasRecord, HasEdition, MovesRows, MovesSeats}
-use Rattle.tally_entries.specs.Constituencies.{with_past_of}
-use Rattle.tally_requests.specs.Requests.{IsInState}
+use Rattle.tally_entries.specs.internal.Entries.{stored_in}
+use Rattle.tally_entries.specs.internal.Constituencies.{HasLot, HasRecord, HasEdition, MovesRows}
+use Rattle.tally_entries.specs.internal.Constituencies.{MovesSeats}
+use Rattle.tally_entries.specs.internal.Constituencies.{with_past_of}
+use Rattle.tally_requests.specs.internal.Requests.{IsInState}
 use Rattle.tally_returns.specs.declared.change.Change.{Change}
 
 -- The office's tables are open in a transaction, and only these may have changed.

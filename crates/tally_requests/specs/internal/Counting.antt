@@ -21,7 +21,7 @@ use Rattle.tally_keeper.specs.declared.import.Row.TheVariants as row
 use Rattle.tally_returns.specs.declared.ask.Ask.TheVariants as ask
 use Rattle.tally_steps.specs.Step.{con_of_station}
 use Rattle.tally_tables.specs.declared.views.Statuses.{Statuses}
-use Rattle.tally_requests.specs.Known.{Known, known_of}
+use Rattle.tally_requests.specs.internal.Known.{Known, known_of}
 
 -- the numbers in the row that shows how far a constituency has come
 abbrev pub statuses_of_row : ProgressRow → Statuses

@@ -20,7 +20,7 @@ use Rattle.tally_steps.specs.LawfulState.{IsLawfulState}
 use Rattle.tally_steps.specs.Step.{with_return, without_lot}
 use Rattle.tally_statements.specs.Office.{IsInside}
 use Rattle.tally_tables.specs.TablesOfState.{AreTables}
-use Rattle.tally_requests.specs.Requests.{IsCarriedOut}
+use Rattle.tally_requests.specs.internal.Requests.{IsCarriedOut}
 
 -- the return that was found, if there is one, is lawful at this station
 abbrev pub IsLawfulIfFound : Constituency → Station → Option StationReturn → Type 0

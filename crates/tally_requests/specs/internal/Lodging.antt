@@ -14,13 +14,13 @@ use Rattle.tally_returns.specs.declared.reply.LodgeReply.TheVariants.{Lodged}
 use Rattle.tally_steps.specs.LawfulState.{IsLawfulState}
 use Rattle.tally_steps.specs.Runs.{is_act}
 use Rattle.tally_keeper.specs.Events.{as_answer}
-use Rattle.tally_statements.specs.Inside.{IsOpenInside}
+use Rattle.tally_statements.specs.internal.Inside.{IsOpenInside}
 use Rattle.tally_statements.specs.Office.{IsInside}
 use Rattle.tally_tables.specs.TablesOfState.{AreTables}
 use Rattle.tally_keeper.specs.Import.{RowAnswer, after_row, row_answer}
 use Rattle.tally_keeper.specs.declared.import.Row.{Row}
 use Rattle.tally_keeper.specs.declared.source.ImportFault.{ImportFault}
-use Rattle.tally_requests.specs.Requests.{IsInState}
+use Rattle.tally_requests.specs.internal.Requests.{IsInState}
 
 -- What a Lodge is answered, for every lawful state whose tables are there.
 abbrev pub IsLodgeAnswer : List Constituency → List ℕ → List ℕ → VoteCounts → Seen →

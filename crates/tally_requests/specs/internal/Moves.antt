@@ -18,9 +18,9 @@ use Rattle.tally_statements.specs.Office.{IsInside}
 use Rattle.tally_statements.specs.declared.table.KeyedTable.TheVariants.{Totals}
 use Rattle.tally_tables.specs.Cells.{total_rows}
 use Rattle.tally_tables.specs.TablesOfState.{AreTables}
-use Rattle.tally_entries.specs.Entries.{stored_in}
-use Rattle.tally_entries.specs.Constituencies.{ChangesOnly}
-use Rattle.tally_requests.specs.Requests.{IsInState}
+use Rattle.tally_entries.specs.internal.Entries.{stored_in}
+use Rattle.tally_entries.specs.internal.Constituencies.{ChangesOnly}
+use Rattle.tally_requests.specs.internal.Requests.{IsInState}
 
 -- These counts are closed now, or no longer.
 abbrev pub CountsSo : Bool → VoteCounts → StationReturn → StationReturn → Type 0

@@ -14,10 +14,10 @@ use Rattle.tally_returns.specs.declared.reply.Reply.{Reply}
 use Rattle.tally_steps.specs.LawfulState.{IsLawfulState}
 use Rattle.tally_statements.specs.Office.{IsInside}
 use Rattle.tally_tables.specs.TablesOfState.{AreTables}
-use Rattle.tally_entries.specs.Constituencies.{IsViewWith}
-use Rattle.tally_requests.specs.Known.{AreKnown, Known}
-use Rattle.tally_requests.specs.Requests.{IsCarriedOut}
-pub use Rattle.tally_requests.specs.Shown.{FindsKnown}
+use Rattle.tally_entries.specs.internal.Constituencies.{IsViewWith}
+use Rattle.tally_requests.specs.internal.Known.{AreKnown, Known}
+use Rattle.tally_requests.specs.internal.Requests.{IsCarriedOut}
+pub use Rattle.tally_requests.specs.internal.Shown.{FindsKnown}
 
 -- whether a request shows a constituency, with its certificates on record; a command needs none of
 -- them

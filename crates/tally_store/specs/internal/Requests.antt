@@ -22,7 +22,7 @@ use Rattle.tally_keeper.specs.Shown.{con_with}
 use Rattle.tally_keeper.specs.Source.{Delivery}
 use Rattle.tally_keeper.specs.declared.import.ImportCount.{ImportCount}
 use Rattle.tally_keeper.specs.declared.source.ImportFault.{ImportFault}
-use Rattle.tally_requests.specs.Known.{AreKnown, Known}
+use Rattle.tally_requests.specs.internal.Known.{AreKnown, Known}
 use Rattle.tally_opening.specs.Office.{HasState}
 use Rattle.tally_store.specs.Crash.{LeavesAfter, LeavesImported}
 

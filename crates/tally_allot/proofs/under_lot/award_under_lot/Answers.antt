@@ -3,7 +3,7 @@ use Rattle.tally_law.specs.Allotment.{IsAllotment}
 use Rattle.tally_law.specs.LotNeed.{IsLotTaken}
 use Rattle.tally_law.specs.Poll.{HasEligible}
 use Rattle.tally_contest.specs.internal.Terms.{Terms, IsProperLot, placed_race}
-use Rattle.tally_contest.specs.internal.Won.{AreRows, AreWon}
+use Rattle.tally_contest.specs.internal.WonSeat.{AreRows, AreWon}
 use Rattle.tally_allot.specs.AllotFault.{IsFaultOf}
 use Rattle.tally_allot.proofs.under_lot.award_under_lot.Goals as goal
 

@@ -2,11 +2,11 @@ use Rattle.std.proofs.Common.{◌≡◌, ℕ, ◌+◌, List, [], ◌∷◌, ◌+
 use Rattle.std.proofs.Math.Seq.{take-append_seam}
 use Rattle.std.proofs.lemmas.List.{length-set}
 use Rattle.tally_contest.specs.internal.ContestTerms.{divisor_terms}
-use Rattle.tally_contest.specs.declared.won.Won.{Won}
+use Rattle.tally_contest.specs.declared.won.WonSeat.{WonSeat}
 use Rattle.tally_contest.specs.internal.NextPairs.{AreNext}
 use Rattle.tally_contest.specs.internal.Race.{IsFair, IsHighestNext}
 use Rattle.tally_contest.specs.internal.Terms.{placed_race}
-use Rattle.tally_contest.specs.internal.Won.{AreWon}
+use Rattle.tally_contest.specs.internal.WonSeat.{AreWon}
 use Rattle.tally_contest.proofs.AwardStep.{award, one_more}
 use Rattle.tally_contest.proofs.TermsRace.{races, within_placed, total_placed}
 use Rattle.tally_contest.proofs.WonLemmas.{won_more}
@@ -32,7 +32,7 @@ loop-seat-preserved g c =
     let won = won_more (placed_race terms) r.placed (within_placed terms r) (total_placed terms r c.requires.proper) n a i.fair w.list h c.loop-seat.pairs.items i.won in
     let A : List ℕ → Type 0 = λ s. IsFair (placed_race terms) (n + 1) s in
     let B : ℕ → Type 0 = λ k. AreWon (placed_race terms) (one_more a w.list) (c.loop-seat.pairs.items ++ record { list = w.list; seat = k } ∷ []) in
-    let C : List Won → Type 0 = λ pairs. AreWon (placed_race terms) (one_more a w.list) pairs in
+    let C : List WonSeat → Type 0 = λ pairs. AreWon (placed_race terms) (one_more a w.list) pairs in
     let D : List ℕ → Type 0 = λ s. AreWon (placed_race terms) s c.push.new.self.items in
     let E : List ℕ → Type 0 = λ s. AreNext terms (length t.poll.votes.now) s (heap_items c.award_next.new.next) in
     record {

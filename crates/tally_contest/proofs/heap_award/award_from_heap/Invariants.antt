@@ -4,7 +4,7 @@ use Rattle.tally_contest.specs.internal.ContestTerms.{divisor_terms}
 use Rattle.tally_contest.specs.internal.NextPairs.{AreNext, keyed_cmp}
 use Rattle.tally_contest.specs.internal.Race.{IsFair}
 use Rattle.tally_contest.specs.internal.Terms.{placed_race}
-use Rattle.tally_contest.specs.internal.Won.{AreWon}
+use Rattle.tally_contest.specs.internal.WonSeat.{AreWon}
 use Rattle.tally_contest.proofs.heap_award.award_from_heap.Given as goal
 
 abbrev pub invariant-loop-seat : goal.invariant-loop-seat

@@ -1,7 +1,7 @@
 use Rattle.std.proofs.Common.{◌∷◌, length, heap_items, IsPermutation, sym, ◌∙◌, subst}
 use Rattle.tally_contest.specs.internal.ContestTerms.{divisor_terms}
 use Rattle.tally_contest.specs.internal.NextPairs.{Keyed}
-use Rattle.tally_contest.specs.internal.Won.{none_held}
+use Rattle.tally_contest.specs.internal.WonSeat.{none_held}
 use Rattle.tally_contest.proofs.HeapLemmas.{one_passed, one_pushed}
 use Rattle.tally_contest.proofs.Room.{at-replicate_zero}
 use Rattle.tally_contest.proofs.heap_award.first_pairs.Goals as goal

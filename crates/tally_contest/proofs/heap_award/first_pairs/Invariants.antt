@@ -2,7 +2,7 @@ use Rattle.std.proofs.Common.{length, heap_items}
 use Rattle.std.specs.BinaryHeap.{IsHeap}
 use Rattle.tally_contest.specs.internal.ContestTerms.{divisor_terms}
 use Rattle.tally_contest.specs.internal.NextPairs.{AreNext, keyed_cmp}
-use Rattle.tally_contest.specs.internal.Won.{none_held}
+use Rattle.tally_contest.specs.internal.WonSeat.{none_held}
 use Rattle.tally_contest.proofs.heap_award.first_pairs.Given as goal
 
 abbrev pub invariant-loop-list : goal.invariant-loop-list

@@ -15,8 +15,8 @@ pub returns-then-is_above_by_votes : goal.returns-then-is_above_by_votes
 returns-then-is_above_by_votes g c =
     decided_if_above (g.C.Contest.terms c.args.contest.now) c.requires.sound c.args.seats.now c.requires.fair c.in-Some.last c.in-Some-highest_next.next c.in-Some.ensures c.in-Some-highest_next.ensures (c.is_above_by_votes.ensures.0 c.if-is_above_by_votes.true)
 
-pub holders_of-requires : goal.holders_of-requires
-holders_of-requires g c = few_lists_of (g.C.Contest.terms c.args.contest.now) c.requires.sound c.args.seats.now c.requires.fair
+pub count_holding-requires : goal.count_holding-requires
+count_holding-requires g c = few_lists_of (g.C.Contest.terms c.args.contest.now) c.requires.sound c.args.seats.now c.requires.fair
 
 pub returns : goal.returns
 returns g c =
@@ -25,4 +25,4 @@ returns g c =
     let class : IsClassOf terms.poll c.in-Some.last c.lists_with-group.result = subst P c.votes-tied_votes.ensures c.lists_with-group.ensures in
     let need = need_unless_above terms c.requires.sound c.args.seats.now c.requires.fair c.in-Some.last c.in-Some-highest_next.next c.in-Some.ensures c.in-Some-highest_next.ensures (λ above. false≢true (sym c.if-is_above_by_votes.false ∙ c.is_above_by_votes.ensures.1 above)) c.lists_with-group.result class in
     let Q : ℕ → Type 0 = λ n. IsNeed terms.rule terms.poll terms.seats c.lists_with-group.result n in
-    subst Q (sym c.holders_of.ensures) need
+    subst Q (sym c.count_holding.ensures) need

@@ -5,7 +5,7 @@ use Rattle.tally_statements.specs.declared.table.KeyedTable.TheVariants.{Past}
 use Rattle.tally_statements.specs.Office.{IsInside}
 use Rattle.tally_tables.specs.Cells.{record_rows}
 use Rattle.tally_entries.specs.internal.Written.{Adds}
-use Rattle.tally_statements.specs.Inside.{Stays}
+use Rattle.tally_statements.specs.internal.Inside.{Stays}
 use Rattle.tally_entries.proofs.constituencies.insert_record.Given as goal
 
 abbrev pub invariant-loop-n : goal.invariant-loop-n

@@ -4,7 +4,7 @@ use Rattle.sqlite.specs.State.{HasCleanDisk}
 use Rattle.sqlite.specs.Held.{state}
 use Rattle.tally_returns.specs.Counts.{VoteCounts}
 use Rattle.tally_statements.specs.declared.table.KeyedTable.TheVariants.{Totals}
-use Rattle.tally_entries.specs.Constituencies.{DifferBy}
+use Rattle.tally_entries.specs.internal.Constituencies.{DifferBy}
 use Rattle.tally_entries.specs.internal.Written.{HasItems}
 use Rattle.tally_entries.proofs.CountLemmas.{blank_set, spoiled_after, counts_then}
 use Rattle.tally_entries.proofs.constituencies.move_sums.Goals as goal

@@ -4,7 +4,7 @@ use Rattle.sqlite.specs.Held.{state}
 use Rattle.tally_returns.specs.PastSeats.{PastSeats}
 use Rattle.tally_statements.specs.declared.table.KeyedTable.TheVariants.{Past}
 use Rattle.tally_tables.specs.Cells.{past_rows}
-use Rattle.tally_entries.specs.Constituencies.{ChangesOnly, MovesRows, HasRecord}
+use Rattle.tally_entries.specs.internal.Constituencies.{ChangesOnly, MovesRows, HasRecord}
 use Rattle.tally_entries.proofs.ConLemmas.{record_written}
 use Rattle.tally_entries.proofs.constituencies.put_record.Goals as goal
 

@@ -3,7 +3,7 @@ use Rattle.sqlite.specs.Held.{state}
 use Rattle.tally_rows.specs.Rows.{has_key, others}
 use Rattle.tally_statements.specs.declared.table.KeyedTable.TheVariants.{Totals}
 use Rattle.tally_statements.specs.Office.{rows_in}
-use Rattle.tally_entries.specs.Entries.{stored_in}
+use Rattle.tally_entries.specs.internal.Entries.{stored_in}
 use Rattle.tally_entries.proofs.ConLemmas.{sums_before, sums_changed}
 use Rattle.tally_entries.proofs.CountLemmas.{none_left}
 use Rattle.tally_entries.proofs.constituencies.put_sums.Goals as goal

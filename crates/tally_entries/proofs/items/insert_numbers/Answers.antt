@@ -1,7 +1,7 @@
 use Rattle.std.proofs.Common.{refl, arith}
 use Rattle.std.specs.Prelude.{⊤}
 use Rattle.sqlite.specs.Held.{state}
-use Rattle.tally_entries.specs.Entries.{keyed_table}
+use Rattle.tally_entries.specs.internal.Entries.{keyed_table}
 use Rattle.tally_entries.proofs.RowLemmas.{adds_none, adds_number}
 use Rattle.tally_statements.proofs.StaysLemmas.{stays-both, stays-same}
 use Rattle.tally_entries.proofs.items.insert_numbers.Goals as goal

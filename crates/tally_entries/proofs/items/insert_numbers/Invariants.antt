@@ -3,9 +3,9 @@ use Rattle.sqlite.specs.State.{HasCleanDisk}
 use Rattle.sqlite.specs.Held.{state}
 use Rattle.tally_statements.specs.Office.{IsInside}
 use Rattle.tally_tables.specs.Cells.{item_row, numbers_with_places}
-use Rattle.tally_entries.specs.Entries.{keyed_table}
+use Rattle.tally_entries.specs.internal.Entries.{keyed_table}
 use Rattle.tally_entries.specs.internal.Written.{Adds}
-use Rattle.tally_statements.specs.Inside.{Stays}
+use Rattle.tally_statements.specs.internal.Inside.{Stays}
 use Rattle.tally_entries.proofs.items.insert_numbers.Given as goal
 
 abbrev pub invariant-loop-n : goal.invariant-loop-n

@@ -8,7 +8,7 @@ use Rattle.tally_statements.specs.declared.table.KeyedTable.TheVariants.{Counts}
 use Rattle.tally_statements.specs.Office.{IsInside, rows_in}
 use Rattle.tally_tables.specs.Cells.{item_row, items_of}
 use Rattle.tally_entries.specs.internal.Written.{HasCounts}
-use Rattle.tally_statements.specs.Inside.{Stays}
+use Rattle.tally_statements.specs.internal.Inside.{Stays}
 use Rattle.tally_entries.proofs.items.update_votes.Given as goal
 
 abbrev pub invariant-loop-n : goal.invariant-loop-n

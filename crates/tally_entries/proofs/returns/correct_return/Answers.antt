@@ -7,7 +7,7 @@ use Rattle.tally_returns.specs.Return.{StationReturn}
 use Rattle.tally_statements.specs.declared.table.KeyedTable.TheVariants.{Returns, Counts}
 use Rattle.tally_statements.specs.Office.{rows_in}
 use Rattle.tally_tables.specs.Cells.{constituency_of}
-use Rattle.tally_entries.specs.Entries.{stored_in}
+use Rattle.tally_entries.specs.internal.Entries.{stored_in}
 use Rattle.tally_entries.specs.internal.Written.{HasCounts}
 use Rattle.tally_entries.proofs.CountLemmas.{counts_before, none_left, return_corrected}
 use Rattle.tally_entries.proofs.ReturnLemmas.{only_head}

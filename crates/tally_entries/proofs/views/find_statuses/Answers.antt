@@ -6,7 +6,7 @@ use Rattle.sqlite.proofs.StateLemmas.{unchanged}
 use Rattle.tally_statements.specs.Office.{IsInside}
 use Rattle.tally_entries.specs.internal.Found.{AreWithin, FindsStatus, FindsStatuses}
 use Rattle.tally_entries.proofs.FindLemmas.{inside_still}
-use Rattle.tally_statements.specs.Inside.{IsOpenInside}
+use Rattle.tally_statements.specs.internal.Inside.{IsOpenInside}
 use Rattle.tally_statements.proofs.StaysLemmas.{stays-same, stays-then}
 use Rattle.tally_entries.proofs.StatusLemmas.{finds_all, finds_first, finds_more, status_before, within_more, within_most}
 use Rattle.tally_entries.proofs.views.find_statuses.Goals as goal

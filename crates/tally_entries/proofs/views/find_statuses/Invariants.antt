@@ -2,7 +2,7 @@ use Rattle.std.proofs.Common.{take}
 use Rattle.sqlite.specs.State.{HasCleanDisk, IsUnchanged}
 use Rattle.sqlite.specs.Held.{state}
 use Rattle.tally_entries.specs.internal.Found.{AreWithin, FindsStatuses}
-use Rattle.tally_statements.specs.Inside.{IsOpenInside, StaysFrom}
+use Rattle.tally_statements.specs.internal.Inside.{IsOpenInside, StaysFrom}
 use Rattle.tally_entries.proofs.views.find_statuses.Given as goal
 
 abbrev pub invariant-loop-station : goal.invariant-loop-station

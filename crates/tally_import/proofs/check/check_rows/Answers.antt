@@ -14,7 +14,7 @@ pub loop-taken-init : goal.loop-taken-init
 loop-taken-init g c = record {
   reading = c.requires.reading;
   sep = refl;
-  tells = λ before ensured. ensured;
+  agrees = λ before ensured. ensured;
   given = ([], refl, c.in_ok-import.ensures, λ text before has. subst (λ l. HasGiven text (g.R.Read.remaining c.args.reader.now) l c.args.records.now) (sym (append-nil before)) has);
 }
 
@@ -41,7 +41,7 @@ loop-taken-preserved g c =
     record {
       reading = c.in_ok-end.ensures.reading none;
       sep = c.next.ensures.sep ∙ inv.sep;
-      tells = λ before ensured. c.in_ok-end.ensures.tells before (inv.tells before ensured);
+      agrees = λ before ensured. c.in_ok-end.ensures.agrees before (inv.agrees before ensured);
       given = (
         given.0 ++ fields ∷ [],
         omega (arith, length-append given.0 (fields ∷ []), given.1),

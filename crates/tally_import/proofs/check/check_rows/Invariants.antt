@@ -1,6 +1,6 @@
 use Rattle.std.proofs.Common.{◌≡◌, ◌++◌, Bool, List, ℕ, Option, length}
 use Rattle.tally_import.specs.Check.{rows_of_records}
-use Rattle.tally_records.specs.Given.{HasGiven, IsReadingOn, TellsTrue, sep_of}
+use Rattle.tally_records.specs.Given.{HasGiven, IsReadingOn, WatchAgrees, sep_of}
 use Rattle.tally_import.specs.internal.Progress.{HasTaken}
 use Rattle.tally_import.proofs.check.check_rows.Given as goal
 
@@ -8,7 +8,7 @@ abbrev pub invariant-loop-taken : goal.invariant-loop-taken
 invariant-loop-taken g l = record {
   reading : IsReadingOn l.records;
   sep : sep_of l.records ≡ sep_of l.fn.records;
-  tells : (before : Bool) → TellsTrue before l.fn.records l.fn.watch.failed → TellsTrue before l.records l.watch.failed;
+  agrees : (before : Bool) → WatchAgrees before l.fn.records l.fn.watch.failed → WatchAgrees before l.records l.watch.failed;
   given : (rows : List (List (List ℕ))) × (length rows ≡ l.taken) × HasTaken (record { lists = l.lists; rows = rows_of_records l.lists rows }) l.import
       × ((text : Option (List ℕ)) (before : List (List (List ℕ))) → HasGiven text (g.R.Read.remaining l.fn.reader) before l.fn.records
       → HasGiven text (g.R.Read.remaining l.reader) (before ++ rows) l.records);

@@ -1,7 +1,7 @@
 use Rattle.std.proofs.Common.{rules}
 use Rattle.sqlite.specs.Held.{state}
 use Rattle.tally_returns.specs.declared.ask.Ask.TheVariants.{ShowReturn}
-use Rattle.tally_requests.specs.Known.{known_of}
+use Rattle.tally_requests.specs.internal.Known.{known_of}
 use Rattle.tally_requests.proofs.AnswerLemmas.{carries-known, shown-keeps}
 use Rattle.tally_requests.proofs.KnownLemmas.{forgets-answered}
 use Rattle.tally_requests.proofs.answer.answer_in.Goals as goal

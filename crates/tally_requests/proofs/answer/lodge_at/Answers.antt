@@ -2,7 +2,7 @@ use Rattle.std.proofs.Common.{◌∙◌, Ok, Err, sym, ap, rules}
 use Rattle.tally_keeper.specs.Events.{as_answer}
 use Rattle.tally_steps.specs.Runs.{is_act}
 use Rattle.tally_steps.specs.Step.{lodge_reply, reply_seen}
-use Rattle.tally_requests.specs.Known.{known_of}
+use Rattle.tally_requests.specs.internal.Known.{known_of}
 use Rattle.tally_requests.proofs.KnownLemmas.{forgets-lodged, lodged-known}
 use Rattle.tally_requests.proofs.LodgeLemmas.{lodged-carried, seen-reply}
 use Rattle.tally_requests.proofs.answer.lodge_at.Goals as goal

@@ -5,7 +5,7 @@ use Rattle.tally_rules.specs.Limits.{IsConstituency}
 use Rattle.tally_returns.specs.State.{con_state}
 use Rattle.tally_returns.specs.View.{View, past_records}
 use Rattle.tally_requests.specs.internal.Changes.{HasWrittenSeats}
-use Rattle.tally_entries.specs.Constituencies.{with_past_of}
+use Rattle.tally_entries.specs.internal.Constituencies.{with_past_of}
 use Rattle.tally_steps.specs.Step.{certified_with}
 use Rattle.tally_requests.proofs.RecordLemmas.{decides-whole}
 use Rattle.tally_requests.proofs.ChangeLemmas.{holds, certified_carried}

@@ -3,7 +3,7 @@ use Rattle.sqlite.specs.Held.{state}
 use Rattle.tally_rules.specs.Constituency.{Constituency}
 use Rattle.tally_returns.specs.State.{con_state}
 use Rattle.tally_returns.specs.View.{past_records}
-use Rattle.tally_entries.specs.Constituencies.{with_past_of}
+use Rattle.tally_entries.specs.internal.Constituencies.{with_past_of}
 use Rattle.tally_steps.specs.Step.{gone_for_good}
 use Rattle.tally_requests.proofs.RecordLemmas.{decides-whole}
 use Rattle.tally_requests.proofs.ChangeLemmas.{HasGoneMoved, gone_carried}

@@ -4,7 +4,7 @@ use Rattle.tally_rules.specs.Constituency.{Constituency}
 use Rattle.tally_returns.specs.State.{con_state}
 use Rattle.tally_returns.specs.View.{View, past_records}
 use Rattle.tally_requests.specs.internal.Changes.{HasWrittenLot}
-use Rattle.tally_entries.specs.Constituencies.{with_past_of}
+use Rattle.tally_entries.specs.internal.Constituencies.{with_past_of}
 use Rattle.tally_steps.specs.Step.{lot_set}
 use Rattle.tally_requests.proofs.RecordLemmas.{decides-whole}
 use Rattle.tally_requests.proofs.ChangeLemmas.{holds, lot_carried}

@@ -9,7 +9,7 @@ use Rattle.tally_rules.specs.Setup.{constituency_with}
 use Rattle.tally_returns.specs.Return.{Returns}
 use Rattle.tally_returns.proofs.ClosedLemmas.{constituency_with-code, constituency_with-own}
 use Rattle.tally_requests.proofs.AnswerLemmas.{seen-carries, seen-known, still-unchanged, unknown-carried}
-use Rattle.tally_requests.specs.Known.{AreKnown, known_of}
+use Rattle.tally_requests.specs.internal.Known.{AreKnown, known_of}
 use Rattle.tally_requests.proofs.KnownLemmas.{con-returns, forgets-answered, forgets-remembered}
 use Rattle.tally_requests.proofs.UnwrittenLemmas.{unwritten-then}
 use Rattle.tally_requests.proofs.constituencies.answer_on_con.Goals as goal

@@ -11,9 +11,9 @@ use Rattle.tally_rules.specs.Constituency.{Constituency}
 use Rattle.tally_rules.specs.Setup.{constituency_with}
 use Rattle.tally_entries.proofs.FindLemmas.{inside_still}
 use Rattle.tally_ledger.proofs.SetupLemmas.{Has, con-only, has-at}
-use Rattle.tally_statements.specs.Inside.{IsOpenInside}
+use Rattle.tally_statements.specs.internal.Inside.{IsOpenInside}
 use Rattle.tally_statements.specs.Office.{IsInside}
-use Rattle.tally_requests.specs.Known.{AreKnown, known_of}
+use Rattle.tally_requests.specs.internal.Known.{AreKnown, known_of}
 use Rattle.tally_requests.specs.internal.Counting.{statuses_of_row}
 use Rattle.tally_requests.proofs.AnswerLemmas.{cons-still, row-found, rows-more, stays-on, still-state, still-unchanged}
 use Rattle.tally_requests.proofs.KnownLemmas.{forgets-remembered, forgets-then, known-remembered}

@@ -6,9 +6,9 @@ use Rattle.tally_returns.specs.State.{State}
 use Rattle.tally_steps.specs.LawfulState.{IsLawfulState}
 use Rattle.tally_statements.specs.Office.{IsInside}
 use Rattle.tally_tables.specs.TablesOfState.{AreTables}
-use Rattle.tally_statements.specs.Inside.{StaysInside}
-use Rattle.tally_entries.specs.Constituencies.{AreCons}
-use Rattle.tally_requests.specs.Known.{AreKnown, ForgetsNone, known_of}
+use Rattle.tally_statements.specs.internal.Inside.{StaysInside}
+use Rattle.tally_entries.specs.internal.Constituencies.{AreCons}
+use Rattle.tally_requests.specs.internal.Known.{AreKnown, ForgetsNone, known_of}
 use Rattle.tally_requests.specs.internal.Seen.{FindsKnown}
 use Rattle.tally_requests.proofs.constituencies.find_progress.Given as goal
 

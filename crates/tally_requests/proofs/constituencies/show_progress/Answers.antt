@@ -1,7 +1,7 @@
 use Rattle.std.proofs.Common.{refl, rules, subst, sym}
 use Rattle.sqlite.specs.Held.{state}
 use Rattle.tally_returns.specs.Return.{Returns}
-use Rattle.tally_requests.specs.Known.{AreKnown, known_of}
+use Rattle.tally_requests.specs.internal.Known.{AreKnown, known_of}
 use Rattle.tally_requests.proofs.AnswerLemmas.{progress-carried, still-state}
 use Rattle.tally_requests.proofs.KnownLemmas.{progress-returns}
 use Rattle.tally_requests.proofs.constituencies.show_progress.Goals as goal

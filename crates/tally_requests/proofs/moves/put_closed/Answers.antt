@@ -2,7 +2,7 @@ use Rattle.std.proofs.Common.{◌≡◌, ◌∙◌, [], ◌∷◌, true, sym, ap
 use Rattle.sqlite.specs.Held.{state}
 use Rattle.sqlite.specs.State.{HasCleanDisk}
 use Rattle.tally_returns.specs.Return.{StationReturn}
-use Rattle.tally_entries.specs.Entries.{ChangesReturn}
+use Rattle.tally_entries.specs.internal.Entries.{ChangesReturn}
 use Rattle.tally_requests.specs.internal.Moves.{CountsSo}
 use Rattle.tally_requests.proofs.MovedLemmas.{closed_moved, closed_so, not_closed}
 use Rattle.tally_requests.proofs.moves.put_closed.Goals as goal

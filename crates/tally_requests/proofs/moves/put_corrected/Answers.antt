@@ -1,6 +1,6 @@
 use Rattle.std.proofs.Common.{subst}
 use Rattle.sqlite.specs.Held.{state}
-use Rattle.tally_entries.specs.Entries.{CorrectsReturn}
+use Rattle.tally_entries.specs.internal.Entries.{CorrectsReturn}
 use Rattle.tally_requests.proofs.MovedLemmas.{corrected_moved, corrected_so, queried_so}
 use Rattle.tally_requests.proofs.moves.put_corrected.Goals as goal
 

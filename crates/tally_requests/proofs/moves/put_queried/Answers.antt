@@ -4,8 +4,8 @@ use Rattle.sqlite.specs.State.{HasCleanDisk}
 use Rattle.tally_rules.specs.Constituency.{Constituency}
 use Rattle.tally_statements.specs.declared.table.KeyedTable.TheVariants.{Lots}
 use Rattle.tally_tables.specs.Cells.{lot_rows}
-use Rattle.tally_entries.specs.Constituencies.{HasLot}
-use Rattle.tally_entries.specs.Entries.{ChangesReturn}
+use Rattle.tally_entries.specs.internal.Constituencies.{HasLot}
+use Rattle.tally_entries.specs.internal.Entries.{ChangesReturn}
 use Rattle.tally_requests.proofs.MovedLemmas.{queried_moved, queried_so}
 use Rattle.tally_requests.proofs.WriteLemmas.{HasMoved}
 use Rattle.tally_requests.proofs.moves.put_queried.Goals as goal

@@ -4,7 +4,7 @@ use Rattle.sqlite.specs.State.{HasCleanDisk}
 use Rattle.sqlite.specs.Held.{state}
 use Rattle.tally_rules.specs.Constituency.{Constituency}
 use Rattle.tally_returns.specs.declared.refusal.Refusal.TheVariants.{NoStation}
-use Rattle.tally_requests.specs.Known.{known_of}
+use Rattle.tally_requests.specs.internal.Known.{known_of}
 use Rattle.tally_requests.specs.internal.Counting.{after_command}
 use Rattle.tally_statements.specs.Office.{IsInside}
 use Rattle.tally_statements.proofs.StaysLemmas.{stays-then}

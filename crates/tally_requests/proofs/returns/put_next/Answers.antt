@@ -2,7 +2,7 @@ use Rattle.std.proofs.Common.{◌≡◌, ◌∙◌, Ok, Some, None, ap, sym, sub
 use Rattle.sqlite.specs.Held.{state}
 use Rattle.tally_returns.specs.Return.{StationReturn}
 use Rattle.tally_returns.specs.declared.reply.Reply.TheVariants.{Moved}
-use Rattle.tally_requests.specs.Requests.{IsCarriedOut}
+use Rattle.tally_requests.specs.internal.Requests.{IsCarriedOut}
 use Rattle.tally_requests.proofs.FoundLemmas.{few-lists, move-carried, moved-kind, put-decided, put-only}
 use Rattle.tally_requests.proofs.returns.put_next.Goals as goal
 

@@ -1,6 +1,6 @@
 use Rattle.std.proofs.Common.{◌∙◌, Some, ap, sym}
 use Rattle.tally_keeper.specs.declared.import.Row.TheVariants as row
-use Rattle.tally_requests.specs.Known.{known_of}
+use Rattle.tally_requests.specs.internal.Known.{known_of}
 use Rattle.tally_requests.specs.internal.Counting.{known_after_row}
 use Rattle.tally_requests.proofs.LodgeLemmas.{lodged-taken}
 use Rattle.tally_requests.proofs.rows.take_ask.Goals as goal

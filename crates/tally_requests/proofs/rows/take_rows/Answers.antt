@@ -5,8 +5,8 @@ use Rattle.sqlite.specs.Held.{state}
 use Rattle.tally_keeper.proofs.TakenLemmas.{GivesAt}
 use Rattle.tally_keeper.specs.Delivery.{source_at}
 use Rattle.tally_statements.specs.Office.{IsInside}
-use Rattle.tally_requests.specs.Inside.{IsLawfulInside}
-use Rattle.tally_requests.specs.Known.{known_of}
+use Rattle.tally_requests.specs.internal.Inside.{IsLawfulInside}
+use Rattle.tally_requests.specs.internal.Known.{known_of}
 use Rattle.tally_requests.proofs.KnownLemmas.{forgets-row, forgets-then}
 use Rattle.tally_requests.proofs.RowLemmas.{came-end, came-fault, came-next, came-own, came-start, counted-next, rows-end, rows-next, rows-start}
 use Rattle.tally_statements.proofs.StaysLemmas.{stays-same, stays-then}

@@ -6,8 +6,8 @@ use Rattle.tally_steps.specs.LawfulState.{IsLawfulState}
 use Rattle.tally_keeper.specs.Delivery.{source_at}
 use Rattle.tally_statements.specs.Office.{IsInside}
 use Rattle.tally_tables.specs.TablesOfState.{AreTables}
-use Rattle.tally_requests.specs.Inside.{StaysInState}
-use Rattle.tally_requests.specs.Known.{ForgetsNone, known_of}
+use Rattle.tally_requests.specs.internal.Inside.{StaysInState}
+use Rattle.tally_requests.specs.internal.Known.{ForgetsNone, known_of}
 use Rattle.tally_requests.proofs.RowLemmas.{Came, Counted, RowsSoFar}
 use Rattle.tally_requests.proofs.rows.take_rows.Given as goal
 

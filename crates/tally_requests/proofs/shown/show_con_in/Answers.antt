@@ -5,8 +5,8 @@ use Rattle.sqlite.specs.Held.{state}
 use Rattle.tally_rules.specs.Constituency.{Constituency}
 use Rattle.tally_rules.specs.Setup.{constituency_with}
 use Rattle.tally_returns.specs.View.{View}
-use Rattle.tally_requests.specs.Known.{known_of}
-use Rattle.tally_requests.specs.Shown.{FindsShown}
+use Rattle.tally_requests.specs.internal.Known.{known_of}
+use Rattle.tally_requests.specs.internal.Shown.{FindsShown}
 use Rattle.tally_requests.proofs.KnownLemmas.{forgets-remembered}
 use Rattle.tally_requests.proofs.ShownLemmas.{unknown-shown, view-known, view-shown}
 use Rattle.tally_requests.proofs.shown.show_con_in.Goals as goal

@@ -3,7 +3,7 @@ use Rattle.std.proofs.lemmas.Result.{IfOk-at_ok, IfOk-weaker}
 use Rattle.sqlite.specs.State.{IsUnchanged}
 use Rattle.sqlite.specs.Held.{state}
 use Rattle.tally_returns.specs.State.{State}
-use Rattle.tally_requests.specs.Known.{AreKnown, known_of}
+use Rattle.tally_requests.specs.internal.Known.{AreKnown, known_of}
 use Rattle.tally_steps.specs.Kinds.{IsReplyTo}
 use Rattle.tally_steps.specs.Runs.{is_act}
 use Rattle.tally_steps.specs.Step.{IsAnswered}

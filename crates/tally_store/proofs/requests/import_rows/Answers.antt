@@ -6,7 +6,7 @@ use Rattle.tally_statements.specs.Office.{IsInside}
 use Rattle.tally_tables.specs.TablesOfState.{AreTables}
 use Rattle.tally_keeper.specs.Delivery.{delivery}
 use Rattle.tally_keeper.proofs.TakenLemmas.{own-last}
-use Rattle.tally_requests.specs.Known.{known_of}
+use Rattle.tally_requests.specs.internal.Known.{known_of}
 use Rattle.tally_store.specs.Crash.{LeavesImported}
 use Rattle.tally_store.specs.internal.Requests.{IsAllDone, IsAllKnown}
 use Rattle.tally_opening.specs.Office.{HasState}

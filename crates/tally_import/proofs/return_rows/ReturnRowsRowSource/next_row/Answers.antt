@@ -3,7 +3,7 @@ use Rattle.tally_keeper.specs.Given.{rows_of, with_given}
 use Rattle.tally_keeper.specs.Source.{GivesNext}
 use Rattle.tally_keeper.specs.declared.import.Row.{Row}
 use Rattle.tally_import.specs.ReturnRows.{came_by, ending}
-use Rattle.tally_import.specs.ReturnRowsValue.{HasGivenAll, ReturnRows, coming, coming_at}
+use Rattle.tally_import.specs.ReturnRowsValue.{HasGivenAll, ReturnRows, rows_to_come, coming_at}
 use Rattle.tally_import.specs.declared.return_rows.Stage.{Stage}
 use Rattle.tally_import.proofs.ReturnRowsLemmas.{advanced-shown, given-end}
 use Rattle.tally_import.proofs.return_rows.ReturnRowsRowSource.next_row.Goals as goal
@@ -17,7 +17,7 @@ invariant_of-self g c = (c.next_row-next.ensures.advances.0, c.next_row-next.ens
 pub returns-clause-gives : goal.returns-clause-gives
 returns-clause-gives g c =
     let new = option_map (coming_at c.self.inside.con c.self.inside.sep (came_by c.next_row-next.new.stage) (ending c.next_row-next.new.stage)) (g.R.Read.remaining c.self.inside.unread.value) in
-    subst (λ v. GivesNext (coming v) c.next_row-next.result new) c.self.view_is
+    subst (λ v. GivesNext (rows_to_come v) c.next_row-next.result new) c.self.view_is
     (advanced-shown (g.R.Read.remaining c.self.inside.unread.value) (g.R.Read.remaining c.self.inside.reader) (g.R.Read.remaining c.next_row-next.new.reader)
     c.self.inside.con c.self.inside.sep c.self.inside.stage c.next_row-next.new.stage c.next_row-next.result c.self.invariant.0 c.next_row-next.ensures.advances)
 

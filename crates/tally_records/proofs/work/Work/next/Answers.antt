@@ -25,8 +25,8 @@ pieces-preserved g c =
       reading = c.in_ok-read_on.ensures.reading;
       given = λ text given has. c.in_ok-read_on.ensures.given text given
           (subst (HasGivenAt text left given) (sym (read.same c.if-not-branch.true)) (c.pieces.invariant.given text given has));
-      tells = λ before ensured. subst (λ flag. c.read_on.new.watch.failed ≡ flag_after_end c.read_on.new.self.end flag)
-          (subst (λ e. c.pieces.watch.failed ≡ flag_after_end e before) (sym c.next_in_piece.ensures.end ∙ c.in_default.is) (c.pieces.invariant.tells before ensured))
+      agrees = λ before ensured. subst (λ flag. c.read_on.new.watch.failed ≡ flag_after_end c.read_on.new.self.end flag)
+          (subst (λ e. c.pieces.watch.failed ≡ flag_after_end e before) (sym c.next_in_piece.ensures.end ∙ c.in_default.is) (c.pieces.invariant.agrees before ensured))
           c.in_ok-read_on.ensures.failed;
       sep = c.read_on.ensures.sep ∙ c.next_in_piece.ensures.sep ∙ c.pieces.invariant.sep;
     }

@@ -8,7 +8,7 @@ invariant-pieces g l = record {
   reading : IsWorking l.self;
   given : (text : Option (List ℕ)) (given : List (List (List ℕ))) → HasGivenAt text (g.R.Read.remaining l.fn.input) given l.fn.self → HasGivenAt text (g.R.Read.remaining l.input) given l.self;
   sep : l.self.sep ≡ l.fn.self.sep;
-  tells : (before : Bool) → l.fn.watch.failed ≡ flag_after_end l.fn.self.end before → l.watch.failed ≡ flag_after_end l.self.end before;
+  agrees : (before : Bool) → l.fn.watch.failed ≡ flag_after_end l.fn.self.end before → l.watch.failed ≡ flag_after_end l.self.end before;
 }
 
 abbrev pub decreases-pieces : goal.decreases-pieces

@@ -1,14 +1,14 @@
 use Rattle.std.proofs.Common.{◌≡◌, ◌<◌, ◌≤◌, ◌∙◌, ◌∷◌, [], None, true, length, take, drop, sym, ap, subst, arith}
 use Rattle.std.proofs.lemmas.List.{length-take-le, take-take}
 use Rattle.tally_records.specs.internal.Pieces.{Begun, Fills, bytes_of, ends_line, nothing, piece_rows}
-use Rattle.tally_records.specs.declared.held.Held.{Held}
+use Rattle.tally_records.specs.declared.held.HeldText.{HeldText}
 use Rattle.tally_records.proofs.WorkLemmas.{Begun-spent, HasGiven-dropped, HasGiven-grown, bytes_of-open}
 use Rattle.tally_records.proofs.work.Work.read_on.Goals as goal
 
 pub read_all-requires-clause-begun : goal.read_all-requires-clause-begun
 read_all-requires-clause-begun g c =
     let old = c.args.self.now in
-    subst (λ (h : Held). Begun old.sep h.bytes.items old.given) (sym c.replace-held-2.ensures.value)
+    subst (λ (h : HeldText). Begun old.sep h.bytes.items old.given) (sym c.replace-held-2.ensures.value)
     (subst (λ bytes. Begun old.sep bytes old.given) (sym (bytes_of-open old c.requires.more)) (Begun-spent old c.requires.spent c.requires.more))
 
 pub returns-then-done-gt1-clause-given : goal.returns-then-done-gt1-clause-given
@@ -30,8 +30,8 @@ returns-then-done-gt1-clause-given g c text given has =
     c.requires.more some (omega (arith, within, size, inside))
     (subst (λ l. ends_line l ≡ true) is done_rows.0)
     (subst (λ l. drop old.given (piece_rows old.sep None l) ≡ nothing ∷ []) is done_rows.1)
-    (ap (λ (h : Held). h.bytes.items) c.replace-held.ensures.value ∙ c.in_ok-drop_front.ensures.bytes ∙ ap (λ l. 10 ∷ drop done l) same)
-    (ap (λ (h : Held). h.taken) c.replace-held.ensures.value ∙ c.in_ok-drop_front.ensures.taken)
+    (ap (λ (h : HeldText). h.bytes.items) c.replace-held.ensures.value ∙ c.in_ok-drop_front.ensures.bytes ∙ ap (λ l. 10 ∷ drop done l) same)
+    (ap (λ (h : HeldText). h.taken) c.replace-held.ensures.value ∙ c.in_ok-drop_front.ensures.taken)
     c.in_ok-self.ensures.fills c.in_ok-self.ensures.sep c.in_ok-self.ensures.given has
 
 pub returns-clause-given : goal.returns-clause-given
@@ -42,5 +42,5 @@ returns-clause-given g c text given has =
     let left = g.R.Read.remaining c.read_all.new.input in
     HasGiven-grown text old_left left given old new c.requires.more
     (subst (λ l. Fills old_left left l old.held.taken (bytes_of new) new.held.taken new.end) (bytes_of-open old c.requires.more)
-    (subst (λ (h : Held). Fills old_left left h.bytes.items h.taken (bytes_of new) new.held.taken new.end) c.replace-held-2.ensures.value c.in_ok-self-2.ensures.fills))
+    (subst (λ (h : HeldText). Fills old_left left h.bytes.items h.taken (bytes_of new) new.held.taken new.end) c.replace-held-2.ensures.value c.in_ok-self-2.ensures.fills))
     c.in_ok-self-2.ensures.sep c.in_ok-self-2.ensures.given has

@@ -1,0 +1,2 @@
+pub mod ByTrial
+pub mod ExampleLemmas
