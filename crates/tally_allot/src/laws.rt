@@ -1,6 +1,7 @@
 //! The laws of allotments and lots. The functions do nothing: each contract is a law.
 
 ghost use Rattle.tally_law.specs.LawExample.{TheExampleByOtherMethods, TheExampleOfTheLaw};
+ghost use Rattle.tally_law.specs.LawExample.{TheMethodsDiffer};
 ghost use Rattle.tally_law.specs.LawStatements.{AllotmentsAreUnique, AllotmentsExist};
 ghost use Rattle.tally_law.specs.LawStatements.{EachChoiceComesFromAnOrder, EachOrderGivesAChoice};
 ghost use Rattle.tally_law.specs.LawStatements.{GroupsAreOfOneNumberOfVotes};
@@ -9,13 +10,15 @@ ghost use Rattle.tally_law.specs.LawStatements.{NoLotIsNeededWhereVotesDecide};
 ghost use Rattle.tally_law.specs.LawStatements.{TheOrderOfTheSetupIsNothingWhereVotesDecide};
 ghost use Rattle.tally_law.specs.LawStatements.{VotesDecideOrALotIsNeeded};
 
-/// The definitions give the example that LOREG's article 163.1 prints: of 480,000 valid votes for
-/// six lists, and eight seats, lists with 168,000, 104,000, 72,000 and 64,000 votes have 4, 2, 1
-/// and 1, those with 40,000 and 32,000 none. By the other methods the same votes give 3, 2, 1, 1, 1
-/// and none.
+/// The definitions give the result that LOREG's article 163.1 c) prints for its example: of eight
+/// seats, lists with 168,000, 104,000, 72,000 and 64,000 of 480,000 valid votes get 4, 2, 1 and 1,
+/// those with 40,000 and 32,000 none. By the other methods the same votes get 3, 2, 1, 1, 1 and 0.
+/// Of two seats, 53, 24 and 23 votes get 2, 0 and 0 by D'Hondt and by modified Sainte-Laguë, and 1,
+/// 1 and 0 by Sainte-Laguë and by Hare.
 pub fn the_example_of_the_law()
     ensures printed { TheExampleOfTheLaw }
     ensures other_methods { TheExampleByOtherMethods }
+    ensures apart { TheMethodsDiffer }
 {}
 
 /// Under any lot, at most one vector of seats is the allotment.

@@ -6,8 +6,7 @@ use crate::setups::fresh;
 use std::alloc::Global;
 use std::test::*;
 use tally_core::Keeper;
-use tally_import::{ReturnRows, Sep};
-use tally_scripts::{TWIN_TOWN, first_wrong_of_run, setups_and_scripts};
+use tally_scripts::{TWIN_TOWN, first_wrong_of_run, setups_and_scripts, text_of_import_from};
 
 /// A new keeper that takes so many requests and imports.
 fn frail(alloc: Global, setup: &str, turns: u32) -> Result<Frail, Fail> {
@@ -87,33 +86,36 @@ const RETURNS: &[u8] = b"station,slip,blank,spoiled,A,B\ns1,p1,0,0,100,100\n";
 const LODGED: &str =
     "Ok(ImportCount { lodged: 1, same: 0, differs: 0, refused: 0, bad: 0, first: None })";
 
-/// What an import of these returns comes to, as text.
-fn imported<K: Keeper>(alloc: Global, keeper: &mut K) -> Result<String, Fail> {
-    let con = keeper.setup().cons().first().ok_or("no constituency")?;
-    let con = con.try_copy(alloc)?;
-    let mut reader = RETURNS;
-    let mut rows = ReturnRows::new(alloc, &mut reader, Sep::Comma, con);
-    let outcome = keeper.lodge_from(&mut rows);
-    Ok(format!(in alloc; "{outcome:?}")?)
+/// Fails where an import of these returns comes to something else.
+fn check_import<K: Keeper>(alloc: Global, keeper: &mut K, wanted: &str) -> Result<(), Fail> {
+    let got = text_of_import_from(alloc, keeper, RETURNS)?;
+    if got.as_str() == wanted {
+        return Ok(());
+    }
+    Err(Fail::from(got))
+}
+
+/// Fails where a keeper with so many turns answers an import otherwise, or the next one, or where
+/// another return is recorded then.
+fn check_turns_of_imports(
+    alloc: Global,
+    turns: u32,
+    wanted: &str,
+    recorded: &str,
+) -> Result<(), Fail> {
+    let mut keeper = frail(alloc, TWIN_TOWN, turns)?;
+    check_import(alloc, &mut keeper, wanted)?;
+    check_import(alloc, &mut keeper, "Err(Store)")?;
+    check_wrong(alloc, &mut keeper, "return s1 = refused 23", "")?;
+    check_wrong(alloc, &mut keeper.book, recorded, "")
 }
 
 // 8 is NoReturn.
 #[test]
 fn an_import_takes_a_turn(rt: HostRuntime) -> Result<(), Fail> {
     let alloc = rt.alloc();
-    let got = imported(alloc, &mut fresh(alloc, TWIN_TOWN)?)?;
-    assert!(rt; got.as_str() == LODGED, "{got}");
-    for (turns, wanted, standing) in [
-        (0, "Err(Store)", "return s1 = refused 8"),
-        (1, LODGED, "return s1 = 1 p1 Received [100, 100] 0 0 "),
-    ] {
-        let mut keeper = frail(alloc, TWIN_TOWN, turns)?;
-        let got = imported(alloc, &mut keeper)?;
-        assert!(rt; got.as_str() == wanted, "{got}");
-        let got = imported(alloc, &mut keeper)?;
-        assert!(rt; got.as_str() == "Err(Store)", "{got}");
-        check_wrong(alloc, &mut keeper, "return s1 = refused 23", "")?;
-        check_wrong(alloc, &mut keeper.book, standing, "")?;
-    }
-    Ok(())
+    check_import(alloc, &mut fresh(alloc, TWIN_TOWN)?, LODGED)?;
+    check_turns_of_imports(alloc, 0, "Err(Store)", "return s1 = refused 8")?;
+    let recorded = "return s1 = 1 p1 Received [100, 100] 0 0 ";
+    check_turns_of_imports(alloc, 1, LODGED, recorded)
 }

@@ -7,8 +7,8 @@ use std::alloc::Global;
 use std::io::ErrorKind;
 use std::test::Fail;
 use tally_core::{ImportCount, ImportFault, Keeper};
-use tally_import::{ReturnRows, Sep};
-use tally_scripts::{Pieces, code, first_wrong_of_run};
+use tally_import::Sep;
+use tally_scripts::{Pieces, first_wrong_of_run, import_from};
 use tally_store::{CreateFault, OpenFault, Store};
 
 /// Rows of a text, how many bytes a read gives, how a read fails at its end, and what their import
@@ -131,19 +131,6 @@ fn answer<S: Alter + Drop>(
     Ok(stopped(alloc, office.close(), steps))
 }
 
-/// What an import of a text into the constituency comes to.
-pub(crate) fn lodged<K: Keeper>(
-    alloc: Global,
-    office: &mut K,
-    text: Pieces<'_>,
-    sep: Sep,
-) -> Result<Result<ImportCount, ImportFault>, Fail> {
-    let found = office.setup().con(code("c1")?).ok_or("c1")?;
-    let con = found.try_copy(alloc)?;
-    let mut source = ReturnRows::new(alloc, text, sep, con);
-    Ok(office.lodge_from(&mut source))
-}
-
 /// Whether an import of rows comes to what it should. `false` where the store refuses.
 fn imported<K: Keeper>(alloc: Global, office: &mut K, rows: Rows<'_>) -> Result<bool, Fail> {
     let text = Pieces {
@@ -151,7 +138,7 @@ fn imported<K: Keeper>(alloc: Global, office: &mut K, rows: Rows<'_>) -> Result<
         piece: rows.piece,
         failure: rows.failure,
     };
-    let came = lodged(alloc, office, text, rows.sep)?;
+    let came = import_from(alloc, office, text, rows.sep)?;
     if came == rows.want {
         return Ok(true);
     }

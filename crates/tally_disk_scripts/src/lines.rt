@@ -1,13 +1,12 @@
 //! Lines of a script: commands, and imports beside them.
 
-use crate::deeds::lodged;
 use crate::looks::shown;
 use std::alloc::Global;
 use std::io::ErrorKind;
 use std::test::Fail;
 use tally_core::{ImportCount, ImportFault, Keeper};
 use tally_import::Sep;
-use tally_scripts::{Pieces, RETURNS, first_wrong};
+use tally_scripts::{Pieces, RETURNS, first_wrong, import_from};
 
 /// The numbers of rows, or the fault. That of a store is answered as a refusal, by its number.
 fn text_of_import(alloc: Global, came: &Result<ImportCount, ImportFault>) -> Result<String, Fail> {
@@ -41,7 +40,7 @@ fn wrong_import<K: Keeper>(alloc: Global, keeper: &mut K, line: &str) -> Result<
         piece: 4_096,
         failure,
     };
-    let shown = text_of_import(alloc, &lodged(alloc, keeper, text, Sep::Comma)?)?;
+    let shown = text_of_import(alloc, &import_from(alloc, keeper, text, Sep::Comma)?)?;
     if shown.as_str() == wanted {
         return Ok(String::new(alloc));
     }

@@ -7,7 +7,9 @@ use std::test::*;
 use tally_core::{Book, Keeper, RowSource};
 use tally_import::{ReturnRows, Sep, check_csv};
 use tally_rules::Constituency;
-use tally_scripts::{Failing, TWIN_TOWN, TWO_ROWS_AND_A_PIECE, check_answers, failing_reads};
+use tally_scripts::{
+    Failing, TWIN_TOWN, TWO_ROWS_AND_A_PIECE, check_answers, failing_reads, text_of_import_from,
+};
 
 // The rows that `TWO_ROWS_AND_A_PIECE` gives before a read fails.
 const CUT_ROWS: &str = "\
@@ -32,14 +34,6 @@ fn constituency(alloc: Global, book: &Book) -> Result<Constituency, Fail> {
     Ok(con.try_copy(alloc)?)
 }
 
-/// What an import of what a reader gives comes to, as text.
-fn imported(alloc: Global, book: &mut Book, reader: Failing<'_>) -> Result<String, Fail> {
-    let con = constituency(alloc, book)?;
-    let mut rows = ReturnRows::new(alloc, reader, Sep::Comma, con);
-    let outcome = book.lodge_from(&mut rows);
-    Ok(format!(in alloc; "{outcome:?}")?)
-}
-
 /// What the check of what a reader gives comes to, as text. It has to write nothing.
 fn checked(alloc: Global, mut reader: Failing<'_>) -> Result<String, Fail> {
     let mut output = Vec::new(alloc);
@@ -50,8 +44,23 @@ fn checked(alloc: Global, mut reader: Failing<'_>) -> Result<String, Fail> {
     Ok(format!(in alloc; "{outcome:?}")?)
 }
 
-/// Fails where the import or the check of a text is answered otherwise, or where a return is
+/// Fails where a text is another than is wanted.
+fn check_text(got: String, wanted: &str) -> Result<(), Fail> {
+    if got.as_str() == wanted {
+        return Ok(());
+    }
+    Err(Fail::from(got))
+}
+
+/// Fails where the import of what a reader gives is answered otherwise, or where a return is
 /// recorded then. 8 is NoReturn.
+fn check_import(alloc: Global, reader: Failing<'_>, wanted: &str) -> Result<(), Fail> {
+    let mut book = fresh(alloc, TWIN_TOWN)?;
+    check_text(text_of_import_from(alloc, &mut book, reader)?, wanted)?;
+    check_answers(alloc, &mut book, "return s1 = refused 8")
+}
+
+/// The same, or where the check of it is answered otherwise.
 fn check_failing(
     alloc: Global,
     front: &str,
@@ -60,17 +69,11 @@ fn check_failing(
     back: &str,
     wanted: &str,
 ) -> Result<(), Fail> {
-    let mut book = fresh(alloc, TWIN_TOWN)?;
-    let got = imported(alloc, &mut book, failing(front, failures, kind, back))?;
-    if got.as_str() != wanted {
-        return Err(Fail::from(got));
-    }
-    check_answers(alloc, &mut book, "return s1 = refused 8")?;
-    let got = checked(alloc, failing(front, failures, kind, back))?;
-    if got.as_str() != wanted {
-        return Err(Fail::from(got));
-    }
-    Ok(())
+    check_import(alloc, failing(front, failures, kind, back), wanted)?;
+    check_text(
+        checked(alloc, failing(front, failures, kind, back))?,
+        wanted,
+    )
 }
 
 #[test]
@@ -90,21 +93,21 @@ fn push_row(text: &mut String, rows: &mut ReturnRows<Failing<'_>>) -> Result<(),
     writeln!(text, "{row:?}")
 }
 
-#[test]
-fn complete_rows_come_before_a_failed_read(rt: HostRuntime) -> Result<(), Fail> {
-    let alloc = rt.alloc();
-    let con = constituency(alloc, &fresh(alloc, TWIN_TOWN)?)?;
-    let reader = failing(
-        TWO_ROWS_AND_A_PIECE,
-        1,
-        ErrorKind::Interrupted,
-        ",0,0,1,1\n",
-    );
-    let mut rows = ReturnRows::new(alloc, reader, Sep::Comma, con);
+/// The first four rows that are given of what a reader gives.
+fn first_rows(alloc: Global, mut rows: ReturnRows<Failing<'_>>) -> Result<String, AllocError> {
     let mut text = String::new(alloc);
     for _row in 0..4 {
         push_row(&mut text, &mut rows)?;
     }
-    assert!(rt; text.as_str() == CUT_ROWS, "{text}");
-    Ok(())
+    Ok(text)
+}
+
+#[test]
+fn complete_rows_come_before_a_failed_read(rt: HostRuntime) -> Result<(), Fail> {
+    let alloc = rt.alloc();
+    let con = constituency(alloc, &fresh(alloc, TWIN_TOWN)?)?;
+    let back = ",0,0,1,1\n";
+    let reader = failing(TWO_ROWS_AND_A_PIECE, 1, ErrorKind::Interrupted, back);
+    let rows = ReturnRows::new(alloc, reader, Sep::Comma, con);
+    check_text(first_rows(alloc, rows)?, CUT_ROWS)
 }

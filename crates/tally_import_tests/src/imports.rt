@@ -4,11 +4,11 @@ use crate::setups::fresh;
 use std::alloc::Global;
 use std::io::ErrorKind;
 use std::test::*;
-use tally_core::{Book, ImportCount, ImportFault, Keeper};
-use tally_import::{ReturnRows, Sep};
+use tally_core::{Book, ImportCount, ImportFault};
+use tally_import::Sep;
 use tally_scripts::{
     ALL_LODGED, CUT_RETURNS, MORE_STATIONS, NONE_LODGED, Pieces, QUOTED_RETURNS, RETURNS,
-    TWIN_TOWN, check_answers, code, import_count, with_bad_rows,
+    TWIN_TOWN, check_answers, import_count, import_from, with_bad_rows,
 };
 
 /// A text, what separates its fields, how many bytes a read gives, how a read fails at its end,
@@ -23,27 +23,25 @@ struct Case<'a> {
     lines: &'a str,
 }
 
-/// What the import of a text into a keeper comes to.
-fn imported(alloc: Global, book: &mut Book, case: &Case<'_>) -> Result<bool, Fail> {
-    let found = book.setup().con(code("c1")?).ok_or("c1")?;
-    let con = found.try_copy(alloc)?;
+/// Fails where the import of a text comes to something else.
+fn check_import(alloc: Global, book: &mut Book, case: &Case<'_>) -> Result<(), Fail> {
     let text = Pieces {
         text: case.text.as_bytes(),
         piece: case.piece,
         failure: case.failure,
     };
-    let mut rows = ReturnRows::new(alloc, text, case.sep, con);
-    Ok(book.lodge_from(&mut rows) == case.want)
+    if import_from(alloc, book, text, case.sep)? == case.want {
+        return Ok(());
+    }
+    Err(Fail::from(format!(in alloc; "not {:?}", case.want)?))
 }
 
-/// Fails where an import into a new keeper of three stations comes to something else, or where the
-/// lines have other answers then.
+/// The same of an import into a new keeper of three stations, or where the lines have other answers
+/// then.
 fn check_case(alloc: Global, case: &Case<'_>) -> Result<(), Fail> {
     let setup = format!(in alloc; "{TWIN_TOWN}{MORE_STATIONS}")?;
     let mut book = fresh(alloc, setup.as_str())?;
-    if !imported(alloc, &mut book, case)? {
-        return Err(Fail::from(format!(in alloc; "not {:?}", case.want)?));
-    }
+    check_import(alloc, &mut book, case)?;
     check_answers(alloc, &mut book, case.lines)
 }
 

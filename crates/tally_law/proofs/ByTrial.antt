@@ -1,5 +1,5 @@
 -- Seats are the allotment where a test of each list and of each pair of lists says so. The tests
--- ask for more than an allotment does: that no two lists tie.
+-- ask for more than an allotment does: that no list's last seat ties with another's next.
 use Rattle.std.proofs.Common.{◌≡◌, ℕ, ◌+◌, ◌*◌, ◌<◌, ◌≤◌, ◌≢◌, ◌⊎◌, List, Bool, true, false, not, ◌||◌, ◌==◌, nat_lt, length, get_or, slice_index, sym, ◌∙◌, inl, inr, arith}
 use Rattle.std.proofs.lemmas.Bool.{agree_below, agree_below_at, or_cases, cases_lt, eqb-true, eq-eqb, ltb-true, not_from_true, false≢true}
 use Rattle.std.proofs.lemmas.List.{get_or_past}
@@ -17,7 +17,7 @@ is_greater x y = nat_lt (y.num * x.den) (x.num * y.den)
 abbrev pub each : (ℕ → Bool) → ℕ → Bool
 each test n = agree_below test (λ _. true) n
 
--- and of each two of them
+-- and of each pair of them
 abbrev pub each_pair : (ℕ → ℕ → Bool) → ℕ → Bool
 each_pair test n = each (λ l. each (test l) n) n
 
@@ -51,7 +51,7 @@ module _ (poll : Poll) (a : List ℕ) where
       by_cases (inr ge) = get_or_past a l 0 ge
 
   module _ (nth : ℕ → ℕ) (unit : ℕ) where
-    -- they are one list, or l has no seat, or the quotient of its last is the greater
+    -- l and m are the same list, or l has no seat, or the quotient of its last is the greater
     abbrev pub last_is_greater : ℕ → ℕ → Bool
     last_is_greater l m =
         (l == m) || ((get_or a l 0 == 0) ||

@@ -1,5 +1,7 @@
--- The example that the law prints (LOREG article 163.1): 480,000 valid votes for six lists, and
--- eight seats. What the definitions give for it, and for the same votes under the other rules.
+-- The example that the law prints (LOREG article 163.1 c)): 480,000 valid votes for six lists, and
+-- eight seats. What the definitions give for it, for the same votes by the other methods, and for
+-- votes by which the methods differ. No two quotients are alike in them, so they show nothing of
+-- ties and lots.
 use Rattle.std.specs.Prelude.{List, [], ◌∷◌, ℕ}
 use Rattle.tally_rules.specs.declared.profile.Base.TheVariants.{Valid}
 use Rattle.tally_rules.specs.declared.profile.LotRule.TheVariants.{Fixed}
@@ -10,27 +12,36 @@ use Rattle.tally_rules.specs.declared.profile.Profile.{Profile}
 use Rattle.tally_law.specs.Allotment.{IsAllotment}
 use Rattle.tally_law.specs.Rules.{rule_of, poll_of}
 
--- a method for lists of at least 3 per cent of the valid votes
-abbrev pub profile_of_the_example : Method → Profile
-profile_of_the_example method =
-    record { method = method; threshold = 300; base = Valid; lot = Fixed }
+-- the profile of a method, with the law's threshold of 3 per cent of the valid votes
+abbrev pub profile_of : Method → Profile
+profile_of method = record { method = method; threshold = 300; base = Valid; lot = Fixed }
+
+-- Of so many seats and these votes, with no blank ones, these seats are the allotment by a method.
+abbrev pub Allots : Method → List ℕ → ℕ → List ℕ → Type 0
+Allots method votes seats a =
+    IsAllotment (rule_of (profile_of method)) (poll_of (profile_of method) votes 0) [] seats a
 
 abbrev pub votes_of_the_example : List ℕ
 votes_of_the_example = 168000 ∷ 104000 ∷ 72000 ∷ 64000 ∷ 40000 ∷ 32000 ∷ []
 
--- The seats are the allotment of the example's votes by a method.
-abbrev pub IsOfTheExample : Method → List ℕ → Type 0
-IsOfTheExample method a =
-    IsAllotment (rule_of (profile_of_the_example method))
-    (poll_of (profile_of_the_example method) votes_of_the_example 0) [] 8 a
-
 -- by D'Hondt, as the law prints it
 abbrev pub TheExampleOfTheLaw : Type 0
-TheExampleOfTheLaw = IsOfTheExample DHondt (4 ∷ 2 ∷ 1 ∷ 1 ∷ 0 ∷ 0 ∷ [])
+TheExampleOfTheLaw = Allots DHondt votes_of_the_example 8 (4 ∷ 2 ∷ 1 ∷ 1 ∷ 0 ∷ 0 ∷ [])
 
--- by the other methods, as divisions on paper give it
+-- by the other methods
 abbrev pub TheExampleByOtherMethods : Type 0
 TheExampleByOtherMethods =
-    IsOfTheExample SainteLague (3 ∷ 2 ∷ 1 ∷ 1 ∷ 1 ∷ 0 ∷ []) ×
-    IsOfTheExample ModifiedSainteLague (3 ∷ 2 ∷ 1 ∷ 1 ∷ 1 ∷ 0 ∷ []) ×
-    IsOfTheExample Hare (3 ∷ 2 ∷ 1 ∷ 1 ∷ 1 ∷ 0 ∷ [])
+    Allots SainteLague votes_of_the_example 8 (3 ∷ 2 ∷ 1 ∷ 1 ∷ 1 ∷ 0 ∷ []) ×
+    Allots ModifiedSainteLague votes_of_the_example 8 (3 ∷ 2 ∷ 1 ∷ 1 ∷ 1 ∷ 0 ∷ []) ×
+    Allots Hare votes_of_the_example 8 (3 ∷ 2 ∷ 1 ∷ 1 ∷ 1 ∷ 0 ∷ [])
+
+abbrev pub votes_apart : List ℕ
+votes_apart = 53 ∷ 24 ∷ 23 ∷ []
+
+-- Of two seats the first list has both by two of the methods, and one by the two others.
+abbrev pub TheMethodsDiffer : Type 0
+TheMethodsDiffer =
+    Allots DHondt votes_apart 2 (2 ∷ 0 ∷ 0 ∷ []) ×
+    Allots SainteLague votes_apart 2 (1 ∷ 1 ∷ 0 ∷ []) ×
+    Allots ModifiedSainteLague votes_apart 2 (2 ∷ 0 ∷ 0 ∷ []) ×
+    Allots Hare votes_apart 2 (1 ∷ 1 ∷ 0 ∷ [])

@@ -4,6 +4,7 @@ use crate::commands::{command, commands};
 use std::alloc::Global;
 use std::test::Fail;
 use tally_keeper::{Ask, ConView, Keeper, ListSet, ProgressRow, Refusal, Reply, Return, run};
+use tally_rules::Code;
 
 /// What is answered, as text: a word for it, and its numbers.
 pub fn text_of_answer(alloc: Global, answer: &Result<Reply, Refusal>) -> Result<String, Fail> {
@@ -47,21 +48,33 @@ fn text_of_return(alloc: Global, standing: &Return) -> Result<String, Fail> {
 fn text_of_numbers(alloc: Global, view: &ConView) -> Result<String, Fail> {
     let certified = if view.certified { "certified" } else { "open" };
     let mut text = format!(in alloc; "{certified} {}", view.edition)?;
+    push_returns(&mut text, view)?;
+    push_votes(&mut text, view)?;
+    push_notes(&mut text, view)?;
+    Ok(text)
+}
+
+fn push_returns(text: &mut String, view: &ConView) -> Result<(), Fail> {
     write!(text, " {} {}", view.received, view.queried)?;
-    write!(
-        text,
-        " {} {}/{}",
-        view.corrected, view.closed, view.stations
-    )?;
+    write!(text, " {} {}", view.corrected, view.closed)?;
+    write!(text, "/{}", view.stations)?;
+    Ok(())
+}
+
+fn push_votes(text: &mut String, view: &ConView) -> Result<(), Fail> {
     write!(text, " {:?} {} {}", view.votes, view.blank, view.spoiled)?;
     write!(text, " {:?} {:?}", view.lot, view.seats)?;
+    Ok(())
+}
+
+fn push_notes(text: &mut String, view: &ConView) -> Result<(), Fail> {
     if !view.note.is_empty() {
         write!(text, " {}", view.note)?;
     }
     for gone in &view.gone {
         write!(text, " {}.{} {}", gone.list, gone.place, gone.note)?;
     }
-    Ok(text)
+    Ok(())
 }
 
 /// The same, and the edition and the seats of each certificate that was reopened.
@@ -125,12 +138,23 @@ fn answered<K: Keeper>(alloc: Global, keeper: &mut K, line: &str) -> Result<Stri
     let ask = command(alloc, line)?;
     let answer = keeper.answer(&ask);
     if let Ask::ShowCon { con } = ask {
-        let shown = keeper.show_con(con);
-        if without_past(alloc, &answer)?.as_str() != text_of_shown(alloc, &shown)?.as_str() {
-            return Err(Fail::from("shown otherwise without certificates on record"));
-        }
+        check_shown(alloc, keeper, con, &answer)?;
     }
     text_of_answer(alloc, &answer)
+}
+
+/// Fails where a constituency is shown otherwise without its certificates on record.
+fn check_shown<K: Keeper>(
+    alloc: Global,
+    keeper: &mut K,
+    con: Code,
+    answer: &Result<Reply, Refusal>,
+) -> Result<(), Fail> {
+    let shown = text_of_shown(alloc, &keeper.show_con(con))?;
+    if without_past(alloc, answer)?.as_str() == shown.as_str() {
+        return Ok(());
+    }
+    Err(Fail::from(shown))
 }
 
 /// What a ShowCon was answered, without the certificates on record.

@@ -4,6 +4,7 @@
 
 mod answers;
 mod commands;
+mod imports;
 mod readers;
 mod returns;
 mod scripts;
@@ -14,6 +15,7 @@ pub use answers::{
     text_of_refusal,
 };
 pub use commands::{command, counts};
+pub use imports::{import_from, text_of_import_from};
 pub use readers::{Failing, Pieces};
 pub use returns::{
     ALL_LODGED, BAD_RETURNS, CUT_RETURNS, HEADER, NONE_LODGED, QUOTED_RETURNS, RETURNS,

@@ -6,37 +6,27 @@ use std::alloc::Global;
 use std::io::ErrorKind;
 use std::test::*;
 use tally_core::Keeper;
-use tally_import::{ReturnRows, Sep};
-use tally_scripts::{Failing, TWIN_TOWN, failing_reads, first_wrong};
+use tally_scripts::{Failing, TWIN_TOWN, check_answers, failing_reads, text_of_import_from};
 
-/// What an import of what a reader gives comes to, as text.
-fn imported<K: Keeper>(alloc: Global, office: &mut K, reader: Failing<'_>) -> Result<String, Fail> {
-    let con = office.setup().cons().first().ok_or("no constituency")?;
-    let con = con.try_copy(alloc)?;
-    let mut rows = ReturnRows::new(alloc, reader, Sep::Comma, con);
-    let outcome = office.lodge_from(&mut rows);
-    Ok(format!(in alloc; "{outcome:?}")?)
-}
-
-/// What is wrong with the answer to an import of a text whose reads fail so many times, or with
-/// what the office holds then, or nothing. 8 is NoReturn.
-fn wrong_import<K: Keeper>(
+/// Fails where an import of a text whose reads fail so many times is answered otherwise, or where a
+/// return is recorded then. 8 is NoReturn.
+fn check_import<K: Keeper>(
     alloc: Global,
     office: &mut K,
     (front, failures, back): (&str, u32, &str),
     wanted: &str,
-) -> Result<String, Fail> {
+) -> Result<(), Fail> {
     let reader = Failing {
         front: front.as_bytes(),
         failures,
         kind: ErrorKind::Interrupted,
         back: back.as_bytes(),
     };
-    let got = imported(alloc, office, reader)?;
+    let got = text_of_import_from(alloc, office, reader)?;
     if got.as_str() != wanted {
-        return Ok(got);
+        return Err(Fail::from(got));
     }
-    first_wrong(alloc, office, "return s1 = refused 8")
+    check_answers(alloc, office, "return s1 = refused 8")
 }
 
 #[test]
@@ -45,10 +35,8 @@ fn imports_whose_reads_fail_once_or_for_ever(rt: HostRuntime) -> Result<(), Fail
     let mut office = made(alloc, TWIN_TOWN)?;
     for (front, back, wanted) in &failing_reads(alloc)? {
         let front = front.as_str();
-        for failures in [1, u32::MAX] {
-            let wrong = wrong_import(alloc, &mut office, (front, failures, *back), wanted)?;
-            assert!(rt; wrong.is_empty(), "{wrong}");
-        }
+        check_import(alloc, &mut office, (front, 1, *back), wanted)?;
+        check_import(alloc, &mut office, (front, u32::MAX, *back), wanted)?;
     }
     Ok(())
 }

@@ -7,12 +7,11 @@ use sqlite::Alter;
 use std::alloc::Global;
 use std::io::ErrorKind;
 use std::test::*;
-use tally_core::{ImportCount, ImportFault, Keeper, RowSource};
-use tally_import::{ReturnRows, Sep};
-use tally_rules::Setup;
+use tally_core::{ImportCount, ImportFault, Keeper};
+use tally_import::Sep;
 use tally_scripts::{
     ALL_LODGED, BAD_RETURNS, CUT_RETURNS, MORE_STATIONS, NONE_LODGED, Pieces, QUOTED_RETURNS,
-    RETURNS, TWIN_TOWN, code, first_wrong, import_count, with_bad_rows,
+    RETURNS, TWIN_TOWN, check_answers, import_count, import_from, with_bad_rows,
 };
 use tally_store::Store;
 
@@ -34,55 +33,38 @@ struct Case<'a> {
     lines: &'a str,
 }
 
-/// The rows of a text.
-fn rows<'a>(alloc: Global, setup: &Setup, case: &Case<'a>) -> Result<ReturnRows<Pieces<'a>>, Fail> {
-    let found = setup.con(code("c1")?).ok_or("c1")?;
-    let con = found.try_copy(alloc)?;
+/// Fails where an import comes to something else than it should.
+fn check_import<K: Keeper>(alloc: Global, office: &mut K, case: &Case<'_>) -> Result<(), Fail> {
     let text = Pieces {
         text: case.text.as_bytes(),
         piece: case.piece,
         failure: case.failure,
     };
-    Ok(ReturnRows::new(alloc, text, case.sep, con))
+    if import_from(alloc, office, text, case.sep)? == case.want {
+        return Ok(());
+    }
+    Err(Fail::from(format!(in alloc; "not {:?}", case.want)?))
 }
 
-/// What an import of these rows comes to.
-fn imported<K: Keeper, R: RowSource>(
-    office: &mut K,
-    rows: &mut R,
-) -> Result<ImportCount, ImportFault> {
-    office.lodge_from(rows)
-}
-
-/// Whether an import comes to what it should.
-fn is_as_wanted<K: Keeper>(alloc: Global, office: &mut K, case: &Case<'_>) -> Result<bool, Fail> {
-    let mut rows = rows(alloc, office.setup(), case)?;
-    Ok(imported(office, &mut rows) == case.want)
-}
-
-/// What was wrong first after these imports, one after the other; or nothing.
-fn first_wrong_import<S: Alter + Drop>(
+/// The same of these imports, one after the other, with the answers of the office that is opened
+/// again after each.
+fn check_imports<S: Alter + Drop>(
     alloc: Global,
     mut office: Store<S>,
     cases: &[Case<'_>],
-) -> Result<String, Fail> {
+) -> Result<(), Fail> {
     for case in cases {
-        if !is_as_wanted(alloc, &mut office, case)? {
-            return Ok(format!(in alloc; "not {:?}: {}", case.want, case.text)?);
-        }
+        check_import(alloc, &mut office, case)?;
         office = opened(alloc, office.close())?;
-        let wrong = first_wrong(alloc, &mut office, case.lines)?;
-        if !wrong.is_empty() {
-            return Ok(wrong);
-        }
+        check_answers(alloc, &mut office, case.lines)?;
     }
-    Ok(String::new(alloc))
+    Ok(())
 }
 
 /// The same in a new office of three stations.
-fn first_wrong_in_new(alloc: Global, cases: &[Case<'_>]) -> Result<String, Fail> {
+fn check_imports_in_new(alloc: Global, cases: &[Case<'_>]) -> Result<(), Fail> {
     let setup = format!(in alloc; "{TWIN_TOWN}{MORE_STATIONS}")?;
-    first_wrong_import(alloc, made(alloc, setup.as_str())?, cases)
+    check_imports(alloc, made(alloc, setup.as_str())?, cases)
 }
 
 #[test]
@@ -147,9 +129,7 @@ show c1 = open 1 2 0 0 1/3 [10, 20] 0 0 [] []",
             lines: "show c1 = open 1 0 0 0 3/3 [90, 120] 1 2 [] []",
         },
     ];
-    let wrong = first_wrong_in_new(alloc, &cases)?;
-    assert!(rt; wrong.is_empty(), "{wrong}");
-    Ok(())
+    check_imports_in_new(alloc, &cases)
 }
 
 // What is answered in a new office where all but the return of s2 were lodged. 8 is NoReturn.
@@ -212,8 +192,7 @@ fn imports_each_into_a_new_office(rt: HostRuntime) -> Result<(), Fail> {
         returns_by(7),
     ];
     for case in cases {
-        let wrong = first_wrong_in_new(alloc, &[case])?;
-        assert!(rt; wrong.is_empty(), "{wrong}");
+        check_imports_in_new(alloc, &[case])?;
     }
     Ok(())
 }
