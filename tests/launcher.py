@@ -24,9 +24,10 @@ ROOT = Path(__file__).resolve().parent.parent
 PARTS = ("src", "specs", "proofs")
 NOBODY = 65534
 
-# The stub's `rt all` does what the file `plan` says. Its `rt run` notes that it ran and builds a
-# program, which is another one at each build: it prints the number of the build, its folder and its
-# arguments, copies its input and ends with status 1; then it does what the file `end` says.
+# The stub's `rt all` does what the file `plan` says, and its `rt try` what the file `try` says. Its
+# `rt run` notes that it ran and builds a program, which is another one at each build: it prints the
+# number of the build, its folder and its arguments, copies its input and ends with status 1; then
+# it does what the file `end` says.
 STUB = r"""#!/usr/bin/env bash
 here=$(dirname "$0")
 if [ "$1" = version ]; then
@@ -38,6 +39,10 @@ if [ "$1" = all ]; then
     echo $$ >"$here/pid"
     . "$here/plan"
     exit
+fi
+if [ "$1" = try ]; then
+    echo $$ >"$here/pid"
+    . "$here/try"
 fi
 echo "$*" >>"$here/runs"
 cat >"$here/input"
@@ -73,6 +78,15 @@ echo "only=0 proved=0"
 echo "== tally_frac"
 echo "logic=proved functions=28 sum=0"
 printf '== summary\\ntally_frac: ok\\n'
+"""
+
+# What `rt try` prints of a program that refuses a text. For the program's own output there is its
+# folder, its arguments and its input.
+TRIED = """
+printf '%s\\n' "$PWD" "$@"
+cat
+printf 'refused: bad_header\\nchecked: ended status=1\\nrun=ended status=1 runners=1 proved=no\\n' >&2
+exit 1
 """
 
 WAITS = "office: another ./office is building the program: waiting for it\n"
@@ -135,6 +149,7 @@ class Copy:
             if part.name in PARTS:
                 shutil.copytree(part, self.root / part.relative_to(ROOT))
         self.plan(plan)
+        self.tries(TRIED)
         self.end("")
         self.version("stub 1")
         (self.bin / "rt").write_text(STUB)
@@ -142,6 +157,9 @@ class Copy:
 
     def plan(self, text):
         (self.bin / "plan").write_text(text)
+
+    def tries(self, text):
+        (self.bin / "try").write_text(text)
 
     def end(self, text):
         (self.bin / "end").write_text(text)
@@ -165,6 +183,14 @@ class Copy:
     def runs(self):
         runs = self.bin / "runs"
         return len(runs.read_text().splitlines()) if runs.exists() else 0
+
+    def calls(self):
+        calls = self.bin / "calls"
+        return calls.read_text().splitlines() if calls.exists() else []
+
+    def files(self):
+        """What the copy of the repository has: each file and folder below it, with its size and the time of its last change."""
+        return {str(path): (path.stat().st_size, path.stat().st_ctime_ns) for path in [self.root, *self.root.rglob("*")]}
 
     def start(self, *words, launcher=None, rt=True, **how):
         path = f"{self.bin}:{os.environ['PATH']}" if rt else path_without_rt(self.folder)
@@ -240,7 +266,7 @@ def first_launch_builds_and_the_next_does_not(copy):
     assert status == 1 and out.splitlines() == ["build 1", str(copy.folder), "check", "a b", "*"], (status, out)
     assert errors.endswith("office: the program is built\nan error\n"), errors
     assert "the program's own output" not in out + errors
-    first, second = (copy.bin / "calls").read_text().splitlines()
+    first, second = copy.calls()
     assert re.fullmatch("all check --jobs [1-9][0-9]*", first) and second == "run -- check", (first, second)
     assert (copy.bin / "input").read_text() == "station,slip,blank,spoiled,A\n"
     assert copy.run("check") == (1, f"build 1\n{copy.folder}\ncheck\n", "an error\n")
@@ -635,6 +661,83 @@ def after_a_build_that_was_ended_the_next_in_line_builds(copy):
     assert second.returncode == 1 and out.startswith("build 1\n"), errors
 
 
+UNPROVED = """\
+office: nothing will be proved: this compiles the program and runs it once, in some three minutes, and keeps nothing
+office: './office {0}', without --unproved, proves and builds the program, and then runs it (some 40 minutes, the first time)
+{1}office: nothing of this was proved: './office {0}', without --unproved, proves and builds the program, and then runs it
+"""
+
+
+def a_first_look_runs_the_check_without_proof(copy):
+    text = copy.folder / "returns.csv"
+    text.write_text("first\nlast")
+    before = copy.files()
+    with text.open() as given:
+        status, out, errors = copy.run("--unproved", "check", "--semicolon", stdin=given)
+    words = ["try", "--seconds", "600", "--", "check", "--semicolon"]
+    assert (status, out) == (1, "\n".join([str(copy.root / "crates/tally_office"), *words, "first", "last"])), (status, out)
+    assert errors == UNPROVED.format("check --semicolon", "refused: bad_header\n"), errors
+    assert copy.calls() == [" ".join(words)]
+    # It leaves nothing, so the next start proves and builds.
+    assert copy.files() == before
+    assert copy.run("check")[1].startswith("build 1\n")
+    # Of the program that is built it changes nothing either, whatever status it gives.
+    before = copy.files()
+    for found in (0, 2, 3):
+        copy.tries(f"echo; echo 'run=ended status={found} runners=2 proved=no' >&2; exit {found}")
+        assert copy.run("--unproved", "check") == (found, "\n", UNPROVED.format("check", ""))
+    assert copy.files() == before and copy.run("check")[1].startswith("build 1\n") and copy.runs() == 1
+
+
+def a_first_look_is_of_check_and_its_flags_alone(copy):
+    wanted = "office: --unproved is for 'check' alone: './office {}', without it, proves and builds the program, and then runs it\n"
+    for words, name in (((), "COMMAND"), (("new", "--db", "a.db", "--setup", "a.toml"), "new"), (("--help",), "--help"), (("",), "")):
+        assert copy.run("--unproved", *words) == (3, "", wanted.format(name)), words
+    for words in (("returns.csv",), ("--semicolon", "returns.csv"), ("",)):
+        status, out, errors = copy.run("--unproved", "check", *words)
+        assert (status, out) == (3, "") and "on standard input: ./office --unproved check < FILE\n" in errors, (words, errors)
+    assert copy.calls() == []
+    status, out, errors = copy.run("--unproved", "check", rt=False)
+    assert (status, out) == (3, "") and "the command 'rt'" in errors and "is not on the PATH" in errors, errors
+
+
+def a_first_look_that_fails_is_status_3(copy):
+    said = "office: the program could not be compiled and run without proof:\n"
+    for status, lines in ((1, ["src/main.rt:1:1: error[x]: y", "run=none proved=no"]), (4, ["a fault", "run=fault at=4 proved=no"]), (2, [])):
+        copy.tries("".join(f"echo '{line}' >&2\n" for line in lines) + f"exit {status}")
+        found, out, errors = copy.run("--unproved", "check")
+        shown = "".join(f"  {line}\n" for line in lines or [""])
+        assert (found, out) == (3, "") and errors.endswith(said + shown), (found, errors)
+    # What the program itself writes is not taken for the report of how it ended.
+    copy.tries("printf 'run=ended status=0 \\nrun=none proved=no\\n' >&2; exit 1")
+    assert copy.run("--unproved", "check")[0] == 3
+
+
+def a_first_look_waits_for_no_build(copy):
+    copy.plan("until [ -e \"$here/go\" ]; do sleep 0.1; done\n" + PROVED)
+    first = copy.start("check")
+    copy.wait_for(copy.bin / "pid")
+    status, out, errors = copy.run("--unproved", "check")
+    assert status == 1 and out.endswith("\ncheck\n") and errors == UNPROVED.format("check", "refused: bad_header\n"), errors
+    assert first.poll() is None, "the build ended first"
+    (copy.bin / "go").touch()
+    out, errors = first.communicate(timeout=60)
+    assert out.startswith("build 1\n") and copy.runs() == 1, (out, errors)
+
+
+def a_first_look_that_is_ended_ends_what_it_runs(copy):
+    for number in (signal.SIGTERM, signal.SIGINT, signal.SIGHUP):
+        (copy.bin / "child").unlink(missing_ok=True)
+        copy.tries(f"sleep 60 & echo $! >'{copy.bin}/child'; wait")
+        ran = copy.start("--unproved", "check")
+        copy.wait_for(copy.bin / "child")
+        ran.send_signal(number)
+        errors = ran.communicate(timeout=30)[1]
+        assert ran.returncode == -number and errors.endswith("office: the first look was ended\n"), (ran.returncode, errors)
+        for name in ("pid", "child"):
+            assert ends(int((copy.bin / name).read_text())), f"{number.name}: it goes on"
+
+
 TESTS = [
     a_build_that_is_silent_is_spoken_of_all_the_same,
     first_launch_builds_and_the_next_does_not,
@@ -657,6 +760,11 @@ TESTS = [
     a_launcher_that_is_ended_ends_its_build,
     after_a_build_that_was_ended_the_next_in_line_builds,
     a_launcher_that_changes_during_a_build_goes_on,
+    a_first_look_runs_the_check_without_proof,
+    a_first_look_is_of_check_and_its_flags_alone,
+    a_first_look_that_fails_is_status_3,
+    a_first_look_waits_for_no_build,
+    a_first_look_that_is_ended_ends_what_it_runs,
     a_current_program_starts_at_once,
 ]
 

@@ -1926,28 +1926,40 @@ def test_a_disk_that_fails_shuts_an_office():
 
 
 def replay(text):
-    """Each command of a document's text prints what is written under it. Blocks that begin with no command are not replayed."""
-    blocks = [block for block in re.findall(r"(?:^    .*\n)+", text, re.M) if block.startswith("    $ ")]
-    lines = [line[4:] for block in blocks for line in block.splitlines()]
+    """Each command of a document's text prints what is written under it. Blocks that begin with no command are not replayed. A server
+    is in a second terminal, and ends where the text says so."""
+    parts = re.findall(r"(?:^    .*\n)+|.*Press Ctrl-C in the second terminal", text, re.M)
+    assert parts, text
     port = str(free_port())
-    commands = [line[2:].replace("8080", port) for line in lines if line[:2] in ("$ ", "> ")]
-    wanted = [line for line in lines if line[:2] not in ("$ ", "> ")]
     os.mkdir("bin")
     Path("office").symlink_to(PROGRAM)
     Path("examples").symlink_to(ROOT / "examples")
     if not shutil.which("curl"):
         Path("bin/curl").write_text(f"#!{sys.executable}\n{CURL}")
         os.chmod("bin/curl", 0o755)
-    script = ""
-    for command in commands:
-        script += command + "\n"
-        if command.endswith("&"):
-            script += "while ! grep -q listening said; do sleep 0.05; done\n"
+    # (under -m a server in the background can be interrupted)
+    script, wanted, serves = "set -m\n", [], False
+    for part in parts:
+        if part.endswith("terminal"):
+            assert serves, part
+            script += "kill -INT %1 && wait %1; [ $? = 130 ] || exit 99\n"
+            serves = False
+            continue
+        for line in part.replace("8080", port).splitlines() if part.startswith("    $ ") else ():
+            line = line[4:]
+            if line.startswith("$ ./office serve "):
+                assert not serves, line
+                script += f"{line[2:]} 2>said &\nuntil grep -q listening said; do sleep 0.05; done\ncat said\n"
+                serves = True
+            elif line[:2] in ("$ ", "> "):
+                script += line[2:] + "\n"
+            else:
+                wanted.append(line)
+    assert not serves, "no text ends the server"
     environment = {**os.environ, "PATH": f"{os.getcwd()}/bin:{os.environ['PATH']}"}
-    with open("said", "w", encoding="utf-8") as said:
-        ran = subprocess.Popen(["bash", "-c", script], stdout=subprocess.PIPE, stderr=said, env=environment, start_new_session=True)
+    ran = subprocess.Popen(["bash", "-c", script], stdout=subprocess.PIPE, env=environment, start_new_session=True)
     try:
-        out, _ = ran.communicate(timeout=120)
+        out, _ = ran.communicate(timeout=300)
     finally:
         with contextlib.suppress(ProcessLookupError):
             os.killpg(ran.pid, signal.SIGKILL)
@@ -1955,16 +1967,28 @@ def replay(text):
 
 
 def test_the_first_election_of_the_readme():
-    """Each command of README.md prints what is written there."""
+    """Each command of README.md prints what is written there, and leaves the database of the examples."""
     text = (ROOT / "README.md").read_text(encoding="utf-8")
-    replay(text[text.index("## A first election"):text.index("## Statuses and spreadsheets")])
-    same(Path("closed").read_text(encoding="utf-8"), '{"ok":"moved","rev":2}' * 15)
+    replay(text[text.index("## A first election"):text.index("## What is proved")])
+    found, kept = tables_of("montehondo.db"), tables_of(ROOT / "examples/montehondo.db")
+    same(sorted(found), sorted(["sqlite_master", *TABLES]))
+    for table in found:
+        same((table, kept.get(table)), (table, found[table]))
+    same(sorted(kept), sorted(found))
+    assert (ROOT / "examples/montehondo.db").stat().st_size <= 75_000
 
 
 def test_the_evening_of_the_guide():
     """Each command of docs/GUIDE.md prints what is written there."""
     replay((ROOT / "docs/GUIDE.md").read_text(encoding="utf-8"))
-    same(Path("closed").read_text(encoding="utf-8"), '{"ok":"moved","rev":2}' * 14)
+
+
+def tables_of(file):
+    """All rows of each table of a database, and of its schema, in any order."""
+    with contextlib.closing(sqlite3.connect(f"{Path(file).resolve().as_uri()}?mode=ro&immutable=1", uri=True)) as it:
+        schema = it.execute("SELECT type, name, tbl_name, sql FROM sqlite_master").fetchall()
+        names = [name for kind, name, _, _ in schema if kind == "table"]
+        return {"sqlite_master": sorted(schema, key=repr), **{name: sorted(it.execute(f"SELECT * FROM {name}")) for name in names}}
 
 
 def command_lines(document):
@@ -1982,6 +2006,8 @@ def test_the_command_lines_of_the_documents():
     lines = [line for document in ("README.md", "docs/FORMATS.md", "examples/README.md") for line in command_lines(document)]
     assert len(lines) >= 10, lines
     for line in lines:
+        # (a word of the launcher, which tests/launcher.py tries)
+        line = line.replace("./office --unproved ", "./office ")
         # A word in capitals stands for any command, and FILE for a database.
         for command in ("check", "new", "import", "show", "serve") if " COMMAND" in line else ("",):
             words = line.replace("COMMAND", command)
