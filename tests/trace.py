@@ -6,8 +6,8 @@ how long lines are, and which words comments use, and that each definition and e
 
 A link with a name as its text, such as [`allot`](../crates/tally_allot/src/allotment.rt): `allotment`, has to lead to a
 file that has this function, definition, test or edit, and the labels that follow have to be clauses of the function.
-That is checked in every document; `docs/LAW.md` has to have such a link in each of its cells. The last line is
-`N passed, M failed`. It needs nothing but Python, and takes a few seconds.
+That is checked in every document; each rule of `docs/LAW.md` has to have such links in each of its parts. The last line
+is `N passed, M failed`. It needs nothing but Python, and takes a few seconds.
 """
 
 import ast
@@ -25,7 +25,9 @@ DOCUMENTS = sorted(
 )
 LAW = ROOT / "docs/LAW.md"
 PROMISES = ROOT / "docs/PROMISES.md"
-COLUMNS = ["The law or the rule", "Definition", "Code", "Clause", "Test", "Wrong body"]
+# The parts of a rule of the law, and where the links of each lead. (A proof may have none.)
+PARTS = {"Definition": (".antt",), "Code": (".rt",), "Clause": (".rt",), "Test": (".rt", ".py"), "Wrong body": (".edit",),
+         "Proof": ()}
 LINK = re.compile(r"\[([^\]]*)\]\(([^)\s]+)\)")
 # The scripts, programs and settings outside of the crates, by how they mark a comment.
 PYTHON = ("tests/*.py", "bench/*.py", "deploy/*.py", "deploy/replay", "examples/*.py")
@@ -178,7 +180,7 @@ def has_name(path, name):
         words = rf"\b(?:fn|struct|enum|trait|const|type|mod) {last}\b|\bghost {last}:|\bfor {last}\b|^    {last}\b"
         return of_type and re.search(words, text, re.M) is not None
     if path.suffix == ".py":
-        return re.search(rf"^def (?:test_)?{last}\b", text, re.M) is not None
+        return re.search(rf"^def {last}\b", text, re.M) is not None
     if path.suffix == ".edit":
         return path.stem == name
     return True
@@ -197,11 +199,18 @@ def named(path):
             yield name, (path.parent / target.split("#")[0]).resolve(), re.findall(r"`([^`]+)`", labels or "")
 
 
-def rows(path):
-    """The rows of all tables of a document, cell by cell; the rule below the heads is left out."""
-    for line in text_of(path).splitlines():
-        if line.startswith("|") and not set(line) <= set("|-: "):
-            yield [cell.strip().replace("\\|", "|") for cell in re.split(r"(?<!\\)\|", line.strip()[1:-1])]
+@cache
+def rules(path):
+    """The rules of the law, each with its title, what is said above its parts and above it in its chapter, and the parts."""
+    found, chapter = [], ""
+    for section in re.split(r"^(?=###? )", text_of(path), flags=re.M):
+        title, _, text = section.partition("\n")
+        above = re.split(r"^- ", text, maxsplit=1, flags=re.M)[0]
+        if title.startswith("### "):
+            found.append((title[4:], chapter + above, re.findall(r"^- \*\*([^*]+):\*\* (.*)$", text, re.M)))
+        else:
+            chapter = above
+    return found
 
 
 def test_every_link_leads_to_a_file():
@@ -256,7 +265,6 @@ def test_each_name_of_a_recipe_or_a_page_is_in_the_sources():
     sources = [path for path in sources if path.is_file() and path.suffix != ".md"]
     sources += [ROOT / name for name in ("docs/openapi.json", "office", "test")]
     words = {word for path in sources for word in re.findall(r"\w[\w-]*", path.stem + " " + path.read_text(encoding="utf-8", errors="ignore"))}
-    words |= {word.removeprefix("test_") for word in words}
     of_the_kit = {"Host", "Origin", "Some", "Usage", "with_capacity", "is_ok", "is_none", "with_items", "Abort"}
     # (of its goals, its files and its plants, and of the system)
     of_the_kit |= {"Proof", "f-requires", "f-requires-clause-x", "f-requires-clause-sound", "returns-in-Some-Err", "not-source"}
@@ -278,47 +286,59 @@ def test_each_name_of_a_recipe_or_a_page_is_in_the_sources():
     return count, wrong
 
 
-def test_each_row_of_the_law_has_all_its_links():
+def test_each_rule_of_the_law_has_all_its_parts():
+    """Its source too: a sentence of the law in Spanish, its article, or that the rule is this project's own."""
+    wrong = []
+    for title, above, parts in rules(LAW):
+        if [name for name, _ in parts] != list(PARTS):
+            wrong.append(f"{title}: {', '.join(name for name, _ in parts)}")
+        if not re.search(r"^> «.+» \(\d+\.\d|^\d+\.\d+|project's own", above, re.M):
+            wrong.append(f"{title}: no source")
+        for name, text in parts:
+            targets = [target for _, target in LINK.findall(text)]
+            if PARTS.get(name) and not (targets and all(target.endswith(PARTS[name]) for target in targets)):
+                wrong.append(f"{title}: {name}")
+            of_proofs = any(re.search(r"/proofs/|/specs/internal/", target) for target in targets)
+            if name == "Proof" and not of_proofs and not text.startswith("nothing was written"):
+                wrong.append(f"{title}: no proof")
+    count = len(rules(LAW))
+    return count, wrong if count >= 30 else [*wrong, f"only {count} rules"]
+
+
+def test_the_law_says_which_wrong_bodies_the_gate_tries():
     wrong, count = [], 0
-    for row in rows(LAW):
-        if row == COLUMNS:
-            continue
-        count += 1
-        if len(row) != len(COLUMNS):
-            wrong.append(f"{len(row)} cells: {row[0][:60]}")
-            continue
-        endings = ((".antt",), (".rt",), (".rt",), (".rt", ".py"), (".edit",))
-        for column, cell, ending in zip(COLUMNS[1:], row[1:], endings):
-            targets = [target for _, target in LINK.findall(cell)]
-            if not targets or not all(target.endswith(ending) for target in targets):
-                wrong.append(f"{column}: {row[0][:60]}")
-    return count, wrong if count >= 20 else [*wrong, f"only {count} rows"]
+    for title, _, parts in rules(LAW):
+        gate, _, outside = dict(parts).get("Wrong body", "").partition("outside the gate")
+        for text, folder in ((gate, "/must-fail/"), (outside, "/tests/wrong_bodies/")):
+            targets = [target for _, target in LINK.findall(text)]
+            count += len(targets)
+            wrong += [f"{title}: {target}" for target in targets if folder not in target]
+    return count, wrong if count else ["none is named"]
 
 
 def test_a_clause_of_the_law_without_a_label_is_the_only_one():
     wrong, count = [], 0
-    for row in rows(LAW):
-        for name, target, labels in NAMED.findall(row[3]) if len(row) == len(COLUMNS) and row != COLUMNS else ():
+    for _, _, parts in rules(LAW):
+        for name, target, labels in NAMED.findall(dict(parts).get("Clause", "")):
             if not labels:
                 count += 1
                 contracts = functions((LAW.parent / target).resolve()).get(name.split("::")[-1], [])
                 if not any(len(re.findall(r"\bensures\b", it)) == 1 for it in contracts):
                     wrong.append(name)
-    return count, wrong
+    return count, wrong if count else ["no clause is named"]
 
 
 def test_the_law_quotes_its_definitions_word_by_word():
     wrong, count = [], 0
-    for row in rows(LAW):
-        if row == COLUMNS or len(row) != len(COLUMNS):
-            continue
-        files = [(LAW.parent / target).resolve() for _, target in LINK.findall(row[1])]
+    for _, _, parts in rules(LAW):
+        definition = dict(parts).get("Definition", "")
+        files = [(LAW.parent / target).resolve() for _, target in LINK.findall(definition)]
         text = " ".join(" ".join(text_of(file).split()) for file in files if file.is_file())
-        for quote in re.findall(r"`([^`]+)`", NAMED.sub("", row[1])):
+        for quote in re.findall(r"`([^`]+)`", NAMED.sub("", definition)):
             count += 1
             if " ".join(quote.split()) not in text:
                 wrong.append(quote)
-    return count, wrong
+    return count, wrong if count >= 20 else [*wrong, f"only {count} quotes"]
 
 
 def test_definitions_in_blocks_are_word_by_word():
@@ -335,10 +355,15 @@ def test_definitions_in_blocks_are_word_by_word():
     return count, wrong
 
 
-def test_each_wrong_body_is_named_by_its_definition():
-    text = text_of(ROOT / "docs/DEFINITIONS.md")
+def test_each_folder_of_wrong_bodies_is_named_by_its_crate():
     edits = [*ROOT.glob("crates/*/must-fail/*.edit"), *ROOT.glob("tests/wrong_bodies/*/*.edit")]
-    return len(edits), sorted(path.stem for path in edits if f"[`{path.stem}`]" not in text)
+    wrong = []
+    for folder in sorted({path.parent for path in edits}):
+        crate = folder.parent.name if folder.name == "must-fail" else folder.name
+        page = ROOT / "crates" / crate / "README.md"
+        if folder not in {(page.parent / target).resolve() for target in targets(page)}:
+            wrong.append(f"{shown(page)}: {shown(folder)}")
+    return len(edits), wrong
 
 
 def test_each_wrong_body_can_be_planted():
@@ -476,6 +501,15 @@ def test_the_promises_name_each_file_that_has_to_be_believed():
     wrong = [f"{shown(path)}: in no list of PROMISES" for path in sorted(files - believed())]
     wrong += [f"{shown(path)}: believed, and not right in `specs`" for path in sorted(believed() - files)]
     return len(files), wrong
+
+
+def test_the_definitions_go_through_each_file_that_has_to_be_believed():
+    """In at most 450 lines."""
+    path = ROOT / "docs/DEFINITIONS.md"
+    linked = {(path.parent / target.split("#")[0]).resolve() for target in targets(path)}
+    wrong = [f"{shown(file)}: not in DEFINITIONS" for file in sorted(believed() - linked)]
+    lines = len(text_of(path).splitlines())
+    return len(believed()), wrong if lines <= 450 else [*wrong, f"{shown(path)}: {lines} lines"]
 
 
 def test_what_is_believed_names_nothing_else():
