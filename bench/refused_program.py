@@ -91,7 +91,7 @@ ELECTION = (
     message("/con/c1/reopen", {"edition": 2, "note": "recount"}),
     message("/con/c1/certify", {"edition": 3}),
     message("/station/r1/lodge", {"slip": "q1", "votes": [300, 210], "blank": 0, "spoiled": 5}),
-    message("/station/r1/close", {"rev": 1}),
+    message("/station/r1/confirm", {"rev": 1, "slip": "q1", "votes": [300, 210], "blank": 0, "spoiled": 5}),
     message("/con/h1/certify", {"edition": 1}),
 )
 

@@ -184,7 +184,8 @@ def main():
     if has_no_compiler():
         return ended(0, 0, 1)
     if given.built and not given.program and not KEPT.is_kept():
-        print("skipped: no program of these sources is kept; bench/refused_requests.py proves and builds one")
+        print("skipped: its program has to be proved and built first, in some minutes, which `--built` leaves out: none of these sources is kept in")
+        print("bench/out, as in every fresh clone. python3 bench/refused_requests.py, alone, builds it, keeps it and runs")
         return ended(0, 0, 1)
     program = (given.program or KEPT.built()).resolve()
     with tempfile.TemporaryDirectory() as folder:

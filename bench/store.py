@@ -3,8 +3,8 @@
 
 A constituency has 60 lists and 5,000 stations, and the text has a return of each: 5,000 rows of `returns`
 and 310,000 of `counts`. `office import` is beside the kit's `sqlite` alone, by a program that writes just
-these rows into the same database, and beside C SQLite through Python. `office show` of a constituency
-that is not there opens the database, judges all its rows and closes it; it is beside programs that open
+these rows into the same database, in the same order and by the same statements, and beside C SQLite
+through Python. `office show` of a constituency that is not there opens the database, judges all its rows and closes it; it is beside programs that open
 it and read all rows. The kit's `sqlite` tests every page and row at an opening, C SQLite only where it is
 asked to.
 
@@ -208,17 +208,20 @@ def opening_of(db, program, rounds):
 def kinds_of(con):
     """The requests by kind, in two lists: for a database that lacks the last returns, and for one whose
     returns are closed. Of a kind whose name is empty the time does not count."""
-    stations = con.returns()
-    lodges = [
-        post(f"/station/{station}/lodge", {"slip": slip, "votes": votes, "blank": blank, "spoiled": spoiled})
-        for station, slip, (blank, spoiled, *votes) in stations[-REQUESTS:]
-    ]
+    def entries(verb, returns, **more):
+        return [
+            post(f"/station/{station}/{verb}", {**more, "slip": slip, "votes": votes, "blank": blank, "spoiled": spoiled})
+            for station, slip, (blank, spoiled, *votes) in returns
+        ]
+
+    returns = con.returns()
     reopened = []
     for edition in range(1, 2 * REQUESTS, 2):
         reopened += [("certify", certify(con, edition)), ("reopen", reopen(con, edition + 1))]
     received = [
-        ("lodge", lodges),
+        ("lodge", entries("lodge", returns[-REQUESTS:])),
         ("close", closes_of(con)[:REQUESTS]),
+        ("confirm", entries("confirm", returns[REQUESTS : 2 * REQUESTS], rev=1)),
         ("GET tally", [get(f"/con/{con.code}/tally")] * REQUESTS),
         ("GET con", [get(f"/con/{con.code}")] * REQUESTS),
     ]

@@ -1,14 +1,16 @@
 #!/usr/bin/env python3
 """Writes the pages for the press and the public from what an office answers.
 
-    python3 deploy/press.py http://127.0.0.1:8080 FOLDER [--every SECONDS] [--setup FILE]
+    python3 deploy/press.py http://127.0.0.1:8080 [ADDRESS..] FOLDER [--every SECONDS] [--setup FILE] [--head FILE]
 
 It asks the office by GET alone, and writes into FOLDER: index.html, a page for each constituency, and the same numbers as
-CSV and JSON. With the setup file it also writes setup.json, which the clerks' page reads, draws the threshold, names the
-candidates who are gone, and writes for each certificate the returns of its stations as one CSV. Each number on a page is
-the office's own; only lengths of bars are computed.
+CSV and JSON. Where there are several offices the pages are those of all. With the setup file it also writes setup.json, which
+the clerks' page reads, draws the threshold, names the candidates who are gone, and writes for each certificate the returns of
+its stations as one CSV. With the head that the recorder writes, each round shows how long the record of commands is and the
+hash of its last line, and record.csv keeps what was shown. Each number on a page is the office's own; only lengths of bars
+are computed. SHA256SUMS has the hash of each file.
 
-A file is written beside and renamed, so nobody reads half of one. Where the office does not answer, or its answers do not
+A file is written beside and renamed, so nobody reads half of one, and once more compressed. Where the office does not answer, or its answers do not
 agree with one another, the page that was there stays, with a line that says how old it is. With --every it goes on until
 it is ended. Each round prints a line, with how many GETs it took; the status is 1 where the last one failed in part.
 Python 3.11 or later.
@@ -16,6 +18,8 @@ Python 3.11 or later.
 
 import argparse
 import csv
+import gzip
+import hashlib
 import html
 import io
 import json
@@ -525,7 +529,7 @@ def con_page(code, con, row, entry, returns, moment):
     return page(escaped(con["tally"]["name"]), body, moment, above)
 
 
-def index_page(progress, text, cons, names, moment):
+def index_page(progress, text, cons, names, moment, head=None):
     """The page of all constituencies; of one whose page could not be written its progress stands alone."""
     rows = []
     for row in progress:
@@ -542,20 +546,61 @@ def index_page(progress, text, cons, names, moment):
     said = f"{certified} of {len(progress)} constituencies certified"
     bar = f'<div class="progress" role="img" aria-label="{said}"><i style="width:{certified / max(len(progress), 1) * 100:.2f}%"></i></div>\n'
     files = ('<section><h2>For programs</h2>\n<ul>\n<li><a href="results.csv">Votes and seats of all constituencies (CSV)</a></li>\n'
-             '<li><a href="index.csv">This table (CSV)</a></li>\n<li><a href="index.json">This table (JSON)</a></li>\n</ul></section>\n')
+             '<li><a href="index.csv">This table (CSV)</a></li>\n<li><a href="index.json">This table (JSON)</a></li>\n'
+             '<li><a href="SHA256SUMS">The hash of each file (SHA-256)</a></li>\n</ul></section>\n' + head_section(head))
     return page("Results of the election", f"<section><h2>The constituencies</h2>\n<p>{said}.</p>\n{bar}"
                 + table("Progress of the constituencies", heads, rows, "index") + "</section>\n" + files
                 + texts_section({"progress": text}), moment)
+
+
+def head_section(head):
+    """How long the record of commands is, and what nobody can change it without changing."""
+    if not head:
+        return ""
+    return (f'<section><h2>The record of commands</h2>\n<p>It has {number(head["n"])} lines. The SHA-256 of the last is '
+            f'<code>{escaped(head["hash"])}</code>. Each line has that of the line before it, so no line can be changed or removed '
+            'without changing this one. <a href="record.csv">What was shown before (CSV)</a></p></section>\n')
 
 
 # ---- files
 
 
 def put(folder, name, text):
-    """Writes a file beside and renames it."""
-    beside = folder / f".{name}.new"
-    beside.write_text(text, encoding="utf-8", newline="")
-    os.replace(beside, folder / name)
+    """Writes a file, and the same compressed, each beside and renamed. What would be the same stays as it is."""
+    data = text.encode()
+    file, compressed = folder / name, folder / f"{name}.gz"
+    if file.exists() and compressed.exists() and file.read_bytes() == data:
+        return
+    for target, content in ((compressed, gzip.compress(data, mtime=0)), (file, data)):
+        beside = folder / f".{target.name}.new"
+        beside.write_bytes(content)
+        os.replace(beside, target)
+
+
+def remove(folder, name):
+    for file in (folder / name, folder / f"{name}.gz"):
+        file.unlink(missing_ok=True)
+
+
+def put_sums(folder):
+    """Writes the hash of each file, in the form of sha256sum."""
+    files = [file for file in sorted(folder.iterdir()) if file.is_file() and file.suffix != ".gz" and not file.name.startswith((".", "SHA256SUMS"))]
+    put(folder, "SHA256SUMS", "".join(f"{hashlib.sha256(file.read_bytes()).hexdigest()}  {file.name}\n" for file in files))
+
+
+def put_head(folder, file):
+    """Adds the head of the record of commands to those that were shown; the head, or None where there is none."""
+    try:
+        head = json.loads(file.read_text(encoding="utf-8"))
+        row = [head["time"], head["n"], head["hash"]]
+    except (OSError, ValueError, KeyError, TypeError) as error:
+        print(f"failed: {file}: {error!r}", file=sys.stderr, flush=True)
+        return None
+    shown = folder / "record.csv"
+    before = shown.read_text(encoding="utf-8") if shown.exists() else csv_text(["time", "lines", "sha256"], [])
+    if not before.endswith(f",{row[1]},{row[2]}\n"):
+        put(folder, "record.csv", before + ",".join(map(str, row)) + "\n")
+    return head
 
 
 def csv_text(heads, rows):
@@ -610,18 +655,41 @@ def age_text(seconds):
 
 
 def write_returns(office, folder, code, con, entry):
-    """The returns of a certificate's stations, once an edition; the files that are there, by edition."""
-    edition = con["view"]["edition"]
+    """The returns of a certificate's stations, once an edition; the files that are there, by edition.
+
+    A file of an edition that has no certificate is removed, and one whose sums are not those of the certificate is written again:
+    they are of an office that was replaced by a copy from before."""
+    view = con["view"]
+    edition = view["edition"] if view["certified"] else None
     name = f"stations-{code}-{edition}.csv"
-    if con["view"]["certified"] and entry and not (folder / name).exists():
+    if edition and entry and not adds_up(folder / name, view):
+        remove(folder, name)
         found = [office.json(f"/station/{station['code']}") for station in entry["stations"]]
-        sums = [sum(column) for column in zip(*(one["votes"] for one in found))]
+        rows = [[one["station"], one["slip"], one["blank"], one["spoiled"], *one["votes"]] for one in found]
+        put(folder, name, csv_text(["station", "slip", "blank", "spoiled", *(row["code"] for row in entry["lists"])], rows))
         # Another certificate may have come meanwhile: the next round writes it.
-        if sums == con["view"]["votes"] and office.json(f"/con/{code}") == con["view"]:
-            rows = [[one["station"], one["slip"], one["blank"], one["spoiled"], *one["votes"]] for one in found]
-            put(folder, name, csv_text(["station", "slip", "blank", "spoiled", *(row["code"] for row in entry["lists"])], rows))
-    names = (re.fullmatch(rf"stations-{re.escape(code)}-(\d+)\.csv", file.name) for file in folder.iterdir())
-    return {int(found[1]): found[0] for found in names if found}
+        if not adds_up(folder / name, view) or office.json(f"/con/{code}") != view:
+            remove(folder, name)
+    there = {edition, *(past["edition"] for past in con["past"])}
+    names = [re.fullmatch(rf"stations-{re.escape(code)}-(\d+)\.csv", file.name) for file in folder.iterdir()]
+    files = {int(found[1]): found[0] for found in names if found}
+    for old in set(files) - there:
+        remove(folder, files.pop(old))
+    if edition in files and not adds_up(folder / files[edition], view):
+        del files[edition]
+    return files
+
+
+def adds_up(file, view):
+    """Whether a file of returns has the stations and the sums of a certificate."""
+    if not file.exists():
+        return False
+    try:
+        _, *rows = csv.reader(io.StringIO(file.read_text(encoding="utf-8"), newline=""))
+        sums = [sum(map(int, column)) for column in zip(*(row[2:] for row in rows))]
+    except ValueError:
+        return False
+    return len(rows) == view["stations"] and sums == [view["blank"], view["spoiled"], *view["votes"]]
 
 
 # ---- rounds
@@ -641,56 +709,75 @@ def write_con(office, folder, row, entry, before):
     return con
 
 
-def write_index(folder, progress, text, cons, setup, seen):
+def write_index(folder, progress, text, cons, setup, seen, head):
     names = {code: entry["name"] for code, entry in setup.items()} | {code: con["tally"]["name"] for code, con in cons.items()}
     moment = datetime.now().astimezone()
-    put(folder, "index.html", index_page(progress, text, cons, names, moment))
+    put(folder, "index.html", index_page(progress, text, cons, names, moment, head))
     put(folder, "index.csv", csv_text(progress[0].keys(), [
         [str(value).lower() if isinstance(value, bool) else value for value in row.values()] for row in progress]))
-    put(folder, "index.json", json_text({"time": moment.isoformat(timespec="seconds"), "constituencies": progress}))
+    record = {"record": {"lines": head["n"], "sha256": head["hash"]}} if head else {}
+    put(folder, "index.json", json_text({"time": moment.isoformat(timespec="seconds"), **record, "constituencies": progress}))
     put(folder, "results.csv", results_csv({row["con"]: seen[row["con"]] for row in progress if row["con"] in seen}))
 
 
-def write_all(office, folder, setup, seen):
+def progress_of(offices):
+    """The progress of all offices: its texts, the office of each row, and what failed."""
+    texts, rows, failures = [], [], []
+    for office in offices:
+        try:
+            text = office.text("/progress")
+            rows += [(office, row) for row in read_progress(text)]
+            texts.append(text)
+        except NoAnswer as error:
+            failures.append(str(error))
+    return texts, rows, failures
+
+
+def write_all(offices, folder, setup, seen, head=None):
     """One round, after what was seen in the one before; how many pages were written, and what failed."""
-    failures, cons = [], {}
-    try:
-        text = office.text("/progress")
-        progress = read_progress(text)
-    except NoAnswer as error:
+    cons = {}
+    texts, rows, failures = progress_of(offices)
+    if failures:
+        # The index is of all offices, or stays as it is.
+        here = {f"con-{row['con']}.html" for _, row in rows}
         pages = [file.name for file in [folder / "index.html", *sorted(folder.glob("con-*.html"))]
-                 if mark_old(file, datetime.now().astimezone())]
-        return 0, [f"{error}; left as they are: {len(pages)} pages"]
-    for row in progress:
+                 if file.name not in here and mark_old(file, datetime.now().astimezone())]
+        failures[-1] += f"; left as they are: {len(pages)} pages"
+    for office, row in rows:
         try:
             cons[row["con"]] = write_con(office, folder, row, setup.get(row["con"]), seen.get(row["con"]))
         except NoAnswer as error:
             mark_old(folder / f"con-{row['con']}.html", datetime.now().astimezone())
             failures.append(str(error))
     seen.update(cons)
-    write_index(folder, progress, text, cons, setup, seen)
-    return 1 + len(cons), failures
+    if len(texts) == len(offices):
+        write_index(folder, [row for _, row in rows], "".join(texts), cons, setup, seen, head and put_head(folder, head))
+    if rows:
+        put_sums(folder)
+    return len(cons) + (len(texts) == len(offices)), failures
 
 
 def main():
     command = argparse.ArgumentParser(description=__doc__.splitlines()[0])
-    command.add_argument("office", help="the address of the office, such as http://127.0.0.1:8080")
+    command.add_argument("office", nargs="+", help="the address of the office, such as http://127.0.0.1:8080")
     command.add_argument("folder", type=Path, help="where the pages are written")
     command.add_argument("--every", type=float, metavar="SECONDS", help="write them again so often, until it is ended")
-    command.add_argument("--setup", type=Path, metavar="FILE", help="the setup file of the office")
+    command.add_argument("--setup", type=Path, metavar="FILE", help="the setup file of the office, before it was split")
+    command.add_argument("--head", type=Path, metavar="FILE", help="what the recorder writes: how long the record is, and its hash")
     given = command.parse_args()
     given.folder.mkdir(parents=True, exist_ok=True)
     setup = read_setup(given.setup) if given.setup else []
     if setup:
         put(given.folder, "setup.json", json_text(setup))
     signal.signal(signal.SIGTERM, lambda *_: sys.exit(0))
-    office, entries, seen = Office(given.office), {entry["code"]: entry for entry in setup}, {}
+    offices, entries, seen, asked = [Office(address) for address in given.office], {entry["code"]: entry for entry in setup}, {}, 0
     while True:
-        before, began = office.asked, time.monotonic()
-        written, failures = write_all(office, given.folder, entries, seen)
+        before, began = asked, time.monotonic()
+        written, failures = write_all(offices, given.folder, entries, seen, given.head)
+        asked = sum(office.asked for office in offices)
         for failure in failures:
             print(f"failed: {failure}", file=sys.stderr, flush=True)
-        print(f"{datetime.now().strftime('%H:%M:%S')} pages {written} failed {len(failures)} GETs {office.asked - before} "
+        print(f"{datetime.now().strftime('%H:%M:%S')} pages {written} failed {len(failures)} GETs {asked - before} "
               f"in {time.monotonic() - began:.1f} s", flush=True)
         if given.every is None:
             return 1 if failures else 0

@@ -6,11 +6,13 @@ import http.client
 import json
 import os
 import shutil
+import signal
 import socket
 import subprocess
 import time
 
 DRIVER, CHROMIUM = shutil.which("chromedriver"), shutil.which("chromium") or shutil.which("chromium-browser")
+PATIENCE = 300  # seconds, on a machine that has much else to do
 KEY = "element-6066-11e4-a52e-4f735466cecf"  # the name of an element's number in the protocol
 
 
@@ -23,7 +25,7 @@ class Browser:
         self.port, self.session = port, session
 
     def ask(self, method, path, body=None):
-        connection = http.client.HTTPConnection("127.0.0.1", self.port, timeout=60)
+        connection = http.client.HTTPConnection("127.0.0.1", self.port, timeout=PATIENCE)
         with contextlib.closing(connection):
             connection.request(method, path, None if body is None else json.dumps(body), {"Content-Type": "application/json"})
             answer = connection.getresponse()
@@ -69,7 +71,20 @@ class Browser:
         self.of_session("POST", "/alert/accept", {})
         return text
 
-    def wait(self, script, *arguments, seconds=20):
+    def dismiss(self):
+        """Answers the page's question with no; the question."""
+        text = self.of_session("GET", "/alert/text")
+        self.of_session("POST", "/alert/dismiss", {})
+        return text
+
+    def asked(self):
+        """Whether the page asks a question."""
+        try:
+            return bool(self.of_session("GET", "/alert/text"))
+        except Failed:
+            return False
+
+    def wait(self, script, *arguments, seconds=60):
         """Waits until a function's body returns something that is true."""
         end = time.monotonic() + seconds
         while not (found := self.run(script, *arguments)):
@@ -77,6 +92,12 @@ class Browser:
                 raise Failed(f"waited for {script} {arguments}")
             time.sleep(0.05)
         return found
+
+    def named(self, *roles):
+        """The parts of these roles in what the browser tells a screen reader: each with its role and its name."""
+        found = self.command("Accessibility.getFullAXTree")["nodes"]
+        return [(one["role"]["value"], one.get("name", {}).get("value", "")) for one in found
+                if not one["ignored"] and one["role"]["value"] in roles]
 
     def size(self, width, height, dark=False):
         """The size of the page's window, and its colours."""
@@ -105,8 +126,9 @@ def browser(folder, *words):
         if it.session:
             with contextlib.suppress(Exception):
                 it.of_session("DELETE", "")
-        driver.terminate()
-        driver.wait(timeout=20)
+        # The browser too, where it was started and no session of it is known.
+        os.killpg(driver.pid, signal.SIGTERM)
+        driver.wait(timeout=PATIENCE)
 
 
 def capabilities(words):
@@ -120,7 +142,7 @@ def capabilities(words):
 
 
 def wait_for_driver(it):
-    end = time.monotonic() + 20
+    end = time.monotonic() + PATIENCE
     while True:
         try:
             return it.ask("GET", "/status")

@@ -41,7 +41,7 @@ def request(line):
     verb, of, *words = line.split()
     if verb == "lodge":
         body = {"slip": words[0], **counts_of(*words[1:])}
-    elif verb == "correct":
+    elif verb in ("correct", "confirm"):
         body = {"rev": int(words[0]), "slip": words[1], **counts_of(*words[2:])}
     elif verb == "vacate":
         body = {"list": words[0], "place": int(words[1]), "note": words[2]}
@@ -51,7 +51,7 @@ def request(line):
             body["order"] = words[1].split(",")
         elif len(words) > 1:
             body["note"] = words[1]
-    return f"/{'station' if verb in ('lodge', 'query', 'correct', 'close') else 'con'}/{of}/{verb}", body
+    return f"/{'station' if verb in ('lodge', 'query', 'correct', 'close', 'confirm') else 'con'}/{of}/{verb}", body
 
 
 def answer(text):
@@ -98,6 +98,7 @@ def stored(db):
                 "lot": [lists[n - 1] for (n,) in select("SELECT list FROM lots WHERE con = ? ORDER BY place", code)],
                 "seats": [n for (n,) in select("SELECT n FROM seats WHERE con = ? ORDER BY list", code)],
                 "gone": [{"list": lists[n - 1], "place": place, "note": note} for n, place, note in gone],
+                **({"entry": "double"} if con.get("entry") == "double" else {}),
             })
             past = f"PAST {code} {con['name']}\n"
             for (before,) in select("SELECT DISTINCT edition FROM past WHERE con = ? ORDER BY edition", code):
@@ -487,6 +488,8 @@ bad_tables: UPDATE cons SET note = 'a' || char(10)
 bad_tables: UPDATE counts SET item = 62 WHERE item = 61
 bad_tables: INSERT INTO gone VALUES ('c1', 1, 9, 'x')
 bad_setup: UPDATE setup SET text = '[['
+opened: UPDATE setup SET text = replace(text, 'profile = "d0"', 'profile = "d0"' || char(10) || 'entry = "double"')
+bad_setup: UPDATE setup SET text = replace(text, 'profile = "d0"', 'profile = "d0"' || char(10) || 'entry = "twice"')
 bad_tables: DROP TABLE past; UPDATE setup SET version = 1; UPDATE seats SET n = 3 - n
 """
 

@@ -147,34 +147,42 @@ def filled(text, pairs):
 
 
 class Proxy:
-    """nginx with the configuration of deploy/, its places filled in, in a folder of its own."""
+    """nginx and the recorder with the files of deploy/, their places filled in, in a folder of its own."""
 
-    def __init__(self, desk):
+    def __init__(self, desk, *more):
         self.folder = Path.cwd() / "proxy"
-        self.port, self.plain, self.desk = free_port(), free_port(), desk
+        self.port, self.plain, self.desks = free_port(), free_port(), (desk, *more)
         self.passwords = {}
-        self.process = None
+        self.process = self.recorder = None
+        # What is put into nginx.conf, and the room that the recorder leaves.
+        self.more, self.room = {}, 0
 
     def configure(self):
-        for name in ("office", "log", "temporary", "pages", "share"):
-            (self.folder / name).mkdir(parents=True)
+        for name in ("office", "log", "temporary", "pages", "share", "recorder"):
+            (self.folder / name).mkdir(parents=True, exist_ok=True)
+        places = {"/var/log/nginx/": f"{self.folder}/log/", "/var/lib/nginx/": f"{self.folder}/temporary/",
+                  "/var/www/office": f"{self.folder}/pages", "/usr/local/share/office": f"{self.folder}/share",
+                  "/etc/nginx/office/": f"{self.folder}/office/"}
         for part in (DEPLOY / "nginx").glob("*.conf"):
-            text = part.read_text(encoding="utf-8").replace("/var/log/office/", f"{self.folder}/log/")
-            (self.folder / "office" / part.name).write_text(text, encoding="utf-8")
-        (self.folder / "office/staff.conf").write_text("clara clerk;\nbruno clerk;\nberta board;\n", encoding="utf-8")
+            self.put(part.name, part.read_text(encoding="utf-8"), places)
+        self.put("staff.conf", "clara clerk;\nbruno clerk;\nberta board;\n")
         (self.folder / "nginx.conf").write_text(filled((DEPLOY / "nginx.conf").read_text(encoding="utf-8"), {
             "user www-data;": "user root;" if os.geteuid() == 0 else "",
-            "pid /run/nginx.pid;": f"pid {self.folder}/nginx.pid; daemon off;",
-            "/var/log/nginx/": f"{self.folder}/log/", "/var/lib/nginx/": f"{self.folder}/temporary/",
-            "/var/www/office": f"{self.folder}/pages",
-            "/usr/local/share/office": f"{self.folder}/share", "127.0.0.1:8080": f"127.0.0.1:{self.desk}",
+            "pid /run/nginx.pid;": f"pid {self.folder}/nginx.pid; daemon off;", **places,
             "listen 443": f"listen 127.0.0.1:{self.port}", "listen 80": f"listen 127.0.0.1:{self.plain}",
-            f'"https://{NAME}"': f'"https://{NAME}:{self.port}"', f"https://{NAME}$": f"https://{NAME}:{self.port}$",
+            f'"https://{NAME}"': f'"https://{NAME}:{self.port}"', f"https://{NAME}$": f"https://{NAME}:{self.port}$", **self.more,
         }), encoding="utf-8")
         shutil.copy(DEPLOY / "www/clerk.html", self.folder / "share")
         self.certify()
         for name in ("clara", "bruno", "berta"):
             self.name("staff", name)
+
+    def put(self, name, text, places=None):
+        """Writes a file of the configuration."""
+        for old, new in {**(places or {}), "127.0.0.1:8080": f"127.0.0.1:{self.desks[0]}",
+                         "/run/office-recorder/": f"{self.folder}/recorder/"}.items():
+            text = text.replace(old, new)
+        (self.folder / "office" / name).write_text(text, encoding="utf-8")
 
     def certify(self):
         ran("openssl", "req", "-x509", "-newkey", "ec", "-pkeyopt", "ec_paramgen_curve:prime256v1", "-nodes", "-days", "2",
@@ -182,14 +190,34 @@ class Proxy:
             "-subj", f"/CN={NAME}", "-addext", f"subjectAltName=DNS:{NAME}")
         self.tls = ssl.create_default_context(cafile=self.folder / "office/certificate.pem")
 
+    def password(self, *words):
+        """Runs the script that gives passwords."""
+        return subprocess.run([DEPLOY / "password", *words], capture_output=True, text=True, timeout=600, env={
+            **os.environ, "PASSWORDS": str(self.folder / "office"), "SETUP": "names.toml"})
+
     def name(self, file, name):
-        """Gives a name its password, by the script that an office uses."""
-        said = subprocess.run([DEPLOY / "password", file, name], env={**os.environ, "PASSWORDS": str(self.folder / "office")},
-                              capture_output=True, text=True, timeout=60)
+        """Gives a name its password, by the script that an office uses; of a station, of a setup that has it."""
+        Path("names.toml").write_text(f'[[constituency]]\n[[constituency.station]]\ncode = "{name}"\n', encoding="utf-8")
+        said = self.password(file, name)
         same((said.returncode, said.stderr), (0, ""))
         self.passwords[name] = said.stdout.split()[-1]
 
+    def start_recorder(self):
+        desks = [word for desk in self.desks for word in ("--desk", f"127.0.0.1:{desk}")]
+        self.recorder = subprocess.Popen(
+            [sys.executable, DEPLOY / "recorder.py", self.folder / "recorder", self.folder / "log/commands.log",
+             "--room", str(self.room), *desks], stdout=subprocess.DEVNULL, stderr=open(self.folder / "log/recorder", "ab"))
+        until(lambda: (self.folder / "recorder/head").exists() or self.recorder.poll() is not None, 20)
+
+    def end_recorder(self, number=signal.SIGTERM):
+        if self.recorder:
+            self.recorder.send_signal(number)
+            self.recorder.wait(timeout=20)
+            (self.folder / "recorder/head").unlink(missing_ok=True)
+            self.recorder = None
+
     def start(self):
+        self.start_recorder()
         self.process = subprocess.Popen([NGINX, "-e", self.folder / "log/error.log", "-c", self.folder / "nginx.conf"],
                                         stdout=subprocess.DEVNULL, stderr=subprocess.DEVNULL)
         end = time.monotonic() + 20
@@ -206,6 +234,7 @@ class Proxy:
         if self.process:
             self.process.terminate()
             self.process.wait(timeout=20)
+        self.end_recorder()
 
     def connect(self, source="127.0.0.1", name=NAME):
         """A connection with TLS, from an address of this machine."""
@@ -230,19 +259,36 @@ class Proxy:
             answer = connection.getresponse()
             return Answer(answer.status, answer.read(), answer.headers)
 
-    def record(self, lines=0):
-        """The lines of the record of commands, once there are so many: a line comes after its answer."""
+    def lines(self):
+        """The lines of the record."""
         file = self.folder / "log/commands.log"
+        return [json.loads(line) for line in file.read_text(encoding="utf-8").splitlines()] if file.exists() else []
+
+    def record(self, commands=0):
+        """The commands of the record, each with its answer, once there are so many."""
+        def whole():
+            answers = {line["to"]: line for line in self.lines() if "to" in line}
+            found = [line | {key: answers[line["n"]][key] for key in ("status", "answer") if line["n"] in answers and key in answers[line["n"]]}
+                     for line in self.lines() if "to" not in line]
+            return found if len(found) >= commands and all("status" in line for line in found) else None
+
+        until(whole, 10)
+        return whole()
+
+    def refused(self, lines=0):
+        """The lines of the record of wrong passwords, once there are so many: a line comes after its answer."""
+        file = self.folder / "log/refused.log"
         until(lambda: file.read_bytes().count(b"\n") >= lines, 10)
-        return [json.loads(line) for line in file.read_bytes().decode(errors="surrogateescape").split("\n")[:-1]]
+        return [json.loads(line) for line in file.read_text(encoding="utf-8").splitlines()]
 
 
 Answer = collections.namedtuple("Answer", "status body head")
 
 
 @contextlib.contextmanager
-def proxy(desk):
-    it = Proxy(desk)
+def proxy(*desks, more=None, room=0):
+    it = Proxy(*desks)
+    it.more, it.room = more or {}, room
     it.configure()
     try:
         it.start()
@@ -315,18 +361,18 @@ GETS = ("/progress", "/station/s1", "/con/c1", *(f"/con/c1/{name}" for name in (
 OF_CLERKS = ("/station/s1/query", "/station/s1/correct", "/station/s1/close", "/con/c1/import", "/con/c1/import/semicolon")
 OF_BOARD = ("/con/c1/draw", "/con/c1/certify", "/con/c1/reopen", "/con/c1/vacate")
 # Who asks, and what each is answered: lodging for s1, the clerks' commands, the board's. 400 is the
-# desk's: {} is no command.
+# desk's: {} is no command. Without the right password nobody learns what a name may do.
 ROLES = {
     "nobody": (401, 401, 401),
     "s1": (400, 403, 403),
     "s2": (403, 403, 403),
     "clara": (400, 400, 403),
     "berta": (403, 403, 400),
-    "unknown": (403, 403, 403),
-    "clara with another password": (401, 401, 403),
-    "berta with another password": (403, 403, 401),
-    "s1 with another password": (401, 403, 403),
-    "clara with the password of s1": (401, 401, 403),
+    "unknown": (401, 401, 401),
+    "clara with another password": (401, 401, 401),
+    "berta with another password": (401, 401, 401),
+    "s1 with another password": (401, 401, 401),
+    "clara with the password of s1": (401, 401, 401),
 }
 
 
@@ -350,12 +396,13 @@ def test_each_role_against_each_route():
                 # Nothing is lodged or certified: the desk says so, to everybody alike.
                 word = b"no_return" if "station" in target else b"not_certified"
                 assert found.status == 200 or word in found.body, f"{who}: GET {target}: {found}"
-        # Without 403: 10 of nobody, 1 of s1, 6 of clara, 4 of berta; with wrong passwords 6, 4, 1
-        # and 6.
-        record = front.record(38)
-        recorded = collections.Counter((line["name"], line["status"]) for line in record)
-        same((len(record), recorded[("clara", 400)], recorded[("clara", 401)], recorded[("", 401)]), (38, 6, 12, 10))
-        assert all((line["desk"] == "400") == (line["status"] == 400) for line in record), record
+        # Ten commands each: those of four names with their passwords are recorded, also what they
+        # may not do.
+        record = collections.Counter((line["name"], line["status"]) for line in front.record(40))
+        same(record, {("s1", 400): 1, ("s1", 403): 9, ("s2", 403): 10, ("clara", 400): 6, ("clara", 403): 4, ("berta", 400): 4,
+                      ("berta", 403): 6})
+        refused = collections.Counter(line["name"] for line in front.refused(60))
+        same(refused, {"": 10, "unknown": 10, "clara": 20, "berta": 10, "s1": 10})
 
 
 @needs("nginx", "openssl")
@@ -396,8 +443,9 @@ def test_passwords_of_names_like_numbers():
             front.name("stations", name)
         same([front.ask("POST", f"/station/{name}/lodge", {}, name).status for name in names], [200] * 4)
         same(front.ask("POST", "/station/7/lodge", {}, "7", password=front.passwords["007"]).status, 401)
-        for line in (front.folder / "office/stations.htpasswd").read_text().splitlines():
-            name, hashed = line.split(":{SSHA}")
+        for file in (front.folder / "office/stations").iterdir():
+            name, hashed = file.read_text().split(":{SSHA}")
+            same(name, file.name)
             salted = base64.b64decode(hashed)
             same(hashlib.sha1(front.passwords[name].encode() + salted[20:]).digest(), salted[:20])
 
@@ -483,7 +531,8 @@ def test_what_the_desk_gets():
         same(front.ask("GET", "/now/con/c1/tally", name="clara", headers=many).status, 200)
         (lodge, body), (tally, nothing) = messages
         same(lodge.split(b"\r\n")[0].split(b" ")[:2], [b"POST", b"/station/s1/lodge"])
-        same(sorted(line.split(b":")[0].lower() for line in lodge.split(b"\r\n")[1:]), [b"connection", b"content-length", b"host"])
+        same([line.split(b":")[0].lower() for line in lodge.split(b"\r\n")[1:]], [b"host", b"content-length"])
+        same([line.split(b":")[0].lower() for line in tally.split(b"\r\n")[1:]], [b"host", b"connection"])
         same(body, b'{"slip":"p1"}')
         same((tally.split(b"\r\n")[0].split(b" ")[:2], nothing), ([b"GET", b"/con/c1/tally"], b""))
 
@@ -502,15 +551,17 @@ def test_what_never_gets_to_the_desk():
             found = front.ask(method, target, name="clara")
             assert found.status == status, f"{method} {target}: {found}"
             same(found.head["Allow"], {405: "POST" if method == "GET" or method == "PUT" else "GET" if "now" in target else "GET, HEAD"}.get(status))
-        # A target in other letters is looked at as what it means: no way round a role.
-        same(front.ask("POST", "/con/c1/%63ertify", {}, "clara").status, 403)
-        same(front.ask("POST", "/station/x/../../con/c1/certify", {}, "clara").status, 403)
+        # A target in other letters than its own is none: no way round a role, or past the cache.
+        for name in ("clara", "berta"):
+            same(front.ask("POST", "/con/c1/%63ertify", {}, name).status, 404)
+            same(front.ask("POST", "/station/x/../../con/c1/certify", {}, name).status, 404)
         same(messages, [])
 
 
 @needs("nginx", "openssl")
 def test_bodies():
-    """A body of 1,048,576 bytes gets to the desk and into the record, and one byte more, or one in chunks, gets nowhere."""
+    """An import of 1,048,576 bytes gets to the desk and into the record, and one byte more, or one in chunks, gets nowhere; of
+    any other command 16,384 bytes are enough."""
     with recording_desk() as (port, messages), proxy(port) as front:
         # One chunk of two bytes, with an extension that no buffer of the proxy holds.
         head = (f"POST /station/s1/lodge HTTP/1.1\r\nHost: {NAME}\r\nAuthorization: {front.authorization('clara')}\r\n"
@@ -525,6 +576,9 @@ def test_bodies():
         same([body for _, body in messages], [largest])
         same(front.ask("POST", "/con/c1/import", largest + b"x", "clara").status, 413)
         same((len(messages), [line["body"] for line in front.record(1)]), (1, [largest.decode()]))
+        for length, status in ((16_384, 200), (16_385, 413)):
+            same(front.ask("POST", "/station/s1/lodge", b"x" * length, "clara").status, status)
+        same(len(messages), 2)
 
 
 @needs("nginx", "openssl")
@@ -537,7 +591,7 @@ def test_a_command_that_nobody_waits_for():
                         f"Content-Length: {len(body)}\r\n\r\n").encode() + body)
             time.sleep(0.3)
         line = front.record(1)[0]
-        same((line["body"], line["desk"], len(messages)), (body.decode(), "200", 1))
+        same((line["body"], line["status"], len(messages)), (body.decode(), 200, 1))
 
 
 def until(true, seconds):
@@ -551,9 +605,11 @@ def until(true, seconds):
 
 
 def pipelined(front, asked, times, source, headers=""):
-    """Asks so often at once over one connection; how many answers have each status."""
+    """Asks so often at once over one connection, with these fields or, of a list, with the next each time; how many answers have
+    each status."""
+    each = [headers] * times if isinstance(headers, str) else headers
     with front.connect(source) as it:
-        it.sendall(f"{asked} HTTP/1.1\r\nHost: {NAME}\r\n{headers}Content-Length: 0\r\n\r\n".encode() * times)
+        it.sendall("".join(f"{asked} HTTP/1.1\r\nHost: {NAME}\r\n{one}Content-Length: 0\r\n\r\n" for one in each).encode())
         answers = b""
         while len(statuses := re.findall(rb"^HTTP/1.1 (\d+) ", answers, re.M)) < times or not answers.endswith(b"</html>\r\n"):
             part = it.recv(65536)
@@ -564,13 +620,24 @@ def pipelined(front, asked, times, source, headers=""):
 
 @needs("nginx", "openssl")
 def test_who_asks_too_often():
-    """300 guesses at once from one address: most are refused with 429 and not recorded, and another address is served."""
+    """160 guesses at once from one address: 100 are answered at once, and the others wait, while another address is served; more
+    than a hundred connections are refused."""
     with recording_desk() as (port, messages), proxy(port) as front:
-        counted = pipelined(front, "POST /con/c1/certify", 300, "127.0.3.1")
-        # 100 at once, and 20 a second while they came.
-        assert set(counted) == {b"401", b"429"} and 100 <= counted[b"401"] <= 200, counted
-        same((len(messages), len(front.record(counted[b"401"]))), (0, counted[b"401"]))
-        same(front.ask("POST", "/con/c1/certify", {}, "berta", source="127.0.3.2").status, 200)
+        began, served = time.monotonic(), []
+        other = threading.Thread(target=lambda: served.append((front.ask("POST", "/con/c1/certify", {}, "berta", source="127.0.3.2").status,
+                                                              time.monotonic() - began)))
+        other.start()
+        same(pipelined(front, "POST /con/c1/certify", 160, "127.0.3.1"), {b"401": 160})
+        took = time.monotonic() - began
+        other.join()
+        # 20 a second.
+        assert took > 60 / 20 - 0.5 and served[0][0] == 200 and served[0][1] < took, (took, served)
+        same((len(messages), len(front.refused(160))), (1, 160))
+        with contextlib.ExitStack() as held:
+            head = f"POST /con/c1/certify HTTP/1.1\r\nHost: {NAME}\r\nContent-Length: 9\r\n\r\n".encode()
+            for _ in range(100):
+                held.enter_context(front.connect("127.0.3.4")).sendall(head)
+            until(lambda: front.ask("POST", "/con/c1/certify", {}, "berta", source="127.0.3.4").status == 429, 20)
 
 
 @needs("nginx", "openssl")
@@ -578,13 +645,13 @@ def test_what_no_limit_counts():
     """What breaks a rule is answered at once, however often it comes, and is written into no file."""
     with recording_desk() as (port, messages), proxy(port) as front:
         for asked, headers, status in (
-            ("POST /con/c1/certify?x", "", b"404"), ("PUT /con/c1/certify", "", b"405"), ("GET /nonesuch.html", "", b"404"),
+            ("POST /con/c1/certify?x", "", b"404"), ("PUT /con/c1/certify", "", b"405"),
             ("POST /con/c1/certify", "Origin: null\r\n", b"403"),
-            ("POST /con/c1/certify", f"Authorization: {front.authorization('clara', 'x')}\r\n", b"403"),
+            ("POST /con/c1/certify", f"Authorization: {front.authorization('cl ara', 'x')}\r\n", b"401"),
         ):
             same(pipelined(front, asked, 300, "127.0.3.3", headers), {status: 300})
         same(front.ask("POST", "/con/c1/certify", {}, "berta", source="127.0.3.3").status, 200)
-        same((len(front.record(1)), (front.folder / "log/error.log").read_text()[:500]), (1, ""))
+        same((len(front.record(1)), front.refused(), (front.folder / "log/error.log").read_text()[:500]), (1, [], ""))
 
 
 @needs("nginx", "openssl")
@@ -616,21 +683,33 @@ import socket, ssl, sys, threading, time
 port, certificate, first, clients, asks = int(sys.argv[1]), sys.argv[2], *map(int, sys.argv[3:])
 tls = ssl.create_default_context(cafile=certificate)
 request = b"GET /con/c1/tally HTTP/1.1\\r\\nHost: office.example\\r\\n\\r\\n"
-failed = []
+failed, asked, stop = [], [], threading.Event()
+
+def until_told():
+    sys.stdin.read()
+    stop.set()
 
 def read(client):
-    there = socket.create_connection(("127.0.0.1", port), timeout=60, source_address=(f"127.0.5.{first + client + 1}", 0))
-    with tls.wrap_socket(there, server_hostname="office.example") as it:
-        for _ in range(asks):
-            it.sendall(request)
-            answer = it.recv(65536)
-            while b"\\r\\n\\r\\n" not in answer or not answer.endswith(b"\\n"):
-                part = it.recv(65536)
-                if not part:
+    # So often, or, if that is 0, until this is told to end.
+    count, goes_on = 0, lambda: count < asks or not asks and not stop.is_set()
+    while goes_on():
+        there = socket.create_connection(("127.0.0.1", port), timeout=60, source_address=(f"127.0.5.{first + client + 1}", 0))
+        with tls.wrap_socket(there, server_hostname="office.example") as it:
+            # The proxy ends a connection after a thousand.
+            for _ in range(900):
+                if not goes_on():
                     break
-                answer += part
-            if not answer.startswith(b"HTTP/1.1 200 ") or b"TALLY c1 Twin Town\\n" not in answer:
-                failed.append(answer)
+                count += 1
+                it.sendall(request)
+                answer = it.recv(65536)
+                while b"\\r\\n\\r\\n" not in answer or not answer.endswith(b"\\n"):
+                    part = it.recv(65536)
+                    if not part:
+                        break
+                    answer += part
+                if not answer.startswith(b"HTTP/1.1 200 ") or b"TALLY c1 Twin Town\\n" not in answer:
+                    failed.append(answer)
+    asked.append(count)
 
 def tries_to_read(client):
     try:
@@ -639,56 +718,67 @@ def tries_to_read(client):
         failed.append(repr(error))
 
 threads = [threading.Thread(target=tries_to_read, args=(client,)) for client in range(clients)]
+threading.Thread(target=until_told, daemon=True).start()
 began = time.monotonic()
 for thread in threads:
     thread.start()
 for thread in threads:
     thread.join()
-print(clients * asks, len(failed), time.monotonic() - began, failed[:1])
+print(sum(asked), len(failed), time.monotonic() - began, failed[:1])
 """
 
 
 def readers(front, clients=50, asks=400, processes=2):
-    """Starts so many clients, each asking so often, in processes of their own."""
+    """Starts so many clients, each asking so often, or until it is told to end, in processes of their own."""
     each = clients // processes
     return [subprocess.Popen([sys.executable, "-c", READER, str(front.port), str(front.folder / "office/certificate.pem"),
-                              str(n * each), str(each), str(asks)], stdout=subprocess.PIPE, text=True) for n in range(processes)]
+                              str(n * each), str(each), str(asks)], stdin=subprocess.PIPE, stdout=subprocess.PIPE, text=True)
+            for n in range(processes)]
 
 
-def lodges(front, stations, connection_of):
-    """Lodges for each station in turn; how long each took."""
-    took = []
-    for n in stations:
-        began = time.monotonic()
-        body = {"slip": f"p{n}", "votes": [n % 100, 1], "blank": 0, "spoiled": 0}
-        found = front.ask("POST", f"/station/s{n}/lodge", body, "clara", source=connection_of(n))
-        same((found.status, found.body), (200, b'{"ok":"lodged","rev":1}'))
-        took.append(time.monotonic() - began)
+def lodges(front, stations):
+    """Lodges for each station in turn, from twenty addresses over connections that are kept; how long each took."""
+    took, connections = [], {}
+    with contextlib.ExitStack() as held:
+        for n in stations:
+            if n % 20 not in connections:
+                connections[n % 20] = held.enter_context(contextlib.closing(http.client.HTTPConnection(NAME, front.port, timeout=60)))
+                connections[n % 20].sock = front.connect(f"127.0.6.{n % 20 + 1}")
+            body = json.dumps({"slip": f"p{n}", "votes": [n % 100, 1], "blank": 0, "spoiled": 0})
+            began = time.monotonic()
+            connections[n % 20].request("POST", f"/station/s{n}/lodge", body, {"Authorization": front.authorization("clara")})
+            answer = connections[n % 20].getresponse()
+            same((answer.status, answer.read()), (200, b'{"ok":"lodged","rev":1}'))
+            took.append(time.monotonic() - began)
     return took
 
 
-# How much longer the slowest lodge may take among many readers than the slowest of the same lodges
-# alone, or than ten usual ones: the readers are on this machine too, and take its processors from
-# the proxy.
+def of_hundred(took, place):
+    """How long 50 or 99 of 100 took at most, in milliseconds."""
+    return statistics.quantiles(took, n=100)[place - 1] * 1000
+
+
+# How much longer 99 of 100 lodges may take among many readers than the same lodges alone, or than
+# ten usual ones: the readers are on this machine too, and take its processors from the proxy.
 SLOWER = 10
 
 
 @needs("nginx", "openssl")
 def test_many_readers_and_lodges():
+    """Fifty readers read from before the first lodge until after the last."""
     with office_and_proxy(with_stations(400)) as (_, front):
-        source = lambda n: f"127.0.6.{n % 20 + 1}"
-        alone = lodges(front, range(1, 201), source)
-        started = readers(front)
-        among = lodges(front, range(201, 401), source)
-        reading = [one.poll() is None for one in started]
+        alone = lodges(front, range(1, 201))
+        started = readers(front, asks=0)
+        time.sleep(1)
+        among = lodges(front, range(201, 401))
+        same([one.poll() for one in started], [None, None])
         said = [one.communicate(timeout=120)[0].split(maxsplit=3) for one in started]
-        same([(int(asked), int(failed), rest) for asked, failed, _, rest in said], [(10000, 0, "[]\n")] * 2)
+        same([(int(failed), rest) for _, failed, _, rest in said], [(0, "[]\n")] * 2)
         rate = sum(int(asked) / float(seconds) for asked, _, seconds, _ in said)
-        print(f"readers: {rate:.0f} tables a second; lodges alone {statistics.median(alone) * 1000:.0f} ms, at most "
-              f"{max(alone) * 1000:.0f}; among readers {statistics.median(among) * 1000:.0f} ms, at most {max(among) * 1000:.0f}; "
-              f"readers still there at the end: {sum(reading)}")
-        bound = SLOWER * max(max(alone), 10 * statistics.median(alone))
-        assert max(among) <= bound, f"{max(among)} s, and alone {max(alone)} s"
+        print(f"readers: {rate:.0f} tables a second; lodges alone p50 {of_hundred(alone, 50):.1f} ms, p99 {of_hundred(alone, 99):.1f}; "
+              f"among readers p50 {of_hundred(among, 50):.1f} ms, p99 {of_hundred(among, 99):.1f}")
+        bound = SLOWER * max(of_hundred(alone, 99), 10 * of_hundred(alone, 50))
+        assert of_hundred(among, 99) <= bound, f"{of_hundred(among, 99)} ms, and at most {bound}"
         found = front.ask("GET", "/now/progress", name="clara").body.split()
         same(found[1:4], [b"400", b"0", b"400"])
 
@@ -737,7 +827,7 @@ def test_a_table_that_takes_long():
 
 @needs("nginx", "openssl")
 def test_an_office_that_is_killed_behind_the_proxy():
-    """It is killed with -9 while two clients lodge, and started again: what was answered is there, and what was not is sent again."""
+    """It is killed with -9 while two clients lodge, and started again: they wait, and what was answered is there."""
     with office_and_proxy(with_stations(120)) as (desk, front):
         answered, statuses = set(), collections.Counter()
 
@@ -754,11 +844,11 @@ def test_an_office_that_is_killed_behind_the_proxy():
             thread.start()
         until(lambda: len(answered) > 30, 60)
         desk.end(signal.SIGKILL)
-        until(lambda: statuses, 20)
+        time.sleep(1)
         desk.start()
         for thread in threads:
             thread.join(timeout=60)
-        same((answered, set(statuses)), ({(n, 1) for n in range(1, 121)}, {502}))
+        same((answered, set(statuses)), ({(n, 1) for n in range(1, 121)}, set()))
         same(front.ask("GET", "/progress").body.split()[1:4], [b"120", b"0", b"120"])
         desk.end()
         found = dict(row[:2] for row in rows()["returns"])
@@ -802,22 +892,29 @@ def test_the_record_replayed():
             assert found.status == status, f"{target} {body}: {found}"
 
         elect(ask)
-        record = front.record(28)
+        record = front.record(29)
         desk.end()
-    keys = {"time", "name", "role", "address", "request", "body", "status", "desk"}
-    assert all(set(line) == keys for line in record)
-    same(collections.Counter(line["status"] for line in record), {200: 25, 409: 2, 400: 1})
+    keys = {"n", "time", "name", "role", "address", "office", "method", "path", "before", "status"}
+    assert all(set(line) == keys | ({"bytes"} if line["status"] == 403 else {"body", "answer"}) for line in record)
+    same(collections.Counter(line["status"] for line in record), {200: 25, 409: 2, 400: 1, 403: 1})
     same([line["role"] for line in record[:3]], ["clerk", "station", "station"])
-    assert all(re.fullmatch(r"\d{4}-\d\d-\d\dT\d\d:\d\d:\d\d[+-]\d\d:\d\d", line["time"]) for line in record)
+    assert all(re.fullmatch(r"\d{4}-\d\d-\d\dT\d\d:\d\d:\d\d\.\d{3}[+-]\d\d:\d\d", line["time"]) for line in record)
     with serving(EXAMPLES, "again.db") as desk:
-        same(replay(desk, front), (0, "sent 25, to look at 0\n"))
+        # 28 commands with their answers, and a line for the one that clara might not give.
+        end = f"lines 57, the hash of the last {hash_of_last(front)}\n"
+        same(replay(desk, front), (0, f"sent 25, to look at 0; {end}"))
         # Once more: the import and the two returns are the same, and nothing else is done a second
         # time.
         status, said = replay(desk, front)
-        assert status == 1 and said.endswith("\nsent 25, to look at 22\n") and '"word":"stale"' in said, said
-        same(replay(desk, front, "--since", "2100-01-01T00:00:00+00:00"), (0, "sent 0, to look at 0\n"))
+        assert status == 1 and said.endswith(f"\nsent 25, to look at 22; {end}") and '"word":"stale"' in said, said
+        same(replay(desk, front, "--since", "2100-01-01T00:00:00+00:00"), (0, f"sent 0, to look at 0; {end}"))
         same(replay(desk, front, "--since", record[0]["time"])[1], said)
     same(rows("again.db"), rows("office.db"))
+
+
+def hash_of_last(front):
+    """As in sed -n '$p' commands.log | tr -d '\\n' | sha256sum."""
+    return hashlib.sha256((front.folder / "log/commands.log").read_bytes().split(b"\n")[-2]).hexdigest()
 
 
 def replay(desk, front, *words):
@@ -832,17 +929,33 @@ def replayed(port, record, *words):
     return done.returncode, done.stdout.decode()
 
 
+def chained(*entries):
+    """A record of these lines: each gets its number and the hash of the line before; bytes are put there as they are."""
+    lines, before = [], "0" * 64
+    for number, entry in enumerate(entries, 1):
+        line = entry if isinstance(entry, bytes) else json.dumps(
+            {"n": number, "time": f"2026-11-26T22:14:{number % 60:02}.000+00:00", **entry, "before": before}).encode()
+        lines.append(line)
+        before = hashlib.sha256(line).hexdigest()
+    return b"".join(line + b"\n" for line in lines)
+
+
+def a_command(body, path="/con/c1/import"):
+    """A command as the recorder writes it."""
+    return {"name": "clara", "role": "clerk", "address": "127.0.0.1", "office": 1, "method": "POST", "path": path} | (
+        {"body": body} if isinstance(body, str) else {"body_base64": base64.b64encode(body).decode()})
+
+
 def test_a_record_of_troubles():
     """What may have been done is named and not sent. A body that is no UTF-8 is sent as it is; so is what comes after it, and
-    after a command that has no answer."""
-    def line(body, status, desk):
-        return (b'{"time":"2026-11-26T22:14:00+00:00","name":"clara","role":"clerk","address":"127.0.0.1",'
-                b'"request":"POST /con/c1/import HTTP/1.1","body":"%s","status":%d,"desk":"%s"}\n' % (body, status, desk))
-
+    after a command that has no answer. They are sent in the order of their answers."""
     latin = "p\u00e9".encode("latin-1")
-    record = b"".join(line(*words) for words in (
-        (latin, 504, b"504"), (b"full", 503, b"503"), (b"down", 502, b"502"), (latin, 200, b"200"), (b"cut", 200, b"200"),
-        (b"wrong", 400, b"400"), (b"", 401, b""))) + b'{"time":"2026\n' + line(b"last", 200, b"200")
+    record = chained(
+        a_command(latin), {"to": 1, "status": 504, "answer": ""}, a_command("full"), {"to": 3, "status": 503, "answer": ""},
+        a_command("ended"), {"to": 5, "status": None, "answer": ""}, a_command("second"), a_command(latin), {"to": 8, "status": 200, "answer": ""},
+        {"to": 7, "status": 200, "answer": ""}, a_command("cut"), {"to": 11, "status": 200, "answer": ""},
+        a_command("wrong"), {"to": 13, "status": 400, "answer": ""}, a_command("") | {"bytes": 3, "status": 403},
+        b'{"time":"2026', a_command("last"), {"to": 17, "status": 200, "answer": ""}, a_command("lost"))
     messages = []
 
     def answered(_, body):
@@ -851,15 +964,23 @@ def test_a_record_of_troubles():
 
     with desk_with(answered) as port:
         status, said = replayed(port, record)
-    same((status, messages), (1, [latin, b"cut", b"last"]))
-    head = "2026-11-26T22:14:00+00:00 clara POST /con/c1/import HTTP/1.1"
-    unknown = "it was not sent: nobody knows whether it was done"
-    same(re.sub("(no answer): .*", r"\1", said).splitlines(), [
-        f"{head} p\\udce9:  {unknown}", f"{head} full:  {unknown}", f"{head} down:  {unknown}", f"{head} p\\udce9: 409 {{}}",
-        f"{head} cut:  no answer", 'no whole line of a record: {"time":"2026', "sent 3, to look at 6"])
-    for words in ("127.0.0.1:8080", "localhost:8080", "https://127.0.0.1", "http://127.0.0.1 --since 2026-11-26T22:14:00"):
+        same((status, messages), (1, [latin, b"second", b"cut", b"last"]))
+        head = "2026-11-26T22:14:{:02}.000+00:00 clara POST /con/c1/import"
+        unknown = "it was not sent: nobody knows whether it was done"
+        same(re.sub("(no answer): .*", r"\1", said).splitlines()[:-1], [
+            f"line 1: {head.format(1)} p\\xe9: {unknown}", f"line 3: {head.format(3)} full: {unknown}",
+            f"line 5: {head.format(5)} ended: {unknown}", f"line 8: {head.format(8)} p\\xe9: 409 {{}}",
+            f"line 11: {head.format(11)} cut:  no answer", 'line 16: not a line of a record: {"time":"2026',
+            f"line 19: {head.format(19)} lost: {unknown}"])
+        assert said.splitlines()[-1].startswith("sent 4, to look at 7; lines 19, "), said
+        messages.clear()
+        # Of 22:14:12 and later: by the time of the answer.
+        replayed(port, record, "--since", "2026-11-26T22:14:12+00:00")
+        same(messages, [b"cut", b"last"])
+    for words in ("127.0.0.1:8080", "localhost:8080", "https://127.0.0.1", "http://127.0.0.1 --since 2026-11-26T22:14:00", "",
+                  "--check http://127.0.0.1"):
         done = subprocess.run([DEPLOY / "replay", *words.split()], input=record, capture_output=True, timeout=60)
-        same((done.returncode, done.stdout, b"begins with http://" in done.stderr), (2, b"", True))
+        same((done.returncode, done.stdout, b"usage:" in done.stderr), (2, b"", True))
 
 
 def plain(port, method, target, body=None):
@@ -876,42 +997,48 @@ def plain(port, method, target, body=None):
 
 def backup(*words, largest=resource.RLIM_INFINITY):
     """Runs the script, with a limit of bytes that a file may have."""
-    done = subprocess.run([DEPLOY / "backup", *words], env={**os.environ, "OFFICE": str(PROGRAM)}, capture_output=True, text=True,
-                          timeout=60, preexec_fn=lambda: resource.setrlimit(resource.RLIMIT_FSIZE, (largest, largest)))
+    done = subprocess.run([DEPLOY / "backup", *words], capture_output=True, text=True, timeout=60,
+                          preexec_fn=lambda: resource.setrlimit(resource.RLIMIT_FSIZE, (largest, largest)))
     return done.returncode, done.stdout, done.stderr
 
 
 def test_a_backup():
+    """While the office serves, after it was killed, and once it was ended: the copies are of the same moment."""
     with serving(EXAMPLES) as desk:
         same(plain(desk.port, "POST", "/con/montehondo/import", (ROOT / "examples/returns.csv").read_bytes()).status, 200)
-        # While the office serves nothing is copied.
         status, out, errors = backup("office.db", "copies")
-        assert status == 1 and not out and "serves" in errors, (status, out, errors)
+        same((status, errors), (0, ""))
+        [copy] = Path("copies").iterdir()
+        assert re.fullmatch(r"office-\d{8}T\d{6}Z\.db", copy.name), copy
+        same(out, f"copied office.db to copies/{copy.name}\nmontehondo agrees\n")
+        # Nothing has changed: no second copy.
+        same(backup("office.db", "copies"), (0, f"copies/{copy.name} is the same already\n", ""))
         desk.end(signal.SIGKILL)
     assert Path("office.db-wal").exists(), "a killed office leaves its log"
-    status, out, errors = backup("office.db", "copies")
-    same((status, errors), (0, ""))
-    [copy] = Path("copies").iterdir()
-    assert re.fullmatch(r"office-\d{8}T\d{6}Z\.db", copy.name), copy
-    same(out, f"copied office.db to copies/{copy.name}\nmontehondo agrees\n")
-    same(rows(str(copy)), rows())
-    # Nothing has changed: no second copy.
     same(backup("office.db", "copies"), (0, f"copies/{copy.name} is the same already\n", ""))
+    assert Path("office.db-wal").exists()
+    ran(PROGRAM, "show", "--db", "office.db", "--report", "progress")
+    same(rows(str(copy)), rows())
     same(len(list(Path("copies").iterdir())), 1)
+    # It is an office's database, which can take the place of the one that is lost.
+    same(ran(PROGRAM, "show", "--db", copy, "--report", "progress").split()[1:4], ["15", "2", "13"])
 
 
 def test_a_backup_that_finds_no_room():
     """It leaves no half of a copy."""
     new(EXAMPLES)
-    status, out, _ = backup("office.db", "copies", largest=50_000)
-    assert status and not out, (status, out)
+    status, out, errors = backup("office.db", "copies", largest=50_000)
+    assert status and not out and errors, (status, out, errors)
     same(os.listdir("copies"), [])
     same(backup("office.db", "copies")[0], 0)
 
 
 def test_a_backup_of_what_is_no_office():
     Path("empty.db").write_bytes(b"")
-    for words in (("nonesuch.db", "copies"), ("empty.db", "copies"), ("office.db",), ()):
+    Path("text.db").write_text("no database" * 1000, encoding="utf-8")
+    with contextlib.closing(sqlite3.connect("other.db")) as it, it:
+        it.execute("CREATE TABLE other (n)")
+    for words in (("nonesuch.db", "copies"), ("empty.db", "copies"), ("text.db", "copies"), ("other.db", "copies"), ("office.db",), ()):
         status, out, errors = backup(*words)
         assert status and not out and errors, (words, status, out, errors)
     assert not Path("copies").exists() or not list(Path("copies").iterdir())
@@ -1365,7 +1492,7 @@ def test_the_pages_of_the_first_election():
         readme_election(desk)
         press(desk.port, "--setup", "setup.toml")
     stored = {file.name: file.read_text(encoding="utf-8") for file in (ROOT / "tests/pages").iterdir()}
-    found = {name: without_time(read(name)) for name in os.listdir("pages")}
+    found = {name: without_time(read(name)) for name in os.listdir("pages") if not name.endswith(".gz") and name != "SHA256SUMS"}
     same(sorted(found), sorted(stored))
     for name, text in found.items():
         if name.endswith(".html"):
@@ -1501,20 +1628,25 @@ def choose_con(it, code):
     said(it, "This is what the office has now.")
 
 
-def enter(it, form, lodged):
-    """Types a return into a form and sends it."""
+def type_slip(it, form, lodged):
+    """Types a return into a form, with its total."""
     numbers = [*lodged["votes"], lodged["blank"], lodged["spoiled"]]
     it.type(f"#{form} input[name=slip]", lodged["slip"])
-    for place, number in enumerate(numbers, 1):
-        it.type(f"#{form} .counts label:nth-child({place}) input", str(number))
-    same(it.text(f"#{form} .sum").startswith(f"Sum of all figures: {sum(numbers)} "), True)
+    for place, number in enumerate([*numbers, lodged.get("total", sum(numbers))], 1):
+        it.type(f"#{form} .counts > :nth-child({place}) input", str(number))
+
+
+def enter(it, form, lodged):
+    """Types a return into a form and sends it; of what is unusual in it the paper says so."""
+    type_slip(it, form, lodged)
     it.click(f"#{form} button")
+    if it.run("const all = document.querySelectorAll(`#${arguments[0]} .warning input`); all.forEach((e) => e.click()); return all.length", form):
+        it.click(f"#{form} button")
 
 
 def close_shown(it, code, revision):
     choose_station(it, code)
-    it.click("#close button")
-    said(it, f"Done: revision {revision}.")
+    confirmed(it, "#close button", f"Close the return of {code}, revision {revision - 1}?", f"Done: revision {revision}.")
 
 
 @needs("chromium", "nginx", "openssl")
@@ -1550,16 +1682,17 @@ def clerks_part(it, desk):
         enter(it, "lodge", lodged)
         said(it, "Lodged, revision 1.")
         it.wait("return document.activeElement.id === 'station'")
-    # The slip a second time, right and wrong.
-    enter(it, "lodge", LATE["04-002-A"])
-    said(it, "Both entries are the same; recorded in revision 1.")
+    # The slip a second time, wrong and right: what is recorded is not shown meanwhile.
+    it.click("#compare")
+    same(it.text("#return"), "Station 04-002-A: received, revision 1.")
     enter(it, "lodge", LATE["04-002-A"] | {"votes": [40, 40, 21, 0, 0]})
     said(it, "Another return of this station is recorded, in revision 1.")
     enter(it, "lodge", LATE["04-002-A"] | {"votes": [400, 40, 21, 0, 0]})
     said(it, "more than the station has electors")
+    enter(it, "lodge", LATE["04-002-A"])
+    said(it, "Both entries are the same; recorded in revision 1.")
     for station in STATIONS:
         close_shown(it, station, 2)
-        same(it.text("#lodge .sum"), "")
     stale_part(it, desk)
     it.type("#query input[name=note]", "88 or 38?")
     it.click("#query button")
@@ -1567,18 +1700,17 @@ def clerks_part(it, desk):
     same((it.visible("#correct"), it.visible("#close")), (True, False))
     enter(it, "correct", {"slip": "r315", "votes": [91, 83, 47, 28, 0], "blank": 5, "spoiled": 2})
     said(it, "Done: revision 4.")
-    it.click("#close button")
-    said(it, "Done: revision 5.")
+    close_shown(it, STATIONS[-1], 5)
     shows_well(it, "clerk")
     same(it.visible("#find"), False)
     choose_con(it, "c1")
     it.click("#find")
-    it.wait("return document.getElementById('open-stations').textContent === 'Not closed: s1 (no return).'")
+    it.wait("return document.getElementById('open-stations').textContent === 'Without a return, 1: s1'")
     # A station of another constituency is shown beside the lists of its own.
     for code, con, first in ((STATIONS[0], "montehondo", "ROBLE Lista del Roble"), ("s1", "c1", "A Alpha")):
         choose_station(it, code)
         same(it.run("return document.getElementById('con').value"), con)
-        same(it.text("#lodge .counts label"), first)
+        same(it.run("return document.querySelector('#lodge .counts span').textContent"), first)
     enter(it, "lodge", {"slip": "p1", "votes": [100, 100], "blank": 0, "spoiled": 0})
     said(it, "Lodged, revision 1.")
 
@@ -1591,10 +1723,10 @@ def stale_part(it, desk):
     it.click("#query button")
     said(it, "Somebody was here before you: it is now at 3.")
     same(it.text("#return p"), f"Station {STATIONS[0]}: queried, revision 3. Note: elsewhere")
+    it.run("document.getElementById('query').reset()")
     enter(it, "correct", {"slip": "r101", "votes": [120, 85, 40, 22, 5], "blank": 4, "spoiled": 2})
     said(it, "Done: revision 4.")
-    it.click("#close button")
-    said(it, "Done: revision 5.")
+    close_shown(it, STATIONS[0], 5)
     choose_station(it, STATIONS[-1])
 
 
@@ -1649,6 +1781,7 @@ def test_a_station_in_the_clerks_page():
             lodged = {"slip": "p1", "votes": [20, 30], "blank": 1, "spoiled": 0}
             enter(it, "lodge", lodged)
             said(it, "Lodged, revision 1.")
+            it.click("#compare")
             enter(it, "lodge", lodged | {"votes": [20, 31]})
             said(it, "if the recorded one is wrong, tell the office: a clerk corrects it.")
             same([it.visible(f"#{part}") for part in ("of-con", "choice", "lodge", "close", "query")], [False, False, True, False, False])
@@ -1678,11 +1811,11 @@ def test_a_station_that_the_clerks_page_does_not_know():
 def test_what_the_clerks_page_is():
     """It is short, has a sentence for each refusal, nothing of another site, and its policy names its script."""
     text = (DEPLOY / "www/clerk.html").read_text(encoding="utf-8")
-    assert len(text.splitlines()) < 600
+    assert len(text.encode()) < 48_000
     formats = (ROOT / "docs/FORMATS.md").read_text(encoding="utf-8")
     answers = formats[formats.index("A refused command has its number"):formats.index("### What GET shows")]
     words = set(re.findall(r"^\| (?:\d+ \| )?`(\w+)` \|", answers, re.M))
-    same(len(words), 34)
+    same(len(words), 35)
     lost = [word for word in words if not re.search(rf"^  {word}: \(a?\)? ?=> [\"`]|^  {word}: \(a?\) => ", text, re.M)]
     same(lost, [])
     assert re.search("^  unavailable: .*it may have been done", text, re.M)

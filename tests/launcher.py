@@ -8,6 +8,7 @@ The last line is `N passed, M failed`. It takes about a minute, half of it for a
 
 import os
 import re
+import resource
 import shutil
 import signal
 import subprocess
@@ -37,6 +38,7 @@ fi
 echo "$*" >>"$here/calls"
 if [ "$1" = all ]; then
     echo $$ >"$here/pid"
+    cat >"$here/given"
     . "$here/plan"
     exit
 fi
@@ -193,7 +195,7 @@ class Copy:
         return {str(path): (path.stat().st_size, path.stat().st_ctime_ns) for path in [self.root, *self.root.rglob("*")]}
 
     def start(self, *words, launcher=None, rt=True, **how):
-        path = f"{self.bin}:{os.environ['PATH']}" if rt else path_without_rt(self.folder)
+        path = f"{self.bin if rt is True else rt}:{os.environ['PATH']}" if rt else path_without_rt(self.folder)
         how = {"cwd": self.folder, "stdin": subprocess.DEVNULL, "start_new_session": True, **how}
         how.update(stdout=subprocess.PIPE, stderr=subprocess.PIPE, text=True, env={**os.environ, "PATH": path})
         ran = subprocess.Popen([str(launcher or self.root / "office"), *words], **how)
@@ -284,7 +286,7 @@ def input_and_folder_are_the_callers(copy):
         with text.open() as given:
             status, out, _ = copy.run("--semicolon", launcher=launcher, cwd=elsewhere, stdin=given)
         assert status == 1 and out.splitlines()[1:] == [str(elsewhere), "--semicolon", "first", "last"], out
-    assert copy.runs() == 1
+    assert copy.runs() == 1 and (copy.bin / "given").read_text() == "", "a build reads what the caller gives to the program"
 
 
 def two_launches_at_once_build_once(copy):
@@ -441,6 +443,63 @@ def a_tree_that_cannot_be_written_is_status_3(copy):
 def without_the_toolchain_is_status_3(copy):
     status, out, errors = copy.run("check", rt=False)
     assert (status, out) == (3, "") and errors.count("\n") == 1 and "'rt'" in errors, (status, errors)
+
+
+def a_toolchain_by_a_relative_path_builds(copy):
+    for _ in range(2):
+        status, out, errors = copy.run("check", rt="bin")
+        assert (status, out) == (1, f"build 1\n{copy.folder}\ncheck\n"), (status, out, errors)
+    assert errors == "an error\n", errors
+
+
+def a_program_that_another_user_may_not_run_is_status_3(copy):
+    copy.run("check")
+    how = {"user": NOBODY, "group": NOBODY, "extra_groups": []} if os.geteuid() == 0 else {}
+    # (who owns a file that cannot be read can build another)
+    for path in [copy.out, copy.program][: 2 if how else 1]:
+        mode = path.stat().st_mode
+        path.chmod(0)
+        try:
+            status, out, errors = copy.run("check", **how)
+        finally:
+            path.chmod(mode)
+        assert (status, out) == (3, "") and errors.count("\n") == 1, (status, errors)
+        assert "is not for this user to read" in errors and "not built yet" not in errors, errors
+    assert copy.run("check")[1].startswith("build 1\n")
+
+
+def a_log_that_cannot_be_written_is_said_once(copy):
+    # As on a full disk, a write beyond 6,000 bytes fails.
+    how = {"restore_signals": False, "preexec_fn": lambda: resource.setrlimit(resource.RLIMIT_FSIZE, (6000, 6000))}
+    long = f"for n in {{1..200}}; do echo 'note: {'x' * 100}'; done\n"
+    copy.plan(long + PROVED)
+    status, out, errors = copy.run("check", **how)
+    said = [line for line in errors.splitlines() if "error" in line.lower() or "cannot" in line]
+    assert status == 1 and out.startswith("build 1\n"), (status, errors)
+    assert said == [f"office: {copy.out}/office.log cannot be written to the end of the report: is the disk full?", "an error"], said
+    copy.plan(long + "exit 1")
+    append(copy.root / "crates.txt", "# changed\n")
+    status, out, errors = copy.run("check", **how)
+    assert status == 3 and errors.endswith(f"office: the report, as far as it could be written, is in {copy.out}/office.log\n"), errors
+
+
+def no_more_crates_are_proved_at_a_time_than_a_container_has_memory_for(copy):
+    memory, limit = copy.folder / "meminfo", copy.folder / "limit"
+    launcher = copy.root / "office"
+    text = launcher.read_text()
+    for line, file in (("memory=/proc/meminfo", memory), ("memory_limits=(/sys/fs/cgroup/memory.max ", limit)):
+        assert text.count(line) == 1, line
+        text = text.replace(line, f"{line.partition('=')[0]}={'(' if '(' in line else ''}'{file}'{' ' if '(' in line else ''}")
+    launcher.write_text(text)
+    memory.write_text("MemTotal: 99000000 kB\nMemAvailable: 24000000 kB\n")
+    processors = len(os.sched_getaffinity(0))
+    wanted = processors + processors // 4 * 2
+    for said, room in (("max", 8), ("9223372036854771712", 8), ("6500000000", 2), ("1000000", 1)):
+        limit.write_text(f"{said}\n")
+        append(copy.root / "crates.txt", "# changed\n")
+        assert copy.run("check")[0] == 1
+        jobs = [line for line in (copy.bin / "calls").read_text().splitlines() if line.startswith("all ")][-1]
+        assert jobs == f"all check --jobs {min(room, wanted)}", (said, jobs)
 
 
 def what_fails_is_status_3(copy):
@@ -748,6 +807,10 @@ TESTS = [
     an_edit_during_a_build_builds_again,
     a_tree_that_cannot_be_written_is_status_3,
     without_the_toolchain_is_status_3,
+    a_toolchain_by_a_relative_path_builds,
+    a_program_that_another_user_may_not_run_is_status_3,
+    a_log_that_cannot_be_written_is_said_once,
+    no_more_crates_are_proved_at_a_time_than_a_container_has_memory_for,
     what_fails_is_status_3,
     a_failed_build_shows_the_open_goal_first,
     a_build_says_what_it_needs_and_how_many_crates_are_left,

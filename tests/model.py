@@ -1,19 +1,22 @@
 """An office in plain Python: what the law and docs/FORMATS.md say of allotments, reports and commands, in whole numbers.
 
-Tests compare the program with it. It keeps all in dictionaries and counts everything again at each request. Lots are fixed orders.
+Tests compare the program with it. It keeps all in dictionaries and counts everything again at each request.
 """
 
 import json
 import math
 from functools import cached_property
 
-DIVISORS = {"dhondt": lambda k: k, "sainte-lague": lambda k: 2 * k - 1}
+# The divisors of the rules, and what the votes are multiplied by: the modified rule divides by 1.4,
+# 3, 5 and so on, in fifths.
+DIVISORS = {"dhondt": lambda k: k, "sainte-lague": lambda k: 2 * k - 1, "modified-sainte-lague": lambda k: 7 if k == 1 else 10 * k - 5}
+UNITS = {"dhondt": 1, "sainte-lague": 1, "modified-sainte-lague": 5}
 
 REFUSALS = dict(enumerate((
     ("no_station", 404), ("no_constituency", 404), ("no_candidate", 404), ("bad_counts", 400), ("bad_note", 400), ("too_many_votes", 400),
     ("differs", 409), ("no_return", 404), ("certified", 409), ("not_certified", 409), ("stale", 409), ("exhausted", 409),
     ("wrong_status", 409), ("not_all_closed", 409), ("no_eligible", 409), ("lot_stands", 409), ("lot_not_needed", 409),
-    ("lot_wrong_group", 409), ("lot_missing", 409), ("already_gone", 409), ("not_holder", 409)), 1))
+    ("lot_wrong_group", 409), ("lot_missing", 409), ("already_gone", 409), ("not_holder", 409)), 1)) | {24: ("not_confirmed", 409)}
 
 STATUSES = ("received", "queried", "corrected", "closed")
 
@@ -57,16 +60,25 @@ class Poll:
     """The allotment of so many seats among votes for lists, which are numbered from 0. A lot is the numbers of its lists in its order."""
 
     def __init__(self, profile, seats, votes, blank, lot=()):
-        self.method, self.seats, self.votes, self.lot = profile["method"], seats, votes, list(lot)
+        self.method, self.seats, self.votes = profile["method"], seats, votes
+        self.turns = {n: turn for turn, n in enumerate(lot)}
+        self.alternates = profile.get("lot", "fixed") == "alternating"
         self.base = sum(votes) + (blank if profile["base"] == "valid" else 0)
         self.eligible = [n for n, v in enumerate(votes) if v > 0 and v * 10000 >= profile["threshold"] * self.base]
         self.total = sum(votes[n] for n in self.eligible)
 
-    def place(self, n):
-        return self.lot.index(n) if n in self.lot else n
+    def place(self, n, k=1):
+        """The place of a list among equals: the least one comes first. An alternating lot is turned round for each even seat of its lists."""
+        if n not in self.turns:
+            return n
+        return -self.turns[n] if self.alternates and k % 2 == 0 else self.turns[n]
 
     def divisor(self, k):
         return DIVISORS[self.method](k)
+
+    def in_units(self, n):
+        """The votes of a list in the unit in which the rule counts, of which its divisors make quotients."""
+        return self.votes[n] * UNITS[self.method]
 
     @cached_property
     def scale(self):
@@ -80,7 +92,7 @@ class Poll:
     def pairs(self):
         """The pairs of an eligible list and one of its seats, those of a greater quotient first, then of more votes, then by place."""
         votes = self.votes
-        found = [(self.quotient(votes[n], k), votes[n], -self.place(n), n, k) for n in self.eligible for k in range(1, self.seats + 1)]
+        found = [(self.quotient(votes[n], k), votes[n], -self.place(n, k), n, k) for n in self.eligible for k in range(1, self.seats + 1)]
         return sorted(found, reverse=True)
 
     def claims(self):
@@ -132,8 +144,10 @@ class Con:
         self.names = [one["name"] for one in setup["list"]]
         self.candidates = [one["candidates"] for one in setup["list"]]
         self.electors = {station["code"]: station["electors"] for station in setup["station"]}
+        self.twice = setup.get("entry", "single") == "double"
         self.returns, self.edition, self.certified, self.note = {}, 1, None, ""
         self.lot, self.gone, self.past = [], {}, {}
+        self.polled = None, None
 
     def statuses(self):
         return [sum(it["status"] == status for it in self.returns.values()) for status in STATUSES]
@@ -141,12 +155,15 @@ class Con:
     def closed(self):
         """The closed votes: those of each list, blank ones, spoiled ones."""
         found = [it for it in self.returns.values() if it["status"] == "closed"]
-        votes = [sum(it["votes"][n] for it in found) for n in range(len(self.lists))]
+        votes = list(map(sum, zip(*(it["votes"] for it in found)))) or [0] * len(self.lists)
         return votes, sum(it["blank"] for it in found), sum(it["spoiled"] for it in found)
 
     def poll(self):
+        """The allotment of the closed votes: the last one, where they and the lot are as they were."""
         votes, blank, _ = self.closed()
-        return Poll(self.profile, self.seats, votes, blank, self.lot)
+        if self.polled[0] != (votes, blank, self.lot):
+            self.polled = (votes, blank, self.lot), Poll(self.profile, self.seats, votes, blank, self.lot)
+        return self.polled[1]
 
     def holders(self, n):
         left = [place for place in range(1, len(self.candidates[n]) + 1) if (n, place) not in self.gone]
@@ -222,7 +239,7 @@ class Office:
     def move(self, con, station, verb, rev, note=None, **given):
         if verb == "query":
             need(1 <= len(note.encode()) <= 200, 5)
-        if verb == "correct":
+        if verb in ("correct", "confirm"):
             self.check_counts(con, station, given["votes"], given["blank"], given["spoiled"])
         need(station in con.returns, 8)
         stands = con.returns[station]
@@ -230,8 +247,12 @@ class Office:
         need(stands["rev"] == rev, 11, now=stands["rev"])
         need(rev < LAST, 12)
         starts, ends = {"query": (("received", "corrected", "closed"), "queried"), "correct": (("queried",), "corrected"),
-                        "close": (("received", "corrected"), "closed")}[verb]
+                        "close": (("received", "corrected"), "closed"), "confirm": (("received", "corrected"), "closed")}[verb]
         need(stands["status"] in starts, 13, status=stands["status"])
+        if verb == "close":
+            need(not con.twice, 24)
+        if verb == "confirm":
+            need(given.items() <= stands.items(), 7, rev=rev)
         if verb == "query":
             con.lot, stands["note"] = [], note
         stands.update(given, status=ends, rev=rev + 1)
@@ -318,7 +339,7 @@ def shown(con):
     return {
         "con": con.code, "edition": con.edition, "certified": con.certified is not None, "note": con.note, "closed": con.statuses()[3],
         "stations": len(con.electors), "votes": votes, "blank": blank, "spoiled": spoiled, "lot": [con.lists[n] for n in con.lot],
-        "seats": con.certified or [],
+        "seats": con.certified or [], **({"entry": "double"} if con.twice else {}),
         "gone": [{"list": con.lists[n], "place": place, "note": con.gone[n, place]} for n, place in sorted(con.gone)],
     }
 
@@ -366,14 +387,14 @@ def seats(con):
 def quotients(con):
     poll = con.poll()
     columns = range(1, max(con.certified) + 2)
-    return [f"{con.lists[n]:16}" + "".join(f"{'*' if k <= con.certified[n] else ' '}{poll.votes[n] // poll.divisor(k):11}" for k in columns)
+    return [f"{con.lists[n]:16}" + "".join(f"{'*' if k <= con.certified[n] else ' '}{poll.in_units(n) // poll.divisor(k):11}" for k in columns)
             for n in poll.eligible]
 
 
 @of_certified(of_hare=False)
 def awards(con):
     poll = con.poll()
-    return [f"{number:4} {con.lists[n]:16}{k:4}{poll.votes[n]:14}{poll.divisor(k):6}{poll.votes[n] // poll.divisor(k):12}"
+    return [f"{number:4} {con.lists[n]:16}{k:4}{poll.in_units(n):14}{poll.divisor(k):6}{poll.in_units(n) // poll.divisor(k):12}"
             for number, (n, k) in enumerate(poll.awards(), 1)]
 
 

@@ -21,6 +21,8 @@ def station(code, electors=300):
 
 PROFILE = profile("d0")
 CONSTITUENCY = constituency("c1", "Twin Town", 3, "d0")
+# Follows a constituency whose returns are entered twice.
+DOUBLE = 'entry = "double"\n'
 LISTS = party_list("A", "Alpha", "Ana", "Abel") + party_list("B", "Beta", "Bea")
 
 

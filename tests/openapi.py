@@ -28,7 +28,8 @@ CHECKS = {
     "/station/{s}/lodge": {1, 4, 6, 7},
     "/station/{s}/query": {1, 5, 8, 9, 11, 12, 13},
     "/station/{s}/correct": {1, 4, 6, 8, 9, 11, 12, 13},
-    "/station/{s}/close": {1, 8, 9, 11, 12, 13},
+    "/station/{s}/close": {1, 8, 9, 11, 12, 13, 24},
+    "/station/{s}/confirm": {1, 4, 6, 7, 8, 9, 11, 12, 13},
     "/con/{c}/draw": {2, 9, 11, 12, 14, 15, 16, 17, 18},
     "/con/{c}/certify": {2, 9, 11, 12, 14, 15, 19},
     "/con/{c}/reopen": {2, 5, 10, 11, 12},
@@ -164,7 +165,7 @@ def test_the_routes_are_those_of_the_desk():
     routes = dict(re.findall(r'"(/[^"]*)",\s*Route::(\w+)', ROUTES))
     gets = set(re.findall(r"Route::(\w+)", ROUTES.split("pub fn takes_get", 1)[1].split("=> false", 1)[0].rsplit("=> true", 1)[0]))
     want = {(path, "get" if name in gets else "post") for path, name in routes.items()}
-    assert len(want) == 21, f"{len(want)} routes were found"
+    assert len(want) == 22, f"{len(want)} routes were found"
     assert {(path, method) for path, method, _ in operations()} == want
 
 
@@ -186,7 +187,7 @@ def test_only_post_has_a_body():
 
 
 def test_each_refusal_has_its_number_word_and_status():
-    assert len(refusals()) == 21
+    assert len(refusals()) == 22
     for number, (word, status) in refusals().items():
         schema = DOCUMENT["components"]["schemas"][f"Refused_{number}_{word}"]
         assert schema["properties"]["refused"]["enum"] == [number]

@@ -58,6 +58,11 @@ seats = 3 => seats = "3" => bad_value seats
 profile = "d0" =>  => missing profile
 profile = "d0" => profile = "zz" => unknown_profile
 profile = "d0" => profile = "z z" => bad_value profile
+profile = "d0" => profile = "d0" / entry = "single" => read
+profile = "d0" => profile = "d0" / entry = "double" => read
+profile = "d0" => profile = "d0" / entry = "twice" => bad_value entry
+profile = "d0" => profile = "d0" / entry = "Double" => bad_value entry
+profile = "d0" => profile = "d0" / entry = 2 => bad_value entry
 code = "A" =>  => missing code
 code = "A" => code = "B" => duplicate B
 name = "Alpha" =>  => missing name
@@ -115,6 +120,7 @@ profile = [{code = "a", method = "hare", threshold = 0, base = 1, lot = "coin"}]
 profile = [{code = "a", method = "hare", threshold = 0, base = "lists", lot = "Fixed"}] => bad_value lot
 profile = [{code = "a", method = "hare", threshold = 0, base = "lists", lot = true}] => bad_value lot
 profile = [{code = "a", method = "hare", threshold = 0, base = "lists", lot = "fixed"}] => missing constituency
+profile = [{code = "a", method = "hare", threshold = 0, base = "lists", entry = "twice"}] => missing constituency
 [[ => not_toml
 constituency = [] => missing profile
 """
@@ -128,6 +134,9 @@ CONSTITUENCIES = """
 constituency = [{code = "c", name = 1, seats = 0, profile = "zz"}] => bad_value name
 constituency = [{code = "c", name = "C", seats = 0, profile = "zz"}] => bad_value seats
 constituency = [{code = "c", name = "C", seats = 1, profile = "zz", list = 1}] => unknown_profile
+constituency = [{code = "c", name = "C", seats = 1, profile = "zz", entry = 2}] => unknown_profile
+constituency = [{code = "c", name = "C", seats = 1, profile = "p", entry = [], list = 1}] => bad_value entry
+constituency = [{code = "c", name = "C", seats = 1, profile = "p", entry = "double", list = 1}] => bad_value list
 constituency = [{code = "c", name = "C", seats = 1, profile = "p", station = 1}] => missing list
 constituency = [{code = "c", name = "C", seats = 1, profile = "p", list = [{code = "A", name = "A", candidates = ["A"]}]}] => missing station
 constituency = [{code = "c", name = "C", seats = 1, profile = "p", list = [{code = "A", name = "A", candidates = ["A"]}, {code = "A"}], station = 1}] => duplicate A

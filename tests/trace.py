@@ -30,8 +30,9 @@ PARTS = {"Definition": (".antt",), "Code": (".rt",), "Clause": (".rt",), "Test":
          "Proof": ()}
 LINK = re.compile(r"\[([^\]]*)\]\(([^)\s]+)\)")
 # The scripts, programs and settings outside of the crates, by how they mark a comment.
-PYTHON = ("tests/*.py", "bench/*.py", "deploy/*.py", "deploy/replay", "examples/*.py")
-HASHED = ("office", "test", "deploy/backup", "deploy/password", "deploy/*.conf", "deploy/nginx/*.conf", "deploy/*.service",
+PYTHON = ("tests/*.py", "bench/*.py", "deploy/*.py", "deploy/backup", "deploy/embargo", "deploy/entries", "deploy/password",
+          "deploy/replay", "deploy/split", "examples/*.py")
+HASHED = ("office", "test", "deploy/*.conf", "deploy/nginx/*.conf", "deploy/*.service", "deploy/*.timer",
           "bench/*.awk", "bench/crate_seconds.txt", "examples/setup.toml")
 SLASHED = ("bench/*.rattle", "bench/*.rs")
 MARKED = ("deploy/*.css", "deploy/www/*.html")
@@ -580,7 +581,7 @@ def test_the_layers_have_the_same_headings():
 
 
 def test_documents_are_as_short_as_they_have_to_be():
-    most = {"README.md": 75, "CONTRIBUTING.md": 60, "docs/GUIDE.md": 190}
+    most = {"README.md": 75, "CONTRIBUTING.md": 60, "docs/GUIDE.md": 210}
     counts = {name: len(text_of(ROOT / name).splitlines()) for name in most}
     return len(most), [f"{name}: {count} lines" for name, count in counts.items() if count > most[name]]
 

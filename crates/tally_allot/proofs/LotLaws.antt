@@ -5,7 +5,7 @@ use Rattle.std.proofs.lemmas.List.{get_or_default}
 use Rattle.std.proofs.lemmas.List.Folds.{Any-from_list_any, list_any_at}
 use Rattle.std.specs.Cmp.{both_ways}
 use Rattle.tally_law.specs.Poll.{Poll, IsEligible, votes_of}
-use Rattle.tally_rules.specs.ListSet.{has_place}
+use Rattle.tally_frac.specs.ListSet.{has_place}
 use Rattle.tally_law.specs.Lot.{place_in_lot, place_of, is_named, IsOrderOf}
 use Rattle.tally_law.specs.Allotment.{IsAllotmentByVotes}
 use Rattle.tally_law.specs.LotNeed.{IsLotNeeded, IsDecidedByVotes, IsNeed, IsLotTaken, IsLotWrong}

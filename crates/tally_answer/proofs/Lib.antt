@@ -1,3 +1,4 @@
 pub mod AppendLemmas
 pub mod GroupLemmas
+pub mod RefusalLemmas
 pub mod ShownLemmas

@@ -1,15 +1,17 @@
 -- What is shown: the code of the list at a place, and that no number is a float.
-use Rattle.std.proofs.Common.{◌≡◌, ℕ, suc, List, [], ◌∷◌, map, Bool, false, ◌||◌, Option, Some, Result, Ok, Err, IfOk, String, Global, string_bytes, refl, ap, ◌∙◌, option_map, unwrap_or}
+use Rattle.std.proofs.Common.{◌≡◌, ℕ, suc, List, [], ◌∷◌, map, Bool, false, ◌||◌, Option, Some, Result, Ok, Err, IfOk, String, Global, string_bytes, codes, refl, ap, ◌∙◌, option_map, unwrap_or}
 use Rattle.std.specs.List.{slice_get}
 use Rattle.std.specs.declared.alloc.AllocError.{AllocError}
-use Rattle.serde_json.specs.Data.{Data, string}
+use Rattle.serde_json.specs.Data.{Data, Members, member, string}
 use Rattle.serde_json.specs.View.{items_of}
-use Rattle.serde_json.specs.Written.{has_float, items_have_float, compact_text}
+use Rattle.serde_json.specs.Written.{has_float, items_have_float, members_have_float, compact_text}
 use Rattle.tally_rules.specs.Constituency.{Constituency, ListEntry}
+use Rattle.tally_rules.specs.declared.constituency.Entry.{Entry}
+use Rattle.tally_rules.specs.declared.constituency.Entry.TheVariants.{Single, Double}
 use Rattle.tally_returns.specs.GoneCandidate.{GoneCandidate}
 use Rattle.tally_returns.specs.Return.{StationReturn}
 use Rattle.tally_returns.specs.View.{View}
-use Rattle.tally_answer.specs.Shown.{whole_value, code_at_place, shown_return, shown_gone, shown_con}
+use Rattle.tally_answer.specs.Shown.{all_gone, whole_value, code_at_place, members_after_gone, shown_return, shown_gone, shown_con, with_entry}
 
 pub code_at_place-some : (lists : List ListEntry) (place l : ℕ) (list : ListEntry) → place ≡ suc l → slice_get lists l ≡ Some list → code_at_place lists place ≡ list.code
 code_at_place-some lists place l list at found =
@@ -35,8 +37,14 @@ four a b c d p q r s =
     ap (λ (x : Bool). x || (b || (c || (d || false)))) p ∙ ap (λ (x : Bool). x || (c || (d || false))) q ∙ ap (λ (x : Bool). x || (d || false)) r
     ∙ ap (λ (x : Bool). x || false) s
 
+entry_free : (entry : Entry) (ms : Members) → members_have_float (with_entry entry ms) ≡ members_have_float ms
+entry_free Single ms = refl
+entry_free Double ms = refl
+
 pub con_free : (con : Constituency) (v : View) → has_float (shown_con con v) ≡ false
-con_free con v = four _ _ _ _ (gone_free con.lists v.gone) (codes_free con.lists v.lot) (wholes_free v.seats) (wholes_free v.votes)
+con_free con v =
+    entry_free con.entry (member (codes "gone") (all_gone con.lists v.gone) (members_after_gone con v))
+    ∙ four _ _ _ _ (gone_free con.lists v.gone) (codes_free con.lists v.lot) (wholes_free v.seats) (wholes_free v.votes)
 
 -- the text of a value that is what is shown
 pub text_of : (written : Result (String Global) AllocError) (d shown : Data) → d ≡ shown → has_float shown ≡ false

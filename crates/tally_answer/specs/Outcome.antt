@@ -4,6 +4,7 @@ use Rattle.std.specs.Prelude.{ℕ, Bool, true, false, List, [], ◌∷◌, ◌++
 use Rattle.std.specs.Prelude.{Result, Ok, Err}
 use Rattle.std.specs.List.{flat_map}
 use Rattle.tally_rules.specs.Constituency.{ListEntry}
+use Rattle.tally_returns.specs.Refusals.{refusal_number}
 use Rattle.tally_returns.specs.declared.returns.Status.{Status}
 use Rattle.tally_returns.specs.declared.returns.Status.TheVariants as of_return
 use Rattle.tally_returns.specs.declared.reply.Reply.{Reply}
@@ -61,77 +62,82 @@ quoted_codes (list ∷ lists) = quoted_code list ++ flat_map next_code lists
 abbrev pub group_text : List ListEntry → List Bool → List ℕ
 group_text lists group = codes "[" ++ quoted_codes (marked_lists lists group) ++ codes "]"
 
--- the status and the JSON of a refusal in a constituency with these lists
-abbrev pub refusal_answer : List ListEntry → Refusal → AnswerStatus × List ℕ
-refusal_answer lists refusal.NoStation =
-    (status.NotFound, codes "{\"refused\":1,\"word\":\"no_station\"}")
-refusal_answer lists refusal.NoConstituency =
-    (status.NotFound, codes "{\"refused\":2,\"word\":\"no_constituency\"}")
-refusal_answer lists refusal.NoCandidate =
-    (status.NotFound, codes "{\"refused\":3,\"word\":\"no_candidate\"}")
-refusal_answer lists refusal.BadCounts =
-    (status.BadRequest, codes "{\"refused\":4,\"word\":\"bad_counts\"}")
-refusal_answer lists refusal.BadNote =
-    (status.BadRequest, codes "{\"refused\":5,\"word\":\"bad_note\"}")
-refusal_answer lists refusal.TooManyVotes =
-    (status.BadRequest, codes "{\"refused\":6,\"word\":\"too_many_votes\"}")
-refusal_answer lists (refusal.Differs rev) = (
-  status.Conflict,
-  codes "{\"refused\":7,\"rev\":" ++ decimal rev
-      ++ codes ",\"word\":\"differs\"}",
-)
-refusal_answer lists refusal.NoReturn =
-    (status.NotFound, codes "{\"refused\":8,\"word\":\"no_return\"}")
-refusal_answer lists refusal.Certified =
-    (status.Conflict, codes "{\"refused\":9,\"word\":\"certified\"}")
-refusal_answer lists refusal.NotCertified =
-    (status.Conflict, codes "{\"refused\":10,\"word\":\"not_certified\"}")
-refusal_answer lists (refusal.Stale now) = (
-  status.Conflict,
-  codes "{\"now\":" ++ decimal now
-      ++ codes ",\"refused\":11,\"word\":\"stale\"}",
-)
-refusal_answer lists refusal.Exhausted =
-    (status.Conflict, codes "{\"refused\":12,\"word\":\"exhausted\"}")
-refusal_answer lists (refusal.WrongStatus standing) = (
-  status.Conflict,
-  codes "{\"refused\":13,\"status\":\"" ++ status_word standing
-      ++ codes "\",\"word\":\"wrong_status\"}",
-)
-refusal_answer lists (refusal.NotAllClosed left) = (
-  status.Conflict,
-  codes "{\"left\":" ++ decimal left
-      ++ codes ",\"refused\":14,\"word\":\"not_all_closed\"}",
-)
-refusal_answer lists refusal.NoEligible =
-    (status.Conflict, codes "{\"refused\":15,\"word\":\"no_eligible\"}")
-refusal_answer lists refusal.LotStands =
-    (status.Conflict, codes "{\"refused\":16,\"word\":\"lot_stands\"}")
-refusal_answer lists refusal.LotNotNeeded =
-    (status.Conflict, codes "{\"refused\":17,\"word\":\"lot_not_needed\"}")
-refusal_answer lists (refusal.LotWrongGroup group) = (
-  status.Conflict,
-  codes "{\"group\":" ++ group_text lists group
-      ++ codes ",\"refused\":18,\"word\":\"lot_wrong_group\"}",
-)
-refusal_answer lists (refusal.LotMissing group seats) = (
-  status.Conflict,
-  codes "{\"group\":" ++ group_text lists group ++ codes ",\"refused\":19,\"seats\":"
-      ++ decimal seats
-      ++ codes ",\"word\":\"lot_missing\"}",
-)
-refusal_answer lists refusal.AlreadyGone =
-    (status.Conflict, codes "{\"refused\":20,\"word\":\"already_gone\"}")
-refusal_answer lists refusal.NotHolder =
-    (status.Conflict, codes "{\"refused\":21,\"word\":\"not_holder\"}")
-refusal_answer lists refusal.Memory = (status.Unavailable, codes "{\"word\":\"unavailable\"}")
-refusal_answer lists refusal.Store = (status.Unavailable, codes "{\"word\":\"unavailable\"}")
+-- the word of a refusal, beside its number (`refusal_number`)
+abbrev pub refusal_word : Refusal → List ℕ
+refusal_word refusal.NoStation = codes "no_station"
+refusal_word refusal.NoConstituency = codes "no_constituency"
+refusal_word refusal.NoCandidate = codes "no_candidate"
+refusal_word refusal.BadCounts = codes "bad_counts"
+refusal_word refusal.BadNote = codes "bad_note"
+refusal_word refusal.TooManyVotes = codes "too_many_votes"
+refusal_word (refusal.Differs rev) = codes "differs"
+refusal_word refusal.NoReturn = codes "no_return"
+refusal_word refusal.Certified = codes "certified"
+refusal_word refusal.NotCertified = codes "not_certified"
+refusal_word (refusal.Stale now) = codes "stale"
+refusal_word refusal.Exhausted = codes "exhausted"
+refusal_word (refusal.WrongStatus standing) = codes "wrong_status"
+refusal_word (refusal.NotAllClosed left) = codes "not_all_closed"
+refusal_word refusal.NoEligible = codes "no_eligible"
+refusal_word refusal.LotStands = codes "lot_stands"
+refusal_word refusal.LotNotNeeded = codes "lot_not_needed"
+refusal_word (refusal.LotWrongGroup group) = codes "lot_wrong_group"
+refusal_word (refusal.LotMissing group seats) = codes "lot_missing"
+refusal_word refusal.AlreadyGone = codes "already_gone"
+refusal_word refusal.NotHolder = codes "not_holder"
+refusal_word refusal.NotConfirmed = codes "not_confirmed"
+refusal_word refusal.Memory = codes "unavailable"
+refusal_word refusal.Store = codes "unavailable"
+
+abbrev pub refusal_status : Refusal → AnswerStatus
+refusal_status refusal.NoStation = status.NotFound
+refusal_status refusal.NoConstituency = status.NotFound
+refusal_status refusal.NoCandidate = status.NotFound
+refusal_status refusal.BadCounts = status.BadRequest
+refusal_status refusal.BadNote = status.BadRequest
+refusal_status refusal.TooManyVotes = status.BadRequest
+refusal_status refusal.NoReturn = status.NotFound
+refusal_status refusal.Memory = status.Unavailable
+refusal_status refusal.Store = status.Unavailable
+refusal_status other = status.Conflict
+
+-- what else a refusal says, in a constituency with these lists: before its number, and after it
+abbrev pub members_before : List ListEntry → Refusal → List ℕ
+members_before lists (refusal.Stale now) = codes "\"now\":" ++ decimal now ++ codes ","
+members_before lists (refusal.NotAllClosed left) = codes "\"left\":" ++ decimal left ++ codes ","
+members_before lists (refusal.LotWrongGroup group) =
+    codes "\"group\":" ++ group_text lists group ++ codes ","
+members_before lists (refusal.LotMissing group seats) =
+    codes "\"group\":" ++ group_text lists group ++ codes ","
+members_before lists other = []
+
+abbrev pub members_after : Refusal → List ℕ
+members_after (refusal.Differs rev) = codes "\"rev\":" ++ decimal rev ++ codes ","
+members_after (refusal.WrongStatus standing) =
+    codes "\"status\":\"" ++ status_word standing ++ codes "\","
+members_after (refusal.LotMissing group seats) = codes "\"seats\":" ++ decimal seats ++ codes ","
+members_after other = []
+
+abbrev pub word_member : Refusal → List ℕ
+word_member why = codes "\"word\":\"" ++ refusal_word why ++ codes "\"}"
+
+abbrev pub refusal_members : List ListEntry → Refusal → List ℕ
+refusal_members lists why =
+    codes "{" ++ members_before lists why
+    ++ (codes "\"refused\":" ++ decimal (refusal_number why) ++ codes ",")
+    ++ members_after why ++ word_member why
+
+-- Memory and Store are no refusals of a command: their answer has no number.
+abbrev pub refusal_body : List ListEntry → Refusal → List ℕ
+refusal_body lists refusal.Memory = codes "{" ++ word_member refusal.Memory
+refusal_body lists refusal.Store = codes "{" ++ word_member refusal.Store
+refusal_body lists other = refusal_members lists other
 
 -- ---- the answer to a command on a constituency with these lists, or on a station of one
 
 abbrev pub outcome_answer : List ListEntry → Result Reply Refusal → AnswerStatus × List ℕ
 outcome_answer lists (Ok said) = (status.Done, reply_body said)
-outcome_answer lists (Err why) = refusal_answer lists why
+outcome_answer lists (Err why) = (refusal_status why, refusal_body lists why)
 
 abbrev pub outcome_text : List ListEntry → Result Reply Refusal → List ℕ
 outcome_text lists outcome =

@@ -6,6 +6,8 @@ use Rattle.serde_json.specs.Data.{Data, boolean, number, unsigned, string, array
 use Rattle.serde_json.specs.Data.{member, no_members}
 use Rattle.serde_json.specs.View.{items_of}
 use Rattle.tally_rules.specs.Constituency.{Constituency, ListEntry}
+use Rattle.tally_rules.specs.declared.constituency.Entry.{Entry}
+use Rattle.tally_rules.specs.declared.constituency.Entry.TheVariants.{Single, Double}
 use Rattle.tally_returns.specs.GoneCandidate.{GoneCandidate}
 use Rattle.tally_returns.specs.Return.{StationReturn}
 use Rattle.tally_returns.specs.View.{View}
@@ -62,11 +64,20 @@ members_after_gone con v =
     (member (codes "stations") (whole_value v.stations)
     (member (codes "votes") (whole_values v.votes) no_members)))))
 
-abbrev pub shown_con : Constituency → View → Data
-shown_con con v =
-    object (member (codes "blank") (whole_value v.blank)
+-- those up to its edition, and what follows, and then those who are gone
+abbrev pub con_members : Constituency → View → (Members → Members) → Members
+con_members con v following =
+    member (codes "blank") (whole_value v.blank)
     (member (codes "certified") (boolean v.certified)
     (member (codes "closed") (whole_value v.closed) (member (codes "con") (string con.code)
     (member (codes "edition") (whole_value v.edition)
-    (member (codes "gone") (all_gone con.lists v.gone)
+    (following (member (codes "gone") (all_gone con.lists v.gone)
     (members_after_gone con v)))))))
+
+-- a constituency whose returns are entered twice says so
+abbrev pub with_entry : Entry → Members → Members
+with_entry Single members = members
+with_entry Double members = member (codes "entry") (string (codes "double")) members
+
+abbrev pub shown_con : Constituency → View → Data
+shown_con con v = object (con_members con v (with_entry con.entry))

@@ -1,12 +1,12 @@
 //! The answers to commands.
 
-ghost use Rattle.std.specs.Prelude.{◌≡◌, ◌≤◌, ◌+◌, ◌++◌, List, [], length, vec_len, vec_capacity};
+ghost use Rattle.std.specs.Prelude.{◌≡◌, ◌≤◌, ◌+◌, ◌++◌, List, [], codes, length, vec_len};
+ghost use Rattle.std.specs.Prelude.{vec_capacity};
 ghost use Rattle.tally_frac.specs.Limits.{most_lists};
 ghost use Rattle.tally_rules.specs.Constituency.{ListEntry};
-ghost use Rattle.tally_returns.specs.declared.refusal.Refusal.TheVariants.{WrongStatus};
-ghost use Rattle.tally_returns.specs.declared.refusal.Refusal.TheVariants.{LotWrongGroup};
-ghost use Rattle.tally_returns.specs.declared.refusal.Refusal.TheVariants.{LotMissing};
-ghost use Rattle.tally_answer.specs.Outcome.{reply_body, refusal_answer, status_word};
+ghost use Rattle.tally_answer.specs.Outcome.{reply_body, status_word, group_text, refusal_word};
+ghost use Rattle.tally_answer.specs.Outcome.{refusal_status, members_before, members_after};
+ghost use Rattle.tally_answer.specs.Outcome.{word_member, refusal_members, refusal_body};
 ghost use Rattle.tally_answer.specs.Outcome.{outcome_answer, outcome_text};
 
 use crate::answer::write_answer;
@@ -27,12 +27,12 @@ fn status_of(outcome: &Result<Reply, Refusal>) -> AnswerStatus
 {
     match outcome {
         Ok(_) => AnswerStatus::Done,
-        Err(refusal) => refusal_status(refusal),
+        Err(refusal) => status_of_refusal(refusal),
     }
 }
 
-fn refusal_status(refusal: &Refusal) -> AnswerStatus
-    ensures { (lists : List ListEntry) → result ≡ (refusal_answer lists refusal.now).0 }
+fn status_of_refusal(refusal: &Refusal) -> AnswerStatus
+    ensures { result ≡ refusal_status refusal.now }
 {
     match refusal {
         Refusal::NoStation | Refusal::NoConstituency => AnswerStatus::NotFound,
@@ -77,97 +77,140 @@ pub(crate) fn status_word(status: Status) -> &'static str
     }
 }
 
-fn push_wrong_status(out: &mut Vec<u8>, status: Status)
-    requires { vec_len out.old + 80 ≤ vec_capacity out.old }
-    ensures items { out.new.items ≡ out.old.items ++ (refusal_answer [] (WrongStatus status)).1 }
-    ensures len { vec_len out.new ≤ vec_len out.old + 80 }
-    ensures room { vec_capacity out.old ≤ vec_capacity out.new }
+/// The word of a refusal.
+fn refusal_word(refusal: &Refusal) -> &'static [u8]
+    ensures word { result.now ≡ refusal_word refusal.now }
+    ensures short { length result.now ≤ 16 }
 {
-    push(out, b"{\"refused\":13,\"status\":\"");
-    push(out, status_word(status).as_bytes());
-    push(out, b"\",\"word\":\"wrong_status\"}");
+    match refusal {
+        Refusal::NoStation => b"no_station",
+        Refusal::NoConstituency => b"no_constituency",
+        Refusal::NoCandidate => b"no_candidate",
+        Refusal::BadCounts => b"bad_counts",
+        Refusal::BadNote => b"bad_note",
+        Refusal::TooManyVotes => b"too_many_votes",
+        Refusal::Differs { .. } => b"differs",
+        Refusal::NoReturn => b"no_return",
+        Refusal::Certified => b"certified",
+        Refusal::NotCertified => b"not_certified",
+        Refusal::Stale { .. } => b"stale",
+        Refusal::Exhausted => b"exhausted",
+        Refusal::WrongStatus { .. } => b"wrong_status",
+        Refusal::NotAllClosed { .. } => b"not_all_closed",
+        Refusal::NoEligible => b"no_eligible",
+        Refusal::LotStands => b"lot_stands",
+        Refusal::LotNotNeeded => b"lot_not_needed",
+        Refusal::LotWrongGroup { .. } => b"lot_wrong_group",
+        Refusal::LotMissing { .. } => b"lot_missing",
+        Refusal::AlreadyGone => b"already_gone",
+        Refusal::NotHolder => b"not_holder",
+        Refusal::NotConfirmed => b"not_confirmed",
+        Refusal::Memory | Refusal::Store => b"unavailable",
+    }
 }
 
-fn push_wrong_group(out: &mut Vec<u8>, lists: &[ListEntry], group: &ListSet)
+/// Appends a text, a text and a text.
+fn push_between(out: &mut Vec<u8>, before: &[u8], text: &[u8], after: &[u8])
+    requires { vec_len out.old + length before.now + length text.now + length after.now
+        ≤ vec_capacity out.old }
+    ensures items { out.new.items ≡ out.old.items ++ (before.now ++ text.now ++ after.now) }
+    ensures len { vec_len out.new
+        ≡ vec_len out.old + length before.now + length text.now + length after.now }
+    ensures room { vec_capacity out.old ≤ vec_capacity out.new }
+{
+    push(out, before);
+    push(out, text);
+    push(out, after);
+}
+
+fn push_group_member(out: &mut Vec<u8>, lists: &[ListEntry], group: &ListSet)
+    requires few { length lists.now ≤ most_lists }
+    requires room { vec_len out.old + 1152 ≤ vec_capacity out.old }
+    ensures items { out.new.items
+        ≡ out.old.items ++ (codes "\"group\":" ++ group_text lists.now group.now ++ codes ",") }
+    ensures len { vec_len out.new ≤ vec_len out.old + 1152 }
+    ensures room { vec_capacity out.old ≤ vec_capacity out.new }
+{
+    push(out, b"\"group\":");
+    push_group(out, lists, group);
+    push(out, b",");
+}
+
+/// Appends what a refusal says before its number.
+fn push_before(out: &mut Vec<u8>, lists: &[ListEntry], refusal: &Refusal)
+    requires few { length lists.now ≤ most_lists }
+    requires room { vec_len out.old + 1152 ≤ vec_capacity out.old }
+    ensures items { out.new.items ≡ out.old.items ++ members_before lists.now refusal.now }
+    ensures len { vec_len out.new ≤ vec_len out.old + 1152 }
+    ensures room { vec_capacity out.old ≤ vec_capacity out.new }
+{
+    match refusal {
+        Refusal::Stale { now } => push_around(out, b"\"now\":", *now, b","),
+        Refusal::NotAllClosed { left } => push_around(out, b"\"left\":", *left, b","),
+        Refusal::LotWrongGroup { group } => push_group_member(out, lists, group),
+        Refusal::LotMissing { group, .. } => push_group_member(out, lists, group),
+        _ => {}
+    }
+}
+
+/// Appends what a refusal says after its number.
+fn push_after(out: &mut Vec<u8>, refusal: &Refusal)
+    requires { vec_len out.old + 32 ≤ vec_capacity out.old }
+    ensures items { out.new.items ≡ out.old.items ++ members_after refusal.now }
+    ensures len { vec_len out.new ≤ vec_len out.old + 32 }
+    ensures room { vec_capacity out.old ≤ vec_capacity out.new }
+{
+    match refusal {
+        Refusal::Differs { rev } => push_around(out, b"\"rev\":", *rev, b","),
+        Refusal::WrongStatus { status } => {
+            push_between(
+                out,
+                b"\"status\":\"",
+                status_word(*status).as_bytes(),
+                b"\",",
+            )
+        }
+        Refusal::LotMissing { seats, .. } => push_around(out, b"\"seats\":", *seats, b","),
+        _ => {}
+    }
+}
+
+fn push_word(out: &mut Vec<u8>, refusal: &Refusal)
+    requires { vec_len out.old + 32 ≤ vec_capacity out.old }
+    ensures items { out.new.items ≡ out.old.items ++ word_member refusal.now }
+    ensures len { vec_len out.new ≤ vec_len out.old + 32 }
+    ensures room { vec_capacity out.old ≤ vec_capacity out.new }
+{
+    push_between(out, b"\"word\":\"", refusal_word(refusal), b"\"}");
+}
+
+fn push_members(out: &mut Vec<u8>, lists: &[ListEntry], refusal: &Refusal)
     requires few { length lists.now ≤ most_lists }
     requires room { vec_len out.old + 1280 ≤ vec_capacity out.old }
-    ensures items { out.new.items
-        ≡ out.old.items ++ (refusal_answer lists.now (LotWrongGroup group.now)).1 }
+    ensures items { out.new.items ≡ out.old.items ++ refusal_members lists.now refusal.now }
     ensures len { vec_len out.new ≤ vec_len out.old + 1280 }
     ensures room { vec_capacity out.old ≤ vec_capacity out.new }
 {
-    push(out, b"{\"group\":");
-    push_group(out, lists, group);
-    push(out, b",\"refused\":18,\"word\":\"lot_wrong_group\"}");
-}
-
-fn push_lot_missing(out: &mut Vec<u8>, lists: &[ListEntry], group: &ListSet, seats: u32)
-    requires few { length lists.now ≤ most_lists }
-    requires room { vec_len out.old + 1280 ≤ vec_capacity out.old }
-    ensures items { out.new.items
-        ≡ out.old.items ++ (refusal_answer lists.now (LotMissing group.now seats)).1 }
-    ensures len { vec_len out.new ≤ vec_len out.old + 1280 }
-    ensures room { vec_capacity out.old ≤ vec_capacity out.new }
-{
-    push(out, b"{\"group\":");
-    push_group(out, lists, group);
-    push_around(
-        out,
-        b",\"refused\":19,\"seats\":",
-        seats,
-        b",\"word\":\"lot_missing\"}",
-    );
+    push(out, b"{");
+    push_before(out, lists, refusal);
+    push_around(out, b"\"refused\":", refusal.number(), b",");
+    push_after(out, refusal);
+    push_word(out, refusal);
 }
 
 fn push_refusal(out: &mut Vec<u8>, lists: &[ListEntry], refusal: &Refusal)
     requires few { length lists.now ≤ most_lists }
     requires room { vec_len out.old + 1280 ≤ vec_capacity out.old }
-    ensures items { out.new.items ≡ out.old.items ++ (refusal_answer lists.now refusal.now).1 }
+    ensures items { out.new.items ≡ out.old.items ++ refusal_body lists.now refusal.now }
     ensures len { vec_len out.new ≤ vec_len out.old + 1280 }
     ensures room { vec_capacity out.old ≤ vec_capacity out.new }
 {
     match refusal {
-        Refusal::NoStation => push(out, b"{\"refused\":1,\"word\":\"no_station\"}"),
-        Refusal::NoConstituency => push(out, b"{\"refused\":2,\"word\":\"no_constituency\"}"),
-        Refusal::NoCandidate => push(out, b"{\"refused\":3,\"word\":\"no_candidate\"}"),
-        Refusal::BadCounts => push(out, b"{\"refused\":4,\"word\":\"bad_counts\"}"),
-        Refusal::BadNote => push(out, b"{\"refused\":5,\"word\":\"bad_note\"}"),
-        Refusal::TooManyVotes => push(out, b"{\"refused\":6,\"word\":\"too_many_votes\"}"),
-        Refusal::Differs { rev } => {
-            push_around(
-                out,
-                b"{\"refused\":7,\"rev\":",
-                *rev,
-                b",\"word\":\"differs\"}",
-            )
+        Refusal::Memory | Refusal::Store => {
+            push(out, b"{");
+            push_word(out, refusal);
         }
-        Refusal::NoReturn => push(out, b"{\"refused\":8,\"word\":\"no_return\"}"),
-        Refusal::Certified => push(out, b"{\"refused\":9,\"word\":\"certified\"}"),
-        Refusal::NotCertified => push(out, b"{\"refused\":10,\"word\":\"not_certified\"}"),
-        Refusal::Stale { now } => {
-            push_around(
-                out,
-                b"{\"now\":",
-                *now,
-                b",\"refused\":11,\"word\":\"stale\"}",
-            )
-        }
-        Refusal::Exhausted => push(out, b"{\"refused\":12,\"word\":\"exhausted\"}"),
-        Refusal::WrongStatus { status } => push_wrong_status(out, *status),
-        Refusal::NotAllClosed { left } => push_around(
-            out,
-            b"{\"left\":",
-            *left,
-            b",\"refused\":14,\"word\":\"not_all_closed\"}",
-        ),
-        Refusal::NoEligible => push(out, b"{\"refused\":15,\"word\":\"no_eligible\"}"),
-        Refusal::LotStands => push(out, b"{\"refused\":16,\"word\":\"lot_stands\"}"),
-        Refusal::LotNotNeeded => push(out, b"{\"refused\":17,\"word\":\"lot_not_needed\"}"),
-        Refusal::LotWrongGroup { group } => push_wrong_group(out, lists, group),
-        Refusal::LotMissing { group, seats } => push_lot_missing(out, lists, group, *seats),
-        Refusal::AlreadyGone => push(out, b"{\"refused\":20,\"word\":\"already_gone\"}"),
-        Refusal::NotHolder => push(out, b"{\"refused\":21,\"word\":\"not_holder\"}"),
-        Refusal::Memory | Refusal::Store => push(out, b"{\"word\":\"unavailable\"}"),
+        _ => push_members(out, lists, refusal),
     }
 }
 

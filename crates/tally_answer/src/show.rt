@@ -7,12 +7,14 @@ ghost use Rattle.serde_json.specs.Written.{compact_text};
 ghost use Rattle.tally_answer.specs.Shown.{all_gone, code_at_place, codes_at_places};
 ghost use Rattle.tally_answer.specs.Shown.{members_after_gone, members_from_spoiled, shown_con};
 ghost use Rattle.tally_answer.specs.Shown.{shown_gone, shown_return, whole_value, whole_values};
+ghost use Rattle.tally_answer.specs.Shown.{con_members, with_entry};
+ghost use Rattle.tally_rules.specs.declared.constituency.Entry.TheVariants.{Single};
 
 use crate::outcome::status_word;
 use serde_json::{Map, Value, json};
 use std::alloc::{AllocError, Global};
 use tally_returns::{ConView, Gone, Return};
-use tally_rules::{Constituency, ListEntry};
+use tally_rules::{Constituency, Entry, ListEntry};
 
 fn whole_values(alloc: Global, numbers: &[u32]) -> Result<Value, AllocError>
     ensures { IfOk result (λ value. view value ≡ whole_values numbers.now) }
@@ -184,7 +186,8 @@ fn put_con(
     seen: &ConView,
 ) -> Result<(), AllocError>
     requires { members_view map.old.entries ≡ no_members }
-    ensures { OnOk result (object (members_view map.new.entries) ≡ shown_con con.now seen.now) }
+    ensures { OnOk result (members_view map.new.entries
+        ≡ con_members con.now seen.now (with_entry Single)) }
 {
     put_after_gone(map, alloc, con, seen)?;
     serde_json::put(map, alloc, "gone", all_gone(alloc, &con.lists, &seen.gone)?)?;
@@ -195,11 +198,28 @@ fn put_con(
     serde_json::put(map, alloc, "blank", Value::from(seen.blank))
 }
 
+// This one comes last, so that the others are the same where it is missing.
+fn put_entry(
+    map: &mut Map<String, Value>,
+    alloc: Global,
+    con: &Constituency,
+    seen: &ConView,
+) -> Result<(), AllocError>
+    requires { members_view map.old.entries ≡ con_members con.now seen.now (with_entry Single) }
+    ensures { OnOk result (object (members_view map.new.entries) ≡ shown_con con.now seen.now) }
+{
+    match con.entry {
+        Entry::Single => Ok(()),
+        Entry::Double => put_text(map, alloc, "entry", "double"),
+    }
+}
+
 fn con_value(alloc: Global, con: &Constituency, seen: &ConView) -> Result<Value, AllocError>
     ensures { IfOk result (λ value. view value ≡ shown_con con.now seen.now) }
 {
     let mut map = Map::new(alloc);
     put_con(&mut map, alloc, con, seen)?;
+    put_entry(&mut map, alloc, con, seen)?;
     Ok(Value::Object(map))
 }
 

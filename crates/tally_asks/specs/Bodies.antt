@@ -6,8 +6,8 @@ use Rattle.serde_json.specs.Data.{Data, Items, no_items, item}
 use Rattle.serde_json.specs.Read.{read}
 use Rattle.serde_json.specs.Find.{get, as_array, as_number, as_str, as_u64}
 use Rattle.tally_rules.specs.Code.{code_of}
-use Rattle.tally_returns.specs.AskSeen.{AskSeen, lodge, query, correct, close, draw, certify}
-use Rattle.tally_returns.specs.AskSeen.{reopen, vacate}
+use Rattle.tally_returns.specs.AskSeen.{AskSeen, lodge, query, correct, close, confirm, draw}
+use Rattle.tally_returns.specs.AskSeen.{certify, reopen, vacate}
 use Rattle.tally_returns.specs.Counts.{VoteCounts}
 use Rattle.tally_asks.specs.declared.routes.ConCommand.{ConCommand}
 use Rattle.tally_asks.specs.declared.routes.ConCommand.TheVariants as on_con
@@ -90,6 +90,13 @@ close_in station body = do
   rev ← number_under (codes "rev") body
   Some (close station rev)
 
+unfoldable pub confirm_in : List ℕ → Data → Option AskSeen
+confirm_in station body = do
+  rev ← number_under (codes "rev") body
+  slip ← code_under (codes "slip") body
+  counts ← counts_of_body body
+  Some (confirm station rev slip counts)
+
 unfoldable pub draw_in : List ℕ → Data → Option AskSeen
 draw_in con body = do
   edition ← number_under (codes "edition") body
@@ -121,6 +128,7 @@ station_command on_station.Lodge station body = lodge_in station body
 station_command on_station.Query station body = query_in station body
 station_command on_station.Correct station body = correct_in station body
 station_command on_station.Close station body = close_in station body
+station_command on_station.Confirm station body = confirm_in station body
 
 abbrev pub con_command : ConCommand → List ℕ → Data → Option AskSeen
 con_command on_con.Draw con body = draw_in con body

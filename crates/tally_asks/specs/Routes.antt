@@ -27,6 +27,7 @@ station_routes =
     ∷ (codes "/station/{s}/query", route.OnStation on_station.Query)
     ∷ (codes "/station/{s}/correct", route.OnStation on_station.Correct)
     ∷ (codes "/station/{s}/close", route.OnStation on_station.Close)
+    ∷ (codes "/station/{s}/confirm", route.OnStation on_station.Confirm)
     ∷ []
 
 -- what is shown of a constituency

@@ -4,8 +4,8 @@ ghost use Rattle.std.specs.Prelude.{◌≡◌, codes, option_map, IfOk, string_b
 ghost use Rattle.serde_json.specs.View.{view};
 ghost use Rattle.tally_returns.specs.AskSeen.{ask_seen};
 ghost use Rattle.tally_asks.specs.Bodies.{IsCommand, text_under, lodge_in, query_in, correct_in};
-ghost use Rattle.tally_asks.specs.Bodies.{close_in, draw_in, certify_in, reopen_in, vacate_in};
-ghost use Rattle.tally_asks.specs.Bodies.{con_command, station_command};
+ghost use Rattle.tally_asks.specs.Bodies.{close_in, confirm_in, draw_in, certify_in, reopen_in};
+ghost use Rattle.tally_asks.specs.Bodies.{vacate_in, con_command, station_command};
 
 use crate::fields::{code_under, codes_under, counts_of_body, number_under, text_under, value_of};
 use crate::routes::{ConCommand, StationCommand};
@@ -86,6 +86,28 @@ fn close(station: Code, value: &Value) -> Option<Ask>
     Some(Ask::Close { station, rev })
 }
 
+#[tactic(auto, unfolding(crate::specs::Bodies::confirm_in))]
+fn confirm(alloc: Global, station: Code, value: &Value) -> Result<Option<Ask>, AllocError>
+    ensures { IfOk result
+        (λ found. option_map ask_seen found ≡ confirm_in station (view value.now)) }
+{
+    let Some(rev) = number_under(value, "rev") else {
+        return Ok(None);
+    };
+    let Some(slip) = code_under(value, "slip") else {
+        return Ok(None);
+    };
+    let Some(counts) = counts_of_body(alloc, value)? else {
+        return Ok(None);
+    };
+    Ok(Some(Ask::Confirm {
+        station,
+        rev,
+        slip,
+        counts,
+    }))
+}
+
 #[tactic(auto, unfolding(crate::specs::Bodies::draw_in))]
 fn draw(alloc: Global, con: Code, value: &Value) -> Result<Option<Ask>, AllocError>
     ensures { IfOk result (λ found. option_map ask_seen found ≡ draw_in con (view value.now)) }
@@ -160,6 +182,7 @@ fn station_command(
         StationCommand::Query => query(alloc, station, value),
         StationCommand::Correct => correct(alloc, station, value),
         StationCommand::Close => Ok(close(station, value)),
+        StationCommand::Confirm => confirm(alloc, station, value),
     }
 }
 

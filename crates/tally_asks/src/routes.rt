@@ -20,6 +20,7 @@ pub enum StationCommand {
     Query,
     Correct,
     Close,
+    Confirm,
 }
 
 /// The commands on a constituency.
@@ -51,7 +52,7 @@ pub enum Route {
 }
 
 // The routes of the whole office and of a station.
-const STATION_ROUTES: [(&str, Route); 6] = [
+const STATION_ROUTES: [(&str, Route); 7] = [
     ("/progress", Route::Progress),
     ("/station/{s}", Route::Return),
     (
@@ -69,6 +70,10 @@ const STATION_ROUTES: [(&str, Route); 6] = [
     (
         "/station/{s}/close",
         Route::OnStation(StationCommand::Close),
+    ),
+    (
+        "/station/{s}/confirm",
+        Route::OnStation(StationCommand::Confirm),
     ),
 ];
 

@@ -2,7 +2,7 @@
 use Rattle.std.proofs.Common.{◌≡◌, ◌≢◌, ℕ, zero, suc, ◌+◌, ◌-◌, ◌<◌, ◌≤◌, ◌⊎◌, List, [], ◌∷◌, Bool, true, false, length, get_or, set, inl, inr, refl, sym, ◌∙◌, ap, subst, arith}
 use Rattle.std.proofs.lemmas.Bool.{cases_lt, cases_eq, false≢true}
 use Rattle.std.proofs.lemmas.List.{get_or_past, get_or-set_other}
-use Rattle.tally_rules.specs.ListSet.{has_place}
+use Rattle.tally_frac.specs.ListSet.{has_place}
 use Rattle.tally_law.specs.Lot.{IsOrderOf}
 use Rattle.tally_contest.proofs.ListSetLemmas.{has_place-at}
 

@@ -2,18 +2,20 @@
 use Rattle.std.specs.Prelude.{◌≡◌, ◌↔◌, ◌⊎◌, ◌<◌, ℕ, All, Bool, List, Option, Some, None, Result}
 use Rattle.std.specs.Prelude.{true, false, slice_get}
 use Rattle.std.specs.List.{filter}
+use Rattle.tally_keeper.specs.EnteredTwice.{IsEnteredTwiceIn}
 use Rattle.tally_keeper.specs.Events.{BringsCodes, acts, answers_of, asks_of, lodge_answers}
 use Rattle.tally_keeper.specs.Events.{lodge_commands}
 use Rattle.tally_keeper.specs.Import.{RowAnswer, count_of}
 use Rattle.tally_keeper.specs.Keeper.{Event, HappensInTurn, Happens, IsImport, Runs, whole_import}
 use Rattle.tally_keeper.specs.declared.import.ImportCount.{ImportCount}
 use Rattle.tally_keeper.specs.declared.import.Row.{Row}
+use Rattle.tally_steps.specs.EnteredTwice.{ForCertifiedReturns, ForClosedReturns, IsEnteredTwice}
 use Rattle.tally_steps.specs.Step.{IsView}
 use Rattle.tally_steps.specs.LawfulState.{IsLawfulState}
 use Rattle.tally_steps.specs.Outcome.{IsCertificate}
 use Rattle.tally_steps.specs.Records.{IsOnRecord, IsReopenedIn}
 use Rattle.tally_steps.specs.Runs.{IsRun, is_act, IsSameCommand, kept_elements}
-use Rattle.tally_returns.specs.State.{State, con_state}
+use Rattle.tally_returns.specs.State.{State, con_state, opening}
 use Rattle.tally_returns.specs.View.{View}
 use Rattle.tally_rules.specs.Constituency.{Constituency}
 use Rattle.tally_rules.specs.Limits.{IsSetup}
@@ -103,6 +105,43 @@ NoTwoEqualRequestsAct =
     → IsSameCommand ask other
     → slice_get (answers_of events) i ≡ Some first → slice_get (answers_of events) j ≡ Some second
     → is_act first ≡ true → is_act second ≡ false
+
+-- Where requests to a keeper found its content to be the opening state, each closed return of a
+-- constituency whose returns are entered twice was entered twice by them.
+abbrev pub ClosedReturnsOfRequestsWereEnteredTwice : Type 0
+ClosedReturnsOfRequestsWereEnteredTwice =
+    (setup : List Constituency) (t : State) (asks : List Ask) (rs : List (Result Reply Refusal))
+    → Runs setup (Some (opening setup)) asks rs (Some t)
+    → ForClosedReturns setup t (IsEnteredTwice asks rs)
+
+-- and so it was by whatever happened to a keeper, where an import is one thing that happened
+abbrev pub ClosedReturnsOfKeepersWereEnteredTwice : Type 0
+ClosedReturnsOfKeepersWereEnteredTwice =
+    (setup : List Constituency) (t : State) (events : List Event)
+    → HappensInTurn setup (Some (opening setup)) events (Some t)
+    → ForClosedReturns setup t (IsEnteredTwiceIn events)
+
+-- and where the rows of imports count as requests
+abbrev pub ClosedReturnsOfRowsWereEnteredTwice : Type 0
+ClosedReturnsOfRowsWereEnteredTwice =
+    (setup : List Constituency) (t : State) (events : List Event)
+    → HappensInTurn setup (Some (opening setup)) events (Some t)
+    → ForClosedReturns setup t (IsEnteredTwice (asks_of events) (answers_of events))
+
+-- and so in the state that a keeper's answers led to before a failed disk shut it
+abbrev pub ClosedReturnsOfAShutKeeperWereEnteredTwice : Type 0
+ClosedReturnsOfAShutKeeperWereEnteredTwice =
+    (setup : List Constituency) (events : List Event)
+    → HappensInTurn setup (Some (opening setup)) events None
+    → (t : State) × IsRun setup (opening setup) (asks_of events) (answers_of events) t
+    × ForClosedReturns setup t (IsEnteredTwice (asks_of events) (answers_of events))
+
+-- and so was each return of a certified constituency
+abbrev pub CertifiedReturnsOfKeepersWereEnteredTwice : Type 0
+CertifiedReturnsOfKeepersWereEnteredTwice =
+    (setup : List Constituency) (t : State) (events : List Event) → All BringsCodes events
+    → IsSetup setup → HappensInTurn setup (Some (opening setup)) events (Some t)
+    → ForCertifiedReturns setup t (IsEnteredTwiceIn events)
 
 -- without what does not act the same happens, and the last state is the same
 abbrev pub ActsAloneHappen : Type 0

@@ -65,6 +65,22 @@ pub fn no_two_equal_requests_act()
     ensures { law.NoTwoEqualRequestsAct }
 {}
 
+/// Where the returns of a constituency are entered twice, each closed one was, whatever happened to
+/// a keeper since its content was the opening state of its setup: a request, or a row of an import,
+/// brought it, and a later request brought the same slip and counts, with no other act on the
+/// station between them or after. So in a certified constituency every vote that counts was typed
+/// twice, and the same.
+pub fn what_counts_was_entered_twice()
+    ensures requests { law.ClosedReturnsOfRequestsWereEnteredTwice }
+    ensures open { law.ClosedReturnsOfKeepersWereEnteredTwice }
+    ensures rows { law.ClosedReturnsOfRowsWereEnteredTwice }
+    ensures shut { law.ClosedReturnsOfAShutKeeperWereEnteredTwice }
+    ensures certified { law.CertifiedReturnsOfKeepersWereEnteredTwice }
+{
+    // Called for what its contract says: the same law of the runs of the machine.
+    machine::what_counts_was_entered_twice();
+}
+
 /// Without what does not act, the same happens to a keeper, with the same answers, and it has the
 /// same last state. That holds too where only some of it is left out.
 pub fn what_does_not_act_can_be_left_out()

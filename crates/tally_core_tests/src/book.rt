@@ -97,6 +97,31 @@ fn check_in_twin_town(alloc: Global, method: &str, seats: u32, script: &str) -> 
     check_fresh(alloc, setup.as_str(), script)
 }
 
+// In the last of 200 constituencies, in the second and in the first.
+const IN_MANY_TOWNS: &str = "lodge t200 p1 20 = lodged 1
+close t200 1 = moved 2
+certify c200 1 = edition 2
+lodge t2 p1 30 = lodged 1
+lodge s1 p1 100,50 = lodged 1
+certify c2 1 = left 1
+show c200 = certified 2 0 0 0 1/1 [20] 0 0 [] [3]";
+
+/// Twin Town and 199 towns more, each with one list and one station: as many constituencies as a
+/// setup may have.
+fn many_towns(alloc: Global) -> Result<String, Fail> {
+    let mut setup = String::from_str(alloc, TWIN_TOWN)?;
+    for n in 2..201 {
+        write!(
+            setup,
+            "\n[[constituency]]\ncode = \"c{n}\"\nname = \"Town\"\nseats = 3\nprofile = \"d0\"\n"
+        )?;
+        setup.push_str("\n[[constituency.list]]\ncode = \"A\"\nname = \"Alpha\"\n")?;
+        setup.push_str("candidates = [\"Ana\"]\n\n[[constituency.station]]\n")?;
+        write!(setup, "code = \"t{n}\"\nelectors = 300\n")?;
+    }
+    Ok(setup)
+}
+
 #[test]
 fn scripts_of_commands_have_these_answers(rt: HostRuntime) -> Result<(), Fail> {
     for (method, seats, script) in SCRIPTS {
@@ -105,7 +130,8 @@ fn scripts_of_commands_have_these_answers(rt: HostRuntime) -> Result<(), Fail> {
     for (setup, script) in &setups_and_scripts(rt.alloc())? {
         check_fresh(rt.alloc(), setup.as_str(), script)?;
     }
-    Ok(())
+    let setup = many_towns(rt.alloc())?;
+    check_fresh(rt.alloc(), setup.as_str(), IN_MANY_TOWNS)
 }
 
 // A return that is queried and corrected in turn, up to its last revision. 12 is Exhausted.

@@ -2,8 +2,8 @@
 
 ghost use Rattle.std.specs.Prelude.{◌≡◌, IsSome, IsTrue};
 ghost use Rattle.std.specs.Option.{option_copied};
-ghost use Rattle.tally_returns.specs.Decide.{limits_named, station_in};
-ghost use Rattle.tally_returns.specs.Lawful.{IsLawfulWhereNamed};
+ghost use Rattle.tally_returns.specs.Decide.{limits_named, limits_of, station_in};
+ghost use Rattle.tally_returns.specs.Lawful.{IsLawful, IsLawfulWhereNamed};
 
 use std::alloc::Global;
 use std::test::*;
@@ -27,6 +27,13 @@ fn may_decide(con: &Constituency, found: Option<&Return>, ask: &Ask) -> bool
     let Some(standing) = found else {
         return true;
     };
+    is_lawful_at(standing, con, place)
+}
+
+/// Whether the return is lawful at a station of a constituency.
+fn is_lawful_at(standing: &Return, con: &Constituency, place: &Station) -> bool
+    ensures { IsTrue result → IsLawful (limits_of con.now place.now) standing.now }
+{
     standing.is_lawful(con.lists.len(), place.electors)
 }
 

@@ -3,3 +3,4 @@ pub mod RouteLemmas
 pub mod MessageLemmas
 pub mod AgainLemmas
 pub mod BytesLemmas
+pub mod EnteredTwiceLemmas

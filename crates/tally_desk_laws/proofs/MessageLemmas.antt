@@ -27,7 +27,7 @@ use Rattle.tally_message.specs.declared.message.Message.{Message}
 use Rattle.tally_message.specs.declared.message.MessageFault.{MessageFault}
 use Rattle.tally_message.specs.declared.message.MessageFault.TheVariants as fault
 use Rattle.tally_serve.specs.Serving.{Follows, IsExchange, Serves}
-use Rattle.tally_asks.specs.Bodies.{◌>>=◌, close_in, as_code, code_under, con_command, counts_of_body, codes_under, certify_in, correct_in, draw_in, lodge_in, number_under, query_in, reopen_in, station_command, text_under, vacate_in}
+use Rattle.tally_asks.specs.Bodies.{◌>>=◌, close_in, as_code, code_under, con_command, counts_of_body, codes_under, certify_in, confirm_in, correct_in, draw_in, lodge_in, number_under, query_in, reopen_in, station_command, text_under, vacate_in}
 use Rattle.tally_asks.specs.Routes.{route_method}
 use Rattle.tally_asks.specs.declared.routes.Route.{Route}
 use Rattle.tally_asks.specs.declared.routes.ConCommand.{ConCommand}
@@ -51,11 +51,11 @@ code-taken text slip is = go (is_code text) refl is
     go false good taken = absurd (let k = taken in cc)
 
 -- the steps of a reading, one after the other
-bind-some : {A B : Type 0} (o : Option A) (next : A → Option B) (b : B) → (o >>= next) ≡ Some b → (a : A) × (o ≡ Some a) × (next a ≡ Some b)
+pub bind-some : {A B : Type 0} (o : Option A) (next : A → Option B) (b : B) → (o >>= next) ≡ Some b → (a : A) × (o ≡ Some a) × (next a ≡ Some b)
 bind-some None next b is = absurd (let k = is in cc)
 bind-some (Some a) next b is = (a, refl, is)
 
-and-some : {A B : Type 0} (next : A → Option B) (o : Option A) (b : B) → option_and_then next o ≡ Some b → (a : A) × (o ≡ Some a) × (next a ≡ Some b)
+pub and-some : {A B : Type 0} (next : A → Option B) (o : Option A) (b : B) → option_and_then next o ≡ Some b → (a : A) × (o ≡ Some a) × (next a ≡ Some b)
 and-some next None b is = absurd (let k = is in cc)
 and-some next (Some a) b is = (a, refl, is)
 
@@ -66,16 +66,18 @@ code-at key body slip is =
     code-taken text.0 slip text.2
 
 -- the slip that is seen of a command
-abbrev slip_seen : AskSeen → Option (List ℕ)
+abbrev pub slip_seen : AskSeen → Option (List ℕ)
 slip_seen (of_seen.lodge station slip counts) = Some slip
 slip_seen (of_seen.correct station rev slip counts) = Some slip
+slip_seen (of_seen.confirm station rev slip counts) = Some slip
 slip_seen other = None
 
-slip-is : (a : Ask) → slip_named a ≡ slip_seen (ask_seen a)
+pub slip-is : (a : Ask) → slip_named a ≡ slip_seen (ask_seen a)
 slip-is (ask.Lodge station slip counts) = refl
 slip-is (ask.Query station rev note) = refl
 slip-is (ask.Correct station rev slip counts) = refl
 slip-is (ask.Close station rev) = refl
+slip-is (ask.Confirm station rev slip counts) = refl
 slip-is (ask.ShowReturn station) = refl
 slip-is (ask.Draw con edition order) = refl
 slip-is (ask.Certify con edition) = refl
@@ -84,7 +86,7 @@ slip-is (ask.Vacate con list place note) = refl
 slip-is (ask.ShowCon con) = refl
 slip-is ask.ShowProgress = refl
 
-abbrev IsCoded : AskSeen → Type 0
+abbrev pub IsCoded : AskSeen → Type 0
 IsCoded seen = ForSome (slip_seen seen) (λ slip. is_code slip ≡ true)
 
 of-some : (seen made : AskSeen) → Some made ≡ Some seen → IsCoded made → IsCoded seen
@@ -126,6 +128,14 @@ unfolding close_in
 close-coded of body seen is =
     let rev = bind-some (number_under (codes "rev") body) _ seen is in without seen (of_seen.close of rev.0) rev.2 refl
 
+confirm-coded : (of : List ℕ) (body : Data) (seen : AskSeen) → confirm_in of body ≡ Some seen → IsCoded seen
+unfolding confirm_in
+confirm-coded of body seen is =
+    let rev = bind-some (number_under (codes "rev") body) _ seen is in
+    let slip = bind-some (code_under (codes "slip") body) _ seen rev.2 in
+    let counts = bind-some (counts_of_body body) _ seen slip.2 in
+    with-slip seen (of_seen.confirm of rev.0 slip.0 counts.0) slip.0 counts.2 refl (code-at (codes "slip") body slip.0 slip.1)
+
 draw-coded : (of : List ℕ) (body : Data) (seen : AskSeen) → draw_in of body ≡ Some seen → IsCoded seen
 unfolding draw_in
 draw-coded of body seen is =
@@ -154,16 +164,17 @@ vacate-coded of body seen is =
     without seen (of_seen.vacate of list.0 place.0 note.0) note.2 refl
 
 -- each command that is read has a code as its slip, if it has one
-abbrev ReadsCodes : (Data → Option AskSeen) → Type 0
+abbrev pub ReadsCodes : (Data → Option AskSeen) → Type 0
 ReadsCodes read = (value : Data) (seen : AskSeen) → read value ≡ Some seen → IsCoded seen
 
-station-coded : (command : StationCommand) (of : List ℕ) → ReadsCodes (station_command command of)
+pub station-coded : (command : StationCommand) (of : List ℕ) → ReadsCodes (station_command command of)
 station-coded on_station.Lodge of body seen is = lodge-coded of body seen is
 station-coded on_station.Query of body seen is = query-coded of body seen is
 station-coded on_station.Correct of body seen is = correct-coded of body seen is
 station-coded on_station.Close of body seen is = close-coded of body seen is
+station-coded on_station.Confirm of body seen is = confirm-coded of body seen is
 
-con-coded : (command : ConCommand) (of : List ℕ) → ReadsCodes (con_command command of)
+pub con-coded : (command : ConCommand) (of : List ℕ) → ReadsCodes (con_command command of)
 con-coded on_con.Draw of body seen is = draw-coded of body seen is
 con-coded on_con.Certify of body seen is = certify-coded of body seen is
 con-coded on_con.Reopen of body seen is = reopen-coded of body seen is

@@ -45,6 +45,7 @@ IsStepBy setup s (of_seen.query station rev note) x t =
     (x ≡ move_reply (decided_query setup s station rev note)) × (t ≡ after_query setup s station (decided_query setup s station rev note))
 IsStepBy setup s (of_seen.correct station rev slip counts) x t = IsStepSeen setup s (ask.Correct station rev slip counts) x t
 IsStepBy setup s (of_seen.close station rev) x t = IsStepSeen setup s (ask.Close station rev) x t
+IsStepBy setup s (of_seen.confirm station rev slip counts) x t = IsStepSeen setup s (ask.Confirm station rev slip counts) x t
 IsStepBy setup s (of_seen.show_return station) x t = IsStepSeen setup s (ask.ShowReturn station) x t
 IsStepBy setup s (of_seen.draw con edition order) x t =
     IsConStepBy (constituency_with con setup) s (λ c view decided. (places : Result (List ℕ) Refusal) × Draws c view edition order places × (decided ≡ change_of_result lot_set places)) x t
@@ -82,6 +83,7 @@ step-seen setup s (ask.Query station rev note) x t is =
     (is.0, is.1 ∙ after-same setup s station rev note (decided_query setup s station rev (string_bytes note)))
 step-seen setup s (ask.Correct station rev slip counts) x t is = is
 step-seen setup s (ask.Close station rev) x t is = is
+step-seen setup s (ask.Confirm station rev slip counts) x t is = is
 step-seen setup s (ask.ShowReturn station) x t is = is
 step-seen setup s (ask.Draw con edition order) x t is = con-by (constituency_with con setup) s (ask.Draw con edition order) x t is
 step-seen setup s (ask.Certify con edition) x t is = is
@@ -96,6 +98,7 @@ seen-step setup s (ask.Query station rev note) x t is =
     (is.0, is.1 ∙ sym (after-same setup s station rev note (decided_query setup s station rev (string_bytes note))))
 seen-step setup s (ask.Correct station rev slip counts) x t is = is
 seen-step setup s (ask.Close station rev) x t is = is
+seen-step setup s (ask.Confirm station rev slip counts) x t is = is
 seen-step setup s (ask.ShowReturn station) x t is = is
 seen-step setup s (ask.Draw con edition order) x t is = by-con (constituency_with con setup) s (ask.Draw con edition order) x t is
 seen-step setup s (ask.Certify con edition) x t is = is

@@ -1,1 +1,2 @@
 pub mod LawStatements
+pub mod EnteredTwice

@@ -1,5 +1,6 @@
 //! The laws of messages. The functions do nothing: each contract is a law.
 
+ghost use Rattle.tally_desk_laws.specs.EnteredTwice as twice;
 ghost use Rattle.tally_desk_laws.specs.LawStatements as law;
 
 use tally_core::laws as keeper;
@@ -41,3 +42,19 @@ pub fn the_same_bytes_act_no_second_time()
     message::bytes_are_one_message();
     a_message_that_is_sent_again_acts_no_second_time();
 }
+
+/// Each connection of a serving does one thing, or nothing. An act on a station and an import that
+/// is done are what its message asks, and what is written to it, as far as there is room, is the
+/// answer that reports each act and each import that is done. Where the returns of a constituency
+/// are entered twice, each closed one was, by the connections since the office was in its opening
+/// state, with no other act on the station between the two or after. The first is a message that
+/// lodges or corrects the return, or an import with such a row; the second is one that confirms it,
+/// with the same slip and counts. So in a certified constituency every vote that counts was typed
+/// twice, and the same.
+pub fn what_counts_was_entered_twice()
+    ensures servings { twice.ServingsAreDone }
+    ensures closed { twice.ClosedReturnsOfMessagesWereEnteredTwice }
+    ensures certified { twice.CertifiedReturnsOfMessagesWereEnteredTwice }
+    ensures first { twice.FirstEntriesAreMessages }
+    ensures second { twice.SecondEntriesAreMessages }
+{}

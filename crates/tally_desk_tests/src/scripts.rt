@@ -5,7 +5,7 @@ use crate::offices::{Office, Stored};
 use std::alloc::Global;
 use std::test::*;
 use tally_core::Book;
-use tally_scripts::{MORE_STATIONS, twin_town};
+use tally_scripts::{MORE_STATIONS, entered_twice, twin_town};
 
 // Three seats for two lists of 100 votes each, a lot, a vacancy and a recount.
 const RECOUNT: &str =
@@ -95,6 +95,16 @@ POST /con/c1/reopen {"edition":3,"note":"recount"} = 200 OK|{"edition":4,"ok":"e
 GET /con/c1/holders = 409 Conflict|{"word":"not_certified"}
 GET /con/c1/past = 200 OK|PAST c1 Twin Town|edition 3|A                   1 Alpha|B                   2 Beta|"#;
 
+// The returns of this office are entered twice: each line after a first entry.
+const LODGED: &str =
+    r#"POST /station/s1/lodge {"slip":"p1","votes":[100,100],"blank":0,"spoiled":0} = 200 OK|{"ok":"lodged","rev":1}"#;
+
+const ENTERED_TWICE: &str =
+    r#"POST /station/s1/close {"rev":1} = 409 Conflict|{"refused":24,"word":"not_confirmed"}
+POST /station/s1/confirm {"rev":1,"slip":"p1","votes":[100,99],"blank":0,"spoiled":0} = 409 Conflict|{"refused":7,"rev":1,"word":"differs"}
+POST /station/s1/confirm {"rev":1,"slip":"p1","votes":[100,100],"blank":0,"spoiled":0} = 200 OK|{"ok":"moved","rev":2}
+GET /con/c1 = 200 OK|{"blank":0,"certified":false,"closed":0,"con":"c1","edition":1,"entry":"double","gone":[],"lot":[],"note":"","seats":[],"spoiled":0,"stations":1,"votes":[0,0]}"#;
+
 // The method of Twin Town, its other stations, what was done before, and a script.
 const SCRIPTS: [(&str, &str, &str, &str); 8] = [
     ("dhondt", "", "", RECOUNT),
@@ -120,11 +130,20 @@ fn check_script<K: Office>(
     check_each(alloc, &mut office, script)
 }
 
+fn check_entered_twice<K: Office>(alloc: Global) -> Result<(), Fail> {
+    let setup = entered_twice(alloc)?;
+    for line in ENTERED_TWICE.lines() {
+        let mut office = office_after::<K>(alloc, setup.as_str(), LODGED)?;
+        check_each(alloc, &mut office, line)?;
+    }
+    Ok(())
+}
+
 fn check_scripts<K: Office>(alloc: Global) -> Result<(), Fail> {
     for (method, stations, before, script) in SCRIPTS {
         check_script::<K>(alloc, method, stations, before, script)?;
     }
-    Ok(())
+    check_entered_twice::<K>(alloc)
 }
 
 #[test]

@@ -1,12 +1,11 @@
 -- The rows of a constituency written, beside those of the others.
-use Rattle.std.proofs.Common.{◌≡◌, ◌≢◌, ℕ, pos, ◌+◌, ◌<◌, Bool, true, false, not, cond, List, [], ◌∷◌, ◌++◌, map, filter, take, length, get_or, Option, Some, None, IsSome, Ordering, refl, sym, ap, ap₂, subst, ◌∙◌, true≢false, append_assoc, arith}
+use Rattle.std.proofs.Common.{◌≡◌, ◌≢◌, ℕ, pos, ◌+◌, Bool, true, false, not, cond, List, [], ◌∷◌, ◌++◌, map, filter, Option, Some, None, IsSome, Ordering, refl, sym, ap, ap₂, subst, ◌∙◌, true≢false, append_assoc}
 use Rattle.std.specs.FinMap.{FinMap, IsAntisymmetric, entries, get, insert, find, get-entries, nat_cmp-IsAntisymmetric}
 use Rattle.std.specs.Cmp.{IsTotalOrder, eq_by_cmp_equiv, nat_cmp_total}
 use Rattle.std.specs.Ordering.{eq_by_cmp, is_eq}
 use Rattle.std.specs.List.{AllByRecursion, flat_map}
 use Rattle.std.specs.Option.{option_to_list}
 use Rattle.std.specs.List.Sorted.{IsPermutation}
-use Rattle.std.proofs.lemmas.List.{map-append, length-take, take_more}
 use Rattle.std.proofs.lemmas.List.Sorted.{IsPermutation-sym, IsPermutation-trans, IsPermutation-map, IsPermutation-append_left, IsPermutation-append_right}
 use Rattle.sqlite_value.specs.declared.value.Value.TheVariants.{Int, Text}
 use Rattle.sqlite_value.specs.Order.{Row, column, value_cmp}
@@ -23,14 +22,13 @@ use Rattle.tally_returns.specs.State.{ConState}
 use Rattle.tally_schema.specs.Cells.{flag}
 use Rattle.tally_statements.specs.declared.table.KeyedTable.{KeyedTable}
 use Rattle.tally_statements.specs.declared.table.KeyedTable.TheVariants.{Cons, Lots, Seats, Gone, Totals, Past}
-use Rattle.tally_statements.specs.Office.{rows_in, HasRows}
+use Rattle.tally_statements.specs.Office.{rows_in, HasRows, numbered_rows}
 use Rattle.tally_tables.specs.Cells.{item_row, items_of, numbers_with_places, con_rows, lot_rows, seat_rows, gone_row, gone_rows, past_row, past_rows, record_rows}
 use Rattle.tally_entries.specs.internal.Constituencies.{ChangesOnly, MovesRows, MovesSeats, HasLot, HasGone, HasRecord, HasEdition, sum_rows}
 use Rattle.tally_entries.specs.internal.Entries.{stored_in}
 use Rattle.tally_entries.specs.internal.Written.{Adds, HasItems}
 use Rattle.tally_entries.proofs.LotLemmas.{lot_put}
 use Rattle.tally_entries.proofs.ReturnLemmas.{items_keyed}
-use Rattle.tally_entries.proofs.RowLemmas.{adds_then, numbered_then}
 
 pub changes_only : (t : KeyedTable) (rows : List Row) (old new : State) → HasRows t rows old new → ChangesOnly t old new
 changes_only t rows old new has = record { inside = has.inside; others = has.others; setup_is = has.setup }
@@ -142,18 +140,9 @@ record_moved con edition seats old new put cons before standing is becomes held 
 pub record_written : (con : List ℕ) (edition : ℕ) (seats : List ℕ) (old new : State) → Adds Past (record_rows con (edition, seats)) old new → ChangesOnly Past old new × MovesRows Past past_rows con (HasRecord (record { edition = edition; seats = seats })) old new
 record_written con edition seats old new put = (changes_only Past _ old new put, record_moved con edition seats old new put)
 
-seats_more : (con : List ℕ) (edition : ℕ) (ns : List ℕ) (i d : ℕ) → i < length ns → record_rows con (edition, take (i + 1) ns) ≡ record_rows con (edition, take i ns) ++ past_row con edition (i + 1, get_or ns i d) ∷ []
-seats_more con edition ns i d low =
-    let few : length (take i ns) ≡ i = omega (arith, length-take i ns) in
-    ap (λ l. map (past_row con edition) (numbers_with_places 1 l)) (take_more ns i d low) ∙ ap (map (past_row con edition)) (numbered_then 1 (take i ns) (get_or ns i d ∷ []))
-    ∙ map-append (past_row con edition) (numbers_with_places 1 (take i ns)) _ ∙ ap (λ n. map (past_row con edition) (numbers_with_places 1 (take i ns)) ++ past_row con edition (n, get_or ns i d) ∷ []) (omega (arith, few))
-
-pub adds_seats : (con : List ℕ) (edition : ℕ) (ns : List ℕ) (i list n d : ℕ) (old mid new : State) → i < length ns → list ≡ i + 1 → n ≡ get_or ns i d → Adds Past (record_rows con (edition, take i ns)) old mid
-    → Adds Past (past_row con edition (list, n) ∷ []) mid new → Adds Past (record_rows con (edition, take (i + 1) ns)) old new
-adds_seats con edition ns i list n d old mid new low place is was now =
-    let row : past_row con edition (list, n) ≡ past_row con edition (i + 1, get_or ns i d) = (λ k. past_row con edition (place k, is k)) in
-    subst (λ l. Adds Past l old new) (ap (λ r. record_rows con (edition, take i ns) ++ r ∷ []) row ∙ sym (seats_more con edition ns i d low))
-    (adds_then Past (record_rows con (edition, take i ns)) (past_row con edition (list, n) ∷ []) old mid new was now)
+pub record_is : (con : List ℕ) (edition first : ℕ) (ns : List ℕ) → numbered_rows (Text con ∷ Int (pos edition) ∷ []) first ns ≡ map (past_row con edition) (numbers_with_places first ns)
+record_is con edition first [] = refl
+record_is con edition first (n ∷ ns) = ap (λ rows. past_row con edition (first, n) ∷ rows) (record_is con edition (first + 1) ns)
 
 -- ---- the row of a constituency
 

@@ -6,22 +6,21 @@ ghost use Rattle.tally_statements.specs.Office.{Inserts, SetsItem};
 ghost use Rattle.tally_statements.specs.declared.table.KeyedTable.TheVariants.{Cons, Lots, Seats};
 ghost use Rattle.tally_statements.specs.declared.table.KeyedTable.TheVariants.{Totals};
 ghost use Rattle.tally_statements.specs.declared.table.KeyedTable.TheVariants as table;
-ghost use Rattle.tally_tables.specs.Cells.{con_rows, gone_rows, lot_rows, past_rows, record_rows};
+ghost use Rattle.tally_tables.specs.Cells.{con_rows, gone_rows, lot_rows, past_rows};
 ghost use Rattle.tally_entries.specs.internal.Constituencies.{Changes, ChangesSums, HasGone};
 ghost use Rattle.tally_entries.specs.internal.Constituencies.{HasLot};
 ghost use Rattle.tally_entries.specs.internal.Constituencies.{HasRecord, HasEdition, Writes};
 ghost use Rattle.tally_entries.specs.internal.Constituencies.{WritesSeats};
 ghost use Rattle.tally_entries.specs.internal.Written.{candidate_row};
 ghost use Rattle.tally_entries.specs.internal.Entries.{PutsNumbers};
-ghost use Rattle.tally_entries.specs.internal.Written.{AddsRows};
 ghost use Rattle.tally_entries.specs.internal.Sums.{MovesItem, MovesItems, MovesNumbers};
 ghost use Rattle.tally_statements.specs.internal.Inside.{InDatabase, Stays};
 
-use crate::items::{ItemTable, insert_numbers};
 use sqlite::{Alter, Error, ErrorCode, Transaction};
 use tally_returns::{Counts, Gone, Past};
 use tally_statements::{
-    delete_lot, delete_seats, insert_gone, insert_past, update_con, update_total,
+    delete_lot, delete_seats, insert_gone, insert_lots, insert_past, insert_seats, update_con,
+    update_total,
 };
 use tally_tables::{SPOILED_ITEM, Sums};
 
@@ -35,7 +34,7 @@ pub fn put_lot<S: Alter>(tx: &mut Transaction<'_, S>, con: &str, lot: &[u32]) ->
         tx.old tx.new result }
 {
     delete_lot(tx, con)?;
-    insert_numbers(tx, ItemTable::Lots, con, lot)
+    insert_lots(tx, con, lot)
 }
 
 /// Writes the seats of a constituency in place of what it had: those of each list, in the setup's
@@ -51,7 +50,7 @@ pub fn put_seats<S: Alter>(
     ensures seats { InDatabase S.Store (WritesSeats con.now seats.now) tx.old tx.new result }
 {
     delete_seats(tx, con)?;
-    insert_numbers(tx, ItemTable::Seats, con, seats)
+    insert_seats(tx, con, seats)
 }
 
 /// Writes the edition of a constituency, whether it is certified, and the note of its last
@@ -93,27 +92,6 @@ pub fn put_gone<S: Alter>(tx: &mut Transaction<'_, S>, con: &str, gone: &Gone) -
     insert_candidate(tx, con, gone)
 }
 
-/// Adds the rows of a certificate on record, each with its list, counted from 1.
-fn insert_record<S: Alter>(
-    tx: &mut Transaction<'_, S>,
-    con: &str,
-    edition: u32,
-    seats: &[u32],
-) -> Result<(), Error>
-    requires few { length seats.now ≤ most_lists }
-    ensures stays { Stays S.Store tx.old tx.new }
-    ensures added { InDatabase S.Store
-        (AddsRows table.Past (record_rows con.now (edition, seats.now)))
-        tx.old tx.new result }
-{
-    let mut list = 1u32;
-    for n in seats {
-        insert_past(tx, con, edition, list, *n)?;
-        list += 1;
-    }
-    Ok(())
-}
-
 /// Puts a certificate of a constituency on record: its edition and the seats of each list, in the
 /// setup's order.
 pub fn put_record<S: Alter>(
@@ -126,7 +104,7 @@ pub fn put_record<S: Alter>(
     ensures written { InDatabase S.Store (Writes table.Past past_rows con.now (HasRecord past.now))
         tx.old tx.new result }
 {
-    insert_record(tx, con, past.edition, past.seats.as_slice())
+    insert_past(tx, con, past.edition, past.seats.as_slice())
 }
 
 /// Sets the sum of an item of a constituency, if the database can hold it.

@@ -11,14 +11,14 @@ use std::alloc::Global;
 use tally_returns::Return;
 use tally_rules::{Code, Setup};
 use tally_statements::{KeyedTable, rows_of_key};
-use tally_tables::{Entry, entries_in};
+use tally_tables::{ReturnFound, entries_in};
 
 /// The only return among those that were read, if there is one.
-fn only_return(mut entries: Vec<Entry>) -> Option<Return>
+fn only_return(mut entries: Vec<ReturnFound>) -> Option<Return>
     ensures none { entries.items ≡ [] → result ≡ None }
     ensures one { GivesOnly entries.items result }
 {
-    let Entry { standing, .. } = entries.pop()?;
+    let ReturnFound { standing, .. } = entries.pop()?;
     Some(standing)
 }
 

@@ -1,5 +1,6 @@
 pub mod internal
 pub mod Limits
+pub mod ListSet
 pub mod Divisors
 pub mod Fraction
 pub mod Rank

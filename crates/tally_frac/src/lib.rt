@@ -6,6 +6,7 @@
 mod divisors;
 pub mod laws;
 mod limits;
+mod list_set;
 mod rank;
 mod share;
 mod threshold;
@@ -15,6 +16,7 @@ pub use limits::{
     GREATEST_DIVISOR, MOST_CANDIDATES, MOST_CONSTITUENCIES, MOST_ELECTORS, MOST_LISTS,
     MOST_PROFILES, MOST_SEATS, MOST_STATIONS, MOST_VOTES, WHOLE_BASE,
 };
+pub use list_set::ListSet;
 pub use rank::{RankKey, votes_rank_above};
 pub use share::Share;
 pub use threshold::is_at_least;

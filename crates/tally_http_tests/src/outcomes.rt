@@ -47,12 +47,13 @@ refused 19 1 of 1: 100 50 100 = 409 Conflict|63|{"group":["A","C"],"refused":19,
 refused 19 1 of 1: 50 100 100 = 409 Conflict|63|{"group":["B","C"],"refused":19,"seats":1,"word":"lot_missing"}
 refused 20 = 409 Conflict|36|{"refused":20,"word":"already_gone"}
 refused 21 = 409 Conflict|34|{"refused":21,"word":"not_holder"}
+refused 24 = 409 Conflict|37|{"refused":24,"word":"not_confirmed"}
 refused 22 = 503 Service Unavailable|22|{"word":"unavailable"}
 refused 23 = 503 Service Unavailable|22|{"word":"unavailable"}
 among ROBLE; refused 18 1: 100 100 = 409 Conflict|57|{"group":["ROBLE"],"refused":18,"word":"lot_wrong_group"}
 among sixteen-long--10 sixteen-long--11 sixteen-long--12 sixteen-long--13 sixteen-long--14 sixteen-long--15 sixteen-long--16 sixteen-long--17 sixteen-long--18 sixteen-long--19 sixteen-long--20 sixteen-long--21 sixteen-long--22 sixteen-long--23 sixteen-long--24 sixteen-long--25 sixteen-long--26 sixteen-long--27 sixteen-long--28 sixteen-long--29 sixteen-long--30 sixteen-long--31 sixteen-long--32 sixteen-long--33 sixteen-long--34 sixteen-long--35 sixteen-long--36 sixteen-long--37 sixteen-long--38 sixteen-long--39 sixteen-long--40 sixteen-long--41 sixteen-long--42 sixteen-long--43 sixteen-long--44 sixteen-long--45 sixteen-long--46 sixteen-long--47 sixteen-long--48 sixteen-long--49 sixteen-long--50 sixteen-long--51 sixteen-long--52 sixteen-long--53 sixteen-long--54 sixteen-long--55 sixteen-long--56 sixteen-long--57 sixteen-long--58 sixteen-long--59 sixteen-long--60 sixteen-long--61 sixteen-long--62 sixteen-long--63 sixteen-long--64 sixteen-long--65 sixteen-long--66 sixteen-long--67 sixteen-long--68 sixteen-long--69; refused 19 4294967295 of 1: 100 100 100 100 100 100 100 100 100 100 100 100 100 100 100 100 100 100 100 100 100 100 100 100 100 100 100 100 100 100 100 100 100 100 100 100 100 100 100 100 100 100 100 100 100 100 100 100 100 100 100 100 100 100 100 100 100 100 100 100 = 409 Conflict|1204|{"group":["sixteen-long--10","sixteen-long--11","sixteen-long--12","sixteen-long--13","sixteen-long--14","sixteen-long--15","sixteen-long--16","sixteen-long--17","sixteen-long--18","sixteen-long--19","sixteen-long--20","sixteen-long--21","sixteen-long--22","sixteen-long--23","sixteen-long--24","sixteen-long--25","sixteen-long--26","sixteen-long--27","sixteen-long--28","sixteen-long--29","sixteen-long--30","sixteen-long--31","sixteen-long--32","sixteen-long--33","sixteen-long--34","sixteen-long--35","sixteen-long--36","sixteen-long--37","sixteen-long--38","sixteen-long--39","sixteen-long--40","sixteen-long--41","sixteen-long--42","sixteen-long--43","sixteen-long--44","sixteen-long--45","sixteen-long--46","sixteen-long--47","sixteen-long--48","sixteen-long--49","sixteen-long--50","sixteen-long--51","sixteen-long--52","sixteen-long--53","sixteen-long--54","sixteen-long--55","sixteen-long--56","sixteen-long--57","sixteen-long--58","sixteen-long--59","sixteen-long--60","sixteen-long--61","sixteen-long--62","sixteen-long--63","sixteen-long--64","sixteen-long--65","sixteen-long--66","sixteen-long--67","sixteen-long--68","sixteen-long--69"],"refused":19,"seats":4294967295,"word":"lot_missing"}"#;
 
-const WITHOUT_MEMBERS: [Refusal; 17] = [
+const WITHOUT_MEMBERS: [Refusal; 18] = [
     Refusal::NoStation,
     Refusal::NoConstituency,
     Refusal::NoCandidate,
@@ -68,6 +69,7 @@ const WITHOUT_MEMBERS: [Refusal; 17] = [
     Refusal::LotNotNeeded,
     Refusal::AlreadyGone,
     Refusal::NotHolder,
+    Refusal::NotConfirmed,
     Refusal::Memory,
     Refusal::Store,
 ];

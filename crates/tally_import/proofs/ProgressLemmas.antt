@@ -11,7 +11,8 @@ use Rattle.tally_rules.specs.Code.{code_cmp}
 use Rattle.tally_returns.specs.Return.{StationReturn, Returns}
 use Rattle.tally_returns.specs.Counts.{VoteCounts}
 use Rattle.tally_returns.specs.Return.{first_return}
-use Rattle.tally_returns.specs.Lodge.{Stations, lodge, lodge_answer, after_lodge, reply_at_station}
+use Rattle.tally_rules.specs.declared.constituency.Entry.TheVariants.{Single}
+use Rattle.tally_returns.specs.Lodge.{Stations, limits_for, lodge, lodge_answer, after_lodge, reply_at_station}
 use Rattle.tally_keeper.specs.Import.{row_answer, after_row, returns_after_import, count_of, lodged_counts}
 use Rattle.tally_keeper.specs.declared.import.Row.{Row}
 use Rattle.tally_returns.specs.declared.refusal.Refusal.{Refusal}
@@ -47,10 +48,10 @@ lodge-lodged stations s station slip counts rev is = ap (after_lodge s station s
 -- what is answered at every code, by what the table holds
 pub answer-held : (lists : ℕ) (held : Table) (s : Returns) (station slip : List ℕ) (counts : VoteCounts) (found : Option StationReturn) (result : Result LodgeReply Refusal)
     → Holds held s → found ≡ table.get (pointwise nat_eq) held station
-    → result ≡ reply_at_station (record { lists = lists; electors = 1000000 }) found slip counts
+    → result ≡ reply_at_station (limits_for lists 1000000 Single) found slip counts
     → lodge_answer (every_code lists) s station slip counts ≡ result
 answer-held lists held s station slip counts found result holds is decided =
-    sym (decided ∙ ap (λ f. reply_at_station (record { lists = lists; electors = 1000000 }) f slip counts) (is ∙ holds station))
+    sym (decided ∙ ap (λ f. reply_at_station (limits_for lists 1000000 Single) f slip counts) (is ∙ holds station))
 
 -- one row more
 pub HasTaken-push : (taken : Taken) (old new : Import) (r : Row)

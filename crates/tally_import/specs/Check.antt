@@ -5,8 +5,9 @@ use Rattle.std.specs.Fmt.{decimal}
 use Rattle.std.specs.FinMap.{empty}
 use Rattle.std.specs.Io.KnownBytes.{Appends, Keeps}
 use Rattle.tally_rules.specs.Limits.{most_electors}
+use Rattle.tally_rules.specs.declared.constituency.Entry.TheVariants.{Single}
 use Rattle.tally_returns.specs.Counts.{VoteCounts}
-use Rattle.tally_returns.specs.Lodge.{Stations}
+use Rattle.tally_returns.specs.Lodge.{Stations, limits_for}
 use Rattle.tally_keeper.specs.Import.{answers, count_of, lodged_counts}
 use Rattle.tally_keeper.specs.Source.{row_limit}
 use Rattle.tally_keeper.specs.declared.import.ImportCount.{ImportCount}
@@ -24,7 +25,7 @@ use Rattle.tally_records.specs.declared.separator.Sep.{Sep}
 
 -- every code is a station, with as many electors as a station may have: 1,000,000
 abbrev pub every_code : ℕ → Stations
-every_code lists station = Some (record { lists = lists; electors = most_electors })
+every_code lists station = Some (limits_for lists most_electors Single)
 
 -- ---- the check text
 

@@ -11,7 +11,7 @@ use Rattle.tally_rules.specs.Constituency.{Constituency, ListEntry}
 use Rattle.tally_rules.specs.Limits.{IsConstituency, IsListEntry}
 use Rattle.tally_rules.specs.Text.{is_note}
 use Rattle.std.specs.Str.{is_utf8}
-use Rattle.tally_rules.specs.ListSet.{has_place}
+use Rattle.tally_frac.specs.ListSet.{has_place}
 use Rattle.tally_law.specs.LotNeed.{IsLotTaken}
 use Rattle.tally_steps.specs.Outcome.{HasSeats, IsLawfulGone, IsLawfulPast, IsLawfulView, HasLawfulLot, poll_in, rule_in}
 use Rattle.tally_steps.proofs.CertificationLemmas.{group-within}

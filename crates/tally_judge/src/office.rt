@@ -22,7 +22,7 @@ use std::collections::BTreeMap;
 use tally_ledger::Ledger;
 use tally_machine::laws;
 use tally_rules::{Code, Setup};
-use tally_tables::{ConTables, Entry, Statuses, entries_in};
+use tally_tables::{ConTables, ReturnFound, Statuses, entries_in};
 
 /// The rows of all tables but `setup`, without their rowids, those of each table in the order of
 /// its key.
@@ -91,7 +91,7 @@ fn lawful_entries(
     setup: &Setup,
     returns: &[Row],
     counts: &[Row],
-) -> Result<Option<Vec<Entry>>, AllocError>
+) -> Result<Option<Vec<ReturnFound>>, AllocError>
     requires { IsSetup setup.now }
     ensures read { IfOk result (λ found. IfSome found (λ entries.
         AreLawfulEntries setup.now returns.now counts.now entries.items)) }
@@ -134,7 +134,7 @@ fn accept_cons(
 }
 
 /// A ledger with these returns.
-fn ledger_of(alloc: Global, setup: Setup, entries: Vec<Entry>) -> Result<Ledger, AllocError>
+fn ledger_of(alloc: Global, setup: Setup, entries: Vec<ReturnFound>) -> Result<Ledger, AllocError>
     requires rise { rises entries.items ≡ true }
     requires lawful { All (IsLawfulEntry setup) entries.items }
     ensures { IfOk result (λ ledger.
@@ -147,7 +147,7 @@ fn ledger_of(alloc: Global, setup: Setup, entries: Vec<Entry>) -> Result<Ledger,
     Ok(ledger)
 }
 
-fn put_entry(ledger: &mut Ledger, entry: Entry) -> Result<(), AllocError>
+fn put_entry(ledger: &mut Ledger, entry: ReturnFound) -> Result<(), AllocError>
     requires { IsLawfulEntry ledger.now.setup entry }
     ensures { OnOk result
         (ledger.new ≡ record ledger.old { returns = insert ledger.old.returns entry.0 entry.1 }) }

@@ -7,10 +7,10 @@ ghost use Rattle.tally_returns.specs.Lawful.{IsLawful};
 
 use tally_returns::Return;
 use tally_rules::{Constituency, Setup, Station};
-use tally_tables::Entry;
+use tally_tables::ReturnFound;
 
 /// Whether the code of each station is below the next.
-pub(crate) fn stations_rise(entries: &[Entry]) -> bool
+pub(crate) fn stations_rise(entries: &[ReturnFound]) -> bool
     ensures { result ≡ rises entries.now }
 {
     for i in 1..entries.len() {
@@ -21,14 +21,14 @@ pub(crate) fn stations_rise(entries: &[Entry]) -> bool
     true
 }
 
-fn is_below(one: &Entry, other: &Entry) -> bool
+fn is_below(one: &ReturnFound, other: &ReturnFound) -> bool
     ensures { result ≡ is_below one.now other.now }
 {
     one.station.as_bytes().cmp(other.station.as_bytes()).is_lt()
 }
 
 /// Whether each station is one of the setup, and each return is lawful there.
-pub(crate) fn are_lawful(setup: &Setup, entries: &[Entry]) -> bool
+pub(crate) fn are_lawful(setup: &Setup, entries: &[ReturnFound]) -> bool
     ensures lawful { IsTrue result → All (IsLawfulEntry setup.now) entries.now }
     ensures otherwise { All (IsLawfulEntry setup.now) entries.now → IsTrue result }
 {
@@ -40,7 +40,7 @@ pub(crate) fn are_lawful(setup: &Setup, entries: &[Entry]) -> bool
     true
 }
 
-fn is_lawful(setup: &Setup, entry: &Entry) -> bool
+fn is_lawful(setup: &Setup, entry: &ReturnFound) -> bool
     ensures lawful { IsTrue result → IsLawfulEntry setup.now entry.now }
     ensures otherwise { IsLawfulEntry setup.now entry.now → IsTrue result }
 {

@@ -1,7 +1,7 @@
 -- What is held stays held, whatever a command changes.
 use Rattle.std.proofs.Common.{◌≡◌, ◌≢◌, ◌⊎◌, ◌∙◌, ◌+◌, ◌++◌, ◌∷◌, ℕ, List, [], Bool, true, false, cond, map, Option, Some, None, Result, Ok, Err, refl, sym, ap, subst, inl, inr}
-use Rattle.std.specs.Prelude.{All, is_some, not, nat_eq, string_bytes, unwrap_or, if◌then◌else◌, ◌&&◌}
-use Rattle.std.specs.Cmp.Lexicographic.{nat_list_cmp_total, pointwise}
+use Rattle.std.specs.Prelude.{All, is_some, not, string_bytes, unwrap_or, if◌then◌else◌}
+use Rattle.std.specs.Cmp.Lexicographic.{nat_list_cmp_total}
 use Rattle.std.specs.FinMap as fin
 use Rattle.std.specs.Ordering.{eq_by_cmp}
 use Rattle.std.proofs.lemmas.Bool.{not-true}
@@ -14,12 +14,12 @@ use Rattle.tally_rules.specs.declared.constituency.Station.{Station}
 use Rattle.tally_steps.specs.Certification.{Certifies, Draws, vacate_result, reopen_result}
 use Rattle.tally_returns.specs.Checks.{check, first_refusal, refused_or}
 use Rattle.tally_steps.specs.Step.{ConChange, Decides, IsView, after_change, certified_with, con_state_after, gone_for_good, lot_set, no_change, open_again, con_answer, reply_seen, state_after, after_put, after_return, con_of_station, change_at_station, change_in_state, is_certified, with_return, without_lot}
-use Rattle.tally_returns.specs.Counts.{VoteCounts, same_counts}
+use Rattle.tally_returns.specs.Counts.{VoteCounts}
 use Rattle.tally_returns.specs.Decide.{return_change, limits_of, lodge_change, move_change, put_next}
 use Rattle.tally_returns.specs.GoneCandidate.{GoneCandidate}
 use Rattle.tally_steps.specs.LawfulState.{IsLawfulState}
-use Rattle.tally_returns.specs.Lodge.{StationLimits, reply_after_checks, after_lodge, counts_checks, lodge, lodge_answer}
-use Rattle.tally_returns.specs.Moves.{close_checks, closed_return, correct_checks, corrected_return, counts_checks_at, may_close, may_correct, may_query, move_checks, queried_return, query_checks}
+use Rattle.tally_returns.specs.Lodge.{StationLimits, reply_after_checks, after_lodge, counts_checks, is_return_of, lodge, lodge_answer}
+use Rattle.tally_returns.specs.Moves.{close_checks, closed_return, confirm_checks, correct_checks, corrected_return, counts_checks_at, entry_checks, may_close, may_correct, may_query, move_checks, queried_return, query_checks, same_checks}
 use Rattle.tally_returns.specs.Named.{BringsCode, con_named, station_named}
 use Rattle.tally_steps.specs.Outcome.{HasSeats}
 use Rattle.tally_returns.specs.PastSeats.{PastSeats}
@@ -27,7 +27,7 @@ use Rattle.tally_returns.specs.Return.{StationReturn, Returns}
 use Rattle.tally_returns.specs.State.{State, ConState, con_state, opening, opening_con, stations_of}
 use Rattle.tally_returns.specs.View.{View, view_of, view_with}
 use Rattle.tally_returns.specs.declared.ask.Ask.{Ask}
-use Rattle.tally_returns.specs.declared.ask.Ask.TheVariants.{Lodge, Query, Correct, Close, ShowReturn, Draw, Certify, Reopen, Vacate, ShowCon, ShowProgress}
+use Rattle.tally_returns.specs.declared.ask.Ask.TheVariants.{Lodge, Query, Correct, Close, Confirm, ShowReturn, Draw, Certify, Reopen, Vacate, ShowCon, ShowProgress}
 use Rattle.tally_returns.specs.declared.change.Change.{Change}
 use Rattle.tally_returns.specs.declared.change.Change.TheVariants.{PutReturn, Same, SetCertified, SetGone, SetLot, SetReopened}
 use Rattle.tally_returns.specs.declared.refusal.Refusal.{Refusal}
@@ -40,7 +40,7 @@ use Rattle.tally_returns.specs.declared.reply.Reply.TheVariants.{Con, Edition, V
 use Rattle.tally_returns.proofs.ClosedLemmas.{IsSameAt, apart-untied, closed_now, constituency_with-code, get-kept, get-put, put-elsewhere, same-tied, station-elsewhere, station_with-con, tied-same, view_with-same}
 use Rattle.tally_steps.proofs.ConStateLemmas.{con_state-with_con}
 use Rattle.tally_steps.proofs.ConStepLemmas.{con-step-lawful}
-use Rattle.tally_returns.proofs.DecideLemmas.{passed-first, passed-rest}
+use Rattle.tally_returns.proofs.DecideLemmas.{first_refusal-append_first, passed-first, passed-rest}
 use Rattle.tally_steps.proofs.DecisionLemmas.{certified-found, con_of-found, given-by}
 use Rattle.tally_steps.proofs.LawfulViewLemmas.{certified-seats, drawn-open}
 use Rattle.tally_steps.proofs.LifeLemmas.{after_put-returns}
@@ -121,7 +121,7 @@ lodge-open limits found slip counts r is = go (first_refusal (counts_checks limi
     go : (refused : Option Refusal) (f : Option StationReturn) → lodge_change slip counts (refused_or refused (reply_after_checks f slip counts)) ≡ Ok (PutReturn r) → closed_now f ≡ false
     go (Some e) f ok = cc
     go None None ok = refl
-    go None (Some standing) ok = absurd (again (pointwise nat_eq standing.slip slip && same_counts standing.counts counts) standing.rev (Differs standing.rev) ok)
+    go None (Some standing) ok = absurd (again (is_return_of slip counts standing) standing.rev (Differs standing.rev) ok)
 
 -- where a return is put, its constituency is not certified, or the one before was not closed
 put-open : (limits : StationLimits) (certified : Bool) (found : Option StationReturn) (ask : Ask) (r : StationReturn)
@@ -133,7 +133,14 @@ put-open limits certified found (Query code rev note) r is =
 put-open limits certified found (Correct code rev slip counts) r is =
     inl (move-open certified found rev may_correct (correct_checks (Some limits) certified found rev counts) (corrected_return slip counts) r
     (append-rest (counts_checks_at (Some limits) counts) (move_checks certified found rev may_correct)) is)
-put-open limits certified found (Close code rev) r is = inl (move-open certified found rev may_close (close_checks (Some limits) certified found rev) closed_return r (λ none. none) is)
+put-open limits certified found (Close code rev) r is =
+    inl (move-open certified found rev may_close (close_checks (Some limits) certified found rev) closed_return r
+    (first_refusal-append_first (move_checks certified found rev may_close) (entry_checks limits.entry)) is)
+put-open limits certified found (Confirm code rev slip counts) r is =
+    let moves = move_checks certified found rev may_close in
+    let more = same_checks found slip counts in
+    inl (move-open certified found rev may_close (confirm_checks (Some limits) certified found rev slip counts) closed_return r
+    (λ none. first_refusal-append_first moves more (append-rest (counts_checks_at (Some limits) counts) (moves ++ more) none)) is)
 put-open limits certified found (ShowReturn code) r is = shown (first_refusal (check (is_some found) NoReturn ∷ [])) is
   where
     shown : (refused : Option Refusal) → refused_or refused (Ok Same) ≡ Ok (PutReturn r) → (certified ≡ false) ⊎ (closed_now found ≡ false)
@@ -327,6 +334,7 @@ change-right k con (Lodge station slip counts) decided is decides = absurd decid
 change-right k con (Query station rev note) decided is decides = absurd decides
 change-right k con (Correct station rev slip counts) decided is decides = absurd decides
 change-right k con (Close station rev) decided is decides = absurd decides
+change-right k con (Confirm station rev slip counts) decided is decides = absurd decides
 change-right k con (ShowReturn station) decided is decides = absurd decides
 change-right k con ShowProgress decided is decides = absurd decides
 

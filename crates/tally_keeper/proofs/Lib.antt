@@ -12,3 +12,4 @@ pub mod StepLemmas
 pub mod StoreLemmas
 pub mod TakenLemmas
 pub mod WithoutLemmas
+pub mod EnteredTwiceLemmas

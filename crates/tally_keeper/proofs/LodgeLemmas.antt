@@ -1,11 +1,10 @@
 -- What a Lodge that was answered says.
 use Rattle.std.proofs.Common.{◌≡◌, List, ℕ, Bool, true, false, Option, Some, None, Result, Ok, Err, refl}
-use Rattle.std.specs.Prelude.{◌&&◌, nat_eq, if◌then◌else◌}
-use Rattle.std.specs.Cmp.Lexicographic.{pointwise}
+use Rattle.std.specs.Prelude.{if◌then◌else◌}
 use Rattle.std.specs.FinMap.{get}
 use Rattle.tally_returns.specs.Checks.{first_refusal, refused_or}
-use Rattle.tally_returns.specs.Counts.{VoteCounts, same_counts}
-use Rattle.tally_returns.specs.Lodge.{StationLimits, Stations, counts_checks, reply_at_code, lodge_answer}
+use Rattle.tally_returns.specs.Counts.{VoteCounts}
+use Rattle.tally_returns.specs.Lodge.{StationLimits, Stations, counts_checks, is_return_of, reply_at_code, lodge_answer}
 use Rattle.tally_returns.specs.Return.{StationReturn, Returns}
 use Rattle.tally_returns.specs.declared.refusal.Refusal.{Refusal}
 use Rattle.tally_returns.specs.declared.refusal.Refusal.TheVariants.{Differs}
@@ -22,10 +21,10 @@ lodged-none stations m station slip counts rev is = go (stations station) (get m
     again false at e ok = cc
 
     standing-lodged : {X : Type 0} (refused : Option Refusal) (standing : StationReturn)
-        → refused_or refused (if pointwise nat_eq standing.slip slip && same_counts standing.counts counts then Ok (Same standing.rev) else Err (Differs standing.rev)) ≡ Ok (Lodged rev)
+        → refused_or refused (if is_return_of slip counts standing then Ok (Same standing.rev) else Err (Differs standing.rev)) ≡ Ok (Lodged rev)
         → X
     standing-lodged (Some e) standing ok = cc
-    standing-lodged None standing ok = again (pointwise nat_eq standing.slip slip && same_counts standing.counts counts) standing.rev (Differs standing.rev) ok
+    standing-lodged None standing ok = again (is_return_of slip counts standing) standing.rev (Differs standing.rev) ok
 
     go : (limits : Option StationLimits) (found : Option StationReturn) → get m station ≡ found → reply_at_code limits found slip counts ≡ Ok (Lodged rev) → get m station ≡ None
     go None found at ok = cc

@@ -1,7 +1,6 @@
 -- What is decided of a command on a return, as a keeper in memory looks it up.
 use Rattle.std.proofs.Common.{◌≡◌, ◌≢◌, ◌⊎◌, ◌∷◌, ◌∙◌, ℕ, List, [], Bool, true, false, Option, Some, None, Result, Ok, Err, refl, sym, ap, subst, inl, inr, arith, Bor, Global, String}
-use Rattle.std.specs.Prelude.{◌&&◌, nat_eq, nat_le, option_map, if◌then◌else◌}
-use Rattle.std.specs.Cmp.Lexicographic.{pointwise}
+use Rattle.std.specs.Prelude.{nat_le, option_map, if◌then◌else◌}
 use Rattle.std.specs.Option.{ForSome, option_copied}
 use Rattle.std.specs.FinMap as fin
 use Rattle.std.proofs.lemmas.Bool.{leb-true}
@@ -10,11 +9,11 @@ use Rattle.tally_rules.specs.Constituency.{Constituency}
 use Rattle.tally_rules.specs.Setup.{constituency_with, station_with}
 use Rattle.tally_rules.specs.declared.constituency.Station.{Station}
 use Rattle.tally_returns.specs.Checks.{check, first_refusal, refused_or}
-use Rattle.tally_returns.specs.Counts.{VoteCounts, all_votes, are_counts, same_counts}
+use Rattle.tally_returns.specs.Counts.{VoteCounts, all_votes, are_counts}
 use Rattle.tally_returns.specs.Decide.{IsUnlessMemory, return_change, limits_of}
 use Rattle.tally_returns.specs.Lawful.{IsLawful}
 use Rattle.tally_steps.specs.LawfulState.{IsLawfulState}
-use Rattle.tally_returns.specs.Lodge.{StationLimits, Stations, reply_after_checks, counts_checks, reply_at_code, lodge_answer}
+use Rattle.tally_returns.specs.Lodge.{StationLimits, Stations, reply_after_checks, counts_checks, is_return_of, reply_at_code, lodge_answer}
 use Rattle.tally_returns.specs.Named.{station_named}
 use Rattle.tally_steps.specs.Decisions.{answer_to_change}
 use Rattle.tally_steps.specs.Step.{Answer, move_reply, state_after, after_put, con_of_station, change_in_state, is_certified, with_return, without_lot}
@@ -22,11 +21,11 @@ use Rattle.tally_returns.specs.Return.{StationReturn, Returns, first_return}
 use Rattle.tally_returns.specs.State.{State, con_state, stations_of}
 use Rattle.tally_returns.specs.View.{View}
 use Rattle.tally_returns.specs.declared.ask.Ask.{Ask}
-use Rattle.tally_returns.specs.declared.ask.Ask.TheVariants.{Lodge, Query, Correct, Close, ShowReturn, Draw, Certify, Reopen, Vacate, ShowCon, ShowProgress}
+use Rattle.tally_returns.specs.declared.ask.Ask.TheVariants.{Lodge, Query, Correct, Close, Confirm, ShowReturn, Draw, Certify, Reopen, Vacate, ShowCon, ShowProgress}
 use Rattle.tally_returns.specs.declared.change.Change.{Change}
 use Rattle.tally_returns.specs.declared.change.Change.TheVariants as change
 use Rattle.tally_returns.specs.declared.refusal.Refusal.{Refusal}
-use Rattle.tally_returns.specs.declared.refusal.Refusal.TheVariants.{NoStation, BadCounts, BadNote, TooManyVotes, Differs, NoReturn, Certified, Stale, Exhausted, WrongStatus, Memory, Store, NoConstituency, NoCandidate, NotCertified, NotAllClosed, NoEligible, LotStands, LotNotNeeded, LotWrongGroup, LotMissing, AlreadyGone, NotHolder}
+use Rattle.tally_returns.specs.declared.refusal.Refusal.TheVariants.{NoStation, BadCounts, BadNote, TooManyVotes, Differs, NoReturn, Certified, Stale, Exhausted, WrongStatus, Memory, Store, NoConstituency, NoCandidate, NotCertified, NotAllClosed, NoEligible, LotStands, LotNotNeeded, LotWrongGroup, LotMissing, AlreadyGone, NotHolder, NotConfirmed}
 use Rattle.tally_returns.specs.declared.reply.LodgeReply.TheVariants as reply
 use Rattle.tally_returns.specs.declared.reply.Reply.{Reply}
 use Rattle.tally_returns.specs.declared.reply.Reply.TheVariants.{Moved}
@@ -88,6 +87,7 @@ memory-or (LotWrongGroup group) = inr (λ (same : LotWrongGroup group ≡ Memory
 memory-or (LotMissing group seats) = inr (λ (same : LotMissing group seats ≡ Memory). cc)
 memory-or AlreadyGone = inr (λ (same : AlreadyGone ≡ Memory). cc)
 memory-or NotHolder = inr (λ (same : NotHolder ≡ Memory). cc)
+memory-or NotConfirmed = inr (λ (same : NotConfirmed ≡ Memory). cc)
 memory-or Memory = inl refl
 memory-or Store = inr (λ (same : Store ≡ Memory). cc)
 
@@ -158,6 +158,7 @@ reported-put ask found (change.PutReturn r) a moves is never = never r refl
 reported-put (Query code rev note) found d a moves is never = cc
 reported-put (Correct code rev slip counts) found d a moves is never = cc
 reported-put (Close code rev) found d a moves is never = cc
+reported-put (Confirm code rev slip counts) found d a moves is never = cc
 reported-put ask found d a moves is never = cc
 
 pub moves-put : (k : Kept) (ask : Ask) (station : List ℕ) (con : Constituency) (place : Station) (certified : Bool) (found : Option StationReturn) (other : Change)
@@ -196,6 +197,7 @@ query-put k (Query code rev note) station con place named is query =
 query-put k (Lodge code slip counts) station con place named is query = cc
 query-put k (Correct code rev slip counts) station con place named is query = cc
 query-put k (Close code rev) station con place named is query = cc
+query-put k (Confirm code rev slip counts) station con place named is query = cc
 query-put k (ShowReturn code) station con place named is query = cc
 query-put k (Draw code edition order) station con place named is query = cc
 query-put k (Certify code edition) station con place named is query = cc
@@ -247,7 +249,7 @@ first-lawful stations m station slip counts rev code is = go (stations station) 
     at : (limits : StationLimits) (refused : Option Refusal) (found : Option StationReturn) → first_refusal (counts_checks limits counts) ≡ refused
         → refused_or refused (reply_after_checks found slip counts) ≡ Ok (reply.Lodged rev) → IsLawful limits (first_return slip counts)
     at limits (Some e) found none ok = cc
-    at limits None (Some standing) none ok = absurd (again (pointwise nat_eq standing.slip slip && same_counts standing.counts counts) standing.rev (Differs standing.rev) ok)
+    at limits None (Some standing) none ok = absurd (again (is_return_of slip counts standing) standing.rev (Differs standing.rev) ok)
     at limits None None none ok =
         let votes = check (nat_le (all_votes counts) limits.electors) TooManyVotes ∷ [] in record {
           first = omega arith;

@@ -9,3 +9,4 @@ pub mod Shown
 pub mod Source
 pub mod Stays
 pub mod StaysKeeper
+pub mod EnteredTwice

@@ -1,7 +1,7 @@
 -- The example that the law prints (LOREG article 163.1 c)): 480,000 valid votes for six lists, and
 -- eight seats. What the definitions give for it, for the same votes by the other methods, and for
--- votes by which the methods differ. No two quotients are alike in them, so they show nothing of
--- ties and lots.
+-- votes by which the methods differ. No pair that wins a seat ties with one that does not, so they
+-- show nothing of ties and lots.
 use Rattle.std.specs.Prelude.{List, [], ◌∷◌, ℕ}
 use Rattle.tally_rules.specs.declared.profile.Base.TheVariants.{Valid}
 use Rattle.tally_rules.specs.declared.profile.LotRule.TheVariants.{Fixed}

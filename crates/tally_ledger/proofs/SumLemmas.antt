@@ -16,7 +16,7 @@ use Rattle.tally_returns.specs.Return.{StationReturn, Returns}
 use Rattle.tally_returns.specs.State.{ConState}
 use Rattle.tally_returns.specs.View.{View, view_with, counts_if_closed, closed_counts, votes_at, votes_of_lists}
 use Rattle.tally_returns.specs.declared.returns.Status.{Status}
-use Rattle.tally_ledger.specs.internal.MovedSum.{moved_sum, CanMove}
+use Rattle.tally_ledger.specs.MovedSum.{moved_sum, CanMove}
 use Rattle.tally_ledger.specs.internal.Sums.{CanMoveOne, CanMoveCounts, CanCount, moved_count, with_status, with_counts, with_return_counted}
 use Rattle.tally_ledger.proofs.SetupLemmas.{Has, Apart, Differ, apart-has, bytes_flipped, code_of_station}
 

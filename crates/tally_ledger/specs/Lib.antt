@@ -1,3 +1,4 @@
 pub mod internal
 pub mod MapOf
 pub mod Kept
+pub mod MovedSum

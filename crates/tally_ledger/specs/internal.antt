@@ -3,4 +3,3 @@
 pub mod KeptCode
 pub mod Rows
 pub mod Sums
-pub mod MovedSum

@@ -1,7 +1,7 @@
 //! Sums of closed votes, and numbers of returns in each status.
 
 ghost use Rattle.std.specs.Prelude.{◌≡◌, ◌≤◌, length};
-ghost use Rattle.tally_ledger.specs.internal.MovedSum.{CanMove, moved_sum};
+ghost use Rattle.tally_ledger.specs.MovedSum.{CanMove, moved_sum};
 ghost use Rattle.tally_ledger.specs.internal.Sums.{CanCount, CanCountOne, CanMoveCounts};
 ghost use Rattle.tally_ledger.specs.internal.Sums.{CanMoveEach, moved_sums, with_counts};
 ghost use Rattle.tally_ledger.specs.internal.Sums.{with_return_counted, with_status};

@@ -118,6 +118,10 @@ The keys of a profile:
   lot        fixed, or alternating: the order of a lot is turned round for
              every second seat. It may be left out
 
+A key of a constituency that may be left out:
+  entry      single, or double: a return is closed by a second entry of the
+             same slip and counts, and by nothing else
+
 What comes out:
   constituencies N   how many constituencies the office has";
 
@@ -324,12 +328,12 @@ pub const SERVE_LONG: &str = "\
 Answer requests over HTTP, at 127.0.0.1.
 
 One connection after the other is served, each with one request and its answer,
-until N connections have been served. Requests lodge, query, correct and close
-returns, draw lots, certify and reopen constituencies, record who leaves a seat,
-import files, and show all this. What was answered as done is in the database,
-so Ctrl-C is safe at any time. Until the server ends, no other command can open
-the database. A connection that failed counts, and so does each of the two or
-three that a browser takes for one table.
+until N connections have been served. Requests lodge, query, correct, close and
+confirm returns, draw lots, certify and reopen constituencies, record who leaves
+a seat, import files, and show all this. What was answered as done is in the
+database, so Ctrl-C is safe at any time. Until the server ends, no other command
+can open the database. A connection that failed counts, and so does each of the
+two or three that a browser takes for one table.
 
 The server asks nobody who they are. Every program on this machine can send it
 requests, and so can a web page that is open in a browser here: it could lodge,
@@ -349,6 +353,7 @@ The routes, with S the code of a station, C that of a constituency:
   POST /station/S/query     {\"rev\":1,\"note\":\"the sum is wrong\"}
   POST /station/S/correct   as lodge, and \"rev\":2
   POST /station/S/close     {\"rev\":3}
+  POST /station/S/confirm   as correct: a second entry, which closes the return
   POST /con/C/draw          {\"edition\":1,\"order\":[\"B\",\"A\"]}
   POST /con/C/certify       {\"edition\":2}
   POST /con/C/reopen        {\"edition\":3,\"note\":\"a recount\"}

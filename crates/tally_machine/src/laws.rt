@@ -5,6 +5,7 @@ ghost use Rattle.tally_law.specs.LawStatements.{EachOrderGivesAChoice, GroupsAre
 ghost use Rattle.tally_law.specs.LawStatements.{NoLotIsNeededWhereVotesDecide};
 ghost use Rattle.tally_law.specs.LawStatements.{VotesDecideOrALotIsNeeded};
 ghost use Rattle.tally_steps.specs.Decisions as decision;
+ghost use Rattle.tally_steps.specs.EnteredTwice as entries;
 ghost use Rattle.tally_steps.specs.LawStatements as law;
 ghost use Rattle.tally_steps.specs.Records as records;
 
@@ -143,6 +144,17 @@ pub fn records_are_of_allotments()
     // Called for what its contract says: the laws of allotments.
     laws_of_allotments();
 }
+
+/// Where the returns of a constituency are entered twice, each closed one was, in every state that
+/// a run reaches from the opening one: a request brought it, and a later one brought the same slip
+/// and counts, with no other act on the station between them or after. So in a certified
+/// constituency every vote that counts was typed twice, and the same. One request alone enters no
+/// return twice.
+pub fn what_counts_was_entered_twice()
+    ensures closed { entries.ClosedReturnsWereEnteredTwice }
+    ensures certified { entries.CertifiedReturnsWereEnteredTwice }
+    ensures one { entries.OneRequestEntersNothingTwice }
+{}
 
 /// The laws of allotments that the laws here rest on.
 fn laws_of_allotments()

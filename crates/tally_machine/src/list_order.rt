@@ -2,7 +2,7 @@
 
 ghost use Rattle.std.specs.Prelude.{◌≡◌, ◌≤◌, ℕ, false, IfOk, option_map, slice_index_or};
 ghost use Rattle.std.specs.List.{list_all};
-ghost use Rattle.tally_rules.specs.ListSet.{has_place};
+ghost use Rattle.tally_frac.specs.ListSet.{has_place};
 ghost use Rattle.tally_steps.specs.Certification.{are_distinct, list_found, list_places};
 ghost use Rattle.tally_steps.specs.Certification.{marked_places_from, names_group};
 ghost use Rattle.tally_steps.specs.Holders.{is_among};

@@ -2,7 +2,7 @@
 //! not passed on by `?`, since the `?` of an enum that holds a text (`CreateFault`) has no proof
 //! yet.
 
-ghost use Rattle.std.specs.Prelude.{◌≡◌, ◌⊎◌, false, IfErr, IfOk, IsTrue, Ok, OnOk};
+ghost use Rattle.std.specs.Prelude.{◌≡◌, ◌↔◌, ◌⊎◌, false, IfErr, IfOk, IsTrue, Ok, OnOk};
 ghost use Rattle.sqlite.specs.Held.{state};
 ghost use Rattle.sqlite_schema.specs.declared.schema.Schema.{Schema};
 ghost use Rattle.tally_rules.specs.Limits.{IsSetup};
@@ -14,7 +14,7 @@ ghost use Rattle.tally_opening.specs.internal.Ending.{IsSettled};
 ghost use Rattle.tally_opening.specs.internal.Making.{IsFaultOfEachSetup};
 
 use crate::making::make_in;
-use sqlite::{Alter, Connection, Error};
+use sqlite::{Alter, Connection, Error, ErrorCode};
 use sqlite_schema::schema::Schema;
 use std::alloc::Global;
 use std::str;
@@ -24,7 +24,9 @@ use tally_schema::takes_office_name;
 use tally_statements::is_memory;
 
 fn create_fault_of(error: &Error) -> CreateFault
-    ensures { (result ≡ CreateFault.Memory) ⊎ (result ≡ CreateFault.Store) }
+    ensures own { (result ≡ CreateFault.Memory) ⊎ (result ≡ CreateFault.Store) }
+    ensures memory { result ≡ CreateFault.Memory ↔
+        error.now ≡ Error.SqliteFailure ErrorCode.OutOfMemory }
 {
     if is_memory(error) {
         CreateFault::Memory

@@ -1,6 +1,6 @@
 //! Opening a database.
 
-ghost use Rattle.std.specs.Prelude.{◌≡◌, ◌⊎◌, false, IfErr, IfOk, IsTrue, Ok, option_map};
+ghost use Rattle.std.specs.Prelude.{◌≡◌, ◌↔◌, ◌⊎◌, false, IfErr, IfOk, IsTrue, Ok, option_map};
 ghost use Rattle.sqlite.specs.State.{KeepsCounts};
 ghost use Rattle.sqlite.specs.Held.{state};
 ghost use Rattle.tally_rules.specs.Reading.{setup_of_text};
@@ -18,7 +18,7 @@ ghost use Rattle.tally_opening.specs.internal.Opening.{setup_shown, shown_of_row
 
 use crate::judging::judge_office;
 use crate::making::VERSION;
-use sqlite::{Alter, Connection, Error, Row, Transaction};
+use sqlite::{Alter, Connection, Error, ErrorCode, Row, Transaction};
 use std::alloc::Global;
 use std::collections::BTreeMap;
 use tally_faults::OpenFault;
@@ -117,7 +117,9 @@ pub(crate) fn judge_stored<S: Alter>(
 }
 
 pub(crate) fn open_fault_of(error: &Error) -> OpenFault
-    ensures { (result ≡ OpenFault.Memory) ⊎ (result ≡ OpenFault.Store) }
+    ensures own { (result ≡ OpenFault.Memory) ⊎ (result ≡ OpenFault.Store) }
+    ensures memory { result ≡ OpenFault.Memory ↔
+        error.now ≡ Error.SqliteFailure ErrorCode.OutOfMemory }
 {
     if is_memory(error) {
         OpenFault::Memory

@@ -10,7 +10,7 @@ use Rattle.tally_law.specs.LawStatements.{GroupsAreOfOneNumberOfVotes, NoLotIsNe
 use Rattle.tally_allot.specs.declared.award.Award.{Award}
 use Rattle.tally_allot.specs.declared.fault.AllotFault.{AllotFault}
 use Rattle.tally_allot.specs.declared.fault.AllotFault.TheVariants.{NoEligible, LotMissing, WrongLot, Memory}
-use Rattle.tally_rules.specs.ListSet.{has_place}
+use Rattle.tally_frac.specs.ListSet.{has_place}
 use Rattle.tally_law.specs.Lot.{IsOrderOf}
 use Rattle.tally_law.specs.LotNeed.{IsLotNeeded, IsLotTaken, IsLotWrong, IsNeed}
 use Rattle.tally_law.specs.Poll.{IsEligible}

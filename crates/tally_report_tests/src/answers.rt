@@ -24,10 +24,12 @@ fn lot_text(alloc: Global, group: &ListSet, seats: u32) -> Result<String, AllocE
 }
 
 fn fault_text(alloc: Global, fault: AllotFault) -> Result<String, AllocError> {
-    match fault {
-        AllotFault::LotMissing { group, seats } => lot_text(alloc, &group, seats),
-        other => other.to_string(alloc),
+    let mut text = fault.to_string(alloc)?;
+    if let AllotFault::LotMissing { group, seats } = fault {
+        text.push_str(": ")?;
+        text.push_str(lot_text(alloc, &group, seats)?.as_str())?;
     }
+    Ok(text)
 }
 
 fn seats_text(alloc: Global, poll: &Poll) -> Result<String, AllocError>

@@ -16,6 +16,7 @@ code = "c1"
 name = "Twin Town"
 seats = 7
 profile = "d3"
+entry = "double"
 [[constituency.list]]
 code = "A"
 name = "Alpha"
@@ -33,6 +34,7 @@ electors = 400
 const TWIN_TOWN: &str =
     "Constituency { code: \"c1\", name: \"Twin Town\", seats: 7, profile_code: \"d3\", \
     profile: Profile { method: DHondt, threshold: 300, base: Lists, lot: Alternating }, \
+    entry: Double, \
     lists: [ListEntry { code: \"A\", name: \"Alpha\", candidates: [\"Ana\", \"Abel\"] }, \
     ListEntry { code: \"B\", name: \"Beta\", candidates: [\"Bea\"] }], \
     stations: [Station { code: \"s1\", electors: 400 }] }";

@@ -200,11 +200,11 @@ QuotaRow { list: 60, whole: 5, rem: 0, extra: false }]";
 // between three, all of which a lot has to name; the one seat between two of 50 votes.
 const LOTS: &str = "\
 need dhondt 0 3 0: 100 100 = lot of 1 2 for 1
-allot dhondt 0 3 0: 100 100 = lot of 1 2 for 1
+allot dhondt 0 3 0: 100 100 = a lot is needed and none is given: lot of 1 2 for 1
 allot dhondt 0 3 0: 100 100: 2 1 = [1, 2]
 allot dhondt 0 3 0: 100 100: 1 = the lot is not the one to be taken
 allot dhondt 0 4 0: 100 100: 2 1 = the lot is not the one to be taken
-awards dhondt 0 3 0: 100 100 = lot of 1 2 for 1
+awards dhondt 0 3 0: 100 100 = a lot is needed and none is given: lot of 1 2 for 1
 awards dhondt 0 3 0: 100 100: 1 = the lot is not the one to be taken
 awards dhondt 0 3 0: 100 100: 2 1 = \
 [Award { list: 2, k: 1, num: 100, den: 1 }, Award { list: 1, k: 1, num: 100, den: 1 }, \
@@ -216,28 +216,53 @@ right 1 1 2: dhondt 0 4 0: 100 100 100: 3 1 2
 wrong 2 1 1: dhondt 0 4 0: 100 100 100: 3 1 2
 wrong 2 1 1: dhondt 0 4 0: 100 100 100
 need hare 0 1 0: 50 50 = lot of 1 2 for 1
-allot hare 0 1 0: 50 50 = lot of 1 2 for 1
-quotas hare 0 1 0: 50 50 = lot of 1 2 for 1
+allot hare 0 1 0: 50 50 = a lot is needed and none is given: lot of 1 2 for 1
+quotas hare 0 1 0: 50 50 = a lot is needed and none is given: lot of 1 2 for 1
 quotas hare 0 1 0: 50 50: 1 = the lot is not the one to be taken
 quotas hare 0 1 0: 50 50: 2 1 = \
 [QuotaRow { list: 1, whole: 0, rem: 50, extra: false }, QuotaRow { list: 2, whole: 0, rem: 50, extra: true }]";
 
 // The order of the lot is turned round for the second seat of each list, and not for the first.
-// Hare's rule reads it as fixed.
+// Hare's rule reads it as fixed. Of 11 seats of two equal lists the last is a sixth seat, of 13 a
+// seventh. Of 60 equal lists each has 8 of 500 seats, and 20 seats are left for a ninth; of 55 each
+// has 9, and 5 are left for a tenth.
 const ALTERNATING: &str = "\
-allot dhondt/alternating 0 3 0: 100 100 = lot of 1 2 for 1
+allot dhondt/alternating 0 3 0: 100 100 = a lot is needed and none is given: lot of 1 2 for 1
 allot dhondt/alternating 0 3 0: 100 100: 2 1 = [2, 1]
 right 2 1: dhondt/alternating 0 3 0: 100 100: 2 1
 wrong 1 2: dhondt/alternating 0 3 0: 100 100: 2 1
 awards dhondt/alternating 0 3 0: 100 100: 2 1 = \
 [Award { list: 2, k: 1, num: 100, den: 1 }, Award { list: 1, k: 1, num: 100, den: 1 }, \
 Award { list: 1, k: 2, num: 100, den: 2 }]
-awards dhondt/alternating 0 3 0: 100 100 = lot of 1 2 for 1
+awards dhondt/alternating 0 3 0: 100 100 = a lot is needed and none is given: lot of 1 2 for 1
 allot dhondt/alternating 0 1 0: 100 100: 2 1 = [0, 1]
 allot dhondt/alternating 0 4 0: 100 100 100: 3 1 2 = [1, 2, 1]
 allot dhondt/alternating 0 4 0: 100 100 100: 3 1 = the lot is not the one to be taken
 wrong 1 2 1: dhondt/alternating 0 4 0: 100 100 100: 3 1
-allot hare/alternating 0 3 0: 50 50: 2 1 = [1, 2]";
+allot hare/alternating 0 3 0: 50 50: 2 1 = [1, 2]
+allot dhondt/alternating 0 11 0: 100 100: 2 1 = [6, 5]
+allot dhondt/alternating 0 13 0: 100 100: 2 1 = [6, 7]
+allot dhondt/alternating 0 500 0: 100 100 100 100 100 100 100 100 100 100 100 100 100 100 100 \
+100 100 100 100 100 100 100 100 100 100 100 100 100 100 100 100 100 100 100 100 100 100 100 \
+100 100 100 100 100 100 100 100 100 100 100 100 100 100 100 100 100 100 100 100 100 100: 60 \
+59 58 57 56 55 54 53 52 51 50 49 48 47 46 45 44 43 42 41 40 39 38 37 36 35 34 33 32 31 30 29 \
+28 27 26 25 24 23 22 21 20 19 18 17 16 15 14 13 12 11 10 9 8 7 6 5 4 3 2 1 = [8, 8, 8, 8, 8, \
+8, 8, 8, 8, 8, 8, 8, 8, 8, 8, 8, 8, 8, 8, 8, 8, 8, 8, 8, 8, 8, 8, 8, 8, 8, 8, 8, 8, 8, 8, 8, \
+8, 8, 8, 8, 9, 9, 9, 9, 9, 9, 9, 9, 9, 9, 9, 9, 9, 9, 9, 9, 9, 9, 9, 9]
+allot modified-sainte-lague/alternating 0 500 0: 100 100 100 100 100 100 100 100 100 100 100 \
+100 100 100 100 100 100 100 100 100 100 100 100 100 100 100 100 100 100 100 100 100 100 100 \
+100 100 100 100 100 100 100 100 100 100 100 100 100 100 100 100 100 100 100 100 100: 55 54 53 \
+52 51 50 49 48 47 46 45 44 43 42 41 40 39 38 37 36 35 34 33 32 31 30 29 28 27 26 25 24 23 22 \
+21 20 19 18 17 16 15 14 13 12 11 10 9 8 7 6 5 4 3 2 1 = [10, 10, 10, 10, 10, 9, 9, 9, 9, 9, \
+9, 9, 9, 9, 9, 9, 9, 9, 9, 9, 9, 9, 9, 9, 9, 9, 9, 9, 9, 9, 9, 9, 9, 9, 9, 9, 9, 9, 9, 9, 9, \
+9, 9, 9, 9, 9, 9, 9, 9, 9, 9, 9, 9, 9, 9]
+allot sainte-lague 0 500 0: 100 100 100 100 100 100 100 100 100 100 100 100 100 100 100 100 \
+100 100 100 100 100 100 100 100 100 100 100 100 100 100 100 100 100 100 100 100 100 100 100 \
+100 100 100 100 100 100 100 100 100 100 100 100 100 100 100 100: 55 54 53 52 51 50 49 48 47 \
+46 45 44 43 42 41 40 39 38 37 36 35 34 33 32 31 30 29 28 27 26 25 24 23 22 21 20 19 18 17 16 \
+15 14 13 12 11 10 9 8 7 6 5 4 3 2 1 = [9, 9, 9, 9, 9, 9, 9, 9, 9, 9, 9, 9, 9, 9, 9, 9, 9, 9, \
+9, 9, 9, 9, 9, 9, 9, 9, 9, 9, 9, 9, 9, 9, 9, 9, 9, 9, 9, 9, 9, 9, 9, 9, 9, 9, 9, 9, 9, 9, 9, \
+9, 10, 10, 10, 10, 10]";
 
 // The example of LOREG, article 163. The lowest seat is A's fourth, with 168,000 / 4 = 42,000: E
 // and F need 42,001 votes, since with 42,000 they only tie and A has more; C and D need 84,001 for
@@ -253,7 +278,7 @@ short dhondt 300 8 0: 168000 104000 72000 64000 40000 32000 = \
 [Some(92000), Some(22001), Some(12001), Some(20001), Some(2001), Some(10001)]
 short dhondt 0 2 0: 200 100 = [None, Some(1)]
 short dhondt 0 3 0: 100 100: 2 1 = [Some(1), Some(200)]
-short dhondt 0 3 0: 100 100 = lot of 1 2 for 1
+short dhondt 0 3 0: 100 100 = a lot is needed and none is given: lot of 1 2 for 1
 short dhondt 0 3 0: 100 100: 1 = the lot is not the one to be taken
 short dhondt 0 2 0: 200 100: 1 2 = the lot is not the one to be taken
 short dhondt 0 3 50: 0 0 = no list is eligible

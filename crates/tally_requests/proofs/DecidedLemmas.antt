@@ -8,7 +8,7 @@ use Rattle.std.proofs.lemmas.List.{get_or_default}
 use Rattle.std.proofs.lemmas.List.Folds.{Any-from_list_any}
 use Rattle.std.proofs.lemmas.Map.Made.{IsDistinct-from_AllPairs}
 use Rattle.std.proofs.lemmas.Map.Steps.{length-le_from_distinct_below}
-use Rattle.tally_rules.specs.ListSet.{has_place}
+use Rattle.tally_frac.specs.ListSet.{has_place}
 use Rattle.tally_law.specs.Lot.{IsOrderOf}
 use Rattle.tally_rules.specs.Constituency.{Constituency}
 use Rattle.tally_rules.specs.Text.{is_note}
@@ -18,7 +18,7 @@ use Rattle.tally_returns.specs.PastSeats.{PastSeats}
 use Rattle.tally_returns.specs.State.{last_edition}
 use Rattle.tally_returns.specs.View.{FitsView, View}
 use Rattle.tally_returns.specs.declared.ask.Ask.{Ask}
-use Rattle.tally_returns.specs.declared.ask.Ask.TheVariants.{Lodge, Query, Correct, Close, ShowReturn, Draw, Certify, Reopen, Vacate, ShowCon, ShowProgress}
+use Rattle.tally_returns.specs.declared.ask.Ask.TheVariants.{Lodge, Query, Correct, Close, Confirm, ShowReturn, Draw, Certify, Reopen, Vacate, ShowCon, ShowProgress}
 use Rattle.tally_returns.specs.declared.refusal.Refusal.{Refusal}
 use Rattle.tally_returns.specs.declared.refusal.Refusal.TheVariants.{BadNote, Exhausted, NotCertified, Stale}
 use Rattle.tally_returns.proofs.DecideLemmas.{passed-first, passed-rest}
@@ -53,6 +53,7 @@ drawing con view (Lodge station slip counts) lot decides = absurd decides
 drawing con view (Query station rev note) lot decides = absurd decides
 drawing con view (Correct station rev slip counts) lot decides = absurd decides
 drawing con view (Close station rev) lot decides = absurd decides
+drawing con view (Confirm station rev slip counts) lot decides = absurd decides
 drawing con view (ShowReturn station) lot decides = absurd decides
 drawing con view ShowProgress lot decides = absurd decides
 
@@ -78,6 +79,7 @@ certifying con view (Lodge station slip counts) seats decides = absurd decides
 certifying con view (Query station rev note) seats decides = absurd decides
 certifying con view (Correct station rev slip counts) seats decides = absurd decides
 certifying con view (Close station rev) seats decides = absurd decides
+certifying con view (Confirm station rev slip counts) seats decides = absurd decides
 certifying con view (ShowReturn station) seats decides = absurd decides
 certifying con view ShowProgress seats decides = absurd decides
 
@@ -114,6 +116,7 @@ reopening con view (Lodge station slip counts) note past decides = absurd decide
 reopening con view (Query station rev text) note past decides = absurd decides
 reopening con view (Correct station rev slip counts) note past decides = absurd decides
 reopening con view (Close station rev) note past decides = absurd decides
+reopening con view (Confirm station rev slip counts) note past decides = absurd decides
 reopening con view (ShowReturn station) note past decides = absurd decides
 reopening con view ShowProgress note past decides = absurd decides
 

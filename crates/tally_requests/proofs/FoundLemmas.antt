@@ -1,5 +1,5 @@
 -- A command that moves a return, decided by what was found of its station and carried out.
-use Rattle.std.proofs.Common.{◌≡◌, ◌≢◌, ◌≤◌, ◌⊎◌, ◌∙◌, ◌∷◌, ℕ, List, [], Bool, true, false, length, Option, Some, None, Result, Ok, Err, IfOk, inl, inr, refl, sym, ap, subst}
+use Rattle.std.proofs.Common.{◌≡◌, ◌≢◌, ◌≤◌, ◌⊎◌, ◌∙◌, ◌++◌, ◌∷◌, ℕ, List, [], Bool, true, false, length, Option, Some, None, Result, Ok, Err, IfOk, inl, inr, refl, sym, ap, subst}
 use Rattle.std.specs.Prelude.{◌==◌, nat_le, not, string_bytes}
 use Rattle.std.specs.FinMap.{get}
 use Rattle.std.proofs.lemmas.Bool.{and_parts, eqb-true, not-true}
@@ -13,12 +13,12 @@ use Rattle.tally_rules.specs.declared.constituency.Station.{Station}
 use Rattle.tally_returns.specs.Checks.{check, first_refusal, refused_or}
 use Rattle.tally_returns.specs.Counts.{all_votes, are_counts}
 use Rattle.tally_returns.specs.Decide.{IsUnlessMemory, move_change, return_change, return_change_at, limits_of, put_next}
-use Rattle.tally_returns.specs.Moves.{close_checks, closed_return, correct_checks, corrected_return, counts_checks_at, last_revision, may_close, may_correct, may_query, move_checks, queried_return, query_checks}
+use Rattle.tally_returns.specs.Moves.{close_checks, closed_return, confirm_checks, correct_checks, corrected_return, counts_checks_at, entry_checks, last_revision, may_close, may_correct, may_query, move_checks, queried_return, query_checks, same_checks}
 use Rattle.tally_returns.specs.Named.{station_named}
 use Rattle.tally_returns.specs.Return.{StationReturn}
 use Rattle.tally_returns.specs.State.{State, con_state}
 use Rattle.tally_returns.specs.declared.ask.Ask.{Ask}
-use Rattle.tally_returns.specs.declared.ask.Ask.TheVariants.{Lodge, Query, Correct, Close, ShowReturn, Draw, Certify, Reopen, Vacate, ShowCon, ShowProgress}
+use Rattle.tally_returns.specs.declared.ask.Ask.TheVariants.{Lodge, Query, Correct, Close, Confirm, ShowReturn, Draw, Certify, Reopen, Vacate, ShowCon, ShowProgress}
 use Rattle.tally_returns.specs.declared.change.Change.{Change}
 use Rattle.tally_returns.specs.declared.change.Change.TheVariants.{PutReturn}
 use Rattle.tally_returns.specs.declared.refusal.Refusal.{Refusal}
@@ -28,7 +28,7 @@ use Rattle.tally_returns.specs.declared.reply.Reply.TheVariants.{Moved}
 use Rattle.tally_returns.specs.declared.returns.Status.{Status}
 use Rattle.tally_returns.specs.declared.returns.Status.TheVariants.{Received, Queried, Corrected, Closed}
 use Rattle.tally_returns.proofs.ClosedLemmas.{station_with-con}
-use Rattle.tally_returns.proofs.DecideLemmas.{passed-first, passed-rest}
+use Rattle.tally_returns.proofs.DecideLemmas.{first_refusal-append_first, passed-first, passed-rest}
 use Rattle.tally_ledger.proofs.SetupLemmas.{con-limits, station-found}
 use Rattle.tally_steps.specs.Kinds.{IsReplyTo}
 use Rattle.tally_steps.specs.LawfulState.{IsLawfulState}
@@ -142,7 +142,22 @@ put-decided con place certified found (Correct code rev slip counts) change move
     }
 put-decided con place certified found (Close code rev) change moves is =
     let checks = close_checks (Some (limits_of con place)) certified found rev in
-    let p = passed-move certified found rev may_close checks closed_return change (λ none. none) is in record {
+    let p = passed-move certified found rev may_close checks closed_return change
+    (first_refusal-append_first (move_checks certified found rev may_close) (entry_checks con.entry)) is in record {
+      before = p.before;
+      standing = closed_return p.before;
+      found_is = p.found_is;
+      change_is = p.change_is;
+      is_open = p.is_open;
+      moves = (starts-closed p.before.status p.started, refl, refl);
+    }
+put-decided con place certified found (Confirm code rev slip counts) change moves is =
+    let limits = limits_of con place in
+    let checks = confirm_checks (Some limits) certified found rev slip counts in
+    let moving = move_checks certified found rev may_close in
+    let more = same_checks found slip counts in
+    let p = passed-move certified found rev may_close checks closed_return change
+    (λ none. first_refusal-append_first moving more (append-rest (counts_checks_at (Some limits) counts) (moving ++ more) none)) is in record {
       before = p.before;
       standing = closed_return p.before;
       found_is = p.found_is;
@@ -176,6 +191,7 @@ pub moved-kind : (setup : List Constituency) (ask : Ask) (rev : ℕ) → moves_r
 moved-kind setup (Query code now note) rev moves = tt
 moved-kind setup (Correct code now slip counts) rev moves = tt
 moved-kind setup (Close code now) rev moves = tt
+moved-kind setup (Confirm code now slip counts) rev moves = tt
 moved-kind setup (Lodge code slip counts) rev moves = cc
 moved-kind setup (ShowReturn code) rev moves = cc
 moved-kind setup (Draw code edition order) rev moves = cc
@@ -190,6 +206,7 @@ moving-step : (setup : List Constituency) (s : State) (ask : Ask) (r : Result Re
 moving-step setup s (Query code rev note) r t moves is to = (is, to)
 moving-step setup s (Correct code rev slip counts) r t moves is to = (is, to)
 moving-step setup s (Close code rev) r t moves is to = (is, to)
+moving-step setup s (Confirm code rev slip counts) r t moves is to = (is, to)
 moving-step setup s (Lodge code slip counts) r t moves is to = cc
 moving-step setup s (ShowReturn code) r t moves is to = cc
 moving-step setup s (Draw code edition order) r t moves is to = cc

@@ -22,7 +22,7 @@ use Rattle.tally_returns.specs.Return.{Returns, StationReturn, first_return}
 use Rattle.tally_returns.specs.State.{State, con_state, stations_of}
 use Rattle.tally_returns.specs.View.{View, view_of}
 use Rattle.tally_returns.specs.declared.ask.Ask.{Ask}
-use Rattle.tally_returns.specs.declared.ask.Ask.TheVariants.{Lodge, Query, Correct, Close, ShowReturn, Draw, Certify, Reopen, Vacate, ShowCon, ShowProgress}
+use Rattle.tally_returns.specs.declared.ask.Ask.TheVariants.{Lodge, Query, Correct, Close, Confirm, ShowReturn, Draw, Certify, Reopen, Vacate, ShowCon, ShowProgress}
 use Rattle.tally_returns.specs.declared.change.Change.{Change}
 use Rattle.tally_returns.specs.declared.change.Change.TheVariants.{Same, PutReturn, SetLot, SetCertified, SetReopened, SetGone}
 use Rattle.tally_returns.specs.declared.refusal.Refusal.{Refusal}
@@ -291,6 +291,7 @@ stepped : (setup : List Constituency) (s : State) (ask : Ask) (r : Result Reply 
 stepped setup s (Query code rev note) r t moves step = step
 stepped setup s (Correct code rev slip counts) r t moves step = step
 stepped setup s (Close code rev) r t moves step = step
+stepped setup s (Confirm code rev slip counts) r t moves step = step
 stepped setup s (Lodge code slip counts) r t moves step = cc
 stepped setup s (ShowReturn code) r t moves step = cc
 stepped setup s (Draw code edition order) r t moves step = cc
@@ -304,6 +305,7 @@ status-moved : (con : Constituency) (ask : Ask) (before standing : StationReturn
 status-moved con (Query code rev note) before standing moves = ap Some (sym moves.0)
 status-moved con (Correct code rev slip counts) before standing moves = ap Some (sym moves.1)
 status-moved con (Close code rev) before standing moves = ap Some (sym moves.1)
+status-moved con (Confirm code rev slip counts) before standing moves = ap Some (sym moves.1)
 status-moved con (Lodge code slip counts) before standing moves = absurd moves
 status-moved con (ShowReturn code) before standing moves = absurd moves
 status-moved con (Draw code edition order) before standing moves = absurd moves

@@ -12,6 +12,7 @@ use Rattle.tally_rules.specs.Code.{code_cmp}
 use Rattle.tally_rules.specs.Constituency.{Constituency}
 use Rattle.tally_rules.specs.Limits.{IsSetup}
 use Rattle.tally_rules.specs.Setup.{constituency_with, station_with}
+use Rattle.tally_rules.specs.declared.constituency.Entry.TheVariants.{Single}
 use Rattle.tally_rules.specs.declared.constituency.Station.{Station}
 use Rattle.tally_law.specs.Rules.{poll_of, rule_of}
 use Rattle.tally_law.specs.LotNeed.{IsAllotmentUnderLot}
@@ -153,11 +154,11 @@ answer-at setup returns station slip counts con place is =
 -- what was decided of what was found is what is answered
 pub decided-is : (setup : List Constituency) (text : List ℕ) (s : State) (station slip : List ℕ) (counts : VoteCounts) (con : Constituency) (place : Station) (lists : ℕ) (old : Seen) (found copied : Option StationReturn) (r : Result LodgeReply Refusal)
     → IsSetup setup → IsLawfulState setup s → AreTables setup text s old.now.trees → station_with station setup ≡ Some (con, place) → lists ≡ length con.lists → FindsReturn setup station old found
-    → copied ≡ found → r ≡ reply_at_station (limits_for lists place.electors) copied slip counts → r ≡ lodge_answer (stations_of setup) s.returns station slip counts
+    → copied ≡ found → r ≡ reply_at_station (limits_for lists place.electors Single) copied slip counts → r ≡ lodge_answer (stations_of setup) s.returns station slip counts
 decided-is setup text s station slip counts con place lists old found copied r limits lawful tables known many finds same is =
     is
-    ∙ ap (λ f. reply_at_station (limits_for lists place.electors) f slip counts) same
-    ∙ ap (λ n. reply_at_station (limits_for n place.electors) found slip counts) many
+    ∙ ap (λ f. reply_at_station (limits_for lists place.electors Single) f slip counts) same
+    ∙ ap (λ n. reply_at_station (limits_for n place.electors Single) found slip counts) many
     ∙ ap (λ f. reply_at_station (limits_of con place) f slip counts) (found-is setup text s station old found limits lawful tables finds)
     ∙ answer-at setup s.returns station slip counts con place known
 

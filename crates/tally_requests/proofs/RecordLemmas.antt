@@ -8,7 +8,7 @@ use Rattle.tally_returns.specs.PastSeats.{PastSeats}
 use Rattle.tally_returns.specs.State.{State}
 use Rattle.tally_returns.specs.View.{View}
 use Rattle.tally_returns.specs.declared.ask.Ask.{Ask}
-use Rattle.tally_returns.specs.declared.ask.Ask.TheVariants.{Lodge, Query, Correct, Close, ShowReturn, Draw, Certify, Reopen, Vacate, ShowCon, ShowProgress}
+use Rattle.tally_returns.specs.declared.ask.Ask.TheVariants.{Lodge, Query, Correct, Close, Confirm, ShowReturn, Draw, Certify, Reopen, Vacate, ShowCon, ShowProgress}
 use Rattle.tally_returns.specs.declared.refusal.Refusal.{Refusal}
 use Rattle.tally_returns.specs.declared.refusal.Refusal.TheVariants.{LotStands, Store}
 use Rattle.tally_steps.specs.Certification.{ByOutcome, ByOutcomeOrWrongLot, CountGives, IsCountRefusal, RefusedOr, count_checks, lot_in_view, reopen_result, seats_by_outcome, vacate_result}
@@ -62,6 +62,7 @@ module _ (con : Constituency) (view : View) (past : List PastSeats) where
   decides-whole (Query station rev note) decided is = absurd is
   decides-whole (Correct station rev slip counts) decided is = absurd is
   decides-whole (Close station rev) decided is = absurd is
+  decides-whole (Confirm station rev slip counts) decided is = absurd is
   decides-whole (ShowReturn station) decided is = absurd is
   decides-whole ShowProgress decided is = absurd is
 
@@ -75,6 +76,7 @@ module _ (con : Constituency) (view : View) (past : List PastSeats) where
   refusal-whole (Query station rev note) refusal is = is
   refusal-whole (Correct station rev slip counts) refusal is = is
   refusal-whole (Close station rev) refusal is = is
+  refusal-whole (Confirm station rev slip counts) refusal is = is
   refusal-whole (ShowReturn station) refusal is = is
   refusal-whole ShowProgress refusal is = is
 
@@ -93,5 +95,6 @@ shown-only con view (Lodge station slip counts) is = absurd is
 shown-only con view (Query station rev note) is = absurd is
 shown-only con view (Correct station rev slip counts) is = absurd is
 shown-only con view (Close station rev) is = absurd is
+shown-only con view (Confirm station rev slip counts) is = absurd is
 shown-only con view (ShowReturn station) is = absurd is
 shown-only con view ShowProgress is = absurd is

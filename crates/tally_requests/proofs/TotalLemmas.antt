@@ -22,7 +22,7 @@ use Rattle.tally_returns.specs.Return.{StationReturn, Returns}
 use Rattle.tally_returns.specs.State.{State}
 use Rattle.tally_returns.specs.View.{blank_of, closed_counts, spoiled_of, votes_at, votes_of_lists}
 use Rattle.tally_returns.proofs.ClosedLemmas.{closed_counts-same, get-kept, get-put, put-elsewhere, station-elsewhere}
-use Rattle.tally_ledger.specs.internal.MovedSum.{moved_sum}
+use Rattle.tally_ledger.specs.MovedSum.{moved_sum}
 use Rattle.tally_ledger.specs.internal.Sums.{moved_sums}
 use Rattle.tally_ledger.proofs.SetupLemmas.{Has, Apart, Differ, apart-has, bytes_flipped, code_of_station, con-found, con-only, not_apart, station-found, stations-differ}
 use Rattle.tally_ledger.proofs.SumLemmas.{at_place, closed-total, if_closed, mapped-same, total}

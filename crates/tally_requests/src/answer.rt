@@ -37,6 +37,7 @@ pub fn answer_in<S: Alter>(
         Ask::Query { station, .. } => move_on(alloc, tx, setup, known, *station, ask),
         Ask::Correct { station, .. } => move_on(alloc, tx, setup, known, *station, ask),
         Ask::Close { station, .. } => move_on(alloc, tx, setup, known, *station, ask),
+        Ask::Confirm { station, .. } => move_on(alloc, tx, setup, known, *station, ask),
         Ask::ShowReturn { station } => show_return(alloc, tx, setup, *station),
         Ask::ShowProgress => show_progress(alloc, tx, setup, known),
         _ => unreachable!(),

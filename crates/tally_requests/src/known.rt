@@ -122,6 +122,7 @@ pub(crate) fn count_command(
         Ask::Query { .. } => count_move(known, con, before, Status::Queried),
         Ask::Correct { .. } => count_move(known, con, before, Status::Corrected),
         Ask::Close { .. } => count_move(known, con, before, Status::Closed),
+        Ask::Confirm { .. } => count_move(known, con, before, Status::Closed),
         _ => {}
     }
 }

@@ -109,7 +109,7 @@ fn put_first<S: Alter>(
     add_return(tx, con.code.as_str(), station.as_str(), &first)
 }
 
-/// Answers Query, Correct and Close, and carries them out.
+/// Answers Query, Correct, Close and Confirm, and carries them out.
 pub(crate) fn move_on<S: Alter>(
     alloc: Global,
     tx: &mut Transaction<'_, S>,
@@ -251,6 +251,7 @@ fn put_moved<S: Alter>(
         Ask::Query { .. } => put_queried(alloc, tx, con, station, before, standing),
         Ask::Correct { .. } => put_corrected(tx, con, station, before, standing),
         Ask::Close { .. } => put_closed(alloc, tx, con, station, before, standing),
+        Ask::Confirm { .. } => put_closed(alloc, tx, con, station, before, standing),
         _ => unreachable!(),
     }
 }

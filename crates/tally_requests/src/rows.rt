@@ -11,7 +11,8 @@ ghost use Rattle.tally_statements.specs.internal.Inside.{StaysInside};
 ghost use Rattle.tally_requests.specs.internal.Inside.{StaysInState};
 ghost use Rattle.tally_requests.specs.internal.Counting.{CountsLodge, CountsRow};
 ghost use Rattle.tally_requests.specs.internal.Requests.{LodgesRows};
-ghost use Rattle.tally_requests.specs.internal.Lodging.{Lodges, TakesRow};
+ghost use Rattle.tally_requests.specs.internal.Lodging.{Lodges, TakesRow, WritesOnlyLodged};
+ghost use Rattle.tally_requests.specs.internal.Lodging.{WritesOnlyLodgedRow};
 
 use crate::returns::lodge;
 use sqlite::{Alter, Error, ErrorCode, Transaction};
@@ -64,6 +65,8 @@ fn take_row<S: Alter>(
     ensures taken { TakesRow setup.now row
         (state S.Store tx.old.conn.now) (state S.Store tx.new.conn.now) result }
     ensures known { CountsRow setup.now row known.old known.new result }
+    ensures unwritten { WritesOnlyLodgedRow
+        (state S.Store tx.old.conn.now) (state S.Store tx.new.conn.now) result }
     ensures own { IfErr result IsOwnFault }
 {
     let Row::Lodge(ask) = row else {
@@ -86,6 +89,8 @@ fn take_ask<S: Alter>(
     ensures taken { TakesRow setup.now (Row.Lodge ask)
         (state S.Store tx.old.conn.now) (state S.Store tx.new.conn.now) result }
     ensures known { CountsRow setup.now (Row.Lodge ask) known.old known.new result }
+    ensures unwritten { WritesOnlyLodgedRow
+        (state S.Store tx.old.conn.now) (state S.Store tx.new.conn.now) result }
     ensures own { IfErr result IsOwnFault }
 {
     let Ask::Lodge {
@@ -116,6 +121,8 @@ fn take_return<S: Alter>(
     ensures lodged { Lodges setup.now station slip counts.now
         (state S.Store tx.old.conn.now) (state S.Store tx.new.conn.now) result }
     ensures known { CountsLodge setup.now station known.old known.new result }
+    ensures unwritten { WritesOnlyLodged
+        (state S.Store tx.old.conn.now) (state S.Store tx.new.conn.now) result }
     ensures own { IfErr result IsOwnFault }
 {
     // Called for what its contract says: a slip is a code.

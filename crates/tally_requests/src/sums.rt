@@ -4,7 +4,7 @@ ghost use Rattle.std.specs.Prelude.{◌≡◌, ◌≤◌, OnSome, SomeIff, lengt
 ghost use Rattle.tally_frac.specs.Limits.{most_lists};
 ghost use Rattle.tally_statements.specs.internal.Inside.{InDatabase, StaysInside};
 ghost use Rattle.tally_requests.specs.internal.Moves.{MovesSums};
-ghost use Rattle.tally_ledger.specs.internal.MovedSum.{CanMove, moved_sum};
+ghost use Rattle.tally_ledger.specs.MovedSum.{CanMove, moved_sum};
 ghost use Rattle.tally_ledger.specs.internal.Sums.{moved_sums};
 ghost use Rattle.tally_requests.specs.internal.Sums.{FitCounts, FitEach, with_counts_moved};
 

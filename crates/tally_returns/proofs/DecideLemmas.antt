@@ -14,13 +14,13 @@ use Rattle.tally_returns.specs.Checks.{check, first_refusal, refused_or}
 use Rattle.tally_returns.specs.Counts.{VoteCounts, are_counts, all_votes, same_counts}
 use Rattle.tally_returns.specs.Return.{StationReturn, first_return}
 use Rattle.tally_returns.specs.Lodge.{StationLimits, counts_checks, reply_after_checks}
-use Rattle.tally_returns.specs.Moves.{last_revision, may_query, may_correct, may_close, move_checks, counts_checks_at, query_checks, correct_checks, close_checks, queried_return, corrected_return, closed_return}
+use Rattle.tally_returns.specs.Moves.{last_revision, may_query, may_correct, may_close, move_checks, counts_checks_at, query_checks, correct_checks, close_checks, confirm_checks, entry_checks, same_checks, queried_return, corrected_return, closed_return}
 use Rattle.tally_returns.specs.Lawful.{IsLawful, PutsLawful, is_kept_note, is_note_or_empty}
 use Rattle.tally_returns.specs.Decide.{IsUnlessMemory, return_change, limits_named, limits_of, lodge_change, move_change, put_next, station_in}
 use Rattle.tally_returns.specs.Named.{BringsCode, station_named}
 use Rattle.tally_returns.specs.declared.returns.Status.{Status}
 use Rattle.tally_returns.specs.declared.ask.Ask.{Ask}
-use Rattle.tally_returns.specs.declared.ask.Ask.TheVariants.{Lodge, Query, Correct, Close, ShowReturn, Draw, Certify, Reopen, Vacate, ShowCon, ShowProgress}
+use Rattle.tally_returns.specs.declared.ask.Ask.TheVariants.{Lodge, Query, Correct, Close, Confirm, ShowReturn, Draw, Certify, Reopen, Vacate, ShowCon, ShowProgress}
 use Rattle.tally_returns.specs.declared.change.Change.{Change}
 use Rattle.tally_returns.specs.declared.change.Change.TheVariants.{Same, PutReturn}
 use Rattle.tally_returns.specs.declared.refusal.Refusal.{Refusal}
@@ -45,6 +45,11 @@ pub first_refusal-append_none : (xs ys : List (Option Refusal)) → first_refusa
 first_refusal-append_none [] ys none = refl
 first_refusal-append_none (None ∷ xs) ys none = first_refusal-append_none xs ys none
 first_refusal-append_none (Some e ∷ xs) ys none = cc
+
+pub first_refusal-append_first : (xs ys : List (Option Refusal)) → first_refusal (xs ++ ys) ≡ None → first_refusal xs ≡ None
+first_refusal-append_first [] ys none = refl
+first_refusal-append_first (None ∷ xs) ys none = first_refusal-append_first xs ys none
+first_refusal-append_first (Some e ∷ xs) ys none = cc
 
 pub first_refusal-append_some : (xs ys : List (Option Refusal)) (e : Refusal) → first_refusal xs ≡ Some e → first_refusal (xs ++ ys) ≡ Some e
 first_refusal-append_some [] ys e some = cc
@@ -134,6 +139,19 @@ lodged-lawful station found slip counts change code is = go (first_refusal (coun
         })
     go None (Some standing) none ok = again (pointwise nat_eq standing.slip slip && same_counts standing.counts counts) standing.rev (Differs standing.rev) ok
 
+-- a lawful return that is closed stays lawful
+closed-lawful : (station : StationLimits) (certified : Bool) (standing : StationReturn) (rev : ℕ) → IsLawful station standing
+    → first_refusal (move_checks certified (Some standing) rev may_close) ≡ None → IsLawful station (closed_return standing)
+closed-lawful station certified standing rev old moves =
+    let rises : standing.rev < last_revision = move-rises certified standing rev may_close old.last moves in record {
+      first = omega arith;
+      last = omega arith;
+      slip = old.slip;
+      note = old.note;
+      counts = old.counts;
+      votes = old.votes;
+    }
+
 -- a decision on a lawful return leaves a lawful one
 pub decided-lawful : (station : StationLimits) (certified : Bool) (found : Option StationReturn) (ask : Ask) (change : Change) → BringsCode ask
     → ForSome found (IsLawful station) → return_change (Some station) certified found ask ≡ Ok change → PutsLawful station change
@@ -171,15 +189,18 @@ decided-lawful station certified found (Close code rev) change brings lawful is 
     moved-lawful station (close_checks (Some station) certified found rev) found closed_return change is
     (λ standing some none.
     let old = lawful standing some in
-    let moves = subst (λ f. first_refusal (move_checks certified f rev may_close) ≡ None) some none in
-    let rises : standing.rev < last_revision = move-rises certified standing rev may_close old.last moves in record {
-      first = omega arith;
-      last = omega arith;
-      slip = old.slip;
-      note = old.note;
-      counts = old.counts;
-      votes = old.votes;
-    })
+    let passed = first_refusal-append_first (move_checks certified found rev may_close) (entry_checks station.entry) none in
+    closed-lawful station certified standing rev old (subst (λ f. first_refusal (move_checks certified f rev may_close) ≡ None) some passed))
+decided-lawful station certified found (Confirm code rev slip counts) change brings lawful is =
+    let are = are_counts station.lists counts in
+    let votes = nat_le (all_votes counts) station.electors in
+    let moves = move_checks certified found rev may_close in
+    let same = same_checks found slip counts in
+    moved-lawful station (confirm_checks (Some station) certified found rev slip counts) found closed_return change is
+    (λ standing some none.
+    let old = lawful standing some in
+    let passed = first_refusal-append_first moves same (passed-rest votes TooManyVotes (moves ++ same) (passed-rest are BadCounts (check votes TooManyVotes ∷ (moves ++ same)) none)) in
+    closed-lawful station certified standing rev old (subst (λ f. first_refusal (move_checks certified f rev may_close) ≡ None) some passed))
 decided-lawful station certified found (ShowReturn code) change brings lawful is = shown (is_some found) is
   where
     shown : (b : Bool) → refused_or (first_refusal (check b NoReturn ∷ [])) (Ok Same) ≡ Ok change → PutsLawful station change
@@ -201,19 +222,19 @@ answered-lawful station certified found ask (Err e) brings lawful is = tt
 pub lawful-last : (station : StationLimits) (found : Option StationReturn) → ForSome found (IsLawful station) → ForSome found (λ standing. standing.rev ≤ last_revision)
 lawful-last station found lawful = λ standing is. (lawful standing is).last
 
--- a correction whose counts were refused
-pub correct-refused : (station : StationLimits) (certified : Bool) (found : Option StationReturn) (rev : ℕ) (slip : List ℕ) (counts : VoteCounts) (e : Refusal)
+-- a command whose counts were refused
+pub counts-refused : (station : StationLimits) (found : Option StationReturn) (counts : VoteCounts) (e : Refusal) (moves : List (Option Refusal)) (next : StationReturn → StationReturn)
     → first_refusal (counts_checks_at (Some station) counts) ≡ Some e
-    → move_change (correct_checks (Some station) certified found rev counts) found (corrected_return slip counts) ≡ Err e
-correct-refused station certified found rev slip counts e some =
-    ap (λ r. refused_or r (Ok (put_next found (corrected_return slip counts)))) (first_refusal-append_some (counts_checks_at (Some station) counts) (move_checks certified found rev may_correct) e some)
+    → move_change (counts_checks_at (Some station) counts ++ moves) found next ≡ Err e
+counts-refused station found counts e moves next some =
+    ap (λ r. refused_or r (Ok (put_next found next))) (first_refusal-append_some (counts_checks_at (Some station) counts) moves e some)
 
--- a correction whose counts passed
-pub correct-passed : (station : StationLimits) (certified : Bool) (found : Option StationReturn) (rev : ℕ) (slip : List ℕ) (counts : VoteCounts)
+-- a command whose counts passed
+pub counts-passed : (station : StationLimits) (found : Option StationReturn) (counts : VoteCounts) (moves : List (Option Refusal)) (next : StationReturn → StationReturn)
     → first_refusal (counts_checks_at (Some station) counts) ≡ None
-    → move_change (correct_checks (Some station) certified found rev counts) found (corrected_return slip counts) ≡ move_change (move_checks certified found rev may_correct) found (corrected_return slip counts)
-correct-passed station certified found rev slip counts none =
-    ap (λ r. refused_or r (Ok (put_next found (corrected_return slip counts)))) (first_refusal-append_none (counts_checks_at (Some station) counts) (move_checks certified found rev may_correct) none)
+    → move_change (counts_checks_at (Some station) counts ++ moves) found next ≡ move_change moves found next
+counts-passed station found counts moves next none =
+    ap (λ r. refused_or r (Ok (put_next found next))) (first_refusal-append_none (counts_checks_at (Some station) counts) moves none)
 
 -- what the constituency says of the station that a command names, where it is found
 pub limits_named-found : (con : Constituency) (ask : Ask) (code : List ℕ) (place : Station) → station_named ask ≡ Some code → station_in con code ≡ Some place

@@ -10,6 +10,7 @@ pub data AskSeen : Type 0 where
   query : List ℕ → ℕ → List ℕ → AskSeen
   correct : List ℕ → ℕ → List ℕ → VoteCounts → AskSeen
   close : List ℕ → ℕ → AskSeen
+  confirm : List ℕ → ℕ → List ℕ → VoteCounts → AskSeen
   show_return : List ℕ → AskSeen
   draw : List ℕ → ℕ → List (List ℕ) → AskSeen
   certify : List ℕ → ℕ → AskSeen
@@ -23,6 +24,7 @@ ask_seen (ask.Lodge station slip counts) = lodge station slip counts
 ask_seen (ask.Query station rev note) = query station rev (string_bytes note)
 ask_seen (ask.Correct station rev slip counts) = correct station rev slip counts
 ask_seen (ask.Close station rev) = close station rev
+ask_seen (ask.Confirm station rev slip counts) = confirm station rev slip counts
 ask_seen (ask.ShowReturn station) = show_return station
 ask_seen (ask.Draw con edition order) = draw con edition order.items
 ask_seen (ask.Certify con edition) = certify con edition

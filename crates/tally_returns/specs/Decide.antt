@@ -9,13 +9,13 @@ use Rattle.tally_rules.specs.declared.constituency.Station.{Station}
 use Rattle.tally_returns.specs.Return.{StationReturn, first_return}
 use Rattle.tally_returns.specs.Counts.{VoteCounts}
 use Rattle.tally_returns.specs.Lodge.{StationLimits, reply_at_code, limits_for}
-use Rattle.tally_returns.specs.Moves.{query_checks, correct_checks, close_checks, queried_return}
-use Rattle.tally_returns.specs.Moves.{corrected_return, closed_return}
+use Rattle.tally_returns.specs.Moves.{query_checks, correct_checks, close_checks, confirm_checks}
+use Rattle.tally_returns.specs.Moves.{queried_return, corrected_return, closed_return}
 use Rattle.tally_returns.specs.Named.{station_named}
 use Rattle.tally_returns.specs.Checks.{check, first_refusal, refused_or}
 use Rattle.tally_returns.specs.declared.ask.Ask.{Ask}
 use Rattle.tally_returns.specs.declared.ask.Ask.TheVariants.{Lodge, Query, Correct, Close}
-use Rattle.tally_returns.specs.declared.ask.Ask.TheVariants.{ShowReturn}
+use Rattle.tally_returns.specs.declared.ask.Ask.TheVariants.{Confirm, ShowReturn}
 use Rattle.tally_returns.specs.declared.change.Change.{Change}
 use Rattle.tally_returns.specs.declared.change.Change.TheVariants.{Same, PutReturn}
 use Rattle.tally_returns.specs.declared.refusal.Refusal.{Refusal}
@@ -28,7 +28,7 @@ abbrev pub station_in : Constituency → List ℕ → Option Station
 station_in con code = find (λ (station : Station). bytes_eq code station.code) con.stations
 
 abbrev pub limits_of : Constituency → Station → StationLimits
-limits_of con station = limits_for (length con.lists) station.electors
+limits_of con station = limits_for (length con.lists) station.electors con.entry
 
 -- what the constituency says of the station that a command names
 abbrev pub limits_named : Constituency → Ask → Option StationLimits
@@ -80,6 +80,8 @@ return_change station certified found (Correct code rev slip counts) =
     (corrected_return slip counts)
 return_change station certified found (Close code rev) =
     move_change (close_checks station certified found rev) found closed_return
+return_change station certified found (Confirm code rev slip counts) =
+    move_change (confirm_checks station certified found rev slip counts) found closed_return
 return_change station certified found (ShowReturn code) =
     refused_or (first_refusal (show_checks station found)) (Ok Same)
 return_change station certified found other = Ok Same

@@ -1,8 +1,9 @@
 -- Lodging a return: what is answered, and the returns that are then recorded.
-use Rattle.std.specs.Prelude.{◌&&◌, if◌then◌else◌, ℕ, nat_eq, nat_le, List, [], ◌∷◌, Option, Some}
-use Rattle.std.specs.Prelude.{None, Result, Ok, Err}
+use Rattle.std.specs.Prelude.{◌&&◌, if◌then◌else◌, ℕ, Bool, nat_eq, nat_le, List, [], ◌∷◌, Option}
+use Rattle.std.specs.Prelude.{Some, None, Result, Ok, Err}
 use Rattle.std.specs.Cmp.Lexicographic.{pointwise}
 use Rattle.std.specs.FinMap.{get, insert}
+use Rattle.tally_rules.specs.declared.constituency.Entry.{Entry}
 use Rattle.tally_returns.specs.Counts.{VoteCounts, are_counts, all_votes, same_counts}
 use Rattle.tally_returns.specs.Return.{StationReturn, Returns, first_return}
 use Rattle.tally_returns.specs.Checks.{check, first_refusal, refused_or}
@@ -12,13 +13,15 @@ use Rattle.tally_returns.specs.declared.refusal.Refusal.TheVariants.{TooManyVote
 use Rattle.tally_returns.specs.declared.reply.LodgeReply.{LodgeReply}
 use Rattle.tally_returns.specs.declared.reply.LodgeReply.TheVariants.{Lodged, Same}
 
--- what a setup says of a station: how many lists its constituency has, and how many electors it has
+-- what a setup says of a station: how many lists its constituency has, how many electors it has,
+-- and whether its returns are entered once or twice
 pub record StationLimits : Type 0 where
   pub lists : ℕ
   pub electors : ℕ
+  pub entry : Entry
 
-abbrev pub limits_for : ℕ → ℕ → StationLimits
-limits_for lists electors = record { lists = lists; electors = electors }
+abbrev pub limits_for : ℕ → ℕ → Entry → StationLimits
+limits_for lists electors entry = record { lists = lists; electors = electors; entry = entry }
 
 -- the same of each code that is a station
 abbrev pub Stations : Type 0
@@ -31,10 +34,15 @@ counts_checks station counts =
     ∷ check (nat_le (all_votes counts) station.electors) TooManyVotes
     ∷ []
 
+-- the return has this slip and these counts
+abbrev pub is_return_of : List ℕ → VoteCounts → StationReturn → Bool
+is_return_of slip counts standing =
+    pointwise nat_eq standing.slip slip && same_counts standing.counts counts
+
 -- a return that comes where one is recorded: the same slip and counts again, or another return
 abbrev pub reply_where_recorded : StationReturn → List ℕ → VoteCounts → Result LodgeReply Refusal
 reply_where_recorded standing slip counts =
-    if pointwise nat_eq standing.slip slip && same_counts standing.counts counts
+    if is_return_of slip counts standing
     then Ok (Same standing.rev)
     else Err (Differs standing.rev)
 

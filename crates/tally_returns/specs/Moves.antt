@@ -1,11 +1,14 @@
--- Query, Correct and Close: the checks of each in their order, and the return that it leaves.
+-- Query, Correct, Close and Confirm: the checks of each in their order, and the return that it
+-- leaves.
 use Rattle.std.specs.Prelude.{◌+◌, ◌==◌, not, ℕ, Bool, true, false, List, [], ◌∷◌, ◌++◌, Option}
 use Rattle.std.specs.Prelude.{is_some}
 use Rattle.std.specs.Option.{option_map_or}
 use Rattle.tally_rules.specs.Text.{is_note}
+use Rattle.tally_rules.specs.declared.constituency.Entry.{Entry}
+use Rattle.tally_rules.specs.declared.constituency.Entry.TheVariants.{Single, Double}
 use Rattle.tally_returns.specs.Counts.{VoteCounts}
 use Rattle.tally_returns.specs.Return.{StationReturn}
-use Rattle.tally_returns.specs.Lodge.{StationLimits, counts_checks}
+use Rattle.tally_returns.specs.Lodge.{StationLimits, counts_checks, is_return_of}
 use Rattle.tally_returns.specs.Checks.{check, check_found}
 use Rattle.tally_returns.specs.declared.returns.Status.{Status}
 use Rattle.tally_returns.specs.declared.returns.Status.TheVariants.{Received, Queried, Corrected}
@@ -13,7 +16,8 @@ use Rattle.tally_returns.specs.declared.returns.Status.TheVariants.{Closed}
 use Rattle.tally_returns.specs.declared.refusal.Refusal.{Refusal}
 use Rattle.tally_returns.specs.declared.refusal.Refusal.TheVariants.{NoStation, BadNote, NoReturn}
 use Rattle.tally_returns.specs.declared.refusal.Refusal.TheVariants.{Certified, Stale, Exhausted}
-use Rattle.tally_returns.specs.declared.refusal.Refusal.TheVariants.{WrongStatus}
+use Rattle.tally_returns.specs.declared.refusal.Refusal.TheVariants.{WrongStatus, Differs}
+use Rattle.tally_returns.specs.declared.refusal.Refusal.TheVariants.{NotConfirmed}
 
 -- the last revision that a return can have
 abbrev pub last_revision : ℕ
@@ -68,11 +72,31 @@ abbrev pub correct_checks : Option StationLimits → Bool → Option StationRetu
 correct_checks station certified found rev counts =
     counts_checks_at station counts ++ move_checks certified found rev may_correct
 
+-- the last check of Close: the returns of the constituency are entered once
+abbrev pub is_single : Entry → Bool
+is_single Single = true
+is_single Double = false
+
+abbrev pub entry_checks : Entry → List (Option Refusal)
+entry_checks entry = check (is_single entry) NotConfirmed ∷ []
+
 abbrev pub close_checks : Option StationLimits → Bool → Option StationReturn → ℕ
     → List (Option Refusal)
 close_checks station certified found rev =
     check (is_some station) NoStation
-    ∷ move_checks certified found rev may_close
+    ∷ (move_checks certified found rev may_close
+    ++ option_map_or (λ limits. entry_checks limits.entry) station [])
+
+-- the last check of Confirm: the recorded return has the same slip and counts
+abbrev pub same_checks : Option StationReturn → List ℕ → VoteCounts → List (Option Refusal)
+same_checks found slip counts =
+    check_found found (is_return_of slip counts) (λ standing. Differs standing.rev) ∷ []
+
+abbrev pub confirm_checks : Option StationLimits → Bool → Option StationReturn → ℕ → List ℕ
+    → VoteCounts → List (Option Refusal)
+confirm_checks station certified found rev slip counts =
+    counts_checks_at station counts
+    ++ (move_checks certified found rev may_close ++ same_checks found slip counts)
 
 -- the note replaces the old one
 abbrev pub queried_return : List ℕ → StationReturn → StationReturn

@@ -4,8 +4,8 @@ use Rattle.std.specs.Option.{ForSome}
 use Rattle.tally_rules.specs.Code.{is_code}
 use Rattle.tally_returns.specs.declared.ask.Ask.{Ask}
 use Rattle.tally_returns.specs.declared.ask.Ask.TheVariants.{Lodge, Query, Correct, Close}
-use Rattle.tally_returns.specs.declared.ask.Ask.TheVariants.{ShowReturn, Draw, Certify, Reopen}
-use Rattle.tally_returns.specs.declared.ask.Ask.TheVariants.{Vacate, ShowCon, ShowProgress}
+use Rattle.tally_returns.specs.declared.ask.Ask.TheVariants.{Confirm, ShowReturn, Draw, Certify}
+use Rattle.tally_returns.specs.declared.ask.Ask.TheVariants.{Reopen, Vacate, ShowCon, ShowProgress}
 
 -- the station that a command on a return names
 abbrev pub station_named : Ask → Option (List ℕ)
@@ -13,6 +13,7 @@ station_named (Lodge station slip counts) = Some station
 station_named (Query station rev note) = Some station
 station_named (Correct station rev slip counts) = Some station
 station_named (Close station rev) = Some station
+station_named (Confirm station rev slip counts) = Some station
 station_named (ShowReturn station) = Some station
 station_named (Draw con edition order) = None
 station_named (Certify con edition) = None
@@ -27,6 +28,7 @@ con_named (Lodge station slip counts) = None
 con_named (Query station rev note) = None
 con_named (Correct station rev slip counts) = None
 con_named (Close station rev) = None
+con_named (Confirm station rev slip counts) = None
 con_named (ShowReturn station) = None
 con_named (Draw con edition order) = Some con
 con_named (Certify con edition) = Some con
@@ -41,6 +43,7 @@ slip_named (Lodge station slip counts) = Some slip
 slip_named (Query station rev note) = None
 slip_named (Correct station rev slip counts) = Some slip
 slip_named (Close station rev) = None
+slip_named (Confirm station rev slip counts) = Some slip
 slip_named (ShowReturn station) = None
 slip_named (Draw con edition order) = None
 slip_named (Certify con edition) = None

@@ -10,7 +10,8 @@ use Rattle.tally_returns.specs.declared.refusal.Refusal.TheVariants.{WrongStatus
 use Rattle.tally_returns.specs.declared.refusal.Refusal.TheVariants.{NoEligible, LotStands}
 use Rattle.tally_returns.specs.declared.refusal.Refusal.TheVariants.{LotNotNeeded, LotWrongGroup}
 use Rattle.tally_returns.specs.declared.refusal.Refusal.TheVariants.{LotMissing, AlreadyGone}
-use Rattle.tally_returns.specs.declared.refusal.Refusal.TheVariants.{NotHolder, Memory, Store}
+use Rattle.tally_returns.specs.declared.refusal.Refusal.TheVariants.{NotHolder, NotConfirmed}
+use Rattle.tally_returns.specs.declared.refusal.Refusal.TheVariants.{Memory, Store}
 
 -- the number of a refusal
 abbrev pub refusal_number : Refusal → ℕ
@@ -37,3 +38,4 @@ refusal_number AlreadyGone = 20
 refusal_number NotHolder = 21
 refusal_number Memory = 22
 refusal_number Store = 23
+refusal_number NotConfirmed = 24

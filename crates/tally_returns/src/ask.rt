@@ -31,10 +31,17 @@ pub enum Ask {
         slip: Code,
         counts: Counts,
     },
-    /// Closes a return, so that its votes count.
+    /// Closes a return as it was entered, so that its votes count.
     Close {
         station: Code,
         rev: u32,
+    },
+    /// Closes a return by its second entry, which brings the slip and the counts once more.
+    Confirm {
+        station: Code,
+        rev: u32,
+        slip: Code,
+        counts: Counts,
     },
     /// Shows the return of a station.
     ShowReturn {
@@ -84,6 +91,7 @@ impl Ask {
             Ask::Query { station, .. } => Some(*station),
             Ask::Correct { station, .. } => Some(*station),
             Ask::Close { station, .. } => Some(*station),
+            Ask::Confirm { station, .. } => Some(*station),
             Ask::ShowReturn { station } => Some(*station),
             Ask::Draw { .. } => None,
             Ask::Certify { .. } => None,
@@ -102,6 +110,7 @@ impl Ask {
         match self {
             Ask::Lodge { slip, .. } => Some(known(*slip)),
             Ask::Correct { slip, .. } => Some(known(*slip)),
+            Ask::Confirm { slip, .. } => Some(known(*slip)),
             _ => None,
         }
     }
@@ -120,6 +129,7 @@ impl Ask {
             Ask::Query { .. } => None,
             Ask::Correct { .. } => None,
             Ask::Close { .. } => None,
+            Ask::Confirm { .. } => None,
             Ask::ShowReturn { .. } => None,
             Ask::ShowProgress => None,
         }

@@ -1,6 +1,6 @@
 //! What is decided of a command on the return of a station.
 
-ghost use Rattle.std.specs.Prelude.{◌≡◌, ◌≤◌, ◌∷◌, [], Ok, IfOk, IsSome, is_some};
+ghost use Rattle.std.specs.Prelude.{◌≡◌, ◌≤◌, ◌∷◌, ◌++◌, [], Ok, IfOk, IsSome, is_some};
 ghost use Rattle.std.specs.Option.{ForSome, option_copied};
 ghost use Rattle.tally_rules.specs.Text.{is_note};
 ghost use Rattle.tally_returns.specs.Checks.{check, first_refusal, refused_or};
@@ -11,9 +11,9 @@ ghost use Rattle.tally_returns.specs.Lawful.{IsLawful, IsLawfulWhereNamed, PutsL
 ghost use Rattle.tally_returns.specs.Lawful.{PutsLawfulWhereNamed};
 ghost use Rattle.tally_returns.specs.Lodge.{reply_at_station};
 ghost use Rattle.tally_returns.specs.declared.change.Change.TheVariants.{Same};
-ghost use Rattle.tally_returns.specs.Moves.{closed_return, corrected_return, last_revision};
-ghost use Rattle.tally_returns.specs.Moves.{may_close, may_correct, may_query};
-ghost use Rattle.tally_returns.specs.Moves.{move_checks, queried_return};
+ghost use Rattle.tally_returns.specs.Moves.{closed_return, corrected_return, entry_checks};
+ghost use Rattle.tally_returns.specs.Moves.{last_revision, may_close, may_correct, may_query};
+ghost use Rattle.tally_returns.specs.Moves.{move_checks, queried_return, same_checks};
 ghost use Rattle.tally_returns.specs.declared.refusal.Refusal.TheVariants.{BadNote, NoReturn};
 
 use crate::ask::Ask;
@@ -25,7 +25,7 @@ use crate::refusal::Refusal;
 use crate::reply::LodgeReply;
 use crate::returns::Return;
 use std::alloc::Global;
-use tally_rules::{Code, Constituency, Station, good_note};
+use tally_rules::{Code, Constituency, Entry, Station, good_note};
 
 /// What a command on a return changes, or why it is refused: at a station of this constituency,
 /// which is certified or not, where this return or none is recorded.
@@ -79,7 +79,16 @@ pub fn decide_at(
             check_counts(con.lists.len(), station.electors, counts)?;
             decide_correct(alloc, certified, found, *rev, *slip, counts)
         }
-        Ask::Close { rev, .. } => decide_close(alloc, certified, found, *rev),
+        Ask::Close { rev, .. } => decide_close(alloc, con.entry, certified, found, *rev),
+        Ask::Confirm {
+            rev,
+            slip,
+            counts,
+            ..
+        } => {
+            check_counts(con.lists.len(), station.electors, counts)?;
+            decide_confirm(alloc, certified, found, *rev, *slip, counts)
+        }
         Ask::ShowReturn { .. } => decide_show(found),
         _ => Ok(Change::Same),
     }
@@ -150,18 +159,46 @@ fn decide_correct(
 
 fn decide_close(
     alloc: Global,
+    entries: Entry,
     certified: bool,
     found: Option<&Return>,
     rev: u32,
 ) -> Result<Change, Refusal>
     requires { ForSome (option_copied found) (λ standing. standing.rev ≤ last_revision) }
     ensures { let standing = option_copied found.entry in IsDecidedMove
-        (move_checks certified standing rev may_close) standing closed_return result }
+        (move_checks certified standing rev may_close ++ entry_checks entries) standing
+        closed_return result }
 {
     let Some(standing) = found else {
         return Err(Refusal::NoReturn);
     };
     check_move(standing, certified, rev, may_close(standing.status))?;
+    match entries {
+        Entry::Single => Ok(Change::PutReturn(standing.closed(alloc)?)),
+        Entry::Double => Err(Refusal::NotConfirmed),
+    }
+}
+
+fn decide_confirm(
+    alloc: Global,
+    certified: bool,
+    found: Option<&Return>,
+    rev: u32,
+    slip: Code,
+    counts: &Counts,
+) -> Result<Change, Refusal>
+    requires { ForSome (option_copied found) (λ standing. standing.rev ≤ last_revision) }
+    ensures { let standing = option_copied found.entry in IsDecidedMove
+        (move_checks certified standing rev may_close ++ same_checks standing slip counts.now)
+        standing closed_return result }
+{
+    let Some(standing) = found else {
+        return Err(Refusal::NoReturn);
+    };
+    check_move(standing, certified, rev, may_close(standing.status))?;
+    if !standing.is_of(slip, counts) {
+        return Err(Refusal::Differs { rev: standing.rev });
+    }
     Ok(Change::PutReturn(standing.closed(alloc)?))
 }
 

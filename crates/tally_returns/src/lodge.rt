@@ -3,6 +3,7 @@
 ghost use Rattle.std.specs.Prelude.{◌≡◌, ◌≤◌, IfErr, OnOk, None, Some};
 ghost use Rattle.std.specs.Option.{option_copied};
 ghost use Rattle.tally_frac.specs.Limits.{most_lists};
+ghost use Rattle.tally_rules.specs.declared.constituency.Entry.TheVariants.{Single};
 ghost use Rattle.tally_returns.specs.Checks.{first_refusal};
 ghost use Rattle.tally_returns.specs.Lodge.{reply_where_recorded, counts_checks, reply_at_station};
 ghost use Rattle.tally_returns.specs.Lodge.{limits_for};
@@ -15,7 +16,7 @@ use tally_rules::Code;
 
 /// What a Lodge is answered at a station of so many lists (at most 60) and electors, where this
 /// return or none is recorded. Where the reply is `Lodged`, `Return::lodged` is the return that is
-/// then to be recorded.
+/// then to be recorded. A Lodge does not depend on how many entries a return needs.
 pub fn decide_lodge(
     lists: usize,
     electors: u32,
@@ -25,7 +26,8 @@ pub fn decide_lodge(
 ) -> Result<LodgeReply, Refusal>
     requires { lists ≤ most_lists }
     ensures { result
-        ≡ reply_at_station (limits_for lists electors) (option_copied found.entry) slip counts.now }
+        ≡ reply_at_station (limits_for lists electors Single) (option_copied found.entry) slip
+        counts.now }
 {
     check_counts(lists, electors, counts)?;
     match found {
@@ -38,9 +40,10 @@ pub fn decide_lodge(
 pub(crate) fn check_counts(lists: usize, electors: u32, counts: &Counts) -> Result<(), Refusal>
     requires { lists ≤ most_lists }
     ensures passed { OnOk result
-        (first_refusal (counts_checks (limits_for lists electors) counts.now) ≡ None) }
+        (first_refusal (counts_checks (limits_for lists electors Single) counts.now) ≡ None) }
     ensures refused { IfErr result (λ refusal.
-        first_refusal (counts_checks (limits_for lists electors) counts.now) ≡ Some refusal) }
+        first_refusal (counts_checks (limits_for lists electors Single) counts.now)
+        ≡ Some refusal) }
 {
     if !counts.are_for(lists) {
         return Err(Refusal::BadCounts);
@@ -55,7 +58,7 @@ fn decide_again(standing: &Return, slip: Code, counts: &Counts) -> Result<LodgeR
     ensures { result ≡ reply_where_recorded standing.now slip counts.now }
 {
     let rev = standing.rev;
-    if standing.slip == slip && standing.counts == *counts {
+    if standing.is_of(slip, counts) {
         Ok(LodgeReply::Same { rev })
     } else {
         Err(Refusal::Differs { rev })

@@ -22,7 +22,7 @@ pub enum Refusal {
     BadNote,
     /// The votes, blank and spoiled ones with them, are more than the station's electors.
     TooManyVotes,
-    /// Another return of the station is recorded, at this revision.
+    /// The recorded return of the station, at this revision, has another slip or other counts.
     Differs { rev: u32 },
     /// The station has no return.
     NoReturn,
@@ -53,6 +53,8 @@ pub enum Refusal {
     AlreadyGone,
     /// The candidate holds no seat now.
     NotHolder,
+    /// The return needs a second entry, which alone closes it.
+    NotConfirmed,
     /// An allocation of this request was refused.
     Memory,
     /// A database call of this request was refused for a cause other than memory, or the rows of
@@ -91,6 +93,7 @@ impl Refusal {
             Refusal::NotHolder => 21,
             Refusal::Memory => 22,
             Refusal::Store => 23,
+            Refusal::NotConfirmed => 24,
         }
     }
 }

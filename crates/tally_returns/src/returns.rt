@@ -2,8 +2,9 @@
 
 ghost use Rattle.std.specs.Prelude.{◌≡◌, ◌≤◌, IfOk, IsTrue};
 ghost use Rattle.tally_frac.specs.Limits.{most_lists};
+ghost use Rattle.tally_rules.specs.declared.constituency.Entry as declared;
 ghost use Rattle.tally_returns.specs.Lawful.{IsLawful, is_note_or_empty};
-ghost use Rattle.tally_returns.specs.Lodge.{limits_for};
+ghost use Rattle.tally_returns.specs.Lodge.{is_return_of, limits_for};
 ghost use Rattle.tally_returns.specs.Return.{first_return};
 
 use crate::counts::Counts;
@@ -67,6 +68,13 @@ impl Return {
         }
     }
 
+    /// Whether the return has this slip and these counts.
+    pub(crate) fn is_of(&self, slip: Code, counts: &Counts) -> bool
+        ensures { result ≡ is_return_of slip counts.now self.now }
+    {
+        self.slip == slip && self.counts == *counts
+    }
+
     /// A copy with the same content.
     pub fn try_copy(&self, alloc: Global) -> Result<Return, AllocError>
         ensures { IfOk result (λ copy. copy ≡ self.now) }
@@ -84,8 +92,10 @@ impl Return {
     /// by its revision, note and counts.
     pub fn is_lawful(&self, lists: usize, electors: u32) -> bool
         requires { lists ≤ most_lists }
-        ensures lawful { IsTrue result → IsLawful (limits_for lists electors) self.now }
-        ensures otherwise { IsLawful (limits_for lists electors) self.now → IsTrue result }
+        ensures lawful { (entry : declared.Entry) → IsTrue result
+            → IsLawful (limits_for lists electors entry) self.now }
+        ensures otherwise { (entry : declared.Entry)
+            → IsLawful (limits_for lists electors entry) self.now → IsTrue result }
     {
         if !self.counts.are_for(lists) {
             return false;

@@ -67,7 +67,8 @@ chosen_adds schema table row db next put =
       others = put.others;
     }
 
-ungated : (P Q : Type 0) (b c : Bool) → b ≡ false → MatchBool (if b then c else false) P Q → Q
+-- what holds where a condition does not
+pub ungated : (P Q : Type 0) (b c : Bool) → b ≡ false → MatchBool (if b then c else false) P Q → Q
 ungated P Q true c is h = absurd (true≢false is)
 ungated P Q false c is h = h
 

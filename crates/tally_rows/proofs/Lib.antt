@@ -4,6 +4,7 @@ pub mod EntryLemmas
 pub mod AnswerLemmas
 pub mod RowsLemmas
 pub mod InsertLemmas
+pub mod ManyLemmas
 pub mod UpdateLemmas
 pub mod DeleteLemmas
 pub mod CreateLemmas

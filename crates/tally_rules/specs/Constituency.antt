@@ -1,6 +1,7 @@
 -- A constituency as contracts see it.
 use Rattle.std.specs.Prelude.{ℕ, List, map}
 use Rattle.tally_rules.specs.declared.profile.Profile.{Profile}
+use Rattle.tally_rules.specs.declared.constituency.Entry.{Entry}
 use Rattle.tally_rules.specs.declared.constituency.Station.{Station}
 
 -- A list that stands for election, with its candidates in order (LOREG article 163.1 e)).
@@ -9,13 +10,15 @@ pub record ListEntry : Type 0 where
   pub name : List ℕ
   pub candidates : List (List ℕ)
 
--- A constituency: its seats, the rule they are allotted by, its lists and its stations, in order.
+-- A constituency: its seats, the rule they are allotted by, whether its returns are entered once or
+-- twice, its lists and its stations, in order.
 pub record Constituency : Type 0 where
   pub code : List ℕ
   pub name : List ℕ
   pub seats : ℕ
   pub profile_code : List ℕ
   pub profile : Profile
+  pub entry : Entry
   pub lists : List ListEntry
   pub stations : List Station
 

@@ -4,7 +4,6 @@ pub mod Codes
 pub mod Constituency
 pub mod Fault
 pub mod Limits
-pub mod ListSet
 pub mod Method
 pub mod Reading
 pub mod Setup

@@ -21,6 +21,8 @@ use Rattle.tally_rules.specs.Limits.{most_profiles, most_stations}
 use Rattle.tally_rules.specs.Method.{method_named}
 use Rattle.tally_rules.specs.Setup.{constituency_codes, all_station_codes}
 use Rattle.tally_rules.specs.Text.{is_name}
+use Rattle.tally_rules.specs.declared.constituency.Entry.{Entry}
+use Rattle.tally_rules.specs.declared.constituency.Entry.TheVariants.{Single, Double}
 use Rattle.tally_rules.specs.declared.constituency.Station.{Station}
 use Rattle.tally_rules.specs.declared.profile.Base.{Base}
 use Rattle.tally_rules.specs.declared.profile.Base.TheVariants.{Valid, Lists}
@@ -113,6 +115,20 @@ read_lot_rule entry =
     then (read_text (codes "lot") entry >>=
     (λ word. ok_or (lot_rule_named word) (bad_value (codes "lot"))))
     else Ok Fixed
+
+-- `entry`, which may be absent: returns are entered once then
+abbrev pub entry_named : List ℕ → Option Entry
+entry_named word =
+    if bytes_eq word (codes "single") then Some Single
+    else if bytes_eq word (codes "double") then Some Double
+    else None
+
+unfoldable pub read_entry : Data → Result Entry Fault
+read_entry con =
+    if is_some (get (codes "entry") con)
+    then (read_text (codes "entry") con >>=
+    (λ word. ok_or (entry_named word) (bad_value (codes "entry"))))
+    else Ok Single
 
 -- ---- arrays
 
@@ -208,6 +224,7 @@ constituency_entry profiles taken stations_taken entry = do
   seats ← read_number (codes "seats") 1 most_seats entry
   profile_code ← read_code (codes "profile") entry
   profile ← ok_or (profile_with profile_code profiles) unknown_profile
+  needed ← read_entry entry
   lists ← read_lists entry
   stations ← read_stations stations_taken entry
   Ok (record {
@@ -216,6 +233,7 @@ constituency_entry profiles taken stations_taken entry = do
     seats = seats;
     profile_code = profile_code;
     profile = profile;
+    entry = needed;
     lists = lists;
     stations = stations;
   })

@@ -7,6 +7,15 @@ use crate::profile::Profile;
 use std::alloc::{AllocError, Global};
 use std::marker::Model;
 
+/// How many entries a return of a constituency needs before it is closed.
+#[derive(Clone, Copy, Debug, PartialEq, Eq)]
+pub enum Entry {
+    /// One: a return is closed as it was entered.
+    Single,
+    /// Two: a return is closed by a second entry of the same slip and counts alone.
+    Double,
+}
+
 /// A polling station.
 #[derive(Clone, Copy, Debug, PartialEq, Eq)]
 pub struct Station {
@@ -78,6 +87,8 @@ pub struct Constituency {
     pub profile_code: Code,
     /// The rule that the seats are allotted by.
     pub profile: Profile,
+    /// How many entries a return needs.
+    pub entry: Entry,
     /// The 1 to 60 lists, in order; no two have one code.
     pub lists: Vec<ListEntry>,
     /// The 1 to 5,000 stations.
@@ -97,6 +108,7 @@ impl Model for Constituency {
       seats = con.seats;
       profile_code = con.profile_code;
       profile = con.profile;
+      entry = con.entry;
       lists = con.lists.items;
       stations = con.stations.items;
     } };
@@ -107,6 +119,7 @@ impl Model for Constituency {
       seats = con.seats;
       profile_code = con.profile_code;
       profile = con.profile;
+      entry = con.entry;
       lists = con.lists.items;
       stations = con.stations.items;
     }) };
@@ -127,6 +140,7 @@ impl Constituency {
             seats: self.seats,
             profile_code: self.profile_code,
             profile: self.profile,
+            entry: self.entry,
             lists,
             stations: self.stations.as_slice().to_vec(alloc)?,
         })

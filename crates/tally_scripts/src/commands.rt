@@ -56,6 +56,7 @@ fn other_command(alloc: Global, verb: &str, named: Code, rest: &str) -> Result<A
         "query" => move_command(alloc, verb, named, rest),
         "correct" => move_command(alloc, verb, named, rest),
         "close" => move_command(alloc, verb, named, rest),
+        "confirm" => move_command(alloc, verb, named, rest),
         "vacate" => vacate_command(alloc, named, rest),
         "show" => Ok(Ask::ShowCon { con: named }),
         "return" => Ok(Ask::ShowReturn { station: named }),
@@ -66,7 +67,8 @@ fn other_command(alloc: Global, verb: &str, named: Code, rest: &str) -> Result<A
     }
 }
 
-/// `query STATION REV NOTE`, `correct STATION REV SLIP COUNTS`, `close STATION REV`.
+/// `query STATION REV NOTE`, `close STATION REV`, and `correct STATION REV SLIP COUNTS` or the same
+/// with `confirm`.
 fn move_command(alloc: Global, verb: &str, station: Code, rest: &str) -> Result<Ask, Fail> {
     let (rev, rest) = rest.split_once(" ").unwrap_or((rest, ""));
     let rev = number(rev)?;
@@ -78,11 +80,21 @@ fn move_command(alloc: Global, verb: &str, station: Code, rest: &str) -> Result<
         return Ok(Ask::Query { station, rev, note });
     }
     let (slip, votes) = rest.split_once(" ").ok_or("no votes")?;
+    let slip = code(slip)?;
+    let counts = counts(alloc, votes)?;
+    if verb == "confirm" {
+        return Ok(Ask::Confirm {
+            station,
+            rev,
+            slip,
+            counts,
+        });
+    }
     Ok(Ask::Correct {
         station,
         rev,
-        slip: code(slip)?,
-        counts: counts(alloc, votes)?,
+        slip,
+        counts,
     })
 }
 

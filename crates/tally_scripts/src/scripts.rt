@@ -1,6 +1,6 @@
 //! Scripts: commands, each with what is answered to it.
 
-use crate::setups::twin_town;
+use crate::setups::{entered_twice, twin_town};
 use std::alloc::Global;
 use std::test::Fail;
 
@@ -187,13 +187,47 @@ electors = 1000
 const ALTERNATING_LOTS: &str = "dhondt\"\nlot = \"alternating";
 
 // A method of Twin Town, the number of seats, and a script.
-const IN_TWIN_TOWN: [(&str, u32, &str); 5] = [
+const IN_TWIN_TOWN: [(&str, u32, &str); 6] = [
     ("dhondt", 3, LIFE),
     ("dhondt", 3, TWICE),
     ("dhondt", 3, RECOUNT),
     ("dhondt", 1, VACANCIES),
     (ALTERNATING_LOTS, 3, ALTERNATING),
+    ("dhondt", 3, ENTERED_ONCE),
 ];
+
+/// The returns of this office are entered twice. 24 is NotConfirmed.
+const ENTERED_TWICE: &str = "lodge s1 p1 100,100 = lodged 1
+close s1 1 = refused 24
+confirm s1 1 p1 100,99 = differs 1
+confirm s1 1 p2 100,100 = differs 1
+confirm s1 2 p1 100,99 = stale 1
+confirm s1 1 p1 100,100 = moved 2
+confirm s1 1 p1 100,100 = stale 2
+certify c1 1 = lot of 1 2 for 1
+query s1 2 sum = moved 3
+confirm s1 3 p1 100,100 = status Queried
+correct s1 3 p2 120,120 = moved 4
+confirm s1 4 p1 100,100 = differs 4
+close s1 4 = refused 24
+confirm s1 4 p2 120,120 = moved 5
+return s1 = 5 p2 Closed [120, 120] 0 0 sum
+show c1 = open 1 0 0 0 1/1 [120, 120] 0 0 [] []
+draw c1 1 B,A = edition 2
+certify c1 2 = edition 3
+confirm s1 5 p2 120,120 = refused 9";
+
+/// Those of this one are entered once, and a second entry is taken all the same.
+const ENTERED_ONCE: &str = "confirm s1 1 p1 100,100 = refused 8
+confirm s1 1 p1 200,101 = refused 6
+confirm s1 1 p1 1,2,3 = refused 4
+confirm zz 1 p1 1,2 = refused 1
+lodge s1 p1 100,100 = lodged 1
+confirm s1 2 p1 100,99 = stale 1
+confirm s1 1 p1 100,100 3 = differs 1
+confirm s1 1 p1 100,100 = moved 2
+close s1 1 = stale 2
+certify c1 1 = lot of 1 2 for 1";
 
 /// Setups as text, each with a script.
 pub fn setups_and_scripts(alloc: Global) -> Result<Vec<(String, &'static str)>, Fail> {
@@ -202,5 +236,6 @@ pub fn setups_and_scripts(alloc: Global) -> Result<Vec<(String, &'static str)>, 
         scripts.push((twin_town(alloc, method, seats)?, script))?;
     }
     scripts.push((String::from_str(alloc, RIVERS)?, HARE))?;
+    scripts.push((entered_twice(alloc)?, ENTERED_TWICE))?;
     Ok(scripts)
 }

@@ -56,6 +56,17 @@ pub fn twin_town(alloc: Global, method: &str, seats: u32) -> Result<String, Fail
     with(alloc, setup.as_str(), "seats = 3", seats.as_str())
 }
 
+/// Twin Town where a return is closed by its second entry alone.
+pub fn entered_twice(alloc: Global) -> Result<String, Fail> {
+    let last = "profile = \"d0\"\n";
+    with(
+        alloc,
+        TWIN_TOWN,
+        last,
+        "profile = \"d0\"\nentry = \"double\"\n",
+    )
+}
+
 /// A text with another piece in the place of this one.
 fn with(alloc: Global, text: &str, piece: &str, other: &str) -> Result<String, Fail> {
     let (front, back) = text.split_once(piece).ok_or("the piece is not there")?;

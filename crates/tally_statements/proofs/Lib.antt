@@ -5,3 +5,4 @@ pub mod SelectLemmas
 pub mod WholeLemmas
 pub mod SetupLemmas
 pub mod StaysLemmas
+pub mod NumberedLemmas

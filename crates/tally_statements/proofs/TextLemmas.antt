@@ -14,9 +14,9 @@ use Rattle.tally_rows.proofs.AnswerLemmas.{from_table}
 use Rattle.tally_rows.proofs.StatementLemmas.{cast_int}
 use Rattle.tally_rows.proofs.UpdateLemmas.{by_text}
 use Rattle.tally_schema.specs.Cells.{flag}
-use Rattle.tally_statements.specs.declared.table.KeyedTable.TheVariants.{Returns, Counts, Cons, Lots, Seats, Gone, Totals, Past}
+use Rattle.tally_statements.specs.declared.table.KeyedTable.TheVariants.{Returns, Counts, Cons, Lots, Seats, Gone, Totals}
 use Rattle.tally_statements.specs.Office.{tree_of, RunsWithValues, Inserts, Replaces, SetsItem, Deletes, item_cells}
-use Rattle.tally_statements.specs.internal.Texts.{insert_return_text, insert_count_text, insert_con_text, insert_lot_text, insert_seats_text, insert_gone_text, insert_total_text, insert_past_text, update_return_text, update_count_text, update_con_text, update_total_text, delete_lot_text, delete_seats_text}
+use Rattle.tally_statements.specs.internal.Texts.{insert_return_text, insert_con_text, insert_gone_text, insert_total_text, update_return_text, update_count_text, update_con_text, update_total_text, delete_lot_text, delete_seats_text}
 use Rattle.tally_statements.proofs.TableLemmas.{table_number}
 use Rattle.tally_statements.proofs.WriteLemmas.{Means, inserts, replaces, sets_item, deletes, by_item, item_set}
 
@@ -41,14 +41,6 @@ pub insert_return_does : (station con : List ℕ) (rev : ℕ) (slip : List ℕ) 
 insert_return_does station con rev slip status note old new r ran clean inside =
     on_ok r (λ it. inserts Returns insert_return_text (Text station ∷ Text con ∷ Int (pos rev) ∷ Text slip ∷ Int (pos status) ∷ Text note ∷ []) (Text station ∷ Text con ∷ Int (pos rev) ∷ Text slip ∷ Int (pos status) ∷ Text note ∷ []) six 7 insert_return_is refl (rw (cast_int (pos rev), cast_int (pos status))) old new it.0 inside it.1) (ran clean inside.inside)
 
-insert_count_is : Means insert_count_text (Insert (table_number Counts) (Values three 4))
-unfolding understood everything
-insert_count_is = record { command = refl; plain = (refl, refl) }
-
-pub insert_count_does : (key : List ℕ) (item n : ℕ) (old new : State) (r : Result Unit Error) → RunsWithValues insert_count_text (item_cells key item n) old new r → Inserts Counts (item_cells key item n) old new r
-insert_count_does key item n old new r ran clean inside =
-    on_ok r (λ it. inserts Counts insert_count_text (item_cells key item n) (item_cells key item n) three 4 insert_count_is refl (rw (cast_int (pos item), cast_int (pos n))) old new it.0 inside it.1) (ran clean inside.inside)
-
 -- how a yes or no is bound
 flag_is : (b : Bool) → (if b then pos 1 else pos 0) ≡ pos (flag b)
 flag_is true = refl
@@ -61,22 +53,6 @@ insert_con_is = record { command = refl; plain = (refl, refl) }
 pub insert_con_does : (con : List ℕ) (edition : ℕ) (certified : Bool) (note : List ℕ) (old new : State) (r : Result Unit Error) → RunsWithValues insert_con_text (Text con ∷ Int (pos edition) ∷ Int (if certified then pos 1 else pos 0) ∷ Text note ∷ []) old new r → Inserts Cons (Text con ∷ Int (pos edition) ∷ Int (pos (flag certified)) ∷ Text note ∷ []) old new r
 insert_con_does con edition certified note old new r ran clean inside =
     on_ok r (λ it. inserts Cons insert_con_text (Text con ∷ Int (pos edition) ∷ Int (pos (flag certified)) ∷ Text note ∷ []) (Text con ∷ Int (pos edition) ∷ Int (pos (flag certified)) ∷ Text note ∷ []) four 5 insert_con_is refl (rw (cast_int (pos edition), cast_int (pos (flag certified)))) old new it.0 inside it.1) (rw (flag_is certified) at (ran clean inside.inside))
-
-insert_lot_is : Means insert_lot_text (Insert (table_number Lots) (Values three 4))
-unfolding understood everything
-insert_lot_is = record { command = refl; plain = (refl, refl) }
-
-pub insert_lot_does : (key : List ℕ) (item n : ℕ) (old new : State) (r : Result Unit Error) → RunsWithValues insert_lot_text (item_cells key item n) old new r → Inserts Lots (item_cells key item n) old new r
-insert_lot_does key item n old new r ran clean inside =
-    on_ok r (λ it. inserts Lots insert_lot_text (item_cells key item n) (item_cells key item n) three 4 insert_lot_is refl (rw (cast_int (pos item), cast_int (pos n))) old new it.0 inside it.1) (ran clean inside.inside)
-
-insert_seats_is : Means insert_seats_text (Insert (table_number Seats) (Values three 4))
-unfolding understood everything
-insert_seats_is = record { command = refl; plain = (refl, refl) }
-
-pub insert_seats_does : (key : List ℕ) (item n : ℕ) (old new : State) (r : Result Unit Error) → RunsWithValues insert_seats_text (item_cells key item n) old new r → Inserts Seats (item_cells key item n) old new r
-insert_seats_does key item n old new r ran clean inside =
-    on_ok r (λ it. inserts Seats insert_seats_text (item_cells key item n) (item_cells key item n) three 4 insert_seats_is refl (rw (cast_int (pos item), cast_int (pos n))) old new it.0 inside it.1) (ran clean inside.inside)
 
 insert_gone_is : Means insert_gone_text (Insert (table_number Gone) (Values four 5))
 unfolding understood everything
@@ -93,14 +69,6 @@ insert_total_is = record { command = refl; plain = (refl, refl) }
 pub insert_total_does : (key : List ℕ) (item n : ℕ) (old new : State) (r : Result Unit Error) → RunsWithValues insert_total_text (item_cells key item n) old new r → Inserts Totals (item_cells key item n) old new r
 insert_total_does key item n old new r ran clean inside =
     on_ok r (λ it. inserts Totals insert_total_text (item_cells key item n) (item_cells key item n) three 4 insert_total_is refl (rw (cast_int (pos item), cast_int (pos n))) old new it.0 inside it.1) (ran clean inside.inside)
-
-insert_past_is : Means insert_past_text (Insert (table_number Past) (Values four 5))
-unfolding understood everything
-insert_past_is = record { command = refl; plain = (refl, refl) }
-
-pub insert_past_does : (con : List ℕ) (edition list n : ℕ) (old new : State) (r : Result Unit Error) → RunsWithValues insert_past_text (Text con ∷ Int (pos edition) ∷ Int (pos list) ∷ Int (pos n) ∷ []) old new r → Inserts Past (Text con ∷ Int (pos edition) ∷ Int (pos list) ∷ Int (pos n) ∷ []) old new r
-insert_past_does con edition list n old new r ran clean inside =
-    on_ok r (λ it. inserts Past insert_past_text (Text con ∷ Int (pos edition) ∷ Int (pos list) ∷ Int (pos n) ∷ []) (Text con ∷ Int (pos edition) ∷ Int (pos list) ∷ Int (pos n) ∷ []) four 5 insert_past_is refl (rw (cast_int (pos edition), cast_int (pos list), cast_int (pos n))) old new it.0 inside it.1) (ran clean inside.inside)
 
 abbrev return_set : List Term
 return_set = col 1 0 ∷ col 1 0 ∷ col 1 1 ∷ col 1 2 ∷ col 0 1 ∷ col 0 2 ∷ col 0 3 ∷ col 0 4 ∷ []

@@ -1,5 +1,6 @@
 -- What an INSERT, an UPDATE and a DELETE do to the tables of the office.
-use Rattle.std.proofs.Common.{◌≡◌, ℕ, ◌/◌, ℤ, pos, List, [], ◌∷◌, length, drop, filter, not, ◌&&◌, cond, true, None, Ok, sym, ap, ap₂, subst, ◌∙◌}
+use Rattle.std.proofs.Common.{◌≡◌, ℕ, ◌/◌, ℤ, pos, List, [], ◌∷◌, ◌++◌, length, drop, filter, not, ◌&&◌, cond, true, None, Ok, sym, ap, ap₂, subst, ◌∙◌}
+use Rattle.std.specs.List.{AllByRecursion}
 use Rattle.std.specs.List.Sorted.{IsPermutation}
 use Rattle.std.proofs.lemmas.List.Sorted.{IsPermutation-refl, IsPermutation-cons, IsPermutation-trans}
 use Rattle.std.proofs.lemmas.Cmp.{tied_itself}
@@ -27,6 +28,7 @@ use Rattle.tally_rows.specs.Rows.{has_key, others, without}
 use Rattle.tally_rows.proofs.AnswerLemmas.{from_table, passes_all, shows}
 use Rattle.tally_rows.proofs.RowsLemmas.{none_then_all}
 use Rattle.tally_rows.proofs.InsertLemmas.{inserts_one}
+use Rattle.tally_rows.proofs.ManyLemmas.{unnumbered, inserts_many}
 use Rattle.tally_rows.proofs.UpdateLemmas.{by_text, by_text_is, equals_text, equals_int, next_column, and_true_right, updates_one, only_row}
 use Rattle.tally_rows.proofs.DeleteLemmas.{deletes_all}
 use Rattle.tally_schema.specs.Tables.{office_schema, setup_tree}
@@ -50,6 +52,19 @@ module _ (t : KeyedTable) (sql : List ℕ) (params row : Row) where
   inserts terms width means is casts old new count inside ran =
       let w = runs_as sql params old new office_schema inside.schema (Insert (table_number t) (Values terms width)) means.command means.plain count ran.0 in
       let made = inserts_one office_schema (table_number t) (table_of t) (ordinary t) terms width params row is casts old.step_limit (mode_of old) (statement_of sql (understood office_schema sql)) old.now.trees w.tally new.now (does sql params (Insert (table_number t) (Values terms width)) old new count inside.schema w) in
+      record {
+        inside = still_inside t old new inside made.0 w.sound (made.1.keyed (inside.distinct t)) made.1.others ran.1.mode;
+        rows = made.1.added;
+        others = λ u apart. made.1.others (tree_of u) apart (no_index u);
+        setup = made.1.others setup_tree (not_setup t) no_index_setup;
+      }
+
+module _ (t : KeyedTable) (sql : List ℕ) (params : Row) (rows : List Row) where
+  pub inserts_all : (terms : List Term) (width : ℕ) → Means sql (Insert (table_number t) (Values terms width)) → value_rows params width (length terms / width) terms ≡ unnumbered rows → AllByRecursion (λ r. cast_all (table_of t).columns r ≡ r) rows
+      → (old new : State) (count : ℕ) → IsInside old → ExecutesInside 0 sql params old new (Ok count) → HasRows t (rows ++ rows_in t old) old new
+  inserts_all terms width means is casts old new count inside ran =
+      let w = runs_as sql params old new office_schema inside.schema (Insert (table_number t) (Values terms width)) means.command means.plain count ran.0 in
+      let made = inserts_many office_schema (table_number t) (table_of t) (ordinary t) terms width params rows is casts old.step_limit (mode_of old) (statement_of sql (understood office_schema sql)) old.now.trees w.tally new.now (does sql params (Insert (table_number t) (Values terms width)) old new count inside.schema w) in
       record {
         inside = still_inside t old new inside made.0 w.sound (made.1.keyed (inside.distinct t)) made.1.others ran.1.mode;
         rows = made.1.added;

@@ -1,6 +1,6 @@
 -- The tables of the office in a transaction, and what a statement does to the rows of one of them.
-use Rattle.std.specs.Prelude.{◌≡◌, ◌≢◌, ℕ, pos, List, [], ◌∷◌, IsTrue, IsPermutation, map, Result}
-use Rattle.std.specs.Prelude.{Ok, IfOk, OnOk, Bool, ◌&&◌, filter, Vec}
+use Rattle.std.specs.Prelude.{◌≡◌, ◌≢◌, ◌+◌, ℕ, pos, List, [], ◌∷◌, ◌++◌, IsTrue, IsPermutation}
+use Rattle.std.specs.Prelude.{map, Result, Ok, IfOk, OnOk, Bool, ◌&&◌, filter, Vec}
 use Rattle.std.specs.declared.alloc.Global.{Global}
 use Rattle.std.specs.List.{AllByRecursion}
 use Rattle.std.specs.Ordering.{is_eq}
@@ -84,6 +84,13 @@ past_cells con edition list n = Text con ∷ Int (pos edition) ∷ Int (pos list
 abbrev pub item_cells : List ℕ → ℕ → ℕ → Row
 item_cells key item n = Text key ∷ Int (pos item) ∷ Int (pos n) ∷ []
 
+-- a row for each of these numbers: it begins with these cells, and then it has its item, counted
+-- from the first, and the number
+abbrev pub numbered_rows : Row → ℕ → List ℕ → List Row
+numbered_rows front first [] = []
+numbered_rows front first (n ∷ ns) =
+    (front ++ Int (pos first) ∷ Int (pos n) ∷ []) ∷ numbered_rows front (first + 1) ns
+
 -- the row is that of an item of a key
 abbrev pub is_item : List ℕ → ℕ → Row → Bool
 is_item key item row = has_key key row && is_eq (value_cmp (column row 1) (Int (pos item)))
@@ -100,6 +107,11 @@ RunsWithValues sql params old new result =
 abbrev pub Inserts : KeyedTable → Row → Seen → Seen → Result Unit Error → Type 0
 Inserts t row old new result =
     HasCleanDisk new → IsInside old → OnOk result (HasRows t (row ∷ rows_in t old) old new)
+
+-- the table has these rows in addition
+abbrev pub InsertsAll : KeyedTable → List Row → Seen → Seen → Result Unit Error → Type 0
+InsertsAll t rows old new result =
+    HasCleanDisk new → IsInside old → OnOk result (HasRows t (rows ++ rows_in t old) old new)
 
 -- the row takes the place of the one row of a key, whose columns were these
 abbrev pub Replaces : KeyedTable → List ℕ → Row → Row → Seen → Seen → Result Unit Error → Type 0

@@ -3,10 +3,9 @@
 ghost use Rattle.std.specs.Prelude.{◌≡◌, pos, ℕ};
 ghost use Rattle.tally_statements.specs.internal.Inside.{InDatabase, Stays};
 ghost use Rattle.tally_statements.specs.Office.{Inserts, con_cells, gone_cells, item_cells};
-ghost use Rattle.tally_statements.specs.Office.{past_cells, return_cells};
-ghost use Rattle.tally_statements.specs.declared.table.KeyedTable.TheVariants.{Returns, Counts};
-ghost use Rattle.tally_statements.specs.declared.table.KeyedTable.TheVariants.{Cons, Lots, Seats};
-ghost use Rattle.tally_statements.specs.declared.table.KeyedTable.TheVariants.{Gone, Totals, Past};
+ghost use Rattle.tally_statements.specs.Office.{return_cells};
+ghost use Rattle.tally_statements.specs.declared.table.KeyedTable.TheVariants.{Returns, Cons};
+ghost use Rattle.tally_statements.specs.declared.table.KeyedTable.TheVariants.{Gone, Totals};
 
 use crate::running::run;
 use sqlite::{Alter, Error, Transaction, params};
@@ -34,24 +33,6 @@ pub fn insert_return<S: Alter>(
     )
 }
 
-/// Adds the number of an item of a return.
-pub fn insert_count<S: Alter>(
-    tx: &mut Transaction<'_, S>,
-    station: &str,
-    item: u32,
-    n: u32,
-) -> Result<(), Error>
-    ensures stays { Stays S.Store tx.old tx.new }
-    ensures inserted { InDatabase S.Store (Inserts Counts (item_cells station.now item n))
-        tx.old tx.new result }
-{
-    run(
-        tx,
-        "INSERT INTO counts (station, item, n) VALUES (?1, ?2, ?3)",
-        params![station, item, n],
-    )
-}
-
 /// Adds the row of a constituency.
 pub fn insert_con<S: Alter>(
     tx: &mut Transaction<'_, S>,
@@ -69,42 +50,6 @@ pub fn insert_con<S: Alter>(
         tx,
         "INSERT INTO cons (con, edition, certified, note) VALUES (?1, ?2, ?3, ?4)",
         params![con, edition, certified, note],
-    )
-}
-
-/// Adds a place of a lot.
-pub fn insert_lot<S: Alter>(
-    tx: &mut Transaction<'_, S>,
-    con: &str,
-    place: u32,
-    list: u32,
-) -> Result<(), Error>
-    ensures stays { Stays S.Store tx.old tx.new }
-    ensures inserted { InDatabase S.Store (Inserts Lots (item_cells con.now place list))
-        tx.old tx.new result }
-{
-    run(
-        tx,
-        "INSERT INTO lots (con, place, list) VALUES (?1, ?2, ?3)",
-        params![con, place, list],
-    )
-}
-
-/// Adds the seats of a list.
-pub fn insert_seats<S: Alter>(
-    tx: &mut Transaction<'_, S>,
-    con: &str,
-    list: u32,
-    n: u32,
-) -> Result<(), Error>
-    ensures stays { Stays S.Store tx.old tx.new }
-    ensures inserted { InDatabase S.Store (Inserts Seats (item_cells con.now list n))
-        tx.old tx.new result }
-{
-    run(
-        tx,
-        "INSERT INTO seats (con, list, n) VALUES (?1, ?2, ?3)",
-        params![con, list, n],
     )
 }
 
@@ -142,24 +87,5 @@ pub fn insert_total<S: Alter>(
         tx,
         "INSERT INTO totals (con, item, n) VALUES (?1, ?2, ?3)",
         params![con, item, n],
-    )
-}
-
-/// Adds the seats of a list on record.
-pub fn insert_past<S: Alter>(
-    tx: &mut Transaction<'_, S>,
-    con: &str,
-    edition: u32,
-    list: u32,
-    n: u32,
-) -> Result<(), Error>
-    ensures stays { Stays S.Store tx.old tx.new }
-    ensures inserted { InDatabase S.Store (Inserts Past (past_cells con.now edition list n))
-        tx.old tx.new result }
-{
-    run(
-        tx,
-        "INSERT INTO past (con, edition, list, n) VALUES (?1, ?2, ?3, ?4)",
-        params![con, edition, list, n],
     )
 }

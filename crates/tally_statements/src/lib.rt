@@ -5,6 +5,7 @@
 mod delete;
 mod faults;
 mod insert;
+mod numbered;
 mod running;
 mod select;
 mod setup;
@@ -13,10 +14,8 @@ mod update;
 
 pub use delete::{delete_lot, delete_seats};
 pub use faults::is_memory;
-pub use insert::{
-    insert_con, insert_count, insert_gone, insert_lot, insert_past, insert_return, insert_seats,
-    insert_total,
-};
+pub use insert::{insert_con, insert_gone, insert_return, insert_total};
+pub use numbered::{insert_lots, insert_numbers, insert_past, insert_seats};
 pub use select::{all_rows, rowids, rows_of_key};
 pub use setup::{all_setup, insert_setup, update_version};
 pub use table::KeyedTable;

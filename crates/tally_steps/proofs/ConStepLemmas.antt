@@ -31,7 +31,7 @@ use Rattle.tally_returns.specs.Return.{Returns}
 use Rattle.tally_returns.specs.State.{ConState, GoneCandidates, State, con_state, opening_con, last_edition}
 use Rattle.tally_returns.specs.View.{View, gone_candidate, past_records, view_of, view_with}
 use Rattle.tally_returns.specs.declared.ask.Ask.{Ask}
-use Rattle.tally_returns.specs.declared.ask.Ask.TheVariants.{Lodge, Query, Correct, Close, ShowReturn, Draw, Certify, Reopen, Vacate, ShowCon, ShowProgress}
+use Rattle.tally_returns.specs.declared.ask.Ask.TheVariants.{Lodge, Query, Correct, Close, Confirm, ShowReturn, Draw, Certify, Reopen, Vacate, ShowCon, ShowProgress}
 use Rattle.tally_returns.specs.declared.refusal.Refusal.{Refusal}
 use Rattle.tally_returns.specs.declared.refusal.Refusal.TheVariants.{AlreadyGone, BadNote, Exhausted, NoCandidate, NotCertified, NotHolder, Stale}
 use Rattle.tally_returns.specs.declared.reply.Reply.{Reply}
@@ -326,6 +326,7 @@ module _ (setup : List Constituency) (s : State) (code : List ℕ) (con : Consti
   decided-state seats (Query station rev note) decided view decides = absurd decides
   decided-state seats (Correct station rev slip counts) decided view decides = absurd decides
   decided-state seats (Close station rev) decided view decides = absurd decides
+  decided-state seats (Confirm station rev slip counts) decided view decides = absurd decides
   decided-state seats (ShowReturn station) decided view decides = absurd decides
   decided-state seats ShowProgress decided view decides = absurd decides
 

@@ -17,7 +17,7 @@ use Rattle.tally_steps.specs.Outcome.{IsOutcome, HasLawfulLot, Outcome, allotted
 use Rattle.tally_returns.specs.State.{State}
 use Rattle.tally_returns.specs.View.{View}
 use Rattle.tally_returns.specs.declared.ask.Ask.{Ask}
-use Rattle.tally_returns.specs.declared.ask.Ask.TheVariants.{Certify, Close, Correct, Draw, Lodge, Query, Reopen, ShowCon, ShowProgress, ShowReturn, Vacate}
+use Rattle.tally_returns.specs.declared.ask.Ask.TheVariants.{Certify, Close, Confirm, Correct, Draw, Lodge, Query, Reopen, ShowCon, ShowProgress, ShowReturn, Vacate}
 use Rattle.tally_returns.specs.declared.refusal.Refusal.{Refusal}
 use Rattle.tally_returns.specs.declared.refusal.Refusal.TheVariants.{NoConstituency}
 use Rattle.tally_steps.proofs.LawLemmas.{AllotmentLaws, seats-stand, view-stands}
@@ -88,6 +88,7 @@ decides-stands con view code (Lodge station slip counts) named outcome = cc
 decides-stands con view code (Query station rev note) named outcome = cc
 decides-stands con view code (Correct station rev slip counts) named outcome = cc
 decides-stands con view code (Close station rev) named outcome = cc
+decides-stands con view code (Confirm station rev slip counts) named outcome = cc
 decides-stands con view code (ShowReturn station) named outcome = cc
 decides-stands con view code ShowProgress named outcome = cc
 decides-stands con view code (Draw its edition order) named outcome =

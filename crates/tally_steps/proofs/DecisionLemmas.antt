@@ -1,7 +1,6 @@
 -- A decision that was made of what a state says is a step.
-use Rattle.std.proofs.Common.{◌≡◌, ◌≤◌, ◌∙◌, ◌∷◌, ℕ, List, [], Bool, true, false, Option, Some, None, Result, Ok, Err, refl, sym, ap, subst, inl}
-use Rattle.std.specs.Prelude.{◌&&◌, is_some, nat_eq, option_map, string_bytes, if◌then◌else◌}
-use Rattle.std.specs.Cmp.Lexicographic.{pointwise}
+use Rattle.std.proofs.Common.{◌≡◌, ◌≤◌, ◌++◌, ◌∙◌, ◌∷◌, ℕ, List, [], Bool, true, false, Option, Some, None, Result, Ok, Err, refl, sym, ap, subst, inl}
+use Rattle.std.specs.Prelude.{is_some, option_map, string_bytes, if◌then◌else◌}
 use Rattle.std.specs.FinMap.{get}
 use Rattle.std.specs.Option.{option_map_or}
 use Rattle.tally_rules.specs.Constituency.{Constituency}
@@ -13,18 +12,18 @@ use Rattle.tally_steps.specs.Decisions.{NamesStation, LimitsAreThoseOfTheSetup, 
 use Rattle.tally_steps.specs.Holders.{newcomer}
 use Rattle.tally_steps.specs.Step as replies
 use Rattle.tally_returns.specs.Checks.{check, first_refusal, refused_or}
-use Rattle.tally_returns.specs.Counts.{VoteCounts, same_counts}
+use Rattle.tally_returns.specs.Counts.{VoteCounts}
 use Rattle.tally_returns.specs.Decide.{return_change, limits_named, limits_of, lodge_change, move_change, put_next, show_checks}
 use Rattle.tally_returns.specs.GoneCandidate.{GoneCandidate}
 use Rattle.tally_returns.specs.PastSeats.{PastSeats}
-use Rattle.tally_returns.specs.Lodge.{StationLimits, reply_after_checks, counts_checks, reply_at_code}
-use Rattle.tally_returns.specs.Moves.{close_checks, closed_return, correct_checks, corrected_return, counts_checks_at, may_close, may_correct, may_query, move_checks, queried_return, query_checks}
+use Rattle.tally_returns.specs.Lodge.{StationLimits, is_return_of, reply_after_checks, counts_checks, reply_at_code}
+use Rattle.tally_returns.specs.Moves.{close_checks, closed_return, confirm_checks, correct_checks, corrected_return, counts_checks_at, entry_checks, may_close, may_correct, may_query, move_checks, queried_return, query_checks, same_checks}
 use Rattle.tally_returns.specs.Named.{con_named, station_named}
 use Rattle.tally_returns.specs.Return.{StationReturn, first_return}
 use Rattle.tally_returns.specs.State.{ConState, State, con_state, last_edition, stations_of}
 use Rattle.tally_returns.specs.View.{View}
 use Rattle.tally_returns.specs.declared.ask.Ask.{Ask}
-use Rattle.tally_returns.specs.declared.ask.Ask.TheVariants.{Lodge, Query, Correct, Close, ShowReturn, Draw, Certify, Reopen, Vacate, ShowCon, ShowProgress}
+use Rattle.tally_returns.specs.declared.ask.Ask.TheVariants.{Lodge, Query, Correct, Close, Confirm, ShowReturn, Draw, Certify, Reopen, Vacate, ShowCon, ShowProgress}
 use Rattle.tally_returns.specs.declared.change.Change.{Change}
 use Rattle.tally_returns.specs.declared.change.Change.TheVariants.{Same, PutReturn}
 use Rattle.tally_returns.specs.declared.refusal.Refusal.{Refusal}
@@ -34,7 +33,7 @@ use Rattle.tally_returns.specs.declared.reply.LodgeReply.TheVariants as reply
 use Rattle.tally_returns.specs.declared.reply.Reply.TheVariants.{Vacated}
 use Rattle.tally_returns.specs.declared.returns.Status.{Status}
 use Rattle.tally_rules.specs.Text.{is_note}
-use Rattle.tally_returns.proofs.DecideLemmas.{limits_named-found, passed-rest}
+use Rattle.tally_returns.proofs.DecideLemmas.{first_refusal-append_first, limits_named-found, passed-rest}
 use Rattle.tally_returns.proofs.StateLemmas.{station_with-in}
 use Rattle.tally_steps.proofs.ConStateLemmas.{con-code, con_state-changed}
 use Rattle.tally_steps.proofs.ConStepLemmas.{decision-lawful}
@@ -75,6 +74,7 @@ decided-none certified found (Lodge code slip counts) station named = refl
 decided-none certified found (Query code rev note) station named = refl
 decided-none certified found (Correct code rev slip counts) station named = refl
 decided-none certified found (Close code rev) station named = refl
+decided-none certified found (Confirm code rev slip counts) station named = refl
 decided-none certified found (ShowReturn code) station named = refl
 decided-none certified found (Draw con edition order) station named = cc
 decided-none certified found (Certify con edition) station named = cc
@@ -99,6 +99,7 @@ refused-step setup s (Lodge code slip counts) station e named is = (lodge-refuse
 refused-step setup s (Query code rev note) station e named is = (ap move_reply (sym is), ap (state_after setup s (Query code rev note)) (sym is))
 refused-step setup s (Correct code rev slip counts) station e named is = (ap move_reply (sym is), ap (state_after setup s (Correct code rev slip counts)) (sym is))
 refused-step setup s (Close code rev) station e named is = (ap move_reply (sym is), ap (state_after setup s (Close code rev)) (sym is))
+refused-step setup s (Confirm code rev slip counts) station e named is = (ap move_reply (sym is), ap (state_after setup s (Confirm code rev slip counts)) (sym is))
 refused-step setup s (ShowReturn code) station e named is =
     (show-refused (first_refusal (show_checks (stations_of setup code) (get s.returns code))) (return_reply (get s.returns code)) e is, ap (state_after setup s (ShowReturn code)) (sym is))
 refused-step setup s (Draw con edition order) station e named is = cc
@@ -141,7 +142,7 @@ lodge-changed (Some limits) found code slip counts change is = go (first_refusal
     go None None ok =
         let put : PutReturn (first_return slip counts) ≡ change = cc in
         (lodged 1, ap (answer_to_change (Lodge code slip counts) None) (sym put), refl)
-    go None (Some standing) ok = again standing (pointwise nat_eq standing.slip slip && same_counts standing.counts counts) ok
+    go None (Some standing) ok = again standing (is_return_of slip counts standing) ok
 
 -- a command that moves a return puts one
 moved-put : (certified : Bool) (found : Option StationReturn) (rev : ℕ) (may_start : Status → Bool) (checks : List (Option Refusal)) (next : StationReturn → StationReturn) (change : Change)
@@ -192,9 +193,20 @@ changed-step setup s (Close code rev) station change named is =
     let known = stations_of setup code in
     let certified = is_certified setup s code in
     let found = get s.returns code in
+    let moves = move_checks certified found rev may_close in
+    let more = option_map_or (λ (limits : StationLimits). entry_checks limits.entry) known [] in
     let by = moved-put certified found rev may_close (close_checks known certified found rev) closed_return change
-    (passed-rest (is_some known) NoStation (move_checks certified found rev may_close)) is in
+    (λ none. first_refusal-append_first moves more (passed-rest (is_some known) NoStation (moves ++ more) none)) is in
     (replies.moved by.0.rev, ap (answer_to_change (Close code rev) (get s.returns station)) by.1, (ap move_reply (sym (is ∙ ap Ok by.1)), ap (state_after setup s (Close code rev)) (sym is)))
+changed-step setup s (Confirm code rev slip counts) station change named is =
+    let known = stations_of setup code in
+    let certified = is_certified setup s code in
+    let found = get s.returns code in
+    let moves = move_checks certified found rev may_close in
+    let more = same_checks found slip counts in
+    let by = moved-put certified found rev may_close (confirm_checks known certified found rev slip counts) closed_return change
+    (λ none. first_refusal-append_first moves more (append-rest (counts_checks_at known counts) (moves ++ more) none)) is in
+    (replies.moved by.0.rev, ap (answer_to_change (Confirm code rev slip counts) (get s.returns station)) by.1, (ap move_reply (sym (is ∙ ap Ok by.1)), ap (state_after setup s (Confirm code rev slip counts)) (sym is)))
 changed-step setup s (ShowReturn code) station change named is =
     let here : code ≡ station = cc in
     let by = show-changed (stations_of setup code) (get s.returns code) code change is in
@@ -308,5 +320,6 @@ gone-once setup s con code view (Lodge station slip counts) gone next on seen de
 gone-once setup s con code view (Query station rev note) gone next on seen decides = absurd decides
 gone-once setup s con code view (Correct station rev slip counts) gone next on seen decides = absurd decides
 gone-once setup s con code view (Close station rev) gone next on seen decides = absurd decides
+gone-once setup s con code view (Confirm station rev slip counts) gone next on seen decides = absurd decides
 gone-once setup s con code view (ShowReturn station) gone next on seen decides = absurd decides
 gone-once setup s con code view ShowProgress gone next on seen decides = absurd decides

@@ -16,7 +16,7 @@ use Rattle.tally_returns.specs.State.{State, stations_of}
 use Rattle.tally_steps.specs.Step.{change_in_state, ConChange, Decides, certified_with, change_of_result, gone_for_good, lot_set, open_again, Answer, IsConStepSeen, IsStepSeenAt, answer, con_answer, lodge_reply, move_reply, return_reply}
 use Rattle.tally_returns.specs.View.{FitsView, View}
 use Rattle.tally_returns.specs.declared.ask.Ask.{Ask}
-use Rattle.tally_returns.specs.declared.ask.Ask.TheVariants.{Lodge, Query, Correct, Close, ShowReturn, Draw, Certify, Reopen, Vacate, ShowCon, ShowProgress}
+use Rattle.tally_returns.specs.declared.ask.Ask.TheVariants.{Lodge, Query, Correct, Close, Confirm, ShowReturn, Draw, Certify, Reopen, Vacate, ShowCon, ShowProgress}
 use Rattle.tally_returns.specs.declared.change.Change.{Change}
 use Rattle.tally_returns.specs.declared.change.Change.TheVariants.{PutReturn}
 use Rattle.tally_returns.specs.declared.refusal.Refusal.{Refusal}
@@ -60,11 +60,17 @@ close-kind setup station rev (Ok (PutReturn standing)) = tt
 close-kind setup station rev (Ok other) = tt
 close-kind setup station rev (Err e) = tt
 
+confirm-kind : (setup : List Constituency) (station : List ℕ) (rev : ℕ) (slip : List ℕ) (counts : VoteCounts) (d : Result Change Refusal) → IfOk (move_reply d) (IsAnswerTo setup (Confirm station rev slip counts))
+confirm-kind setup station rev slip counts (Ok (PutReturn standing)) = tt
+confirm-kind setup station rev slip counts (Ok other) = tt
+confirm-kind setup station rev slip counts (Err e) = tt
+
 answer-kind : (setup : List Constituency) (s : State) (ask : Ask) → con_named ask ≡ None → IfOk (answer setup s ask) (IsAnswerTo setup ask)
 answer-kind setup s (Lodge station slip counts) named = lodge-kind setup station slip counts (lodge_answer (stations_of setup) s.returns station slip counts)
 answer-kind setup s (Query station rev note) named = query-kind setup station rev note (change_in_state setup s (Query station rev note))
 answer-kind setup s (Correct station rev slip counts) named = correct-kind setup station rev slip counts (change_in_state setup s (Correct station rev slip counts))
 answer-kind setup s (Close station rev) named = close-kind setup station rev (change_in_state setup s (Close station rev))
+answer-kind setup s (Confirm station rev slip counts) named = confirm-kind setup station rev slip counts (change_in_state setup s (Confirm station rev slip counts))
 answer-kind setup s (ShowReturn station) named = show-kind setup station (first_refusal (show_checks (stations_of setup station) (get s.returns station))) (get s.returns station)
 answer-kind setup s ShowProgress named = tt
 answer-kind setup s (Draw con edition order) named = cc
@@ -108,6 +114,7 @@ con-kind setup code con view (Lodge station slip counts) decided named is fits d
 con-kind setup code con view (Query station rev note) decided named is fits decides = absurd decides
 con-kind setup code con view (Correct station rev slip counts) decided named is fits decides = absurd decides
 con-kind setup code con view (Close station rev) decided named is fits decides = absurd decides
+con-kind setup code con view (Confirm station rev slip counts) decided named is fits decides = absurd decides
 con-kind setup code con view (ShowReturn station) decided named is fits decides = absurd decides
 con-kind setup code con view ShowProgress decided named is fits decides = absurd decides
 

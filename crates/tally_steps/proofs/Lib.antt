@@ -23,3 +23,4 @@ pub mod DecisionLemmas
 pub mod RecordLemmas
 pub mod GoneLemmas
 pub mod KindLemmas
+pub mod EnteredTwiceLemmas

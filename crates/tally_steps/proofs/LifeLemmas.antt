@@ -1,32 +1,33 @@
 -- Revisions only rise, and a command names the revision that it acts on.
 use Rattle.std.proofs.Common.{◌≡◌, ◌≤◌, ◌+◌, ◌++◌, ◌∷◌, ◌∙◌, ℕ, List, [], Bool, true, false, cond, Option, Some, None, Result, Ok, Err, refl, sym, ap, subst, arith}
-use Rattle.std.specs.Prelude.{◌==◌, ◌&&◌, not, nat_eq, is_some, string_bytes, if◌then◌else◌}
+use Rattle.std.specs.Prelude.{◌==◌, not, is_some, string_bytes, if◌then◌else◌}
 use Rattle.std.specs.FinMap as map
+use Rattle.std.specs.Option.{option_map_or}
 use Rattle.std.specs.Cmp.{Equal-is, eq_by_cmp_equiv}
-use Rattle.std.specs.Cmp.Lexicographic.{pointwise, nat_list_cmp_total}
+use Rattle.std.specs.Cmp.Lexicographic.{nat_list_cmp_total}
 use Rattle.std.specs.Ordering.{eq_by_cmp}
 use Rattle.std.proofs.lemmas.Bool.{eqb-true}
 use Rattle.tally_rules.specs.Code.{code_cmp}
 use Rattle.tally_rules.specs.Constituency.{Constituency}
 use Rattle.tally_rules.specs.Text.{is_note}
 use Rattle.tally_returns.specs.Checks.{check, first_refusal, refused_or}
-use Rattle.tally_returns.specs.Counts.{VoteCounts, same_counts}
+use Rattle.tally_returns.specs.Counts.{VoteCounts}
 use Rattle.tally_returns.specs.Return.{StationReturn, Returns, first_return}
-use Rattle.tally_returns.specs.Lodge.{StationLimits, counts_checks, reply_after_checks}
-use Rattle.tally_returns.specs.Moves.{last_revision, may_query, may_correct, may_close, move_checks, counts_checks_at, query_checks, correct_checks, close_checks, queried_return, corrected_return, closed_return}
+use Rattle.tally_returns.specs.Lodge.{StationLimits, counts_checks, is_return_of, reply_after_checks}
+use Rattle.tally_returns.specs.Moves.{last_revision, may_query, may_correct, may_close, move_checks, counts_checks_at, query_checks, correct_checks, close_checks, confirm_checks, entry_checks, same_checks, queried_return, corrected_return, closed_return}
 use Rattle.tally_returns.specs.Decide.{return_change, lodge_change, move_change, put_next}
 use Rattle.tally_returns.specs.Named.{station_named}
 use Rattle.tally_returns.specs.State.{State, stations_of}
 use Rattle.tally_steps.specs.Step.{con_of_station, is_certified, change_at_station, change_in_state, without_lot, after_put, with_return, state_after, after_return}
 use Rattle.tally_returns.specs.declared.returns.Status.{Status}
 use Rattle.tally_returns.specs.declared.ask.Ask.{Ask}
-use Rattle.tally_returns.specs.declared.ask.Ask.TheVariants.{Lodge, Query, Correct, Close, ShowReturn}
+use Rattle.tally_returns.specs.declared.ask.Ask.TheVariants.{Lodge, Query, Correct, Close, Confirm, ShowReturn}
 use Rattle.tally_returns.specs.declared.change.Change.{Change}
 use Rattle.tally_returns.specs.declared.change.Change.TheVariants.{Same, PutReturn}
 use Rattle.tally_returns.specs.declared.refusal.Refusal.{Refusal}
 use Rattle.tally_returns.specs.declared.refusal.Refusal.TheVariants.{NoStation, NoReturn, BadNote, Certified, Stale, Exhausted, WrongStatus, Differs}
 use Rattle.tally_returns.specs.declared.reply.LodgeReply.TheVariants as reply
-use Rattle.tally_returns.proofs.DecideLemmas.{passed-rest}
+use Rattle.tally_returns.proofs.DecideLemmas.{first_refusal-append_first, passed-rest}
 
 -- the revision of a return, or 0 where there is none
 abbrev pub rev_of : Option StationReturn → ℕ
@@ -42,6 +43,7 @@ named_rev (Lodge station slip counts) = 0
 named_rev (Query station rev note) = rev
 named_rev (Correct station rev slip counts) = rev
 named_rev (Close station rev) = rev
+named_rev (Confirm station rev slip counts) = rev
 named_rev other = 0
 
 -- a return that is put is the next one of the one recorded
@@ -100,7 +102,7 @@ lodge-rise : (slip : List ℕ) (counts : VoteCounts) (refused : Option Refusal) 
 lodge-rise slip counts (Some e) found r is = cc
 lodge-rise slip counts None None r is =
     let put : first_return slip counts ≡ r = cc in record { stood = refl; rises = sym (ap (λ (x : StationReturn). x.rev) put) }
-lodge-rise slip counts None (Some standing) r is = again (pointwise nat_eq standing.slip slip && same_counts standing.counts counts) is
+lodge-rise slip counts None (Some standing) r is = again (is_return_of slip counts standing) is
   where
     again : (same : Bool) → lodge_change slip counts (if same then Ok (reply.Same standing.rev) else Err (Differs standing.rev)) ≡ Ok (PutReturn r) → IsRise (Some standing) 0 r
     again true ok = cc
@@ -118,8 +120,15 @@ decided-rise station certified found (Correct code rev slip counts) r is =
     move-rise certified (correct_checks station certified found rev counts) found rev may_correct (corrected_return slip counts) r (λ standing. refl)
     (first_refusal-append_rest (counts_checks_at station counts) (move_checks certified found rev may_correct)) is
 decided-rise station certified found (Close code rev) r is =
+    let moves = move_checks certified found rev may_close in
+    let more = option_map_or (λ (limits : StationLimits). entry_checks limits.entry) station [] in
     move-rise certified (close_checks station certified found rev) found rev may_close closed_return r (λ standing. refl)
-    (passed-rest (is_some station) NoStation (move_checks certified found rev may_close)) is
+    (λ none. first_refusal-append_first moves more (passed-rest (is_some station) NoStation (moves ++ more) none)) is
+decided-rise station certified found (Confirm code rev slip counts) r is =
+    let moves = move_checks certified found rev may_close in
+    let more = same_checks found slip counts in
+    move-rise certified (confirm_checks station certified found rev slip counts) found rev may_close closed_return r (λ standing. refl)
+    (λ none. first_refusal-append_first moves more (first_refusal-append_rest (counts_checks_at station counts) (moves ++ more) none)) is
 decided-rise station certified found (ShowReturn code) r is = shown (first_refusal (check (is_some station) NoStation ∷ check (is_some found) NoReturn ∷ [])) is
   where
     shown : (refused : Option Refusal) → refused_or refused (Ok Same) ≡ Ok (PutReturn r) → IsRise found 0 r

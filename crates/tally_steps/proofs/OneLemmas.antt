@@ -11,7 +11,7 @@ use Rattle.tally_returns.specs.Named.{con_named}
 use Rattle.tally_returns.specs.State.{State}
 use Rattle.tally_returns.specs.View.{View}
 use Rattle.tally_returns.specs.declared.ask.Ask.{Ask}
-use Rattle.tally_returns.specs.declared.ask.Ask.TheVariants.{Certify, Close, Correct, Draw, Lodge, Query, Reopen, ShowCon, ShowProgress, ShowReturn, Vacate}
+use Rattle.tally_returns.specs.declared.ask.Ask.TheVariants.{Certify, Close, Confirm, Correct, Draw, Lodge, Query, Reopen, ShowCon, ShowProgress, ShowReturn, Vacate}
 use Rattle.tally_returns.specs.declared.refusal.Refusal.{Refusal}
 use Rattle.tally_steps.proofs.LawLemmas.{AllotmentLaws, lot-stands, view-one}
 use Rattle.tally_steps.proofs.NeedLemmas.{need-one}
@@ -67,6 +67,7 @@ decides-one laws setup code con view (Lodge station slip counts) a b ok is first
 decides-one laws setup code con view (Query station rev note) a b ok is first second = absurd first
 decides-one laws setup code con view (Correct station rev slip counts) a b ok is first second = absurd first
 decides-one laws setup code con view (Close station rev) a b ok is first second = absurd first
+decides-one laws setup code con view (Confirm station rev slip counts) a b ok is first second = absurd first
 decides-one laws setup code con view (ShowReturn station) a b ok is first second = absurd first
 decides-one laws setup code con view ShowProgress a b ok is first second = absurd first
 

@@ -1,21 +1,21 @@
 -- The machine itself never answers that memory was wanting or that a store failed.
 use Rattle.std.proofs.Common.{◌++◌, ◌∷◌, ℕ, List, [], Bool, true, false, Option, Some, None, Result, Ok, Err, sym, subst}
-use Rattle.std.specs.Prelude.{◌==◌, ◌&&◌, ◌-◌, not, nat_eq, nat_le, IfErr, is_some, string_bytes, if◌then◌else◌}
-use Rattle.std.specs.Cmp.Lexicographic.{pointwise}
+use Rattle.std.specs.Prelude.{◌==◌, ◌-◌, not, nat_le, IfErr, is_some, string_bytes, if◌then◌else◌}
 use Rattle.std.specs.FinMap.{get}
+use Rattle.std.specs.Option.{option_map_or}
 use Rattle.tally_rules.specs.Constituency.{Constituency}
 use Rattle.tally_rules.specs.Setup.{constituency_with}
 use Rattle.tally_rules.specs.Text.{is_note}
 use Rattle.tally_steps.specs.Certification.{ListFound, RefusedOr, certificate_of, seats_by_outcome, count_checks, lot_where_recorded, gone_of, has_candidate, holders_of, list_found, list_places, names_group, reopen_checks, reopen_result, vacate_checks, vacancy, vacate_result}
 use Rattle.tally_returns.specs.Checks.{check, check_found, first_refusal, refused_or}
 use Rattle.tally_steps.specs.Step.{ConChange, no_change, gone_for_good, lot_set, certified_with, open_again, Decides, change_of_result, Answer, IsConStepSeen, IsStepSeenAt, answer, con_answer, lodge_reply, move_reply, return_reply, change_in_state, is_certified}
-use Rattle.tally_returns.specs.Counts.{VoteCounts, all_votes, are_counts, same_counts}
+use Rattle.tally_returns.specs.Counts.{VoteCounts, all_votes, are_counts}
 use Rattle.tally_returns.specs.Decide.{put_next, show_checks}
 use Rattle.tally_returns.specs.GoneCandidate.{GoneCandidate}
 use Rattle.tally_returns.specs.PastSeats.{PastSeats}
 use Rattle.tally_steps.specs.Holders.{is_among}
-use Rattle.tally_returns.specs.Lodge.{StationLimits, reply_after_checks, counts_checks, reply_at_code, lodge_answer}
-use Rattle.tally_returns.specs.Moves.{close_checks, closed_return, correct_checks, corrected_return, counts_checks_at, last_revision, may_close, may_correct, may_query, move_checks, queried_return, query_checks}
+use Rattle.tally_returns.specs.Lodge.{StationLimits, is_return_of, reply_after_checks, counts_checks, reply_at_code, lodge_answer}
+use Rattle.tally_returns.specs.Moves.{close_checks, closed_return, confirm_checks, correct_checks, corrected_return, counts_checks_at, entry_checks, is_single, last_revision, may_close, may_correct, may_query, move_checks, queried_return, query_checks, same_checks}
 use Rattle.tally_returns.specs.Named.{con_named}
 use Rattle.tally_steps.specs.Outcome.{Outcome, nobody, lot_missing, allotted}
 use Rattle.tally_steps.specs.Decisions.{StepsAreOfTheMachine}
@@ -23,11 +23,11 @@ use Rattle.tally_returns.specs.Return.{StationReturn}
 use Rattle.tally_returns.specs.State.{State, stations_of, last_edition}
 use Rattle.tally_returns.specs.View.{View}
 use Rattle.tally_returns.specs.declared.ask.Ask.{Ask}
-use Rattle.tally_returns.specs.declared.ask.Ask.TheVariants.{Lodge, Query, Correct, Close, ShowReturn, Draw, Certify, Reopen, Vacate, ShowCon, ShowProgress}
+use Rattle.tally_returns.specs.declared.ask.Ask.TheVariants.{Lodge, Query, Correct, Close, Confirm, ShowReturn, Draw, Certify, Reopen, Vacate, ShowCon, ShowProgress}
 use Rattle.tally_returns.specs.declared.change.Change.{Change}
 use Rattle.tally_returns.specs.declared.change.Change.TheVariants as change
 use Rattle.tally_returns.specs.declared.refusal.Refusal.{Refusal}
-use Rattle.tally_returns.specs.declared.refusal.Refusal.TheVariants.{NoStation, NoReturn, NoCandidate, BadCounts, BadNote, TooManyVotes, Certified, NotCertified, Stale, Exhausted, WrongStatus, NotAllClosed, Differs, LotWrongGroup, AlreadyGone, NotHolder, Memory, Store}
+use Rattle.tally_returns.specs.declared.refusal.Refusal.TheVariants.{NoStation, NoReturn, NoCandidate, BadCounts, BadNote, TooManyVotes, Certified, NotCertified, Stale, Exhausted, WrongStatus, NotAllClosed, Differs, LotWrongGroup, AlreadyGone, NotHolder, NotConfirmed, Memory, Store}
 use Rattle.tally_returns.specs.declared.reply.LodgeReply.{LodgeReply}
 use Rattle.tally_returns.specs.declared.reply.LodgeReply.TheVariants as lodge
 use Rattle.tally_returns.specs.declared.returns.Status.{Status}
@@ -91,7 +91,7 @@ lodge-own (Some limits) found slip counts = go (first_refusal (counts_checks lim
     go : (refused : Option Refusal) (f : Option StationReturn) → IsOwnCheck refused → IsOwn (refused_or refused (reply_after_checks f slip counts))
     go (Some e) f is = is
     go None None is = tt
-    go None (Some standing) is = again standing (pointwise nat_eq standing.slip slip && same_counts standing.counts counts)
+    go None (Some standing) is = again standing (is_return_of slip counts standing)
 
 lodge_reply-own : (a : Result LodgeReply Refusal) → IsOwn a → IsOwn (lodge_reply a)
 lodge_reply-own (Ok (lodge.Lodged rev)) own = tt
@@ -128,6 +128,15 @@ counts-own (Some limits) counts = (
   ),
 )
 
+-- the last check of Close
+entry-own : (known : Option StationLimits) → AreOwnChecks (option_map_or (λ (limits : StationLimits). entry_checks limits.entry) known [])
+entry-own None = tt
+entry-own (Some limits) = (check-own (is_single limits.entry) NotConfirmed tt, tt)
+
+-- and of Confirm
+same-own : (found : Option StationReturn) (slip : List ℕ) (counts : VoteCounts) → AreOwnChecks (same_checks found slip counts)
+same-own found slip counts = (found-own found (is_return_of slip counts) (λ standing. Differs standing.rev) (λ standing. tt), tt)
+
 answer-own : (setup : List Constituency) (s : State) (ask : Ask) → IsOwn (answer setup s ask)
 answer-own setup s (Lodge station slip counts) = lodge_reply-own (lodge_answer (stations_of setup) s.returns station slip counts) (lodge-own (stations_of setup station) (get s.returns station) slip counts)
 answer-own setup s (Query station rev note) =
@@ -149,8 +158,18 @@ answer-own setup s (Close station rev) =
     let known = stations_of setup station in
     let certified = is_certified setup s station in
     let found = get s.returns station in
+    let more = option_map_or (λ (limits : StationLimits). entry_checks limits.entry) known [] in
     move_reply-own (change_in_state setup s (Close station rev))
-    (refused-own (close_checks known certified found rev) (Ok (put_next found closed_return)) (check-own (is_some known) NoStation tt, move-own certified found rev may_close) tt)
+    (refused-own (close_checks known certified found rev) (Ok (put_next found closed_return)) (check-own (is_some known) NoStation tt, append-own (move_checks certified found rev may_close) more (move-own certified found rev may_close) (entry-own known)) tt)
+answer-own setup s (Confirm station rev slip counts) =
+    let known = stations_of setup station in
+    let certified = is_certified setup s station in
+    let found = get s.returns station in
+    let moves = move_checks certified found rev may_close in
+    let more = same_checks found slip counts in
+    move_reply-own (change_in_state setup s (Confirm station rev slip counts))
+    (refused-own (confirm_checks known certified found rev slip counts) (Ok (put_next found closed_return))
+    (append-own (counts_checks_at known counts) (moves ++ more) (counts-own known counts) (append-own moves more (move-own certified found rev may_close) (same-own found slip counts))) tt)
 answer-own setup s (ShowReturn station) =
     refused-own (show_checks (stations_of setup station) (get s.returns station)) (return_reply (get s.returns station))
     (check-own (is_some (stations_of setup station)) NoStation tt, (check-own (is_some (get s.returns station)) NoReturn tt, tt)) (shown (get s.returns station))

@@ -19,7 +19,7 @@ use Rattle.tally_returns.specs.State.{ConState, PastRecords, State, con_state, l
 use Rattle.tally_steps.specs.Step.{state_after, after_put, after_return, con_of_station, change_in_state, without_lot, ConChange, Decides, IsView, after_change, certified_with, con_state_after, gone_for_good, lot_set, no_change, open_again, with_con, IsAnswered, IsConStep, con_answer, edition_now, reply_seen, IsStepSeenAt}
 use Rattle.tally_returns.specs.View.{View, past_records}
 use Rattle.tally_returns.specs.declared.ask.Ask.{Ask}
-use Rattle.tally_returns.specs.declared.ask.Ask.TheVariants.{Lodge, Query, Correct, Close, ShowReturn, Draw, Certify, Reopen, Vacate, ShowCon, ShowProgress}
+use Rattle.tally_returns.specs.declared.ask.Ask.TheVariants.{Lodge, Query, Correct, Close, Confirm, ShowReturn, Draw, Certify, Reopen, Vacate, ShowCon, ShowProgress}
 use Rattle.tally_returns.specs.declared.change.Change.{Change}
 use Rattle.tally_returns.specs.declared.change.Change.TheVariants.{PutReturn}
 use Rattle.tally_returns.specs.declared.refusal.Refusal.{Refusal}
@@ -153,6 +153,7 @@ of-reopening con view (Lodge station slip counts) note past decides = absurd dec
 of-reopening con view (Query station rev text) note past decides = absurd decides
 of-reopening con view (Correct station rev slip counts) note past decides = absurd decides
 of-reopening con view (Close station rev) note past decides = absurd decides
+of-reopening con view (Confirm station rev slip counts) note past decides = absurd decides
 of-reopening con view (ShowReturn station) note past decides = absurd decides
 of-reopening con view ShowProgress note past decides = absurd decides
 

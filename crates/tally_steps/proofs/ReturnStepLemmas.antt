@@ -1,7 +1,7 @@
 -- A step on a return keeps a lawful state lawful.
 use Rattle.std.proofs.Common.{length, ◌≡◌, ◌≢◌, ◌≤◌, ◌++◌, ◌∷◌, ◌⊎◌, ◌∙◌, ℕ, List, [], Bool, true, false, cond, map, Option, Some, None, Result, Ok, Err, refl, sym, ap, subst, inl, inr, arith}
-use Rattle.std.specs.Prelude.{◌==◌, ◌&&◌, not, nat_eq, All, is_some, option_map, unwrap_or, string_bytes, if◌then◌else◌}
-use Rattle.std.specs.Cmp.Lexicographic.{pointwise, nat_list_cmp_total}
+use Rattle.std.specs.Prelude.{◌==◌, not, All, is_some, option_map, unwrap_or, string_bytes, if◌then◌else◌}
+use Rattle.std.specs.Cmp.Lexicographic.{nat_list_cmp_total}
 use Rattle.std.specs.FinMap as fin
 use Rattle.std.specs.Option.{ForSome, option_map_or}
 use Rattle.std.specs.Ordering.{eq_by_cmp}
@@ -16,12 +16,12 @@ use Rattle.tally_rules.specs.Setup.{constituency_with, station_with}
 use Rattle.tally_rules.specs.Text.{is_note}
 use Rattle.tally_rules.specs.declared.constituency.Station.{Station}
 use Rattle.tally_returns.specs.Checks.{check, first_refusal, refused_or}
-use Rattle.tally_returns.specs.Counts.{VoteCounts, same_counts}
+use Rattle.tally_returns.specs.Counts.{VoteCounts}
 use Rattle.tally_returns.specs.Decide.{return_change, limits_of, lodge_change, move_change, put_next}
 use Rattle.tally_returns.specs.Lawful.{IsLawful, is_note_or_empty}
 use Rattle.tally_steps.specs.LawfulState.{IsLawfulIn, IsLawfulState, IsUnderPlaces}
-use Rattle.tally_returns.specs.Lodge.{StationLimits, reply_after_checks, counts_checks}
-use Rattle.tally_returns.specs.Moves.{close_checks, closed_return, correct_checks, corrected_return, counts_checks_at, last_revision, may_close, may_correct, may_query, move_checks, queried_return, query_checks}
+use Rattle.tally_returns.specs.Lodge.{StationLimits, is_return_of, reply_after_checks, counts_checks}
+use Rattle.tally_returns.specs.Moves.{close_checks, closed_return, confirm_checks, correct_checks, corrected_return, counts_checks_at, entry_checks, last_revision, may_close, may_correct, may_query, move_checks, queried_return, query_checks, same_checks}
 use Rattle.tally_returns.specs.Named.{BringsCode}
 use Rattle.tally_steps.specs.Outcome.{IsLawfulCon, IsLawfulGone, IsLawfulPast, HasLawfulLot}
 use Rattle.tally_returns.specs.Progress.{is_closed}
@@ -30,7 +30,7 @@ use Rattle.tally_returns.specs.State.{State, ConState, con_state, opening, openi
 use Rattle.tally_steps.specs.Step.{state_after, after_return, con_of_station, change_in_state, is_certified, with_return, without_lot}
 use Rattle.tally_returns.specs.View.{gone_candidate, gone_candidates, past_records, view_of, view_with}
 use Rattle.tally_returns.specs.declared.ask.Ask.{Ask}
-use Rattle.tally_returns.specs.declared.ask.Ask.TheVariants.{Certify, Close, Correct, Draw, Lodge, Query, Reopen, ShowCon, ShowProgress, ShowReturn, Vacate}
+use Rattle.tally_returns.specs.declared.ask.Ask.TheVariants.{Certify, Close, Confirm, Correct, Draw, Lodge, Query, Reopen, ShowCon, ShowProgress, ShowReturn, Vacate}
 use Rattle.tally_returns.specs.declared.change.Change.{Change}
 use Rattle.tally_returns.specs.declared.change.Change.TheVariants.{PutReturn, Same, SetCertified, SetGone, SetLot, SetReopened}
 use Rattle.tally_returns.specs.declared.refusal.Refusal.{Refusal}
@@ -39,7 +39,7 @@ use Rattle.tally_returns.specs.declared.reply.LodgeReply.TheVariants as reply
 use Rattle.tally_returns.specs.declared.returns.Status.{Status}
 use Rattle.tally_returns.specs.declared.returns.Status.TheVariants.{Closed, Corrected, Queried, Received}
 use Rattle.tally_returns.proofs.ClosedLemmas.{IsSameAt, all_closed-at, closed_now, constituency_with-code, get-kept, get-put, put-elsewhere, same-tied, station-elsewhere, station_with-con, tied-same, view_with-same}
-use Rattle.tally_returns.proofs.DecideLemmas.{decided-lawful, passed-rest}
+use Rattle.tally_returns.proofs.DecideLemmas.{decided-lawful, first_refusal-append_first, passed-rest}
 use Rattle.tally_returns.proofs.StateLemmas.{station_with-in}
 use Rattle.tally_steps.proofs.PastLemmas.{no-past}
 
@@ -236,8 +236,19 @@ correct-open station certified found rev slip counts r is =
 close-open : (station : Option StationLimits) (certified : Bool) (found : Option StationReturn) (rev : ℕ) (r : StationReturn)
     → move_change (close_checks station certified found rev) found closed_return ≡ Ok (PutReturn r) → closed_now found ≡ false
 close-open station certified found rev r is =
+    let moves = move_checks certified found rev may_close in
+    let more = option_map_or (λ (limits : StationLimits). entry_checks limits.entry) station [] in
     let m = moved-from certified found rev may_close (close_checks station certified found rev) closed_return r
-    (passed-rest (is_some station) NoStation (move_checks certified found rev may_close)) is in
+    (λ none. first_refusal-append_first moves more (passed-rest (is_some station) NoStation (moves ++ more) none)) is in
+    ap closed_now m.found_is ∙ close-not_closed m.standing.status m.started
+
+confirm-open : (station : Option StationLimits) (certified : Bool) (found : Option StationReturn) (rev : ℕ) (slip : List ℕ) (counts : VoteCounts) (r : StationReturn)
+    → move_change (confirm_checks station certified found rev slip counts) found closed_return ≡ Ok (PutReturn r) → closed_now found ≡ false
+confirm-open station certified found rev slip counts r is =
+    let moves = move_checks certified found rev may_close in
+    let more = same_checks found slip counts in
+    let m = moved-from certified found rev may_close (confirm_checks station certified found rev slip counts) closed_return r
+    (λ none. first_refusal-append_first moves more (append-rest (counts_checks_at station counts) (moves ++ more) none)) is in
     ap closed_now m.found_is ∙ close-not_closed m.standing.status m.started
 
 -- a return is lodged only where none is recorded
@@ -252,7 +263,7 @@ lodge-open limits found slip counts r is = go (first_refusal (counts_checks limi
     go : (refused : Option Refusal) (f : Option StationReturn) → lodge_change slip counts (refused_or refused (reply_after_checks f slip counts)) ≡ Ok (PutReturn r) → closed_now f ≡ false
     go (Some e) f ok = cc
     go None None ok = refl
-    go None (Some standing) ok = absurd (again (pointwise nat_eq standing.slip slip && same_counts standing.counts counts) standing.rev (Differs standing.rev) ok)
+    go None (Some standing) ok = absurd (again (is_return_of slip counts standing) standing.rev (Differs standing.rev) ok)
 
 -- no return is put where there is no station
 no_station-put : (certified : Bool) (found : Option StationReturn) (ask : Ask) (r : StationReturn) → return_change None certified found ask ≢ Ok (PutReturn r)
@@ -260,6 +271,7 @@ no_station-put certified found (Lodge code slip counts) r is = cc
 no_station-put certified found (Query code rev note) r is = cc
 no_station-put certified found (Correct code rev slip counts) r is = cc
 no_station-put certified found (Close code rev) r is = cc
+no_station-put certified found (Confirm code rev slip counts) r is = cc
 no_station-put certified found (ShowReturn code) r is = cc
 no_station-put certified found (Draw con edition order) r is = cc
 no_station-put certified found (Certify con edition) r is = cc
@@ -345,6 +357,10 @@ return-step-lawful setup s ask brings is_setup lawful = go (change_in_state setu
         let placed = put-placed setup s station (is_certified setup s station) (Close station rev) r brings lawful is in
         open-put setup s station (is_certified setup s station) (Close station rev) r is_setup lawful placed
         (close-open (stations_of setup station) (is_certified setup s station) (fin.get s.returns station) rev r is)
+    put (Confirm station rev slip counts) r brings is =
+        let placed = put-placed setup s station (is_certified setup s station) (Confirm station rev slip counts) r brings lawful is in
+        open-put setup s station (is_certified setup s station) (Confirm station rev slip counts) r is_setup lawful placed
+        (confirm-open (stations_of setup station) (is_certified setup s station) (fin.get s.returns station) rev slip counts r is)
     put (ShowReturn station) r brings is = shown (first_refusal (check (is_some (stations_of setup station)) NoStation ∷ check (is_some (fin.get s.returns station)) NoReturn ∷ [])) is
       where
         shown : (refused : Option Refusal) → refused_or refused (Ok Same) ≡ Ok (PutReturn r) → IsLawfulState setup (record s { returns = fin.insert s.returns station r })

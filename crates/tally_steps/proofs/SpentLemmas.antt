@@ -24,7 +24,7 @@ use Rattle.tally_steps.specs.Runs.{is_act, IsSameCommand}
 use Rattle.tally_returns.specs.AskSeen.{AskSeen, ask_seen}
 use Rattle.tally_returns.specs.AskSeen as seen_ask
 use Rattle.tally_returns.specs.declared.ask.Ask.{Ask}
-use Rattle.tally_returns.specs.declared.ask.Ask.TheVariants.{Lodge, Query, Correct, Close, ShowReturn, Draw, Certify, Reopen, Vacate, ShowCon, ShowProgress}
+use Rattle.tally_returns.specs.declared.ask.Ask.TheVariants.{Lodge, Query, Correct, Close, Confirm, ShowReturn, Draw, Certify, Reopen, Vacate, ShowCon, ShowProgress}
 use Rattle.tally_returns.specs.declared.refusal.Refusal.{Refusal}
 use Rattle.tally_returns.specs.declared.refusal.Refusal.TheVariants.{NoCandidate, BadNote, Certified, NotCertified, Stale, Exhausted, NotAllClosed, AlreadyGone, NotHolder}
 use Rattle.tally_returns.specs.declared.reply.Reply.{Reply}
@@ -47,6 +47,7 @@ mark (Lodge station slip counts) = revision station 0
 mark (Query station rev note) = revision station rev
 mark (Correct station rev slip counts) = revision station rev
 mark (Close station rev) = revision station rev
+mark (Confirm station rev slip counts) = revision station rev
 mark (ShowReturn station) = revision station 0
 mark (Draw con edition_named order) = edition con edition_named
 mark (Certify con edition_named) = edition con edition_named
@@ -61,6 +62,7 @@ mark_seen (seen_ask.lodge station slip counts) = revision station 0
 mark_seen (seen_ask.query station rev note) = revision station rev
 mark_seen (seen_ask.correct station rev slip counts) = revision station rev
 mark_seen (seen_ask.close station rev) = revision station rev
+mark_seen (seen_ask.confirm station rev slip counts) = revision station rev
 mark_seen (seen_ask.show_return station) = revision station 0
 mark_seen (seen_ask.draw con n order) = edition con n
 mark_seen (seen_ask.certify con n) = edition con n
@@ -74,6 +76,7 @@ mark-seen (Lodge station slip counts) = refl
 mark-seen (Query station rev note) = refl
 mark-seen (Correct station rev slip counts) = refl
 mark-seen (Close station rev) = refl
+mark-seen (Confirm station rev slip counts) = refl
 mark-seen (ShowReturn station) = refl
 mark-seen (Draw con n order) = refl
 mark-seen (Certify con n) = refl
@@ -320,6 +323,7 @@ step-used setup s (Lodge station slip counts) r t is acted_there = return-used s
 step-used setup s (Query station rev note) r t is acted_there = return-used setup s (Query station rev note) r t station refl is acted_there
 step-used setup s (Correct station rev slip counts) r t is acted_there = return-used setup s (Correct station rev slip counts) r t station refl is acted_there
 step-used setup s (Close station rev) r t is acted_there = return-used setup s (Close station rev) r t station refl is acted_there
+step-used setup s (Confirm station rev slip counts) r t is acted_there = return-used setup s (Confirm station rev slip counts) r t station refl is acted_there
 step-used setup s (ShowReturn station) r t is acted_there = return-used setup s (ShowReturn station) r t station refl is acted_there
 step-used setup s (Draw con n order) r t is acted_there =
     let act = con-acted setup con s (Draw con n order) r t is acted_there in

@@ -1,17 +1,17 @@
 -- No step takes a return away, so what was lodged is not lodged again.
 use Rattle.std.proofs.Common.{◌≡◌, ◌∙◌, ℕ, List, [], ◌∷◌, Bool, true, false, cond, Option, Some, None, Result, Ok, Err, refl, sym, ap, subst, inl, inr}
-use Rattle.std.specs.Prelude.{◌&&◌, is_some, nat_eq, if◌then◌else◌}
+use Rattle.std.specs.Prelude.{is_some, if◌then◌else◌}
 use Rattle.std.specs.FinMap as map
 use Rattle.std.specs.Cmp.{eq_by_cmp_equiv}
-use Rattle.std.specs.Cmp.Lexicographic.{pointwise, nat_list_cmp_total}
+use Rattle.std.specs.Cmp.Lexicographic.{nat_list_cmp_total}
 use Rattle.std.specs.Ordering.{eq_by_cmp}
 use Rattle.tally_rules.specs.Code.{code_cmp}
 use Rattle.tally_rules.specs.Constituency.{Constituency}
 use Rattle.tally_rules.specs.Setup.{constituency_with}
 use Rattle.tally_returns.specs.Checks.{first_refusal, refused_or}
-use Rattle.tally_returns.specs.Counts.{VoteCounts, same_counts}
+use Rattle.tally_returns.specs.Counts.{VoteCounts}
 use Rattle.tally_returns.specs.Return.{StationReturn, Returns, first_return}
-use Rattle.tally_returns.specs.Lodge.{StationLimits, Stations, counts_checks, reply_after_checks, reply_at_code, lodge_answer, after_lodge, lodge}
+use Rattle.tally_returns.specs.Lodge.{StationLimits, Stations, counts_checks, is_return_of, reply_after_checks, reply_at_code, lodge_answer, after_lodge, lodge}
 use Rattle.tally_returns.specs.Named.{con_named, station_named}
 use Rattle.tally_returns.specs.State.{State}
 use Rattle.tally_steps.specs.Step.{con_of_station, change_in_state, without_lot, after_put, with_return, state_after, after_return, IsAnswered, IsStepSeenAt, reply_seen}
@@ -101,7 +101,7 @@ lodged-none (Some limits) found slip counts rev is = go (first_refusal (counts_c
     go : (refused : Option Refusal) (f : Option StationReturn) → refused_or refused (reply_after_checks f slip counts) ≡ Ok (Lodged rev) → f ≡ None
     go (Some e) f ok = cc
     go None None ok = refl
-    go None (Some standing) ok = again standing (pointwise nat_eq standing.slip slip && same_counts standing.counts counts) ok
+    go None (Some standing) ok = again standing (is_return_of slip counts standing) ok
 
 -- a Lodge that came before is not lodged again, as long as no return was taken away
 pub not_lodged-again : (stations : Stations) (m n : Returns) (station slip : List ℕ) (counts : VoteCounts) (rev : ℕ)

@@ -21,6 +21,7 @@ use Rattle.tally_returns.specs.Lodge.{StationLimits}
 use Rattle.tally_steps.specs.Outcome.{HasSeats, IsLawfulView, poll_in, rule_in}
 use Rattle.tally_returns.specs.Progress.{is_closed}
 use Rattle.tally_returns.specs.Return.{StationReturn, Returns}
+use Rattle.tally_returns.specs.Decide.{limits_of}
 use Rattle.tally_returns.specs.State.{State, stations_of}
 use Rattle.tally_returns.specs.View.{View, blank_of, closed_counts, counts_if_closed, view_of, votes_at}
 use Rattle.tally_steps.proofs.VacancyLemmas.{allotted-long}
@@ -71,7 +72,7 @@ few_electors : (setup : List Constituency) (station : List ℕ) (limits : Statio
 few_electors setup station limits ok is = at (station_with station setup) refl is
   where
     at : (found : Option (Constituency × Station)) → station_with station setup ≡ found
-        → option_map (λ (place : Constituency × Station). record { lists = length place.0.lists; electors = place.1.electors }) found ≡ Some limits → limits.electors ≤ 1000000
+        → option_map (λ (place : Constituency × Station). limits_of place.0 place.1) found ≡ Some limits → limits.electors ≤ 1000000
     at None here is = cc
     at (Some place) here is =
         let same : place.1.electors ≡ limits.electors = cc in

@@ -6,7 +6,7 @@ use Rattle.std.specs.List.{list_all, filter}
 use Rattle.std.specs.Str.{bytes_eq}
 use Rattle.tally_rules.specs.Constituency.{Constituency, ListEntry}
 use Rattle.tally_rules.specs.Text.{is_note}
-use Rattle.tally_rules.specs.ListSet.{has_place}
+use Rattle.tally_frac.specs.ListSet.{has_place}
 use Rattle.tally_law.specs.Poll.{HasEligible}
 use Rattle.tally_returns.specs.Checks.{check, check_found, first_refusal, refused_or}
 use Rattle.tally_steps.specs.Holders.{is_among, holders, newcomer}

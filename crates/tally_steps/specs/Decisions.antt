@@ -19,7 +19,7 @@ use Rattle.tally_steps.specs.Step.{con_answer, lodged, moved, return_shown, same
 use Rattle.tally_returns.specs.View.{View, past_records}
 use Rattle.tally_returns.specs.declared.ask.Ask.{Ask}
 use Rattle.tally_returns.specs.declared.ask.Ask.TheVariants.{Lodge, Query, Correct, Close}
-use Rattle.tally_returns.specs.declared.ask.Ask.TheVariants.{ShowReturn}
+use Rattle.tally_returns.specs.declared.ask.Ask.TheVariants.{Confirm, ShowReturn}
 use Rattle.tally_returns.specs.declared.change.Change.{Change}
 use Rattle.tally_returns.specs.declared.change.Change.TheVariants.{Same, PutReturn}
 use Rattle.tally_returns.specs.declared.refusal.Refusal.{Refusal}
@@ -49,6 +49,8 @@ answer_to_change (Query station rev note) found (PutReturn standing) = Some (mov
 answer_to_change (Correct station rev slip counts) found (PutReturn standing) =
     Some (moved standing.rev)
 answer_to_change (Close station rev) found (PutReturn standing) = Some (moved standing.rev)
+answer_to_change (Confirm station rev slip counts) found (PutReturn standing) =
+    Some (moved standing.rev)
 answer_to_change (ShowReturn station) (Some standing) Same = Some (return_shown standing)
 answer_to_change ask found other = None
 

@@ -5,8 +5,8 @@ use Rattle.tally_rules.specs.Setup.{constituency_with}
 use Rattle.tally_returns.specs.View.{FitsView}
 use Rattle.tally_returns.specs.declared.ask.Ask.{Ask}
 use Rattle.tally_returns.specs.declared.ask.Ask.TheVariants.{Lodge, Query, Correct, Close}
-use Rattle.tally_returns.specs.declared.ask.Ask.TheVariants.{ShowReturn, Draw, Certify, Reopen}
-use Rattle.tally_returns.specs.declared.ask.Ask.TheVariants.{Vacate, ShowCon, ShowProgress}
+use Rattle.tally_returns.specs.declared.ask.Ask.TheVariants.{Confirm, ShowReturn, Draw, Certify}
+use Rattle.tally_returns.specs.declared.ask.Ask.TheVariants.{Reopen, Vacate, ShowCon, ShowProgress}
 use Rattle.tally_returns.specs.declared.reply.Reply.{Reply}
 use Rattle.tally_steps.specs.Step.{Answer, answer_seen, con_shown, edition_now, lodged, moved}
 use Rattle.tally_steps.specs.Step.{progress_shown, return_shown, same, vacated}
@@ -18,6 +18,7 @@ IsAnswerTo setup (Lodge station slip counts) (same rev) = Unit {0}
 IsAnswerTo setup (Query station rev note) (moved next) = Unit {0}
 IsAnswerTo setup (Correct station rev slip counts) (moved next) = Unit {0}
 IsAnswerTo setup (Close station rev) (moved next) = Unit {0}
+IsAnswerTo setup (Confirm station rev slip counts) (moved next) = Unit {0}
 IsAnswerTo setup (ShowReturn station) (return_shown standing) = Unit {0}
 IsAnswerTo setup (Draw con edition order) (edition_now next) = Unit {0}
 IsAnswerTo setup (Certify con edition) (edition_now next) = Unit {0}

@@ -1,6 +1,6 @@
 -- The laws of states, steps and runs. Each is proved as a clause of a function of `laws` in
--- `tally_machine`. What is said of decisions is in `Decisions`, and of certificates that were
--- reopened in `Records`.
+-- `tally_machine`. What is said of decisions is in `Decisions`, of certificates that were reopened
+-- in `Records`, and of returns that were entered twice in `EnteredTwice`.
 use Rattle.std.specs.Prelude.{◌≡◌, ◌↔◌, ◌<◌, ℕ, All, Bool, List, [], ◌∷◌, Some, None, Err, Result}
 use Rattle.std.specs.Prelude.{true, false, is_some, slice_get}
 use Rattle.std.specs.FinMap.{get}

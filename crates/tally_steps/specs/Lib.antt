@@ -8,3 +8,4 @@ pub mod Decisions
 pub mod Records
 pub mod Kinds
 pub mod LawStatements
+pub mod EnteredTwice

@@ -21,6 +21,7 @@ use Rattle.tally_statements.specs.declared.table.KeyedTable.TheVariants.{Seats}
 use Rattle.tally_statements.specs.Office.{rows_in, tree_of}
 use Rattle.tally_tables.specs.Cells.{item_row, numbers_with_places, seat_rows}
 use Rattle.tally_store.specs.Certified.{HasCertificates}
+use Rattle.tally_store.specs.Content.{content_of}
 use Rattle.tally_opening.specs.Office.{IsOffice}
 use Rattle.tally_opening.proofs.ShownLemmas.{items_keyed}
 
@@ -39,9 +40,10 @@ seats-rows s given code c seen is held =
     (subst (λ o. IsPermutation (flat_map (seat_rows given) (map (λ v. (code, v)) (option_to_list o))) (filter (has_key code) (rows_in Seats seen))) is
     (rows_of_key (seat_rows given) (λ e. items_keyed e.0 (numbers_with_places 1 (given e.0))) s.cons code (seen.now.trees (tree_of Seats)) held))
 
-pub has-certificates : (setup : List Constituency) (s : State) (seen : Seen) → CertificatesAreRight → IsSetup setup → IsLawfulState setup s → IsOffice setup s seen → HasCertificates setup seen
-has-certificates setup s seen stand limits lawful office = record {
+pub has-certificates : (setup : List Constituency) (s : State) (seen : Seen) → CertificatesAreRight → IsSetup setup → IsLawfulState setup s → IsOffice setup s seen → content_of setup seen ≡ Some s → HasCertificates setup seen
+has-certificates setup s seen stand limits lawful office content = record {
   state = s;
+  content = content;
   lawful = lawful;
   office = office;
   each = λ code con found certified.

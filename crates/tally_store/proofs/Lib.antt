@@ -4,3 +4,4 @@ pub mod RequestLemmas
 pub mod EndLemmas
 pub mod ShownLemmas
 pub mod CertifiedLemmas
+pub mod EnteredTwiceLemmas

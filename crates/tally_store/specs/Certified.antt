@@ -13,6 +13,7 @@ use Rattle.tally_statements.specs.declared.table.KeyedTable.TheVariants.{Seats}
 use Rattle.tally_statements.specs.Office.{rows_in}
 use Rattle.tally_tables.specs.Cells.{item_row, numbers_with_places}
 use Rattle.tally_opening.specs.Office.{IsOffice}
+use Rattle.tally_store.specs.Content.{content_of}
 
 -- The rows of `seats` of this constituency, in any order: one for each list, with the seats of a
 -- certificate of its closed votes in this state.
@@ -23,10 +24,11 @@ pub record HasSeatRows (con : Constituency) (s : State) (seen : Seen) : Type 0 w
   pub rows : IsPermutation (map (item_row con.code) (numbers_with_places 1 view.seats))
       (filter (has_key con.code) (rows_in Seats seen))
 
--- The database is that of a lawful state, and has such rows of each constituency that is certified
--- in it.
+-- The database is that of the store's content, which is a lawful state, and has such rows of each
+-- constituency that is certified in it.
 pub record HasCertificates (setup : List Constituency) (seen : Seen) : Type 0 where
   pub state : State
+  pub content : content_of setup seen ≡ Some state
   pub lawful : IsLawfulState setup state
   pub office : IsOffice setup state seen
   pub each : (code : List ℕ) (con : Constituency) → constituency_with code setup ≡ Some con

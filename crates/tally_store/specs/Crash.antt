@@ -1,7 +1,7 @@
 -- What a crash may leave of a store. The clauses speak of a crash at the end of a call. A disk that
 -- stops within a call refuses every later access, so that the call still ends, and its clause holds
 -- of that stop too. That is an inference: no clause states it.
-use Rattle.std.specs.Prelude.{◌≡◌, ◌⊎◌, List, ℕ, IsTrue, Some, Result}
+use Rattle.std.specs.Prelude.{◌≡◌, ◌⊎◌, List, ℕ, IfOk, IsTrue, Some, Result}
 use Rattle.sqlite.specs.State.{State as Seen, HasCleanDisk, KeepsCounts}
 use Rattle.sqlite_trees.specs.Tree.{Trees}
 use Rattle.tally_rules.specs.Constituency.{Constituency}
@@ -13,9 +13,11 @@ use Rattle.tally_returns.specs.declared.refusal.Refusal.{Refusal}
 use Rattle.tally_returns.specs.declared.reply.Reply.{Reply}
 use Rattle.tally_keeper.specs.Keeper.{IsImportOf}
 use Rattle.tally_keeper.specs.Source.{Delivery}
+use Rattle.tally_keeper.specs.declared.source.ImportFault.{ImportFault}
 use Rattle.tally_keeper.specs.declared.import.ImportCount.{ImportCount}
 use Rattle.tally_opening.specs.Create.{IsAsBefore}
 use Rattle.tally_opening.specs.Office.{HasState, IsOffice, IsWholeOffice}
+use Rattle.tally_store.specs.Content.{content_of}
 
 -- The tables of the state after a request, and no others.
 pub record AreTablesAfter (setup : List Constituency) (text : List ℕ) (s : State) (ask : Ask)
@@ -72,10 +74,16 @@ LeavesAsBefore old new r =
     WritesNothing old new
     ⊎ (IsNotAccepted r × (HasCleanDisk new → IsTrue new.is_open → IsAsBefore old new))
 
--- Between calls: the database is that of a lawful state, and a crash leaves its tables and nothing
--- else.
+-- After an import that lodged nothing, nothing was written.
+abbrev pub WritesOnlyLodgedRows : Seen → Seen → Result ImportCount ImportFault → Type 0
+WritesOnlyLodgedRows old new result =
+    IfOk result (λ count. count.lodged ≡ 0 → WritesNothing old new)
+
+-- Between calls: the database is that of the store's content, which is a lawful state, and a crash
+-- leaves its tables and nothing else.
 pub record IsKept (setup : List Constituency) (seen : Seen) : Type 0 where
   pub state : State
+  pub content : content_of setup seen ≡ Some state
   pub lawful : IsLawfulState setup state
   pub office : IsOffice setup state seen
   pub crash : (db : Trees) → seen.may_leave db → db ≡ seen.now.trees

@@ -5,3 +5,4 @@ pub mod Crash
 pub mod Keeping
 pub mod Content
 pub mod Certified
+pub mod EnteredTwice

@@ -13,7 +13,7 @@ ghost use Rattle.tally_rules.specs.Setup.{constituency_with};
 ghost use Rattle.tally_steps.specs.Kinds.{IsReplyTo};
 ghost use Rattle.tally_steps.specs.Runs.{is_act};
 ghost use Rattle.tally_store.specs.Content.{content_of};
-ghost use Rattle.tally_store.specs.Crash.{LeavesAsBefore};
+ghost use Rattle.tally_store.specs.Crash.{LeavesAsBefore, WritesOnlyLodgedRows};
 ghost use Rattle.tally_store.specs.Keeping.{HappensIn, ImportsIn, KeepsTextIn, ShowsConIn};
 ghost use Rattle.tally_store.specs.Keeping.{ShowsContent};
 ghost use Rattle.tally_store.specs.Keeping.{StaysStore, SurvivesImport, SurvivesRequest};
@@ -96,7 +96,7 @@ impl<S: Alter> Keeper for Store<S> {
     /// Lodges the rows of a source in one transaction. The database is then that of the store's
     /// state, with the same text of the setup, or a failed disk has shut the store. A crash at the
     /// end of the call leaves what it could leave before, or the tables after an import of all rows
-    /// that the source gave until its end.
+    /// that the source gave until its end. An import that lodges nothing writes nothing.
     fn lodge_from<R: RowSource>(&mut self, rows: &mut R) -> Result<ImportCount, ImportFault>
         ensures stays { StaysStore S.Store self.old self.new }
         ensures imported { ImportsIn S.Store
@@ -105,6 +105,8 @@ impl<S: Alter> Keeper for Store<S> {
         ensures text { KeepsTextIn S.Store self.old self.new }
         ensures crash { SurvivesImport S.Store
             (delivery R.RowSource rows.old rows.new) self.old self.new }
+        ensures unwritten { WritesOnlyLodgedRows
+            (state S.Store self.old.conn) (state S.Store self.new.conn) result }
     {
         // Called for what its contract says: a constituency has a view in each lawful state.
         laws::a_constituency_has_a_view();

@@ -1,6 +1,7 @@
 //! Requests and imports over a connection, each in a transaction of its own.
 
-ghost use Rattle.std.specs.Prelude.{◌≡◌, [], ◌⊎◌, false, Some, IfErr, IfOk, IsErr, IsTrue, OnOk};
+ghost use Rattle.std.specs.Prelude.{◌≡◌, ◌↔◌, [], ◌⊎◌, false, Some, IfErr, IfOk, IsErr, IsTrue};
+ghost use Rattle.std.specs.Prelude.{OnOk};
 ghost use Rattle.sqlite.specs.State.{HasCleanDisk};
 ghost use Rattle.sqlite.specs.Held.{state};
 ghost use Rattle.tally_keeper.specs.Delivery.{delivery};
@@ -14,7 +15,7 @@ ghost use Rattle.tally_rules.specs.Setup.{constituency_with};
 ghost use Rattle.tally_returns.specs.Named.{BringsCode};
 ghost use Rattle.tally_returns.specs.View.{FitsView};
 ghost use Rattle.tally_returns.specs.declared.ask.Ask.TheVariants.{ShowCon};
-ghost use Rattle.tally_store.specs.Crash.{LeavesAsBefore};
+ghost use Rattle.tally_store.specs.Crash.{LeavesAsBefore, WritesOnlyLodgedRows};
 ghost use Rattle.tally_statements.specs.internal.Inside.{StaysInside};
 ghost use Rattle.tally_requests.specs.internal.Inside.{StaysInState};
 ghost use Rattle.tally_requests.specs.internal.Known.{ForgetsNone, known_of};
@@ -25,7 +26,7 @@ ghost use Rattle.tally_store.specs.internal.Requests.{KnowsAfter, KnowsImported,
 ghost use Rattle.tally_store.specs.Store.{IsOfLawfulState};
 ghost use Rattle.tally_store.specs.internal.Served.{IsKnownOf};
 
-use sqlite::{Alter, Connection, Error, Transaction};
+use sqlite::{Alter, Connection, Error, ErrorCode, Transaction};
 use std::alloc::Global;
 use std::collections::BTreeMap;
 use tally_keeper::{Ask, ConView, ImportCount, ImportFault, Refusal, Reply, RowSource};
@@ -102,7 +103,8 @@ pub(crate) fn show_request<S: Alter>(
 }
 
 /// Lodges the rows of a source in the database. With a fault the database is as it was, unless a
-/// disk that failed has shut the connection, and nothing is known.
+/// disk that failed has shut the connection, and nothing is known. Where no row was lodged nothing
+/// is written.
 pub(crate) fn import_rows<S: Alter, R: RowSource>(
     alloc: Global,
     conn: &mut Connection<S>,
@@ -123,6 +125,8 @@ pub(crate) fn import_rows<S: Alter, R: RowSource>(
     ensures shut { HasCleanDisk (state S.Store conn.new) →
         (state S.Store conn.new).is_open ≡ false → IsErr result }
     ensures forgets { OnOk result (ForgetsNone (known_of known.old) (known_of known.new)) }
+    ensures unwritten { WritesOnlyLodgedRows
+        (state S.Store conn.old) (state S.Store conn.new) result }
 {
     let mut tx = conn.transaction();
     match take_open(alloc, &mut tx, setup, known, source) {
@@ -211,7 +215,9 @@ fn forget(known: &mut BTreeMap<Code, Statuses>, error: &Error) -> Refusal
 }
 
 fn refusal_of(error: &Error) -> Refusal
-    ensures { (result ≡ Refusal.Memory) ⊎ (result ≡ Refusal.Store) }
+    ensures own { (result ≡ Refusal.Memory) ⊎ (result ≡ Refusal.Store) }
+    ensures memory { result ≡ Refusal.Memory ↔
+        error.now ≡ Error.SqliteFailure ErrorCode.OutOfMemory }
 {
     if is_memory(error) {
         Refusal::Memory

@@ -68,12 +68,12 @@ fn return_in(
 
 /// A return that was read, with its station.
 #[derive(Drop)]
-pub struct Entry {
+pub struct ReturnFound {
     pub station: Code,
     pub standing: Return,
 }
 
-impl Model for Entry {
+impl Model for ReturnFound {
     ghost use Rattle.std.specs.Prelude.{ℕ, List};
     ghost use Rattle.tally_returns.specs.Return.{StationReturn};
 
@@ -96,14 +96,14 @@ fn entry_of(
     station: Code,
     row: &Row,
     counts: &[Row],
-) -> Result<Option<Entry>, AllocError>
+) -> Result<Option<ReturnFound>, AllocError>
     ensures { IfOk result (λ found. found ≡ entry_of con.now.code station row.now counts.now) }
 {
     let Some(counts) = counts_in(alloc, counts, station.as_bytes())? else {
         return Ok(None);
     };
     let found = return_in(alloc, row, station.as_bytes(), con.code.as_bytes(), counts)?;
-    Ok(found.map(|standing| Entry { station, standing }))
+    Ok(found.map(|standing| ReturnFound { station, standing }))
 }
 
 /// The returns whose rows the two tables hold, one after the other, if they hold such rows.
@@ -112,7 +112,7 @@ pub fn entries_in(
     setup: &Setup,
     rows: &[Row],
     counts: &[Row],
-) -> Result<Option<Vec<Entry>>, AllocError>
+) -> Result<Option<Vec<ReturnFound>>, AllocError>
     ensures { AreRead result (entries_in setup.now rows.now counts.now) }
 {
     let mut entries = Vec::new(alloc);

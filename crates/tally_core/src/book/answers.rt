@@ -41,6 +41,7 @@ pub(super) fn answer_in(alloc: Global, ledger: &mut Ledger, ask: &Ask) -> Result
         Ask::Query { station, .. } => move_on(alloc, ledger, *station, ask),
         Ask::Correct { station, .. } => move_on(alloc, ledger, *station, ask),
         Ask::Close { station, .. } => move_on(alloc, ledger, *station, ask),
+        Ask::Confirm { station, .. } => move_on(alloc, ledger, *station, ask),
         Ask::ShowReturn { station } => show_return(alloc, ledger, *station),
         Ask::ShowProgress => Ok(Reply::Progress(ledger.progress(alloc)?)),
         _ => unreachable!(),
@@ -83,7 +84,7 @@ pub(super) fn decide_first(
     decide_lodge(con.lists.len(), place.electors, found, slip, counts)
 }
 
-/// Query, Correct and Close.
+/// Query, Correct, Close and Confirm.
 fn move_on(alloc: Global, ledger: &mut Ledger, station: Code, ask: &Ask) -> Result<Reply, Refusal>
     requires named { station_named ask.now ≡ Some station }
     requires moves { moves_return ask.now ≡ true }

@@ -15,19 +15,11 @@ use Rattle.tally_returns.specs.Return.{StationReturn, Returns}
 use Rattle.tally_schema.specs.Tables.{setup_tree}
 use Rattle.tally_statements.specs.declared.table.KeyedTable.{KeyedTable}
 use Rattle.tally_statements.specs.declared.table.KeyedTable.TheVariants.{Returns as Heads, Counts}
-use Rattle.tally_statements.specs.declared.table.KeyedTable.TheVariants.{Lots, Seats}
 use Rattle.tally_statements.specs.internal.Inside.{IsOpenInside}
 use Rattle.tally_statements.specs.Office.{tree_of, rows_in, IsInside, HasRows}
 use Rattle.tally_tables.specs.Cells.{constituency_of, item_row, numbers_with_places, return_rows}
 use Rattle.tally_tables.specs.Cells.{count_rows}
 use Rattle.tally_returns.specs.Lawful.{IsLawfulAt}
-use Rattle.tally_entries.specs.declared.items.ItemTable.{ItemTable}
-use Rattle.tally_entries.specs.declared.items.ItemTable.TheVariants as items
-
-abbrev pub keyed_table : ItemTable → KeyedTable
-keyed_table items.Counts = Counts
-keyed_table items.Lots = Lots
-keyed_table items.Seats = Seats
 
 -- the rows of a table, with their rowids
 abbrev pub stored_in : KeyedTable → Seen → List Row

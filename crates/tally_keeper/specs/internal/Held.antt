@@ -19,7 +19,7 @@ use Rattle.tally_returns.specs.Lodge.{lodge, lodge_answer}
 use Rattle.tally_returns.specs.Return.{Returns}
 use Rattle.tally_returns.specs.State.{State, con_state, stations_of}
 use Rattle.tally_returns.specs.declared.ask.Ask.{Ask}
-use Rattle.tally_returns.specs.declared.ask.Ask.TheVariants.{Query, Correct, Close}
+use Rattle.tally_returns.specs.declared.ask.Ask.TheVariants.{Query, Correct, Close, Confirm}
 use Rattle.tally_returns.specs.declared.change.Change.{Change}
 use Rattle.tally_returns.specs.declared.change.Change.TheVariants.{SetLot, SetCertified}
 use Rattle.tally_returns.specs.declared.change.Change.TheVariants.{SetReopened, SetGone}
@@ -76,11 +76,12 @@ IsMoved k ask r new =
     (new ≡ with_state k (after_return k.setup (state_in k) ask)))
     ⊎ ((r ≡ Err Memory) × (new ≡ k))
 
--- Query, Correct and Close move a return
+-- Query, Correct, Close and Confirm move a return
 abbrev pub moves_return : Ask → Bool
 moves_return (Query station rev note) = true
 moves_return (Correct station rev slip counts) = true
 moves_return (Close station rev) = true
+moves_return (Confirm station rev slip counts) = true
 moves_return other = false
 
 -- a query takes the lot of its constituency with it, and no other command does

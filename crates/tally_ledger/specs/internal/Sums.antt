@@ -8,7 +8,7 @@ use Rattle.tally_returns.specs.Progress.{is_received, is_queried, is_corrected, 
 use Rattle.tally_returns.specs.Return.{StationReturn}
 use Rattle.tally_returns.specs.View.{View}
 use Rattle.tally_returns.specs.declared.returns.Status.{Status}
-use Rattle.tally_ledger.specs.internal.MovedSum.{moved_sum, CanMove}
+use Rattle.tally_ledger.specs.MovedSum.{moved_sum, CanMove}
 
 -- the sums of the same lists, each with its own number
 abbrev pub moved_sums : List ℕ → List ℕ → Bool → List ℕ

@@ -7,7 +7,7 @@ use Rattle.std.specs.Option.{option_map_or}
 use Rattle.tally_rules.specs.Constituency.{Constituency}
 use Rattle.tally_returns.specs.Progress.{is_received, is_queried, is_corrected, is_closed}
 use Rattle.tally_returns.specs.declared.ask.Ask.{Ask}
-use Rattle.tally_returns.specs.declared.ask.Ask.TheVariants.{Query, Correct, Close}
+use Rattle.tally_returns.specs.declared.ask.Ask.TheVariants.{Query, Correct, Close, Confirm}
 use Rattle.tally_returns.specs.declared.progress.ProgressRow.{ProgressRow}
 use Rattle.tally_returns.specs.declared.refusal.Refusal.{Refusal}
 use Rattle.tally_returns.specs.declared.reply.LodgeReply.{LodgeReply}
@@ -123,6 +123,7 @@ abbrev pub status_after : Ask → Option Status
 status_after (Query station rev note) = Some Queried
 status_after (Correct station rev slip counts) = Some Corrected
 status_after (Close station rev) = Some Closed
+status_after (Confirm station rev slip counts) = Some Closed
 status_after other = None
 
 abbrev pub after_status : List ℕ → Option Status → Option Status → Known → Known

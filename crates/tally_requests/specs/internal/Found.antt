@@ -12,7 +12,7 @@ use Rattle.tally_returns.specs.Lawful.{IsLawful}
 use Rattle.tally_returns.specs.Return.{StationReturn}
 use Rattle.tally_returns.specs.State.{State, con_state}
 use Rattle.tally_returns.specs.declared.ask.Ask.{Ask}
-use Rattle.tally_returns.specs.declared.ask.Ask.TheVariants.{Query, Correct, Close}
+use Rattle.tally_returns.specs.declared.ask.Ask.TheVariants.{Query, Correct, Close, Confirm}
 use Rattle.tally_returns.specs.declared.refusal.Refusal.{Refusal}
 use Rattle.tally_returns.specs.declared.reply.Reply.{Reply}
 use Rattle.tally_returns.specs.declared.returns.Status.TheVariants.{Closed, Corrected, Queried}
@@ -34,6 +34,8 @@ MovesTo con (Correct station rev slip counts) before standing =
     (before.status ≡ Queried) × (standing.status ≡ Corrected) ×
     (length standing.counts.votes ≡ length con.lists)
 MovesTo con (Close station rev) before standing =
+    (before.status ≢ Closed) × (standing.status ≡ Closed) × (before.counts ≡ standing.counts)
+MovesTo con (Confirm station rev slip counts) before standing =
     (before.status ≢ Closed) × (standing.status ≡ Closed) × (before.counts ≡ standing.counts)
 MovesTo con other before standing = ⊥
 

@@ -17,7 +17,7 @@ use Rattle.tally_keeper.specs.Events.{as_answer}
 use Rattle.tally_statements.specs.internal.Inside.{IsOpenInside}
 use Rattle.tally_statements.specs.Office.{IsInside}
 use Rattle.tally_tables.specs.TablesOfState.{AreTables}
-use Rattle.tally_keeper.specs.Import.{RowAnswer, after_row, row_answer}
+use Rattle.tally_keeper.specs.Import.{RowAnswer, after_row, is_lodged, row_answer}
 use Rattle.tally_keeper.specs.declared.import.Row.{Row}
 use Rattle.tally_keeper.specs.declared.source.ImportFault.{ImportFault}
 use Rattle.tally_requests.specs.internal.Requests.{IsInState}
@@ -40,10 +40,17 @@ abbrev pub IsFewIfLodged : VoteCounts → Result LodgeReply Refusal → Type 0
 IsFewIfLodged counts r = (rev : ℕ) → r ≡ Ok (Lodged rev) → length counts.votes ≤ most_lists
 
 -- A Lodge that does not lodge a return writes nothing on a connection that is open.
-abbrev pub WritesOnlyLodged : Seen → Seen → Result (Result LodgeReply Refusal) Error → Type 0
+abbrev pub WritesOnlyLodged : {E : Type 0} → Seen → Seen → Result (Result LodgeReply Refusal) E
+    → Type 0
 WritesOnlyLodged old new result =
     HasCleanDisk new → IsOpenInside old →
     IfOk result (λ r. is_act (as_answer r) ≡ false → IsUnchanged old new)
+
+-- and neither does a row
+abbrev pub WritesOnlyLodgedRow : {E : Type 0} → Seen → Seen → Result RowAnswer E → Type 0
+WritesOnlyLodgedRow old new result =
+    HasCleanDisk new → IsOpenInside old →
+    IfOk result (λ answer. is_lodged answer ≡ false → IsUnchanged old new)
 
 -- A return was lodged as in this state, or the Lodge was refused. The tables are those of the state
 -- after it.

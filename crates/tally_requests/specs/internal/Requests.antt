@@ -101,6 +101,12 @@ ImportsRows setup d before after old new result =
     → AreTables setup text s old.now.trees
     → IsImportedKnown setup text s d before after count new)
 
+-- An import that lodges nothing writes nothing on a connection that is open.
+abbrev pub WritesOnlyImported : Seen → Seen → Result ImportCount ImportFault → Type 0
+WritesOnlyImported old new result =
+    HasCleanDisk new → IsOpenInside old
+    → IfOk result (λ count. count.lodged ≡ 0 → IsUnchanged old new)
+
 -- What a call does that lodges the rows of a source in the tables of an office. With a count, these
 -- are all rows that the source gave until its end, and nothing is forgotten of what was known. A
 -- fault is the one with which the source ended, or the keeper's own. Both hold whatever the tables
@@ -110,6 +116,7 @@ pub record LodgesRows {S : Type 0} (g : Ghosts S) (setup : List Constituency) (d
     (result : Result ImportCount ImportFault) : Type 0 where
   pub imported : ImportsRows setup d (known_of before) (known_of after)
       (state g old.conn.now) (state g new.conn.now) result
+  pub unwritten : WritesOnlyImported (state g old.conn.now) (state g new.conn.now) result
   pub gave : OnOk result (GaveAll d)
   pub fault : IfErr result (IsImportFault d)
   pub forgets : OnOk result (ForgetsNone (known_of before) (known_of after))

@@ -1,7 +1,7 @@
 -- Sums of closed votes with the counts of a return added or taken out.
 use Rattle.std.specs.Prelude.{◌≡◌, ℕ, Bool, List, length}
 use Rattle.tally_returns.specs.Counts.{VoteCounts}
-use Rattle.tally_ledger.specs.internal.MovedSum.{CanMove, moved_sum}
+use Rattle.tally_ledger.specs.MovedSum.{CanMove, moved_sum}
 use Rattle.tally_ledger.specs.internal.Sums.{CanMoveEach, moved_sums}
 
 -- A number for each list can be added or taken out, where they are for the same lists.

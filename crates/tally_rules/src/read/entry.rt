@@ -17,7 +17,9 @@ ghost use Rattle.tally_rules.specs.Text.{IsName};
 use crate::codes::Codes;
 use crate::constituency::{Constituency, ListEntry, Station};
 use crate::read::fault::{Key, KeyFault};
-use crate::read::key::{name_from, new_code, read_code, read_name, read_number, read_value};
+use crate::read::key::{
+    name_from, new_code, read_code, read_entry, read_name, read_number, read_value,
+};
 use crate::read::profile::Profiles;
 use std::alloc::Global;
 use tally_frac::{MOST_CANDIDATES, MOST_ELECTORS, MOST_LISTS, MOST_SEATS, MOST_STATIONS};
@@ -203,6 +205,7 @@ pub(super) fn constituency_entry(
         seats,
         profile_code,
         profile,
+        entry: read_entry(entry)?,
         lists: read_lists(alloc, entry)?,
         stations: read_stations(alloc, entry, stations)?,
     })

@@ -6,13 +6,15 @@ ghost use Rattle.toml.specs.View.{view};
 ghost use Rattle.tally_rules.specs.Code.{is_code};
 ghost use Rattle.tally_rules.specs.Codes.{AreDistinct};
 ghost use Rattle.tally_rules.specs.internal.Found.{key_name, IsFoundIn};
-ghost use Rattle.tally_rules.specs.Reading.{read_base, read_code, read_lot_rule, read_method};
+ghost use Rattle.tally_rules.specs.Reading.{read_base, read_code, read_entry, read_lot_rule};
+ghost use Rattle.tally_rules.specs.Reading.{read_method};
 ghost use Rattle.tally_rules.specs.Reading.{name_from, read_name, new_code, read_number, number_in};
 ghost use Rattle.tally_rules.specs.Reading.{read_text, read_value};
 ghost use Rattle.tally_rules.specs.Text.{IsName};
 
 use crate::code::Code;
 use crate::codes::Codes;
+use crate::constituency::Entry;
 use crate::profile::{Base, LotRule, Method};
 use crate::read::fault::{Key, KeyFault};
 use crate::text::good_name;
@@ -155,5 +157,21 @@ pub(super) fn read_lot_rule(entry: &Value) -> Result<LotRule, KeyFault>
         "fixed" => Ok(LotRule::Fixed),
         "alternating" => Ok(LotRule::Alternating),
         _ => Err(KeyFault::BadValue(Key::Lot)),
+    }
+}
+
+/// How many entries a return of the constituency needs: one, unless it says two.
+#[tactic(auto, unfolding(crate::specs::Reading::read_entry))]
+pub(super) fn read_entry(con: &Value) -> Result<Entry, KeyFault>
+    ensures entry { IfOk result (λ entry. read_entry (view con.now) ≡ Ok entry) }
+    ensures fault { IfErr result (IsFoundIn (read_entry (view con.now))) }
+{
+    if con.get(Key::Entry.name()).is_none() {
+        return Ok(Entry::Single);
+    }
+    match read_text(con, Key::Entry)? {
+        "single" => Ok(Entry::Single),
+        "double" => Ok(Entry::Double),
+        _ => Err(KeyFault::BadValue(Key::Entry)),
     }
 }

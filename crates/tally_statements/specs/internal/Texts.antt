@@ -1,9 +1,11 @@
 -- The statements of the store, as sqlite is given them.
-use Rattle.std.specs.Prelude.{List, ℕ, codes}
+use Rattle.std.specs.Prelude.{◌+◌, ◌*◌, ◌++◌, List, ℕ, codes, take}
 use Rattle.tally_statements.specs.declared.table.KeyedTable.{KeyedTable}
 use Rattle.tally_statements.specs.declared.table.KeyedTable.TheVariants.{Returns, Counts, Cons}
 use Rattle.tally_statements.specs.declared.table.KeyedTable.TheVariants.{Lots, Seats, Gone, Totals}
 use Rattle.tally_statements.specs.declared.table.KeyedTable.TheVariants.{Past}
+use Rattle.tally_statements.specs.declared.numbered.NumberedTable.{NumberedTable}
+use Rattle.tally_statements.specs.declared.numbered.NumberedTable.TheVariants as numbered
 
 -- ---- INSERT of one row
 
@@ -11,17 +13,8 @@ abbrev pub insert_return_text : List ℕ
 insert_return_text = codes
     "INSERT INTO returns (station, con, rev, slip, status, note) VALUES (?1, ?2, ?3, ?4, ?5, ?6)"
 
-abbrev pub insert_count_text : List ℕ
-insert_count_text = codes "INSERT INTO counts (station, item, n) VALUES (?1, ?2, ?3)"
-
 abbrev pub insert_con_text : List ℕ
 insert_con_text = codes "INSERT INTO cons (con, edition, certified, note) VALUES (?1, ?2, ?3, ?4)"
-
-abbrev pub insert_lot_text : List ℕ
-insert_lot_text = codes "INSERT INTO lots (con, place, list) VALUES (?1, ?2, ?3)"
-
-abbrev pub insert_seats_text : List ℕ
-insert_seats_text = codes "INSERT INTO seats (con, list, n) VALUES (?1, ?2, ?3)"
 
 abbrev pub insert_gone_text : List ℕ
 insert_gone_text = codes "INSERT INTO gone (con, list, place, note) VALUES (?1, ?2, ?3, ?4)"
@@ -29,11 +22,44 @@ insert_gone_text = codes "INSERT INTO gone (con, list, place, note) VALUES (?1, 
 abbrev pub insert_total_text : List ℕ
 insert_total_text = codes "INSERT INTO totals (con, item, n) VALUES (?1, ?2, ?3)"
 
-abbrev pub insert_past_text : List ℕ
-insert_past_text = codes "INSERT INTO past (con, edition, list, n) VALUES (?1, ?2, ?3, ?4)"
-
 abbrev pub insert_setup_text : List ℕ
 insert_setup_text = codes "INSERT INTO setup (id, version, text) VALUES (1, ?1, ?2)"
+
+-- ---- INSERT of several rows
+
+abbrev pub eight_rows : List ℕ
+eight_rows = codes
+    "(?1, ?, ?), (?1, ?, ?), (?1, ?, ?), (?1, ?, ?), (?1, ?, ?), (?1, ?, ?), (?1, ?, ?), (?1, ?, ?)"
+
+-- rows that begin with two values
+abbrev pub four_long_rows : List ℕ
+four_long_rows = codes "(?1, ?2, ?, ?), (?1, ?2, ?, ?), (?1, ?2, ?, ?), (?1, ?2, ?, ?)"
+
+abbrev pub sixteen_rows : List ℕ
+sixteen_rows = eight_rows ++ codes ", " ++ eight_rows
+
+abbrev pub sixteen_long_rows : List ℕ
+sixteen_long_rows =
+    four_long_rows ++ codes ", " ++ four_long_rows ++ codes ", " ++ four_long_rows ++ codes ", "
+    ++ four_long_rows
+
+-- of as many rows as one statement adds at most
+abbrev pub most_rows_text : NumberedTable → List ℕ
+most_rows_text numbered.Counts = codes "INSERT INTO counts (station, item, n) VALUES " ++ sixteen_rows
+most_rows_text numbered.Lots = codes "INSERT INTO lots (con, place, list) VALUES " ++ sixteen_rows
+most_rows_text numbered.Seats = codes "INSERT INTO seats (con, list, n) VALUES " ++ sixteen_rows
+most_rows_text numbered.Past =
+    codes "INSERT INTO past (con, edition, list, n) VALUES " ++ sixteen_long_rows
+
+-- where the text of so many rows ends in that
+abbrev pub rows_end : NumberedTable → ℕ → ℕ
+rows_end numbered.Counts rows = 43 + 12 * rows
+rows_end numbered.Lots rows = 41 + 12 * rows
+rows_end numbered.Seats rows = 38 + 12 * rows
+rows_end numbered.Past rows = 46 + 16 * rows
+
+abbrev pub insert_rows_text : NumberedTable → ℕ → List ℕ
+insert_rows_text t rows = take (rows_end t rows) (most_rows_text t)
 
 -- ---- UPDATE of one row
 

@@ -1,5 +1,5 @@
 use Rattle.std.proofs.Common.{◌≡◌, ◌++◌, ◌||◌, Bool, List, ℕ, suc, ap, sym, ◌∙◌, append_assoc, arith, take, get_or, slice_index_or, false}
-use Rattle.tally_rules.specs.ListSet.{has_place}
+use Rattle.tally_frac.specs.ListSet.{has_place}
 use Rattle.tally_rules.specs.Constituency.{ListEntry}
 use Rattle.tally_answer.specs.Outcome.{marked_lists, quoted_codes}
 use Rattle.tally_answer.specs.internal.Group.{is_begun, code_in_group}

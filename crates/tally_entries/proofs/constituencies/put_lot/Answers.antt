@@ -8,20 +8,21 @@ use Rattle.tally_statements.specs.Office.{rows_in}
 use Rattle.tally_tables.specs.Cells.{item_row, numbers_with_places}
 use Rattle.tally_entries.proofs.ConLemmas.{lot_written}
 use Rattle.tally_entries.proofs.LotLemmas.{added_beside}
+use Rattle.tally_entries.proofs.RowLemmas.{numbers_are}
 use Rattle.tally_entries.proofs.constituencies.put_lot.Goals as goal
 
 pub returns-clause-put : goal.returns-clause-put
 returns-clause-put g c clean inside =
     let old = state g.S.Store c.args.tx.now.conn.now in
     let mid = state g.S.Store c.delete_lot.new.tx.conn.now in
-    let new = state g.S.Store c.insert_numbers.new.tx.conn.now in
+    let new = state g.S.Store c.insert_lots.new.tx.conn.now in
     let con = c.args.con.now in
-    let early : HasCleanDisk mid = omega (arith, c.insert_numbers.ensures.stays.survives.clean) in
+    let early : HasCleanDisk mid = omega (arith, c.insert_lots.ensures.stays.survives.clean) in
     let gone = c.in_ok-delete_lot.ensures.deleted early inside in
-    IfOk-weaker c.insert_numbers.result _ _ (λ _ more. added_beside Lots (map (item_row con) (numbers_with_places 1 c.args.lot.now)) (others con (rows_in Lots old)) old mid new gone more) (c.insert_numbers.ensures.added clean gone.inside)
+    IfOk-weaker c.insert_lots.result _ _ (λ _ more. added_beside Lots (map (item_row con) (numbers_with_places 1 c.args.lot.now)) (others con (rows_in Lots old)) old mid new gone more) (rw (numbers_are con 1 c.args.lot.now) at (c.insert_lots.ensures.inserted clean gone.inside))
 
 pub returns-clause-lots : goal.returns-clause-lots
 returns-clause-lots g c clean inside =
     let old = state g.S.Store c.args.tx.now.conn.now in
-    let new = state g.S.Store c.insert_numbers.new.tx.conn.now in
-    IfOk-weaker c.insert_numbers.result _ _ (λ _ put. lot_written c.args.con.now c.args.lot.now old new put) (returns-clause-put g c clean inside)
+    let new = state g.S.Store c.insert_lots.new.tx.conn.now in
+    IfOk-weaker c.insert_lots.result _ _ (λ _ put. lot_written c.args.con.now c.args.lot.now old new put) (returns-clause-put g c clean inside)

@@ -6,20 +6,20 @@ use Rattle.tally_statements.specs.declared.table.KeyedTable.TheVariants.{Counts}
 use Rattle.tally_returns.specs.Counts.{VoteCounts}
 use Rattle.tally_tables.specs.Cells.{item_row, items_of}
 use Rattle.tally_entries.specs.internal.Written.{Adds}
-use Rattle.tally_entries.proofs.RowLemmas.{adds_counts}
+use Rattle.tally_entries.proofs.RowLemmas.{adds_counts, numbers_are}
 use Rattle.tally_entries.proofs.items.insert_counts.Goals as goal
 
 pub returns-clause-added : goal.returns-clause-added
 returns-clause-added g c clean inside =
     let old = state g.S.Store c.args.tx.now.conn.now in
-    let a = state g.S.Store c.insert_item.new.tx.conn.now in
-    let b = state g.S.Store c.insert_numbers.new.tx.conn.now in
-    let new = state g.S.Store c.insert_item-2.new.tx.conn.now in
-    let clean_b : HasCleanDisk b = omega (arith, c.insert_item-2.ensures.stays.survives.clean) in
-    let clean_a : HasCleanDisk a = omega (arith, clean_b, c.insert_numbers.ensures.stays.survives.clean) in
-    let blank = c.in_ok-insert_item.ensures.inserted clean_a inside in
-    let votes = c.in_ok-insert_numbers.ensures.added clean_b blank.inside in
+    let a = state g.S.Store c.insert_numbers.new.tx.conn.now in
+    let b = state g.S.Store c.insert_numbers-2.new.tx.conn.now in
+    let new = state g.S.Store c.insert_numbers-3.new.tx.conn.now in
+    let clean_b : HasCleanDisk b = omega (arith, c.insert_numbers-3.ensures.stays.survives.clean) in
+    let clean_a : HasCleanDisk a = omega (arith, clean_b, c.insert_numbers-2.ensures.stays.survives.clean) in
+    let blank = c.in_ok-insert_numbers.ensures.inserted clean_a inside in
+    let votes = c.in_ok-insert_numbers-2.ensures.inserted clean_b blank.inside in
     let shown : VoteCounts = record { votes = c.counts.inside.votes.items; blank = c.counts.inside.blank; spoiled = c.counts.inside.spoiled } in
-    IfOk-weaker c.insert_item-2.result _ _
-    (λ _ spoiled. subst (λ v. Adds Counts (map (item_row c.args.station.now) (items_of v)) old new) c.counts.view_is (adds_counts Counts c.args.station.now shown old a b new blank (rw c.as_slice.ensures.value at votes) spoiled))
-    (c.insert_item-2.ensures.inserted clean votes.inside)
+    IfOk-weaker c.insert_numbers-3.result _ _
+    (λ _ spoiled. subst (λ v. Adds Counts (map (item_row c.args.station.now) (items_of v)) old new) c.counts.view_is (adds_counts Counts c.args.station.now shown old a b new blank (rw (c.as_slice.ensures.value, numbers_are c.args.station.now 1 shown.votes) at votes) spoiled))
+    (c.insert_numbers-3.ensures.inserted clean votes.inside)

@@ -1,7 +1,7 @@
 use Rattle.std.proofs.Common.{◌≡◌, ◌<◌, ◌∙◌, ℕ, length, slice_index, sym, ap, subst}
 use Rattle.tally_returns.specs.Counts.{VoteCounts}
 use Rattle.tally_returns.specs.View.{View}
-use Rattle.tally_ledger.specs.internal.MovedSum.{CanMove}
+use Rattle.tally_ledger.specs.MovedSum.{CanMove}
 use Rattle.tally_ledger.proofs.sums.count_votes.Goals as goal
 
 pub move_votes-requires-clause-each : goal.move_votes-requires-clause-each

@@ -1,5 +1,5 @@
 use Rattle.std.proofs.Common.{◌<◌, ◌≤◌, slice_index, length, sym, subst, arith}
-use Rattle.tally_ledger.specs.internal.MovedSum.{CanMove, moved_sum}
+use Rattle.tally_ledger.specs.MovedSum.{CanMove, moved_sum}
 use Rattle.tally_ledger.proofs.SumLemmas.{mapped-is}
 use Rattle.tally_ledger.proofs.sums.move_votes.Goals as goal
 

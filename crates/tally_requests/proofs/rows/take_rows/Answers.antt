@@ -1,5 +1,7 @@
-use Rattle.std.proofs.Common.{[], Ok, refl, subst, arith}
+use Rattle.std.proofs.Common.{[], ◌+◌, Ok, refl, subst, arith}
 use Rattle.std.proofs.lemmas.Result.{err_from_is_err_and}
+use Rattle.sqlite.proofs.Callers.{unchanged_then}
+use Rattle.sqlite.proofs.StateLemmas.{unchanged}
 use Rattle.sqlite.specs.State.{HasCleanDisk}
 use Rattle.sqlite.specs.Held.{state}
 use Rattle.tally_keeper.proofs.TakenLemmas.{GivesAt}
@@ -9,6 +11,8 @@ use Rattle.tally_requests.specs.internal.Inside.{IsLawfulInside}
 use Rattle.tally_requests.specs.internal.Known.{known_of}
 use Rattle.tally_requests.proofs.KnownLemmas.{forgets-row, forgets-then}
 use Rattle.tally_requests.proofs.RowLemmas.{came-end, came-fault, came-next, came-own, came-start, counted-next, rows-end, rows-next, rows-start}
+use Rattle.tally_entries.proofs.FindLemmas.{inside_still}
+use Rattle.tally_requests.proofs.UnwrittenLemmas.{none-lodged}
 use Rattle.tally_statements.proofs.StaysLemmas.{stays-same, stays-then}
 use Rattle.tally_requests.proofs.rows.take_rows.Goals as goal
 
@@ -22,6 +26,7 @@ loop-before-init g c =
       counted = ([], c.new-count.ensures, refl);
       taken = λ clean inside text s lawful tables. rows-start c.args.setup.now text s all c.new-count.result (known_of c.args.known.now) old c.new-count.ensures lawful (record { inside = inside; tables = tables });
       forgets = λ code had. had;
+      unwritten = λ clean at none. unchanged old at.1;
     }
 
 pub returns-in_err-answer-clause-stays : goal.returns-in_err-answer-clause-stays
@@ -58,6 +63,11 @@ loop-before-preserved g c =
           let known = known_of c.loop-before.known in
           let after = known_of c.take_row.new.known in
           forgets-then (known_of c.args.known.now) known after was.forgets (forgets-row setup row c.in_ok-answer.answer known after c.in_ok-answer.ensures.known);
+      unwritten = λ clean at none.
+          let early : HasCleanDisk mid = omega (arith, clean, c.take_row.ensures.stays.survives.clean) in
+          let both = none-lodged c.loop-before.count c.add_row.new.self (c.loop-before.before + 1) c.in_ok-answer.answer c.add_row.ensures none in
+          let same = was.unwritten early at both.0 in
+          unchanged_then old mid new same (c.in_ok-answer.ensures.unwritten clean (inside_still old mid same at.0, same.0.is_open) both.1);
     }
 
 pub returns-in_default-clause-lodges : goal.returns-in_default-clause-lodges
@@ -73,6 +83,7 @@ returns-in_default-clause-lodges g c =
       gave = came-end (left c.args.source.now) (left c.loop-before.source) (left c.next_row.new.self) c.loop-before.before was.came (omega (arith, c.loop-before-test.true)) given;
       fault = tt;
       forgets = was.forgets;
+      unwritten = λ clean at. was.unwritten clean at;
     }
 
 pub returns-in_err-row-clause-lodges : goal.returns-in_err-row-clause-lodges
@@ -82,6 +93,7 @@ returns-in_err-row-clause-lodges g c =
     let p = err_from_is_err_and c.from_residual.result c.from_residual.ensures.1 in
     rw (p.1, p.2) (record {
       imported = λ clean inside. tt;
+      unwritten = λ clean at. tt;
       gave = tt;
       fault = came-fault (left c.args.source.now) (left c.loop-before.source) (left c.next_row.new.self) c.loop-before.before c.in_err-row.field-0.0 c.loop-before.invariant.came (ensured.gives, ensured.gave, ensured.ends);
       forgets = tt;
@@ -97,6 +109,7 @@ returns-in_err-answer-clause-lodges g c =
     let p = err_from_is_err_and c.from_residual-in_err-answer.result c.from_residual-in_err-answer.ensures.1 in
     rw (p.1, p.2) (record {
       imported = λ clean inside. tt;
+      unwritten = λ clean at. tt;
       gave = tt;
       fault = came-own (left c.args.source.now) came comes c.loop-before.before c.in-Some.row c.in_err-answer.field-0.0 c.loop-before.invariant.came given c.in_err-answer.ensures.own;
       forgets = tt;

@@ -1,10 +1,11 @@
-use Rattle.std.proofs.Common.{ℕ, List}
-use Rattle.sqlite.specs.State.{HasCleanDisk}
+use Rattle.std.proofs.Common.{◌≡◌, ℕ, List}
+use Rattle.sqlite.specs.State.{HasCleanDisk, IsUnchanged}
 use Rattle.sqlite.specs.Held.{state}
 use Rattle.tally_returns.specs.State.{State}
 use Rattle.tally_steps.specs.LawfulState.{IsLawfulState}
 use Rattle.tally_keeper.specs.Delivery.{source_at}
 use Rattle.tally_statements.specs.Office.{IsInside}
+use Rattle.tally_statements.specs.internal.Inside.{IsOpenInside}
 use Rattle.tally_tables.specs.TablesOfState.{AreTables}
 use Rattle.tally_requests.specs.internal.Inside.{StaysInState}
 use Rattle.tally_requests.specs.internal.Known.{ForgetsNone, known_of}
@@ -24,4 +25,5 @@ invariant-loop-before g l =
       taken : HasCleanDisk now → IsInside old → (text : List ℕ) (s : State) → IsLawfulState l.setup s → AreTables l.setup text s old.now.trees
           → RowsSoFar l.setup text s (left l.fn.source) (left l.source) l.count l.before (known_of l.fn.known) (known_of l.known) now;
       forgets : ForgetsNone (known_of l.fn.known) (known_of l.known);
+      unwritten : HasCleanDisk now → IsOpenInside old → l.count.lodged ≡ 0 → IsUnchanged old now;
     }

@@ -1,16 +1,16 @@
-use Rattle.std.proofs.Common.{◌≡◌, IsTrue, arith, refl, rules, subst, sym}
+use Rattle.std.proofs.Common.{◌≡◌, IsTrue, ap, arith, refl, rules, subst, sym, true}
 use Rattle.sqlite.proofs.Callers.{survives_begin}
-use Rattle.sqlite.specs.State.{HasCleanDisk, Survives}
+use Rattle.sqlite.specs.State.{HasCleanDisk, IsUnchanged, Survives}
 use Rattle.sqlite.specs.Held.{state}
 use Rattle.tally_statements.specs.Office.{IsInside}
 use Rattle.tally_tables.specs.TablesOfState.{AreTables}
 use Rattle.tally_keeper.specs.Delivery.{delivery}
 use Rattle.tally_keeper.proofs.TakenLemmas.{own-last}
 use Rattle.tally_requests.specs.internal.Known.{known_of}
-use Rattle.tally_store.specs.Crash.{LeavesImported}
+use Rattle.tally_store.specs.Crash.{LeavesImported, WritesNothing}
 use Rattle.tally_store.specs.internal.Requests.{IsAllDone, IsAllKnown}
 use Rattle.tally_opening.specs.Office.{HasState}
-use Rattle.tally_store.proofs.RequestLemmas.{all_committed, all_known, empty-nothing, state_back, survives_commit, tables_imported}
+use Rattle.tally_store.proofs.RequestLemmas.{all_committed, all_known, empty-nothing, state_back, survives_commit, tables_imported, unwritten_commit}
 use Rattle.tally_opening.proofs.ReturnLemmas.{Began, failed, rolled_back}
 use Rattle.tally_store.proofs.requests.import_rows.Goals as goal
 
@@ -170,3 +170,22 @@ returns-in-Err-clause-ends g c = record {
   was_open = search rules;
   crash = search rules;
 }
+
+pub returns-in-Ok-commit-clause-unwritten : goal.returns-in-Ok-commit-clause-unwritten
+returns-in-Ok-commit-clause-unwritten g c none =
+    let old = state g.S.Store c.args.conn.now in
+    let bare = state g.S.Store c.transaction-tx.result.conn.now in
+    let last = state g.S.Store c.take_open.new.tx.conn.now in
+    let new = state g.S.Store c.commit.new.self.0 in
+    let begun = c.transaction-tx.ensures.begun in
+    let same : c.commit.new.self.0 ≡ c.conn-1.given.0 = search rules in
+    let inside = survives_begin g.S.Store c.args.conn.now last _ (rw begun at c.take_open.ensures.stays.survives) in
+    let office = λ (early : HasCleanDisk last). c.requires.office (omega (arith, early, inside.clean)) (rw begun at (c.in-Ok.ensures.was_open early)) in
+    let still : HasCleanDisk last → IsUnchanged (record old { in_transaction = true }) last = λ early.
+    let has = (office early).2.has in
+    let here : IsInside bare = rw begun (record { schema = has.schema; sound = has.sound; distinct = has.distinct; inside = refl }) in
+    subst (λ b. IsUnchanged b last) (ap (state g.S.Store) begun) (c.in-Ok.ensures.lodges.unwritten early (here, c.in-Ok.ensures.was_open early) none) in
+    subst (λ (h : _). WritesNothing old (state g.S.Store h)) same
+    (unwritten_commit old last new (λ db now may. g.met.S.Store.settled c.args.conn.now.store db now may) inside c.commit.ensures.survives
+    (λ early. (office early).2.has.settled) (λ early. (still early).0.now_is) (λ early. (still early).1.changes) (λ early. (still early).1.last_rowid)
+    (λ clean. (c.in-Ok-commit.ensures.ok clean).1) (λ clean. (c.in-Ok-commit.ensures.ok clean).2))

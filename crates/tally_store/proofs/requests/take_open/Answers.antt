@@ -1,5 +1,6 @@
 use Rattle.std.proofs.Common.{arith, sym, subst}
 use Rattle.std.proofs.lemmas.Result.{IfOk-weaker}
+use Rattle.sqlite.proofs.Callers.{unchanged_then}
 use Rattle.sqlite.specs.Effect.{Database}
 use Rattle.sqlite.specs.State.{HasCleanDisk, IsUnchanged}
 use Rattle.sqlite.specs.Held.{state}
@@ -40,6 +41,11 @@ returns-in-Ok-clause-lodges g c =
           let same : IsUnchanged old mid = c.in-Ok.ensures.reads.same early inside in
           IfOk-weaker c.take_rows.result _ _ (λ r imported text s lawful tables. imported text s lawful (subst (λ (d : Database). AreTables setup text s d.trees) (sym same.0.now_is) tables))
           (ensured.imported clean (inside_still old mid same inside));
+      unwritten = λ clean at.
+          let early : HasCleanDisk mid = omega (arith, clean, c.take_rows.ensures.stays.survives.clean) in
+          let same : IsUnchanged old mid = c.in-Ok.ensures.reads.same early at.0 in
+          IfOk-weaker c.take_rows.result _ _ (λ count writes none. unchanged_then old mid (state g.S.Store c.take_rows.new.tx.conn.now) same (writes none))
+          (ensured.unwritten clean (inside_still old mid same at.0, same.0.is_open));
       gave = ensured.gave;
       fault = ensured.fault;
       forgets = ensured.forgets;
@@ -48,6 +54,7 @@ returns-in-Ok-clause-lodges g c =
 pub returns-in-Err-clause-lodges : goal.returns-in-Err-clause-lodges
 returns-in-Err-clause-lodges g c = record {
   imported = λ clean inside. tt;
+  unwritten = λ clean at. tt;
   gave = tt;
   fault = own-first (source_at g.R.RowSource c.args.source.now) c.import_fault_of.result c.import_fault_of.ensures.own;
   forgets = tt;

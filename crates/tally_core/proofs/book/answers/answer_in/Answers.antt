@@ -24,3 +24,6 @@ returns-in-Correct-clause-held c =
 
 pub returns-in-Close-clause-held : goal.returns-in-Close-clause-held
 returns-in-Close-clause-held c = moved-held c.args.ledger.now c.move_on-in-Close.new.ledger c.args.ask.now c.move_on-in-Close.result c.slip-slip.ensures.code c.requires.held c.move_on-in-Close.ensures
+
+pub returns-in-Confirm-clause-held : goal.returns-in-Confirm-clause-held
+returns-in-Confirm-clause-held c = moved-held c.args.ledger.now c.move_on-in-Confirm.new.ledger c.args.ask.now c.move_on-in-Confirm.result c.slip-slip.ensures.code c.requires.held c.move_on-in-Confirm.ensures

@@ -1,6 +1,8 @@
 use Rattle.std.proofs.Common.{◌≡◌, ◌∙◌, ◌++◌, ◌∷◌, [], sym, ap, subst, Ok}
 use Rattle.std.specs.FinMap.{insert}
 use Rattle.std.specs.Option.{option_copied}
+use Rattle.tally_rules.specs.declared.constituency.Entry.TheVariants.{Single}
+use Rattle.tally_returns.specs.Lodge.{limits_for}
 use Rattle.tally_returns.proofs.CountsLemmas.{are_counts-lodged, length-counts}
 use Rattle.tally_returns.specs.declared.reply.LodgeReply.TheVariants.{Lodged}
 use Rattle.tally_import.specs.Check.{every_code}
@@ -28,6 +30,6 @@ returns-clause-totals c before totals =
     let counts = c.args.counts in
     let way = c.in-Ok-Lodged in
     let lodged : c.decide_lodge-answer.result ≡ Ok (Lodged way.field-0-0) = way.is ∙ ap Ok (rw way.is at way.field-0-is) in
-    let good = are_counts-lodged (record { lists = lists; electors = 1000000 }) (option_copied c.get-found.result) c.args.slip counts way.field-0-0 (sym c.decide_lodge-answer.ensures ∙ lodged) in
+    let good = are_counts-lodged (limits_for lists 1000000 Single) (option_copied c.get-found.result) c.args.slip counts way.field-0-0 (sym c.decide_lodge-answer.ensures ∙ lodged) in
     subst (λ answer. AreTotals lists (before ++ lodged_of counts answer) c.add_return.new.totals) (sym lodged)
     (subst (λ n. AreTotals n (before ++ counts ∷ []) c.add_return.new.totals) (length-counts lists counts good) (c.add_return.ensures before (subst (λ n. AreTotals n before c.args.self.now.totals) (sym (length-counts lists counts good)) totals)))

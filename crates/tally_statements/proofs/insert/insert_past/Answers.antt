@@ -1,5 +1,0 @@
-use Rattle.tally_statements.proofs.TextLemmas.{insert_past_does}
-use Rattle.tally_statements.proofs.insert.insert_past.Goals as goal
-
-pub returns-clause-inserted : goal.returns-clause-inserted
-returns-clause-inserted g c = insert_past_does c.args.con.now c.args.edition c.args.list c.args.n _ _ c.run.result (rw (c.params-to_sql.ensures, c.params-to_sql-2.ensures, c.params-to_sql-3.ensures, c.params-to_sql-4.ensures) at c.run.ensures.ran)

@@ -1,0 +1,611 @@
+#!/usr/bin/env python3
+"""Tests how returns get into the office by people: the second entry, the page on which slips are typed, and `deploy/entries`.
+
+    python3 tests/entry.py [--program FILE] [--pictures FOLDER] [TEST..]
+
+The program, the words and the last line are those of tests/deploy.py, whose office, proxy and browser these tests use.
+"""
+
+import contextlib
+import json
+import os
+import re
+import subprocess
+import sys
+from pathlib import Path
+
+import deploy
+from deploy import (BOTH, DEPLOY, Proxy, a_command, chained, choose_con, choose_station, clerks_browser, confirmed, enter, needs,
+                    office_and_proxy, plain, press, recording_desk, said, same, serving, shows_well, type_slip)
+from office import LISTS, PROFILE, constituency, party_list, station
+
+# Two constituencies that take two entries, and one that takes one.
+TWICE = (PROFILE + constituency("c1", "Twin Town", 3, "d0") + 'entry = "double"\n' + LISTS + "".join(station(f"s{n}", 300) for n in range(1, 7))
+         + constituency("c2", "Port", 2, "d0") + 'entry = "double"\n' + party_list("B", "Beta", "Bea") + party_list("C", "Gamma", "Gil")
+         + party_list("D", "Delta", "Dina") + station("t1", 200)
+         + constituency("c3", "Once", 1, "d0") + LISTS + station("u1", 300))
+SLIP = {"slip": "p1", "votes": [120, 71], "blank": 2, "spoiled": 1}
+DIFFERS = ("The first entry says something else. Compare the slip’s code and each of your figures with the paper, from the top. If the "
+           "paper says all that you typed, query the return: a clerk corrects it from the paper.")
+
+
+def post(desk, target, body, status=200):
+    found = plain(desk.port, "POST", target, json.dumps(body))
+    assert found.status == status, f"{target} {body}: {found}"
+    return json.loads(found.body)
+
+
+def shown(desk, code):
+    return json.loads(plain(desk.port, "GET", f"/station/{code}").body)
+
+
+@contextlib.contextmanager
+def office_with_a_second(setup):
+    """The office, the proxy with sara, who enters slips a second time, and the page's file of the setup."""
+    with serving(setup) as desk:
+        with with_a_second(desk.port) as front:
+            press(desk.port, "--setup", "setup.toml", folder=str(front.folder / "pages"))
+            yield desk, front
+
+
+@contextlib.contextmanager
+def with_a_second(port):
+    front = Proxy(port)
+    front.configure()
+    with (front.folder / "office/staff.conf").open("a") as staff:
+        staff.write("sara second;\n")
+    front.name("staff", "sara")
+    try:
+        front.start()
+        yield front
+    finally:
+        front.end()
+
+
+# ---- who may
+
+
+# Who asks, and what each is answered to a second entry and to a query of s1. 200 is the desk's.
+ROLES = {
+    "nobody": (401, 401), "s1": (403, 403), "clara": (403, 200), "berta": (403, 403), "sara": (200, 200), "unknown": (401, 401),
+    "sara with another password": (401, 401), "sara with the password of clara": (401, 401),
+}
+
+
+@needs("nginx", "openssl")
+def test_who_may_enter_a_second_time():
+    """The role `second` may confirm and query, read past the cache and load the page; every other command is refused to it, and a
+    second entry to every other role."""
+    with recording_desk() as (port, messages), with_a_second(port) as front:
+        front.name("stations", "s1")
+        for number, (who, statuses) in enumerate(ROLES.items(), 1):
+            name, _, how = who.partition(" with ")
+            password = {"another password": "other", "the password of clara": front.passwords["clara"]}.get(how)
+            asks = {"name": None if name == "nobody" else name, "password": password, "source": f"127.0.9.{number}"}
+            same((who, *(front.ask("POST", f"/station/s1/{what}", {}, **asks).status for what in ("confirm", "query"))), (who, *statuses))
+        asked = [head.split(b" ")[1] for head, _ in messages]
+        same(asked, [b"/station/s1/query", b"/station/s1/confirm", b"/station/s1/query"])
+        messages.clear()
+        for target in ("/station/s1/lodge", "/station/sara/lodge", "/station/s1/correct", "/station/s1/close", "/con/c1/import",
+                       "/con/c1/import/semicolon", *deploy.OF_BOARD):
+            same((target, front.ask("POST", target, {}, "sara").status), (target, 403))
+        same(messages, [])
+        same([front.ask("GET", target, name="sara").status for target in ("/now/progress", "/clerk.html", "/con/c1")], [200] * 3)
+        same(front.ask("HEAD", "/clerk.html", name="sara").head["X-Office-Role"], "second")
+        # The page of another site sends nothing under this name either.
+        same(front.ask("POST", "/station/s1/confirm", {}, "sara", {"Sec-Fetch-Site": "cross-site"}).status, 403)
+        # Two commands of each of four names that had their passwords, and the ten that sara may not
+        # give.
+        confirms = [(line["name"], line["role"], line["status"]) for line in front.record(18) if line["path"].endswith("/confirm")]
+        same(confirms, [("s1", "station", 403), ("clara", "clerk", 403), ("berta", "board", 403), ("sara", "second", 200)])
+
+
+# ---- the second entry in the page
+
+
+def forms(it):
+    """The forms that are shown, in their order."""
+    return it.run("return [...document.forms].filter((form) => form.getClientRects().length).map((form) => form.id)")
+
+
+def focused(it):
+    """The name of the field that has the focus, and its label."""
+    return it.run("const e = document.activeElement; return [e.name || e.id, (e.labels && e.labels[0] || e).textContent.trim()]")
+
+
+def receipt(it):
+    """What the receipt says, by the heads of its rows."""
+    return dict(it.run("return [...document.querySelectorAll('#receipt tr')].map((row) => [...row.children].map((e) => e.textContent))"))
+
+
+@needs("chromium", "nginx", "openssl")
+def test_a_second_entry():
+    """Wrong, of another slip, right, and sent twice: the page says what it is, and asks for no return."""
+    with office_with_a_second(TWICE) as (desk, front):
+        post(desk, "/station/s1/lodge", SLIP)
+        with clerks_browser(front, "sara") as it:
+            same((it.text("#person"), forms(it), it.visible("#of-con")), ("sara, second entry", [], False))
+            choose_station(it, "s1")
+            same((forms(it), it.text("#return"), focused(it)[0]), (["confirm", "query"], "Station s1: 300 electors.", "slip"))
+            for wrong in ({"votes": [120, 17]}, {"slip": "p2"}, {"blank": 1, "spoiled": 2}):
+                enter(it, "confirm", SLIP | wrong)
+                said(it, DIFFERS)
+                # What was typed is still there, and the office has what it had.
+                same((it.text("#alert"), focused(it)[0]), (DIFFERS, "slip"))
+                same(it.run("return document.querySelector('#confirm input[name=slip]').value"), (SLIP | wrong)["slip"])
+                same(shown(desk, "s1"), {"station": "s1", **SLIP, "rev": 1, "status": "received", "note": ""})
+            enter(it, "confirm", SLIP)
+            said(it, "Both entries are the same: closed, revision 2.")
+            same((shown(desk, "s1")["status"], it.text("#alert"), focused(it)[0]), ("closed", "", "station"))
+            it.click("#receipt summary")
+            found = receipt(it)
+            wanted = {"Station": "s1", "Slip": "p1", "A Alpha": "120", "B Beta": "71", "Blank": "2", "Spoiled": "1", "Total": "194",
+                      "By": "sara, second entry"}
+            same({name: found.get(name) for name in wanted}, wanted)
+            # Again, by a page that knows the revision from before, and by one that does not.
+            enter(it, "confirm", SLIP)
+            said(it, "The return is closed already: nothing is left to do.")
+            it.run("document.getElementById('confirm').reset()")
+            it.open(it.run("return location.href"))
+            said(it, "This is what the office has now.")
+            choose_station(it, "s1")
+            enter(it, "confirm", SLIP)
+            said(it, "it is now at revision 2. If this is the slip that counts, send it again")
+            same(it.text("#confirm-rev"), "It is compared with revision 2 of the return.")
+            it.click("#confirm button")
+            said(it, "The return is closed already")
+            choose_station_again(it, "s2")
+            enter(it, "confirm", SLIP)
+            said(it, "This station has no return yet: its slip has to be entered by a clerk first.")
+            choose_station_again(it, "s9", "The office has no station of this code.")
+            same(forms(it), [])
+            asked_for = it.run("return performance.getEntriesByType('resource').map((one) => new URL(one.name).pathname)")
+            same([one for one in asked_for if "/station/" in one and not one.endswith("/confirm")], [])
+        closed = [(line["name"], line["role"], line["status"]) for line in front.record(8) if line["path"].endswith("/confirm")]
+        same(closed, [("sara", "second", status) for status in (409, 409, 409, 200, 409, 409, 409, 404)])
+
+
+def choose_station_again(it, code, words="This is what the office has now."):
+    """Goes to another station, where something is typed that was not sent: it may go."""
+    it.run("const e = document.getElementById('station'); e.value = arguments[0]; setTimeout(() => e.dispatchEvent(new Event('change')))", code)
+    deploy.until(it.asked, 10)
+    it.accept()
+    said(it, words)
+
+
+@needs("chromium", "nginx", "openssl")
+def test_a_second_entry_of_a_queried_return():
+    """The second clerk queries what differs; what is queried waits for its correction, which is then confirmed as it is."""
+    with office_with_a_second(TWICE) as (desk, front):
+        post(desk, "/station/s1/lodge", SLIP | {"votes": [120, 17]})
+        with clerks_browser(front, "sara") as it:
+            choose_station(it, "s1")
+            enter(it, "confirm", SLIP)
+            said(it, DIFFERS)
+            it.type("#query input[name=note]", "second entry: the slip says 71 for B")
+            it.click("#query button")
+            said(it, "Done: revision 2.")
+            same((shown(desk, "s1")["status"], shown(desk, "s1")["note"]), ("queried", "second entry: the slip says 71 for B"))
+            enter(it, "confirm", SLIP)
+            said(it, "The return is queried: put its slip aside until a clerk has corrected it from the paper.")
+            post(desk, "/station/s1/correct", {"rev": 2, **SLIP})
+            it.click("#confirm button")
+            said(it, "it is now at revision 3.")
+            it.click("#confirm button")
+            said(it, "Both entries are the same: closed, revision 4.")
+        same((shown(desk, "s1")["status"], shown(desk, "s1")["rev"]), ("closed", 4))
+
+
+@needs("chromium", "nginx", "openssl")
+def test_a_second_entry_of_another_constituency():
+    """The form has the lists of the station's own constituency; where one entry is enough a second closes as well."""
+    with office_with_a_second(TWICE) as (desk, front):
+        port_slip = {"slip": "q1", "votes": [30, 10, 5], "blank": 0, "spoiled": 1}
+        post(desk, "/station/t1/lodge", port_slip)
+        post(desk, "/station/u1/lodge", SLIP)
+        with clerks_browser(front, "sara") as it:
+            heads = "return [...document.querySelectorAll('#confirm .counts span')].map((e) => e.textContent)"
+            last = ["Blank", "Spoiled", "Total of all these on the slip"]
+            same(it.run(heads), ["A Alpha", "B Beta", *last])
+            choose_station(it, "t1")
+            same((it.run("return document.getElementById('con').value"), it.run(heads)), ("c2", ["B Beta", "C Gamma", "D Delta", *last]))
+            enter(it, "confirm", port_slip | {"votes": [10, 30, 5]})
+            said(it, DIFFERS)
+            enter(it, "confirm", port_slip)
+            said(it, "closed, revision 2.")
+            choose_station(it, "u1")
+            enter(it, "confirm", SLIP)
+            said(it, "closed, revision 2.")
+        same([shown(desk, code)["status"] for code in ("t1", "u1")], ["closed"] * 2)
+
+
+@needs("chromium", "nginx", "openssl")
+def test_the_stations_that_wait_for_their_second_entry():
+    """Both clerks see which they are, as buttons; the first is offered no closing, and no form that shows figures is there twice."""
+    with office_with_a_second(TWICE) as (desk, front):
+        for code in ("s1", "s2", "s3", "s4"):
+            post(desk, f"/station/{code}/lodge", SLIP)
+        for code in ("s3", "s4"):
+            post(desk, f"/station/{code}/query", {"rev": 1, "note": "smudged"})
+        post(desk, "/station/s4/correct", {"rev": 2, **SLIP})
+        post(desk, "/station/s1/confirm", {"rev": 1, **SLIP})
+        same(post(desk, "/station/s2/close", {"rev": 1}, 409), {"refused": 24, "word": "not_confirmed"})
+        listed = "return [...document.querySelectorAll('#open-stations p')].map((e) => e.textContent)"
+        wanted = ["Without a return, 2: s5s6", "Waiting for their second entry, 2: s2s4", "Queried, 1: s3"]
+        for name in ("clara", "sara"):
+            with clerks_browser(front, name) as it:
+                same(it.text("#progress-line"), "1 of 6 stations closed; without a return 2, received 1, queried 1, corrected 1. "
+                     "Waiting for their second entry: 2.")
+                it.click("#find")
+                it.wait("return document.querySelector('#open-stations p')")
+                same(it.run(listed), wanted)
+                it.run("[...document.querySelectorAll('#open-stations button')].find((e) => e.textContent === 's4').click()")
+                said(it, "This is what the office has now.")
+                if name == "clara":
+                    same((forms(it), it.visible("#compare")), (["query", "import"], False))
+                    assert "It waits for its second entry: somebody else types the slip again" in it.text("#return")
+                else:
+                    # The list said which revision it has.
+                    same(it.text("#confirm-rev"), "It is compared with revision 3 of the return.")
+                    enter(it, "confirm", SLIP)
+                    said(it, "closed, revision 4.")
+                    same(it.run(listed), [wanted[0], "Waiting for their second entry, 1: s2", wanted[2]])
+                    shows_well(it, "second")
+
+
+# ---- what is typed
+
+
+@needs("chromium", "nginx", "openssl")
+def test_the_total_of_the_slip():
+    """A slip whose figures have not the total that was typed is not sent: the page says so aloud, and goes to the first figure."""
+    with office_and_proxy(BOTH) as (desk, front):
+        press(desk.port, "--setup", "setup.toml", folder=str(front.folder / "pages"))
+        with clerks_browser(front, "clara") as it:
+            choose_station(it, "s1")
+            tops = it.run("const box = (e) => e.getBoundingClientRect(); return [...document.querySelectorAll('#lodge .counts input')]"
+                          ".map((e) => [e.name, box(e).left, box(e).top])")
+            same([name for name, *_ in tops], ["votes", "votes", "blank", "spoiled", "total"])
+            same((len({left for _, left, _ in tops}), sorted(tops, key=lambda one: one[2])), (1, tops))
+            for wrong, words in (({"votes": [120, 17]}, "the figures add up to 140, and the total that was typed is 194."),
+                                 ({"total": 149}, "the figures add up to 194, and the total that was typed is 149.")):
+                enter(it, "lodge", SLIP | {"total": 194} | wrong)
+                said(it, words)
+                same((it.text("#alert").startswith("Nothing was sent: "), focused(it)), (True, ["votes", "A Alpha"]))
+                same(it.run("return document.querySelector('#lodge input[name=total]').ariaInvalid"), "true")
+                same(plain(desk.port, "GET", "/station/s1").status, 404)
+            # A field without a figure, or with another thing, is gone to by the browser itself.
+            for place, typed in ((2, ""), (3, "1.0"), (1, "12O")):
+                type_slip(it, "lodge", SLIP)
+                it.run("document.querySelector(`#lodge .counts > :nth-child(${arguments[0]}) input`).value = arguments[1]", place, typed)
+                it.click("#lodge button")
+                same(it.run("return [...document.querySelectorAll('#lodge .counts input')].indexOf(document.activeElement)"), place - 1)
+                same(plain(desk.port, "GET", "/station/s1").status, 404)
+            enter(it, "lodge", SLIP)
+            said(it, "Lodged, revision 1.")
+            # A receipt of a first entry has no figures: it may go with the slip.
+            same(set(receipt(it)), {"Station", "Constituency", "Done", "Slip", "By", "At", "The office’s answer"})
+            same(shown(desk, "s1")["votes"], [120, 71])
+            shows_well(it, "entry")
+
+
+WARNED = """return [...document.querySelectorAll('#lodge .warning > span')].map((e) =>
+    [e.closest('.counts > div').querySelector('span').textContent.split(' ')[0], e.textContent])"""
+MORE, LESS = "More than twice its share in the constituency so far.", "Less than half of its share in the constituency so far."
+# A slip of 1,000 electors, and what is unusual in it. What is closed so far has 300, 200 and 20
+# votes: of 520 again these are expected, of 560 some 323, 215 and 22, of 245 some 141, 94 and 9.
+UNUSUAL = (
+    ([300, 20, 200], 0, 0, [["B", f"{LESS} Exchanged with the figure of C it would fit."],
+                            ["C", f"{MORE} Exchanged with the figure of B it would fit."]]),
+    ([300, 200, 60], 0, 0, [["C", MORE]]),
+    ([300, 200, 5], 0, 0, [["C", LESS]]),
+    ([30, 200, 15], 0, 0, [["A", LESS], ["B", MORE]]),
+    ([300, 200, 20], 28, 0, [["Blank", "More than 5 per cent of all votes are blank."]]),
+    ([300, 200, 20], 0, 28, [["Spoiled", "More than 5 per cent of all votes are spoiled."]]),
+    ([115, 77, 7], 0, 0, [["Total", "Less than 20 per cent of the 1000 electors."]]),
+    ([549, 366, 36], 0, 0, [["Total", "More than 95 per cent of the 1000 electors."]]),
+)
+# What is just not: 27 and 27 of 574 are 4.7 per cent each; 38 is less than twice 19.9, 10 more than
+# half of 19.6; 200 and 950 of 1,000 are 20 and 95 per cent; of 20 votes fewer than 10 are chance.
+USUAL = (([300, 200, 20], 27, 27), ([300, 180, 38], 0, 0), ([300, 200, 10], 0, 0), ([115, 77, 8], 0, 0), ([549, 365, 36], 0, 0),
+         ([300, 200, 29], 0, 0))
+
+
+@needs("chromium", "nginx", "openssl")
+def test_what_is_unusual_in_a_slip():
+    """It is shown beside its figure, and is sent once somebody says of each that the paper says so."""
+    setup = (PROFILE + constituency("c1", "Twin Town", 3, "d0") + LISTS + party_list("C", "Gamma", "Gil")
+             + "".join(station(f"s{n}", 1000) for n in range(1, 10)))
+    with office_and_proxy(setup) as (desk, front):
+        press(desk.port, "--setup", "setup.toml", folder=str(front.folder / "pages"))
+        post(desk, "/station/s1/lodge", {"slip": "p1", "votes": [300, 200, 20], "blank": 0, "spoiled": 0})
+        post(desk, "/station/s1/close", {"rev": 1})
+        with clerks_browser(front, "clara") as it:
+            choose_station(it, "s2")
+            for votes, blank, spoiled, wanted in UNUSUAL:
+                type_slip(it, "lodge", {"slip": "p2", "votes": votes, "blank": blank, "spoiled": spoiled})
+                it.click("#lodge button")
+                number = "a figure is" if len(wanted) == 1 else f"{len(wanted)} figures are"
+                same((votes, it.run(WARNED)), (votes, wanted))
+                assert it.text("#alert").startswith(f"Nothing was sent yet: {number} unusual."), it.text("#alert")
+                # The figure has the focus, and what is said of it belongs to it.
+                same(focused(it)[1].split(" ")[0], wanted[0][0])
+                same(it.run("return document.getElementById(document.activeElement.getAttribute('aria-describedby')).textContent"), wanted[0][1])
+                same(plain(desk.port, "GET", "/station/s2").status, 404)
+            shows_well(it, "unusual")
+            # One tick of two is not enough; a figure that is typed again is looked at again.
+            type_slip(it, "lodge", {"slip": "p2", "votes": [300, 20, 200], "blank": 0, "spoiled": 0})
+            it.click("#lodge button")
+            it.click("#lodge .warning input")
+            it.click("#lodge button")
+            assert it.text("#alert").startswith("Nothing was sent yet: a figure is unusual."), it.text("#alert")
+            it.type("#lodge .counts > :nth-child(2) input", "20")
+            it.run("document.querySelectorAll('#lodge .warning input').forEach((e) => e.click())")
+            it.click("#lodge button")
+            same((len(it.run(WARNED)), plain(desk.port, "GET", "/station/s2").status), (2, 404))
+            it.run("document.querySelectorAll('#lodge .warning input').forEach((e) => e.checked || e.click())")
+            it.click("#lodge button")
+            said(it, "Lodged, revision 1.")
+            same(shown(desk, "s2")["votes"], [300, 20, 200])
+            for n, (votes, blank, spoiled) in enumerate(USUAL, 3):
+                choose_station(it, f"s{n}")
+                type_slip(it, "lodge", {"slip": f"p{n}", "votes": votes, "blank": blank, "spoiled": spoiled})
+                it.click("#lodge button")
+                said(it, "Lodged, revision 1.")
+
+
+@needs("chromium", "nginx", "openssl")
+def test_what_was_typed_and_not_sent():
+    """Another station, another constituency and another page ask before it goes; asking the office again keeps it."""
+    with office_and_proxy(BOTH) as (desk, front):
+        press(desk.port, "--setup", "setup.toml", folder=str(front.folder / "pages"))
+        leaves = "return dispatchEvent(new Event('beforeunload', { cancelable: true }))"
+        slip = "return document.querySelector('#lodge input[name=slip]').value"
+        with clerks_browser(front, "clara") as it:
+            choose_station(it, "s1")
+            same(it.run(leaves), True)
+            type_slip(it, "lodge", SLIP)
+            same(it.run(leaves), False)
+            it.click("#again")
+            said(it, "This is what the office has now.")
+            same(it.run("return [...document.querySelectorAll('#lodge .counts input')].map((e) => e.value)"), ["120", "71", "2", "1", "194"])
+            for chosen, code in (("station", "04-001-B"), ("con", "montehondo")):
+                it.run("const e = document.getElementById(arguments[0]); e.value = arguments[1]; setTimeout(() => e.dispatchEvent(new Event('change')))",
+                       chosen, code)
+                deploy.until(it.asked, 10)
+                same(it.dismiss(), "What you typed for s1 was not sent. Leave it?")
+                same(it.run("return [document.getElementById('station').value, document.getElementById('con').value]"), ["s1", "c1"])
+                same(it.run(slip), "p1")
+            choose_station_again(it, "04-001-B")
+            same((it.run(slip), it.run(leaves), it.run("return document.getElementById('con').value")), ("", True, "montehondo"))
+            # A note alone is asked for as well.
+            post(desk, "/station/s1/lodge", SLIP)
+            choose_station(it, "s1")
+            it.type("#query input[name=note]", "smudged")
+            same(it.run(leaves), False)
+            choose_station_again(it, "04-001-B")
+        same(shown(desk, "s1")["rev"], 1)
+
+
+PRINTED = """return [...document.querySelectorAll('header, #said, #receipt, #receipt button, main')]
+    .filter((e) => e.getClientRects().length).map((e) => e.id || e.tagName)"""
+
+
+def acts(it, button, question, words, wanted):
+    """A button that asks once: with no nothing is sent, with yes it is done, and the receipt says this."""
+    before = it.text("#said")
+    it.click(button)
+    same((it.dismiss(), it.text("#said")), (question, before))
+    confirmed(it, button, question, words)
+    same((it.asked(), it.visible("#receipt tr")), (False, True))
+    found = receipt(it)
+    same({name: found.get(name) for name in wanted}, wanted)
+    assert re.match(r"\w{3} \w{3} \d\d \d{4} \d\d:\d\d:\d\d ", found["At"]), found
+
+
+@needs("chromium", "nginx", "openssl")
+def test_what_is_asked_once_and_its_receipt():
+    with office_and_proxy(BOTH) as (desk, front):
+        press(desk.port, "--setup", "setup.toml", folder=str(front.folder / "pages"))
+        town = {"Constituency": "Twin Town (c1)"}
+        post(desk, "/station/s1/lodge", SLIP)
+        with clerks_browser(front, "clara") as it:
+            choose_station(it, "s1")
+            acts(it, "#close button", "Close the return of s1, revision 1?", "Done: revision 2.", town | {
+                "Station": "s1", "Done": "Done: revision 2.", "Slip": "p1", "A Alpha": "120", "B Beta": "71", "Total": "194", "By": "clara, clerk",
+                "The office’s answer": '{"ok":"moved","rev":2}'})
+            # On paper there is the receipt and nothing else.
+            it.run("window.print = () => { window.printed = true; }")
+            it.click("#print")
+            same(it.run("return window.printed"), True)
+            same(it.run(PRINTED), ["HEADER", "said", "receipt", "print", "MAIN"])
+            it.command("Emulation.setEmulatedMedia", media="print")
+            same(it.run(PRINTED), ["receipt"])
+            it.command("Emulation.setEmulatedMedia", media="")
+        with clerks_browser(front, "berta") as it:
+            choose_con(it, "c1")
+            # 120 and 71 votes: 120, 71, 60 are the three largest quotients.
+            acts(it, "#certify button", "Certify Twin Town, edition 1?", "Done: edition 2.", town | {
+                "Station": None, "A Alpha": "120 votes, 2 seats", "B Beta": "71 votes, 1 seats", "By": "berta, board"})
+            it.type("#vacate input[name=note]", "moved")
+            acts(it, "#vacate button", "Ana (A) is gone?", "Done: nobody moves in, the seat is empty.",
+                 town | {"Gone": "Ana, A, place 1", "Note": "moved"})
+            it.type("#reopen input[name=note]", "a recount")
+            acts(it, "#reopen button", "Withdraw the certificate of Twin Town?", "Done: edition 3.", town | {"Note": "a recount"})
+        same([line["path"] for line in front.record(4)],
+             ["/station/s1/close", "/con/c1/certify", "/con/c1/vacate", "/con/c1/reopen"])
+
+
+@needs("chromium", "nginx", "openssl")
+def test_the_clerks_page_for_a_screen_reader():
+    """As the browser tells it: each form and each field has a name, refusals are an alert, and nothing but what acts is a tab stop."""
+    with office_and_proxy(BOTH) as (desk, front):
+        press(desk.port, "--setup", "setup.toml", folder=str(front.folder / "pages"))
+        post(desk, "/station/s1/lodge", SLIP)
+        post(desk, "/station/s1/query", {"rev": 1, "note": "smudged"})
+        with clerks_browser(front, "clara") as it:
+            choose_station(it, "s1")
+            same(it.named("form"), [("form", "Correct it"), ("form", "Import a file of returns")])
+            same([name for _, name in it.named("textbox", "combobox")], ["Constituency", "Station", "Slip", "A Alpha", "B Beta", "Blank", "Spoiled",
+                 "Total of all these on the slip", "Fields are separated by"])
+            assert all(name for _, name in it.named("button", "checkbox", "region")), it.named("button", "checkbox", "region")
+            same(it.run("return [document.getElementById('status').role, document.getElementById('alert').role]"), ["status", "alert"])
+            enter(it, "correct", SLIP | {"votes": [301, 0], "total": 304})
+            said(it, "are more than the station has electors.")
+            same((it.text("#status"), focused(it)[0]), ("", "total"))
+            stops = it.run("return [...document.querySelectorAll('*')].filter((e) => e.tabIndex >= 0 && e.getClientRects().length)"
+                           ".map((e) => e.tagName)")
+            same(set(stops), {"INPUT", "SELECT", "BUTTON"})
+            same(it.run("return [document.scripts.length, document.scripts[0].src]"), [1, ""])
+
+
+# ---- who entered what, from the record
+
+
+TIME = "2026-11-26T22:14:00.000+00:00"
+
+
+def given(name, path, body="{}", *statuses):
+    """A command of a record, with the statuses of its answers: 200 where none is named."""
+    return [(a_command(body, path) | {"time": TIME, "name": name}, statuses or (200,))]
+
+
+def refused_name(name, path):
+    """A command of a name whose role may not give it."""
+    command = a_command("{}", path) | {"time": TIME, "name": name, "bytes": 2, "status": 403}
+    return [({key: value for key, value in command.items() if key != "body"}, ())]
+
+
+def without_answer(name, path):
+    return [(command, ()) for command, _ in given(name, path)]
+
+
+def record_of(commands):
+    """A record as the recorder writes it; a line of bytes is there as it is."""
+    lines = []
+    for one in commands:
+        command, statuses = (one, ()) if isinstance(one, bytes) else one
+        lines.append(command)
+        number = len(lines)
+        lines += [{"time": TIME, "to": number, "status": status, "answer": ""} for status in statuses]
+    return chained(*lines)
+
+
+def entries(record, setup=TWICE):
+    """What the tool says of a record: its bytes, or commands."""
+    Path("entries.toml").write_text(setup, encoding="utf-8")
+    done = subprocess.run([DEPLOY / "entries", "entries.toml"], input=record if isinstance(record, bytes) else record_of(record),
+                          capture_output=True, timeout=60, env={**os.environ, "PYTHONIOENCODING": "utf-8:strict"})
+    same(done.stderr, b"")
+    return done.returncode, done.stdout.decode().splitlines()
+
+
+def test_the_two_entries_of_a_record():
+    """Of a station that was entered, corrected or imported by the name that confirmed it; the certificates over such; and none
+    where two names entered it, or one entry is enough."""
+    good = given("clara", "/station/s1/lodge") + given("sara", "/station/s1/confirm")
+    same(entries(good), (0, ["closed 1, of these by a second entry 1, to look at 0"]))
+    single = given("clara", "/station/u1/lodge") + given("clara", "/station/u1/close") + given("berta", "/con/c3/certify", '{"edition":1}')
+    same(entries(good + single), (0, ["closed 2, of these by a second entry 1, to look at 0"]))
+    # Of the rows of the import the first is good, the second has more votes than electors, and that
+    # of s1 changes nothing.
+    rows = "station,slip,blank,spoiled,A,B\r\ns4,p4,0,0,10,20\r\ns5,p5,0,0,200,101\r\n\r\ns1,p1,2,1,120,71\r\n"
+    record = (
+        good + given("clara", "/station/s2/lodge") + given("clara", "/station/s2/confirm")
+        + given("clara", "/station/s3/lodge") + given("sara", "/station/s3/query") + given("sara", "/station/s3/correct")
+        + given("sara", "/station/s3/confirm") + given("bruno", "/con/c1/import", rows) + given("bruno", "/station/s4/confirm")
+        + given("clara", "/station/s5/lodge") + given("bruno", "/station/s5/confirm")
+        # What is answered `same`, or refused by the office or before it, is nobody's entry.
+        + given("sara", "/station/s5/lodge") + given("sara", "/station/s5/lodge", "{}", 409)
+        + given("sara", "/station/s5/confirm", "{}", 409) + refused_name("clara", "/station/s5/confirm") + given("sara", "/station/s6/confirm")
+        + given("berta", "/con/c1/certify", '{"edition":1}') + given("berta", "/con/c1/certify", '{"edition":1}', 409))
+    of_clara, of_sara, of_bruno = (f"both entries are by {name} ({TIME}, {TIME})" for name in ("clara", "sara", "bruno"))
+    first_lost = f"s6: its second entry is by sara ({TIME}), and its first is not in this record"
+    certified = f"c1: certified by berta ({TIME}), edition 2, over s2, s3, s4, s6"
+    same(entries(record), (1, [f"s2: {of_clara}", f"s3: {of_sara}", f"s4: {of_bruno}", first_lost, certified,
+                               "closed 6, of these by a second entry 6, to look at 5"]))
+    # Entered again under two names after a reopening, it is named no more; its certificate is.
+    again = record + given("berta", "/con/c1/reopen") + given("sara", "/station/s2/query") + given("clara", "/station/s2/correct")
+    same(entries(again), (1, [f"s3: {of_sara}", f"s4: {of_bruno}", first_lost, certified, "closed 5, of these by a second entry 5, to look at 4"]))
+    same(entries(again + given("sara", "/station/s2/confirm"))[1][0], f"s3: {of_sara}")
+    # The first entry is that which was recorded, whoever sent the same again; a return that is
+    # queried is not closed.
+    same_again = given("clara", "/station/s1/lodge") + given("bruno", "/station/s1/lodge") + given("clara", "/station/s1/confirm")
+    same(entries(same_again), (1, [f"s1: {of_clara}", "closed 1, of these by a second entry 1, to look at 1"]))
+    same(entries(same_again + given("bruno", "/station/s1/query")), (0, ["closed 0, of these by a second entry 0, to look at 0"]))
+    # A certificate over what nobody closed in the record, and a close that the office cannot have
+    # accepted where two entries are needed.
+    lost = given("clara", "/station/t1/lodge") + given("clara", "/station/t1/close") + given("berta", "/con/c2/certify", '{"edition":4}')
+    same(entries(lost), (1, ["t1: its second entry is not in this record", f"c2: certified by berta ({TIME}), edition 5, over t1",
+                             "closed 1, of these by a second entry 0, to look at 2"]))
+
+
+def test_entries_in_the_order_of_their_answers():
+    """The first entry is by the name whose command was done first, and not by the one whose command was recorded first."""
+    lodged = [command for name in ("clara", "sara") for command, _ in given(name, "/station/s1/lodge")]
+    answers = [{"time": TIME, "to": number, "status": 200, "answer": ""} for number in (1, 2)]
+    confirmed = [command for command, _ in given("sara", "/station/s1/confirm")] + [{"time": TIME, "to": 5, "status": 200, "answer": ""}]
+    both = f"s1: both entries are by sara ({TIME}, {TIME})"
+    same(entries(chained(*lodged, *answers, *confirmed)), (0, ["closed 1, of these by a second entry 1, to look at 0"]))
+    same(entries(chained(*lodged, *answers[::-1], *confirmed)), (1, [both, "closed 1, of these by a second entry 1, to look at 1"]))
+
+
+def test_a_spoiled_record_of_entries():
+    """Lines that are cut or of another kind are named, and what comes after them is read; so is what nobody knows to have been
+    done, and a body that is no text. A line that was changed is read as it is."""
+    twice = given("clara", "/station/s1/lodge") + given("clara", "/station/s1/confirm")
+    both = [f"s1: both entries are by clara ({TIME}, {TIME})", "closed 1, of these by a second entry 1, to look at 2"]
+    whole = record_of(given("clara", "/station/s1/lodge")).splitlines()[0]
+    spoiled = [whole[:40], b"5", b"{}", b"null", b'"to"', b"[]", b"\0\0", b"[" * 20_000, b'{"to":[],"status":200}', b'{"to":1}',
+               b'{"to":1,"status":"200"}', whole.replace(b"POST", b"GET"), whole.replace(b'"path"', b'"pith"'), whole.replace(b"/lodge", b"/nonesuch"),
+               whole.replace(b'"n": 1', b'"n": []'), whole.replace(b'"body": "{}"', b'"body_base64": "e"'), b"p\xe9"]
+    for one in spoiled:
+        status, said_of = entries([one] + twice)
+        same((status, said_of[1:]), (1, both))
+        text = one.decode(errors="backslashreplace").replace("\\xe9", "\\udce9")[:200]
+        same(said_of[0], f"line 1 is no whole line of a record: {text}")
+    # What another office answered as done.
+    for path, what in (("/station/zz/lodge", "lodge zz"), ("/con/zz/certify", "certify zz"), ("/con/zz/import", "import zz"),
+                       ("/con/c1/certify", "certify c1")):
+        status, said_of = entries(given("clara", path, "[]") + twice)
+        same((status, said_of), (1, [f"line 1: {what} by clara ({TIME}) is no command of an office of this setup", *both]))
+    # A command that another line, or none, was put in the place of.
+    same(entries([b"cut"] + record_of(twice).splitlines()[1:]), (1, [
+        "line 1 is no whole line of a record: cut", "line 2: it answers line 1, which is not there: nobody knows what was done",
+        f"s1: its second entry is by clara ({TIME}), and its first is not in this record",
+        "closed 1, of these by a second entry 1, to look at 3"]))
+    # Numbers, hashes and further keys are nothing to it.
+    changed = record_of(twice).replace(b'"clara"', b'"sara"', 1).replace(b'"before"', b'"beside"')
+    same(entries(changed), (0, ["closed 1, of these by a second entry 1, to look at 0"]))
+    second = given("sara", "/station/s1/confirm")
+    for unknown in (without_answer("clara", "/station/s1/lodge"),
+                    *(given("clara", "/station/s1/lodge", "{}", status) for status in (None, 502, 503, 504))):
+        status, said_of = entries(unknown + second)
+        same((status, said_of[:2]), (1, [f"line 1: lodge s1 by clara ({TIME}): nobody knows whether it was done",
+                                         f"s1: its second entry is by sara ({TIME}), and its first is not in this record"]))
+    # A row with another station's name in bytes that are no UTF-8.
+    rows = "station;slip;blank;spoiled;A;B\ns\xe9;p1;0;0;1;2\ns1;p1;0;0;1;2\n".encode("latin-1")
+    record = given("josé", "/con/c1/import/semicolon", rows) + given("josé", "/station/s1/confirm")
+    same(entries(record), (1, [f"s1: both entries are by josé ({TIME}, {TIME})", "closed 1, of these by a second entry 1, to look at 1"]))
+    same(entries([]), (0, ["closed 0, of these by a second entry 0, to look at 0"]))
+
+
+@needs("nginx", "openssl")
+def test_a_name_that_changes_its_role():
+    """No name may do both; one that was given the other role in the evening does, and the record shows it."""
+    with office_with_a_second(TWICE) as (desk, front):
+        ask = lambda target, body, name: front.ask("POST", target, body, name).status
+        same([ask(f"/station/{code}/lodge", SLIP, "clara") for code in ("s1", "s2")], [200] * 2)
+        same([ask("/station/s1/confirm", {"rev": 1, **SLIP}, name) for name in ("clara", "sara")], [403, 200])
+        staff = front.folder / "office/staff.conf"
+        staff.write_text(staff.read_text().replace("clara clerk;", "clara second;"))
+        front.process.send_signal(deploy.signal.SIGHUP)
+        deploy.until(lambda: ask("/station/s2/close", {"rev": 1}, "clara") == 403, 20)
+        same(ask("/station/s2/confirm", {"rev": 1, **SLIP}, "clara"), 200)
+        times = [line["time"] for line in front.record(6) if "/s2/" in line["path"] and line["status"] == 200]
+        record = (front.folder / "log/commands.log").read_bytes()
+    same(entries(record), (1, [f"s2: both entries are by clara ({times[0]}, {times[1]})", "closed 2, of these by a second entry 2, to look at 1"]))
+
+
+if __name__ == "__main__":
+    sys.exit(deploy.main(globals()))

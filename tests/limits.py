@@ -1,0 +1,394 @@
+#!/usr/bin/env python3
+"""Tests from outside an office that is as large as an office may be, beside one in plain Python.
+
+    python3 tests/limits.py [--program FILE] [TEST..]
+
+Its setup has 8,388,608 bytes, 200 profiles, 200 constituencies and 60,000 stations. Among the constituencies are one of 5,000 stations and
+60 lists, each of 1,000 candidates, and one of 60 lists and 500 seats by each method, with lots that alternate and with lots that do not;
+each code has 16 characters, each name 80 bytes. Words, program and last line are as in `tests/program.py`. It takes some minutes. With
+SMALLER=N it has one of N stations, and fewer constituencies and candidates: for a program that was built unproved, which is slow.
+"""
+
+import os
+import random
+import sys
+import time
+import tomllib
+from functools import cache
+from pathlib import Path
+
+import model
+import program
+from program import (
+    NINE_REPORTS, Ran, answered_as, before_the_library, counted_and_certified, database, get, imports, office, post, returns_of_sixty_lists,
+    same, serving, shown_as, write,
+)
+
+# ---- the setup
+
+
+def code(letter, n):
+    return f"{letter}{n:015}"
+
+
+def name(text):
+    """A name of 80 bytes and fewer characters."""
+    left = 80 - len(text.encode())
+    return text + "ñ" * (left // 2) + "x" * (left % 2)
+
+
+# The methods and the rules on lots by which constituencies of 60 lists and 500 seats are allotted.
+RULES = [(method, lot) for lot in ("alternating", "fixed") for method in ("dhondt", "sainte-lague", "modified-sainte-lague", "hare")]
+
+SMALLER = int(os.environ.get("SMALLER", "1"))
+
+# The numbers of constituencies. Those from the first of `SIXTY` on have each one of `RULES`.
+COUNTRY, WIDE, SIXTY, REVISED, EDITED, REST = 0, 1, 2, 10, 11, 12
+ALL = max(REST + 1, 200 // SMALLER)
+MOST_STATIONS = 5000 // SMALLER
+STATIONS = 60000 // SMALLER
+
+
+def profile_of(n):
+    """The method, the rule on lots, the threshold and the base of a constituency."""
+    method, lot = RULES[2 if n == COUNTRY else (n - SIXTY) % len(RULES)]
+    return method, lot, 0 if n < REST else n * 50, ("valid", "lists")[n // 3 % 2]
+
+
+def lists_of(n):
+    """How many lists a constituency has, and how many candidates the first and the others have."""
+    if n == COUNTRY:
+        return 60, 1000, 1000 // SMALLER
+    return (60, 1000 if n == SIXTY else 9, 2) if SIXTY <= n < REVISED else (3, 2, 1) if n == WIDE else (1, 1, 1)
+
+
+def stations_of(n):
+    """How many stations a constituency has: together there are 60,000."""
+    if n < REST:
+        return {COUNTRY: MOST_STATIONS, WIDE: MOST_STATIONS, REVISED: 1, EDITED: 1}.get(n, 4)
+    left = STATIONS - sum(map(stations_of, range(REST)))
+    return left // (ALL - REST) + (n - REST < left % (ALL - REST))
+
+
+def table_of(n, first_station):
+    """The text of a constituency. Its stations are numbered on from those before it."""
+    lists, most, least = lists_of(n)
+    text = f'[[constituency]]\ncode = "{code("C", n)}"\nname = "{name(f"Constituency {n} ")}"\nseats = {500 if lists == 60 else n % 500 + 1}\n'
+    text += f'profile = "{code("P", n)}"\nlist = [\n'
+    for l in range(lists):
+        names = ",".join(f'"{name(f"Candidate {place} of {l} ")}"' for place in range(1, (least if l else most) + 1))
+        text += f'{{code="{code("L", l)}",name="{name(f"List {l} ")}",candidates=[{names}]}},\n'
+    stations = ",\n".join(f'{{code="{code("S", s)}",electors=1000000}}' for s in range(first_station, first_station + stations_of(n)))
+    return f"{text}]\nstation=[\n{stations}]\n"
+
+
+@cache
+def setup():
+    """The text of the setup, of as many bytes as a setup may have."""
+    text = ""
+    for n in range(ALL):
+        method, lot, threshold, base = profile_of(n)
+        text += f'[[profile]]\ncode="{code("P", n)}"\nmethod="{method}"\nthreshold={threshold}\nbase="{base}"\nlot="{lot}"\n'
+    station = 0
+    for n in range(ALL):
+        text += table_of(n, station)
+        station += stations_of(n)
+    same(station, STATIONS)
+    if SMALLER == 1:
+        text += "#" * (8388608 - len(text.encode()))
+        same(len(text.encode()), 8388608)
+    return text
+
+
+@cache
+def parsed():
+    return tomllib.loads(setup())
+
+
+def plain_office():
+    return model.Office(parsed())
+
+
+@cache
+def made():
+    """The bytes of the database of the office as `new` makes it."""
+    program.new(setup(), "made.db", ALL)
+    text = Path("made.db").read_bytes()
+    os.remove("made.db")
+    return text
+
+
+def begun():
+    """The office as `new` makes it, as a file of this folder, and in plain Python."""
+    write("office.db", made())
+    return plain_office()
+
+
+def con_of(plain, n):
+    return plain.cons[code("C", n)]
+
+
+def csv(con, returns, separator=","):
+    """A file of returns: of each station its slip, its votes, and its blank and spoiled ones."""
+    rows = [["station", "slip", "blank", "spoiled", *con.lists]]
+    rows += [[station, slip, str(blank), str(spoiled), *map(str, votes)] for station, (slip, votes, blank, spoiled) in returns.items()]
+    return "".join(separator.join(row) + "\n" for row in rows)
+
+
+def lodged(con, returns):
+    """Notes in plain Python that these returns were lodged."""
+    for station, (slip, votes, blank, spoiled) in returns.items():
+        con.returns[station] = {"slip": slip, "votes": votes, "blank": blank, "spoiled": spoiled, "rev": 1, "status": "received", "note": ""}
+
+
+def reports_of(con):
+    return [get(f"/con/{con.code}/{report}") for report in NINE_REPORTS[:-1]]
+
+
+# What a command is sent to: with `anew`, a server is begun for each.
+COMMANDS = ("/lodge", "/query", "/correct", "/close", "/draw", "/certify", "/reopen", "/vacate")
+
+NOTE = name("a note ") + name("of two hundred bytes ") + "é" * 20
+
+
+# ---- tests
+
+
+def test_an_office_of_every_limit_is_made():
+    """It is made, opens, and shows what an office shows in which nothing has come yet."""
+    same(len(NOTE.encode()), 200)
+    plain = begun()
+    write("setup.toml", setup())
+    before = Path("office.db").read_bytes()
+    same(office("new", "--db", "office.db", "--setup", "setup.toml"), Ran(1, "", "refused: not_empty\n"))
+    same(Path("office.db").read_bytes(), before)
+    cons = [con_of(plain, n) for n in (COUNTRY, SIXTY, ALL - 1)]
+    stations = [station for con in cons for station in (min(con.electors), max(con.electors))]
+    looks = [get("/progress"), *(get(f"/station/{station}") for station in stations)]
+    answered_as(plain, "office.db", looks + [it for con in cons for it in (get(f"/con/{con.code}"), *reports_of(con))])
+    shown_as(plain, "office.db", [cons[0].code], ("progress", "tally", "seats"))
+
+
+def tied(con, votes):
+    """The lists among which a lot is needed with these votes, the seats in question, and for which seat of theirs it is."""
+    poll = model.Poll(con.profile, con.seats, votes, 0)
+    group, seats = poll.group()
+    return len(group), seats, poll.allotted()[group[-1]] + 1 if group else 0
+
+
+# The votes of each station of the country: 990,000 for lists, of which 55 have the same. By the
+# modified rule each of these has five seats before the sixth, whose quotient is 10,800 / 11 =
+# 981.8. The first list has 202 above that, since 396,000 / 403 is 982.6 and 396,000 / 405 is 977.8.
+# So 500 - 275 - 202 = 23 seats are left to the 55 lists, each as a sixth one.
+VOTES = [396000, 0, 0, 0, 0, *[10800] * 55]
+
+
+def closed_by_hand(con, stations):
+    """Returns that were lodged are closed, in the database and in plain Python: what thousands of requests would come to."""
+    with database() as it:
+        for station in stations:
+            it.execute("UPDATE returns SET status = 4, rev = 2 WHERE station = ?", (station,))
+            con.returns[station].update(status="closed", rev=2)
+        votes, blank, spoiled = con.closed()
+        items = {0: blank, 61: spoiled} | dict(enumerate(votes, 1))
+        it.executemany("UPDATE totals SET n = ? WHERE con = ? AND item = ?", [(n, con.code, item) for item, n in items.items()])
+
+
+def requests_of_the_country(con, station):
+    """The last return is lodged and closed, the constituency certified with a lot, opened again, corrected and certified again."""
+    def moved(verb, **body):
+        return post(f"/station/{station}/{verb}", rev=con.returns[station]["rev"], **body)
+
+    def edited(verb, **body):
+        return post(f"/con/{con.code}/{verb}", edition=con.edition, **body)
+
+    looks = [get("/progress"), get(f"/station/{station}"), get(f"/con/{con.code}")]
+    counts = {"slip": "slip-of-16-chars", "votes": VOTES, "blank": 9999, "spoiled": 1}
+    yield post(f"/station/{station}/lodge", **{**counts, "spoiled": 2})
+    yield post(f"/station/{station}/lodge", **counts)
+    yield from looks
+    yield moved("query", note=NOTE + "x")
+    yield moved("query", note=NOTE)
+    yield from looks
+    yield moved("correct", **counts)
+    yield from looks
+    yield edited("certify")
+    yield moved("close")
+    yield from looks
+    yield edited("certify")
+    group, _ = con.poll().group()
+    order = [con.lists[n] for n in reversed(group)]
+    yield edited("draw", order=order[1:])
+    yield edited("draw", order=order)
+    yield from looks
+    yield edited("certify")
+    yield from looks + reports_of(con)
+    for n, place in ((0, 1), (0, con.certified[0]), (0, 1000), (59, 1)):
+        yield post(f"/con/{con.code}/vacate", list=con.lists[n], place=place, note=NOTE)
+    yield from [*looks, get(f"/con/{con.code}/holders")]
+    yield edited("reopen", note=NOTE)
+    yield from [*looks, get(f"/con/{con.code}/past")]
+    yield moved("query", note=NOTE)
+    yield moved("correct", slip="s", votes=[0] * 59 + [1000000], blank=0, spoiled=0)
+    yield moved("close")
+    yield edited("certify")
+    yield edited("draw", order=[con.lists[n] for n in con.poll().group()[0]])
+    yield edited("certify")
+    yield from looks + reports_of(con)
+
+
+def test_five_thousand_stations_and_sixty_lists():
+    """Returns are imported from a file, and one is lodged; each command is asked once, with the longest note where it has one, of a server
+    that was just begun. The lot is one of half a hundred lists that alternate, for an even seat."""
+    plain = begun()
+    con = con_of(plain, COUNTRY)
+    same((con.profile["method"], con.profile["lot"], tied(con, VOTES)), ("modified-sainte-lague", "alternating", (55, 23, 6)))
+    *most, last = con.electors
+    returns = {station: (f"slip-{number:011}", VOTES, 9999, 1) for number, station in enumerate(most)}
+    imports({"lodged": len(returns)}, csv(con, returns), con.code)
+    lodged(con, returns)
+    shown_as(plain, "office.db", [con.code], ("progress", "tally"))
+    imports({"same": len(returns)}, csv(con, returns, ";"), con.code, flags=("--semicolon",))
+    closed_by_hand(con, most)
+    answers = answered_as(plain, "office.db", requests_of_the_country(con, last), COMMANDS)
+    same([status for path, status, _ in answers if path.endswith(("/draw", "/certify"))], [409, 409, 409, 200, 200, 409, 200, 200])
+    shown_as(plain, "office.db", [con.code], ("progress", "seats", "awards", "holders", "past"))
+
+
+def equal_votes(con, lists, spare):
+    """So many lists have the same votes at each station, and the others a few."""
+    return [[8000 if n < lists else spare for n in range(60)]] * len(con.electors)
+
+
+def different_votes(con, draw):
+    """No two lists have the same votes."""
+    sums = draw.sample(range(4000, 60000), 60)
+    return [[n // 4 + (n % 4 if station == 0 else 0) for n in sums] for station in range(len(con.electors))]
+
+
+def requests_of_each_rule(con, draw):
+    """The constituency is certified with votes of five kinds, and shown each time; before the next ones it is opened again."""
+    # Of 60 equal lists 20 have a 9th seat, and of 55 five a 10th.
+    for returns in (equal_votes(con, 60, 0), equal_votes(con, 55, 0), different_votes(con, draw), *(returns_of_sixty_lists(draw) for _ in range(2))):
+        yield from counted_and_certified(con, returns)
+        yield from [get("/progress"), get(f"/con/{con.code}"), *reports_of(con)]
+        yield post(f"/con/{con.code}/vacate", list=con.lists[0], place=1, note=NOTE)
+        yield get(f"/con/{con.code}/holders")
+        yield post(f"/con/{con.code}/reopen", edition=con.edition, note=NOTE)
+    yield from [get(f"/con/{con.code}"), *reports_of(con)]
+
+
+def test_sixty_lists_and_five_hundred_seats_by_each_rule():
+    """By each method, with lots that alternate and with lots that do not, with equal votes and without: each answer and each report is that
+    of the plain office. What was certified at last is there at the next opening."""
+    plain = begun()
+    draw = random.Random(55)
+    for n, (method, lot) in enumerate(RULES, SIXTY):
+        con = con_of(plain, n)
+        same(tied(con, equal_votes(con, 60, 0)[0]), (60, 20, 9))
+        if method != "hare":
+            same(tied(con, equal_votes(con, 55, 0)[0]), (55, 5, 10))
+        answers = answered_as(plain, "office.db", requests_of_each_rule(con, draw), ("/reopen",))
+        verbs = [path.rsplit("/", 1)[1] for path, status, _ in answers if status == 200]
+        same(((method, lot), verbs.count("certify"), verbs.count("draw") >= 2), ((method, lot), 5, True))
+        answered_as(plain, "office.db", counted_and_certified(con, returns_of_sixty_lists(draw)))
+    shown_as(plain, "office.db", [con_of(plain, SIXTY + 2).code], NINE_REPORTS)
+
+
+# Comes before the C library. What is tried here is not the disk, and each commit would wait for it.
+WITHOUT_A_DISK = """
+int fsync(int file) { return 0; }
+int fdatasync(int file) { return 0; }
+"""
+
+
+def requests_up_to_the_last(con, station, edited):
+    """The revision of a return is taken to the last, and the edition of a constituency."""
+    counts = {"votes": [1], "blank": 0, "spoiled": 0}
+    looks = [get(f"/station/{station}"), get(f"/con/{con.code}"), get("/progress")]
+    yield post(f"/station/{station}/lodge", slip="p1", **counts)
+    for rev in range(1, model.LAST):
+        if rev % 2:
+            yield post(f"/station/{station}/query", rev=rev, note=NOTE)
+        else:
+            yield post(f"/station/{station}/correct", rev=rev, slip=f"p{rev}", **counts)
+    for verb, more in (("query", {"note": NOTE}), ("close", {}), ("correct", {"slip": "p", **counts})):
+        yield post(f"/station/{station}/{verb}", rev=model.LAST, **more)
+    yield from looks
+    station = min(edited.electors)
+    yield post(f"/station/{station}/lodge", slip="p1", **counts)
+    yield post(f"/station/{station}/close", rev=1)
+    for edition in range(1, model.LAST):
+        if edition % 2:
+            yield post(f"/con/{edited.code}/certify", edition=edition)
+        else:
+            yield post(f"/con/{edited.code}/reopen", edition=edition, note=NOTE)
+    for verb, more in (("certify", {}), ("reopen", {"note": NOTE})):
+        yield post(f"/con/{edited.code}/{verb}", edition=model.LAST, **more)
+    yield from [*looks, get(f"/con/{edited.code}"), get(f"/con/{edited.code}/past")]
+
+
+def test_the_last_revision_and_the_last_edition():
+    """A return is moved 9,998 times, a constituency certified and opened again 4,999 times: nothing follows, and the office opens."""
+    plain = begun()
+    con, edited = con_of(plain, REVISED), con_of(plain, EDITED)
+    [station] = con.electors
+    os.environ.update(LD_PRELOAD=before_the_library(WITHOUT_A_DISK)["LD_PRELOAD"])
+    try:
+        answers = answered_as(plain, "office.db", requests_up_to_the_last(con, station, edited))
+    finally:
+        del os.environ["LD_PRELOAD"]
+    same(sum(status == 200 for _, status, _ in answers), 2 * (model.LAST - 1) + 3 + 8)
+    same({text for path, status, text in answers if status == 409 and "exhausted" in text}, {'{"refused":12,"word":"exhausted"}'})
+    answered_as(plain, "office.db", [get(f"/station/{station}"), get(f"/con/{edited.code}"), get("/progress")])
+    shown_as(plain, "office.db", [edited.code], ("past",))
+
+
+TIMES = 5
+
+
+def spent(desk, *request):
+    """The fewest nanoseconds of the processor that an answer takes, of five which are 200: other work on the machine adds to some."""
+    # (the clock of a process, as Linux numbers it: clock_getcpuclockid)
+    clock, took = ~desk.process.pid << 3 | 2, []
+    for _ in range(TIMES):
+        before = time.clock_gettime_ns(clock)
+        same((request[:2], desk.ask(*request)[0]), (request[:2], 200))
+        took.append(time.clock_gettime_ns(clock) - before)
+    return min(took)
+
+
+def looks_at_no_station(db, plain):
+    """What is asked of the country takes no more of the processor than the same of a constituency of four stations: the returns of a
+    constituency are counted as the office opens. Each of 5,000 would be some microseconds."""
+    large, *small = (con_of(plain, n) for n in (COUNTRY, SIXTY, SIXTY + 1, SIXTY + 2))
+    reports = ("", "/tally")
+    with serving(db, len(reports) * (len(small) + 1) * TIMES) as desk:
+        for report in reports:
+            least = min(spent(desk, *get(f"/con/{con.code}{report}")) for con in small)
+            most = spent(desk, *get(f"/con/{large.code}{report}"))
+            assert most <= 10 * least, f"{report or 'the view'}: {most} ns, and {least} where there are four stations"
+
+
+def test_sixty_thousand_returns():
+    """Each station has a return, by imports over HTTP; the longest one has 1,048,576 bytes. The office opens, and shows all of them."""
+    plain = begun()
+    counts = '{"bad":0,"differs":0,"first":null,"lodged":%d,"ok":"import","refused":0,"same":%d}'
+    with serving("office.db", ALL + 1) as desk:
+        for con in plain.cons.values():
+            returns = {station: (f"p-{station[2:]}", [n % 10 for n in range(len(con.lists))], n % 7, n % 3) for n, station in enumerate(con.electors)}
+            text, again = csv(con, returns), 0
+            if con.code == code("C", WIDE):
+                # Each return comes four times.
+                header, rows = text.split("\n", 1)
+                text, again = f"{header}\n{rows * 4}".ljust(1048576, "\n"), 3 * len(returns)
+                same(len(text), 1048576)
+            same((con.code, *desk.ask("POST", f"/con/{con.code}/import", text)[::2]), (con.code, 200, counts % (len(returns), again)))
+            lodged(con, returns)
+        same(desk.ask(*get("/progress"))[::2], plain.ask(*get("/progress")))
+    shown_as(plain, "office.db", [code("C", WIDE)], ("progress", "tally"))
+    looks_at_no_station("office.db", plain)
+
+
+if __name__ == "__main__":
+    sys.exit(program.main(globals()))
