@@ -535,11 +535,11 @@ def test_a_network_of_addresses():
 
 def test_a_backup_while_clerks_lodge():
     """Each copy is of one moment: it has the returns that were lodged by then, in their order, and none is half there."""
-    with serving(with_stations(1500)) as desk:
+    with serving(with_stations(5000)) as desk:
         lodged, stop, longest = [], threading.Event(), [0.0]
 
         def lodge():
-            for n in range(1, 1501):
+            for n in range(1, 5001):
                 if stop.is_set():
                     return
                 began = time.monotonic()
@@ -547,6 +547,8 @@ def test_a_backup_while_clerks_lodge():
                 same(plain(desk.port, "POST", f"/station/s{n}/lodge", body).status, 200)
                 longest[0] = max(longest[0], time.monotonic() - began)
                 lodged.append(n)
+                # (so that they last as long as the backups)
+                time.sleep(0.003)
 
         thread = threading.Thread(target=lodge)
         thread.start()
