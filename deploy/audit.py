@@ -8,7 +8,7 @@
 The setup is the office's (TOML) or the published setup.json, the returns are a published stations-CODE-EDITION.csv. A plan
 says what the seats rest on and how much there is to count. A draw prints the drawn stations as a CSV, in which what their
 papers say is then filled in; the seed is 20 digits, drawn in public after the returns were published. An assessment says
-how great the risk still is: if the papers gave other seats than the returns, the audit would confirm those of the returns
+how great the risk still is: if the ballots gave other seats than the returns, the audit would confirm those of the returns
 with at most the chance of the limit, here 5 per cent. That these are the certified ones is for the reader to compare.
 Nothing is written to any file. The status is 0 where all is done, 1 where an assessment does not confirm the seats, 2
 where what was given cannot be used. Python 3.11 or later.
@@ -40,7 +40,7 @@ from itertools import accumulate
 from pathlib import Path
 
 MILLION = 1_000_000
-# Where this part of the papers is expected to be counted, a count of all is hardly more work.
+# Where this part of the ballots is expected to be counted, a count of all is hardly more work.
 NEARLY_ALL = 0.9
 RULES = {"dhondt": "D'Hondt", "sainte-lague": "Sainte-Laguë", "modified-sainte-lague": "the modified Sainte-Laguë",
          "hare": "Hare and largest remainders"}
@@ -210,7 +210,7 @@ class Audit:
         return [*votes, blank, sum(votes) + (blank if self.con.base == "valid" else 0), sum(votes[i] for i in self.taking_part)]
 
     def asserted(self):
-        """The assertions: where they are true of the papers, the papers give these seats, and without a lot."""
+        """The assertions: where all are true of the ballots, these seats follow, without a lot."""
         con, codes = self.con, self.con.lists
         by_quota, base = con.method == "hare", len(codes) + 1
         winners = [i for i, seats in enumerate(self.seats) if seats]
