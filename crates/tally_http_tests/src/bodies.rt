@@ -109,7 +109,6 @@ lodge s1 {"slip":"p1","votes":[-50,40],"blank":2,"spoiled":1} = bad body
 lodge s1 {"slip":"p1","votes":[50,4294967296],"blank":2,"spoiled":1} = bad body
 correct s1 {"slip":"p2","votes":[120,120],"blank":0,"spoiled":0} = bad body
 correct s1 {"rev":3,"votes":[120,120],"blank":0,"spoiled":0} = bad body
-confirm s1 {"rev":1} = bad body
 confirm s1 {"slip":"p1","votes":[100,99],"blank":2,"spoiled":1} = bad body
 confirm s1 {"rev":1,"votes":[100,99],"blank":2,"spoiled":1} = bad body
 query s1 {"rev":2} = bad body
