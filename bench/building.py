@@ -42,9 +42,8 @@ def need(command):
         sys.exit(f"the command {command!r} is not on the PATH")
 
 
-def build_office(folder, name, libraries, modules=()):
-    """Proves and builds the Rattle program `name`.rattle, and copies it to `folder`: its path. Files
-    of its modules may be those of a crate.
+def build_office(folder, name, libraries):
+    """Proves and builds the Rattle program `name`.rattle, and copies it to `folder`: its path.
 
     It is built in a folder within the repository, so that it finds the crates below it with what
     earlier proofs of them left. That folder is then removed, since the gate refuses a Rattle source
@@ -56,8 +55,6 @@ def build_office(folder, name, libraries, modules=()):
         crate = Path(crate)
         (crate / "src").mkdir()
         shutil.copy(HERE / f"{name}.rattle", crate / "src" / "main.rt")
-        for module in modules:
-            shutil.copy(module, crate / "src")
         (crate / "BUILD.bazel").write_text(BUILD.format(name=name, libraries=json.dumps(libraries)))
         # It also runs the program, which ends with an error here, having no arguments.
         ran = subprocess.run(
@@ -77,8 +74,8 @@ class Kept:
     """A program beside the office that is kept in `bench/out` with a checksum of what it is made of, so that it is built again only
     where that changed. Libraries are named as `build_office` names them."""
 
-    def __init__(self, name, libraries, modules=()):
-        self.name, self.libraries, self.modules = name, libraries, modules
+    def __init__(self, name, libraries):
+        self.name, self.libraries = name, libraries
         self.path = HERE / "out" / name
         self.sum = self.path.with_suffix(".sum")
 
@@ -89,7 +86,7 @@ class Kept:
     def sum_of_sources(self):
         """A checksum of its source, of those of the crates below it, and of the toolchain, by its name."""
         found = hashlib.sha256(subprocess.run(["rt", "version"], capture_output=True, check=True).stdout)
-        files = [HERE / f"{self.name}.rattle", *self.modules]
+        files = [HERE / f"{self.name}.rattle"]
         for crate in self.crates():
             parts = [ROOT / "crates" / crate / part for part in ("src", "specs", "proofs")]
             files += [it for part in parts for it in sorted(part.rglob("*")) if it.is_file()]
@@ -108,7 +105,7 @@ class Kept:
         if not self.is_kept():
             sources = self.sum_of_sources()
             self.path.parent.mkdir(exist_ok=True)
-            build_office(self.path.parent, self.name, self.libraries, self.modules)
+            build_office(self.path.parent, self.name, self.libraries)
             self.sum.write_text(sources)
         return self.path
 

@@ -60,7 +60,7 @@ RIVERS = "\n" + profile("h0", "hare", 0, "lists") + constituency("h1", "Three Ri
     party_list("C", "Gamma", "Cid", "Cora") + party_list("D", "Delta", "Dan") + station("r1", 1000)
 )
 
-REPORTS = ("tally", "seats", "quotients", "awards", "quota", "short", "holders", "past")
+REPORTS = ("tally", "seats", "quotients", "awards", "quota", "short", "holders", "past", "stations", "returns")
 
 
 # ---- messages
@@ -95,7 +95,7 @@ ELECTION = (
     message("/con/h1/certify", {"edition": 1}),
 )
 
-ROUTES = (PROGRESS, message("/station/s1"), message("/con/c1"), *(message(f"/con/c1/{report}") for report in REPORTS))
+ROUTES = (PROGRESS, message("/country"), message("/station/s1"), message("/con/c1"), *(message(f"/con/c1/{report}") for report in REPORTS))
 
 
 def ask(port, text):
@@ -468,6 +468,7 @@ def workloads(bench):
         imports_into_open(bench, "import that differs", lodged, differing),
         imports_into_open(bench, "import with a bad row", three, bad),
         show(bench, election, "progress"),
+        show(bench, election, "country"),
         *(show(bench, election, report, first=is_open) for report in REPORTS),
         show(bench, election, "quota", "h1", is_open),
         Command(bench, "show of version 1", past, of_version_1(bench), takes_over=True),

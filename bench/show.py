@@ -56,7 +56,10 @@ GROWING = [500, 1_000, 2_000, 4_000]
 SHOW_GOAL = 1.3
 AWARDS_GOAL = 2
 
-REPORTS = ["progress", "tally", "seats", "quotients", "awards", "short", "holders", "past", "quota"]
+REPORTS = ["progress", "country", "tally", "seats", "quotients", "awards", "short", "holders", "past", "stations", "returns", "quota"]
+
+# Those that are of no constituency alone.
+OF_ALL = ("progress", "country")
 
 # What is measured.
 PARTS = ["one", "many", "instructions", "growth"]
@@ -110,7 +113,7 @@ def reports(program, alone, db, cons, rounds):
     for report in REPORTS:
         con = by_rule.get("quotas" if report == "quota" else "divisors")
         if con is not None:
-            commands[report] = show_command(program, db, report, None if report == "progress" else con)
+            commands[report] = show_command(program, db, report, None if report in OF_ALL else con)
     found = in_turn(rounds, commands, refused=["opening"])
     opening, alone = found["opening"], found["sqlite alone"]
     print("  show                        ms   least   by the clock    MiB   / opening   of the least   / sqlite alone")
@@ -133,7 +136,7 @@ def instructions(program, db, con):
     print(f"  {'opening':16} {opening:16,}")
     most = 0
     for report in REPORTS[:-1]:
-        found, profile = counted(show_command(program, db, report, None if report == "progress" else con), db.parent)
+        found, profile = counted(show_command(program, db, report, None if report in OF_ALL else con), db.parent)
         most = max(most, found / opening)
         print(f"  {report:16} {found:16,} {found / opening:11.3f}")
         if report == "awards":

@@ -199,8 +199,11 @@ class Audit:
         self.lots = [it for it in self.assertions if it.margin <= 0]
         # Of each station the bound, in the setup's order, and the sum of the bounds so far.
         self.rows = [(*it.terms, it.low, it.margin) for it in self.assertions]
+        # The same with the most that a paper can come to there, the greatest first.
+        self.by_most = [] if self.lots else sorted(
+            ((-((it.low - max(it.high, 0)) * MILLION // it.margin), row) for it, row in zip(self.assertions, self.rows)), reverse=True)
         self.bounds = {} if self.lots else {
-            station: self.largest(self.seen(recorded[station]), electors) for station, electors in con.electors.items()}
+            station: self.bound(self.seen(recorded[station]), electors) for station, electors in con.electors.items()}
         self.stations, self.sums = list(self.bounds), list(accumulate(self.bounds.values()))
 
     def seen(self, counts):
@@ -257,11 +260,20 @@ class Audit:
         most = it.recorded - it.low * sum(self.con.electors.values())
         return Fraction(most, it.margin) if it.margin > 0 else math.inf
 
-    def largest(self, counts, electors=0):
-        """Of all assertions the largest of: what these counts add to the sum, less the least that papers of so many electors
-        could add, over the margin."""
-        return -min((low * electors - a * counts[i] - b * counts[j] - c * counts[k]) * MILLION // margin
-                    for (i, a), (j, b), (k, c), low, margin in self.rows)
+    def largest(self, counts):
+        """Of all assertions the largest of: what these counts add to the sum, over the margin."""
+        return -min(-(a * counts[i] + b * counts[j] + c * counts[k]) * MILLION // margin
+                    for (i, a), (j, b), (k, c), _, margin in self.rows)
+
+    def bound(self, counts, electors):
+        """Of all assertions the largest of: what these counts of a station add to the sum, less the least that papers of all its
+        electors could add, over the margin. What cannot come to more than was found is not looked at."""
+        found = -math.inf
+        for most, ((i, a), (j, b), (k, c), low, margin) in self.by_most:
+            if found >= most * electors:
+                break
+            found = max(found, -((low * electors - a * counts[i] - b * counts[j] - c * counts[k]) * MILLION // margin))
+        return found
 
     # ---- draws
 

@@ -1,27 +1,29 @@
 #!/usr/bin/env python3
 """Writes the pages for the press and the public from what an office answers.
 
-    python3 deploy/press.py http://127.0.0.1:8080 [ADDRESS..] FOLDER [--every SECONDS] [--setup FILE] [--head FILE]
+    python3 deploy/press.py http://127.0.0.1:8080 [ADDRESS..] FOLDER [--every SECONDS] [--setup FILE] [--head FILE] [--site FOLDER]
 
-It asks the office by GET alone, and writes into FOLDER: index.html, a page for each constituency, and the same numbers as
-CSV and JSON. Where there are several offices the pages are those of all. With the setup file it also writes setup.json, which
-the clerks' page reads, draws the threshold, names the candidates who are gone, and writes for each certificate the returns of
-its stations as one CSV. With the head that the recorder writes, each round shows how long the record of commands is and the
-hash of its last line, and record.csv keeps what was shown. Each number on a page is the office's own; only lengths of bars
-are computed. SHA256SUMS has the hash of each file.
+It asks the office by GET alone, and writes into FOLDER: index.html, what all constituencies are together; count.html, how far
+the count is; a page for each constituency; and the same numbers as CSV and JSON. Where there are several offices the pages are
+those of all. With the setup file it also writes setup.json, which the clerks' page reads, draws the threshold, has turnout and
+the seats that are open, names the candidates who are gone, and writes for each certificate the returns of its stations, as one
+CSV and as pages; where there is no certificate, those that are closed so far. With the head that the recorder writes, each round shows how long the record of commands is and the hash of
+its last line, and record.csv keeps what was shown. The folder of the site says what the pages are called, in which language,
+and more (press_site.py). manifest.json has the hash of each file, feed.atom what was certified, withdrawn and vacated, and
+datapackage.json, the schemas and openapi.json say what the files have.
 
-A file is written beside and renamed, so nobody reads half of one, and once more compressed. Where the office does not answer, or its answers do not
-agree with one another, the page that was there stays, with a line that says how old it is. With --every it goes on until
-it is ended. Each round prints a line, with how many GETs it took; the status is 1 where the last one failed in part.
-Python 3.11 or later.
+The pages are made by press_pages.py, the other files by press_data.py. A page is written when something on it changes, and
+those of the country and of the count in each round. The stations of a constituency are asked for once a certificate; without
+one where something of it has changed, and once a minute. With --every a round waits for them for half a second and one answer,
+and the others are asked for in later rounds, those first that waited longest. A file is written beside and renamed, so nobody reads half of one, and once
+more compressed. Where the office does not answer, or its answers do not agree with one another, the page that was there stays,
+with a line that says how old it is. With --every it goes on until it is ended. Each round prints a line, with how many GETs it
+took; the status is 1 where the last one failed in part. Python 3.11 or later.
 """
 
 import argparse
 import csv
 import gzip
-import hashlib
-import html
-import io
 import json
 import math
 import os
@@ -32,19 +34,25 @@ import time
 import tomllib
 import urllib.error
 import urllib.request
+from dataclasses import dataclass, field
 from datetime import datetime
 from pathlib import Path
 
-STYLE = Path(__file__).resolve().with_name("press.css")
+from press_data import (OPEN, STATION, adds_up, con_csv, con_json, datapackage, feed, goes_on, index_csv, index_json, json_text, manifest,
+                        record_csv, results_csv, returns_csv, returns_in, schemas)
+from press_pages import aged, con_bodies, con_page, count_page, details_page, index_page, stations_pages, unaged
+from press_site import Site, Wrong
+
 # How long an answer may take: an import may have the office before.
 PATIENCE = 60
+# The files and the routes of the site, for programs.
+ROUTES = Path(__file__).resolve().with_name("openapi.json")
 # A constituency that changes while it is asked for is asked for again, so often.
 TRIES = 3
-METHODS = {"dhondt": "D’Hondt’s rule", "sainte-lague": "Sainte-Laguë’s rule",
-           "modified-sainte-lague": "the modified rule of Sainte-Laguë", "hare": "Hare’s rule of largest remainders"}
-BASES = {"valid": "the valid votes, blank ones among them", "lists": "the votes of the lists"}
-# Colours of lists, in the style; a list beyond them has one of them again.
-COLOURS = 12
+# Where there is no certificate the stations are asked for again after so many seconds, though no
+# number is another one: two changes may leave each as it was. A round of --every asks for stations
+# as long as it waited less than so long for them: the office answers nobody else meanwhile.
+AGAIN, STATIONS = 60, 0.5
 
 
 class NoAnswer(Exception):
@@ -55,10 +63,10 @@ class NoAnswer(Exception):
 
 
 class Office:
-    """An office, and how often it was asked."""
+    """An office, how often it was asked, and how many seconds its answers took."""
 
     def __init__(self, address):
-        self.address, self.asked = address.rstrip("/"), 0
+        self.address, self.asked, self.took = address.rstrip("/"), 0, 0.0
         # A proxy of the environment has nothing to do with it.
         self.opener = urllib.request.build_opener(urllib.request.ProxyHandler({}))
 
@@ -72,7 +80,7 @@ class Office:
             time.sleep(0.5)
 
     def get_once(self, target):
-        self.asked += 1
+        self.asked, began = self.asked + 1, time.monotonic()
         try:
             with self.opener.open(self.address + target, timeout=PATIENCE) as answer:
                 return answer.status, answer.read().decode()
@@ -83,6 +91,8 @@ class Office:
             raise NoAnswer(f"{target}: {error}") from error
         except Exception as error:  # http.client has errors of its own: an answer that is cut off, or none
             raise NoAnswer(f"{target}: {type(error).__name__}") from error
+        finally:
+            self.took += time.monotonic() - began
 
     def text(self, target):
         status, text = self.get(target)
@@ -189,6 +199,21 @@ def read_past(text):
     return found
 
 
+def read_country(text):
+    _, cons, stations, *lists, _, seats = text.split("\n")[:-1]
+    found = dict(zip(("cons", "certified"), map(int, matched(r"constituencies (\d+) certified (\d+)", cons))))
+    found |= dict(zip(("stations", "closed"), map(int, matched(r"stations (\d+) closed (\d+)", stations))))
+    rows = [matched(CODE + r" +(\d+) +(\d+) .*", line) for line in lists]
+    return found | {"chamber": int(matched(r"seats (\d+) majority \d+", seats)[0]),
+                    "lists": [{"code": code, "seats": int(given), "votes": int(votes)} for code, given, votes in rows]}
+
+
+def read_stations(text):
+    """Per station the status of its return, and its slip with the sums of votes, blank and spoiled ones; None without a return."""
+    rows = [matched(CODE + r" +\d+ (?:-|(received|queried|corrected|closed) +\d+ " + CODE + r" +(\d+)" * 3 + ")", line) for line in text.split("\n")[2:-1]]
+    return {code: (status, [slip, *map(int, sums)]) if status else None for code, status, slip, *sums in rows}
+
+
 READERS = {"tally": read_tally, "seats": read_seats, "quotients": read_quotients, "awards": read_awards, "quota": read_quota,
            "short": read_short, "holders": read_holders, "past": read_past}
 
@@ -266,302 +291,6 @@ def read_setup(file):
     return found
 
 
-# ---- parts of a page
-
-
-def number(value):
-    return f"{value:,}"
-
-
-def escaped(text):
-    return html.escape(str(text))
-
-
-def table(caption, heads, rows, kind=""):
-    """A table of cells that are HTML already; the first of a row is its head. A head that begins with # is of numbers."""
-    classes = [' class="number"' if head.startswith("#") else "" for head in heads]
-    top = "".join(f'<th scope="col"{style}>{head.removeprefix("#")}</th>' for head, style in zip(heads, classes))
-    body = ""
-    for first, *rest in rows:
-        cells = "".join(cell if cell.startswith("<td") else f"<td{style}>{cell}</td>" for cell, style in zip(rest, classes[1:]))
-        body += f'<tr><th scope="row"{classes[0]}>{first}</th>{cells}</tr>\n'
-    return (f'<div class="scroll" tabindex="0" role="region" aria-label="{caption}"><table class="{kind}">\n'
-            f"<caption>{caption}</caption>\n<thead><tr>{top}</tr></thead>\n<tbody>\n{body}</tbody>\n</table></div>\n")
-
-
-def list_name(code, place, name=None):
-    """A list: its colour, its code and its name."""
-    full = f' <span class="name">{escaped(name)}</span>' if name is not None else ""
-    return f'<span class="code"><span class="key list-{place % COLOURS}" aria-hidden="true"></span><b>{escaped(code)}</b></span>{full}'
-
-
-def per_cent(ten_thousandths):
-    return f"{ten_thousandths // 100}.{ten_thousandths % 100:02}"
-
-
-def vote_bars(tally, rule):
-    """The votes as bars of their shares, and the threshold as a line across them."""
-    shares = [float(row["share"]) for row in tally["lists"]]
-    threshold = rule["threshold"] / 100 if rule else 0
-    full = max([*shares, threshold, 0.01]) * 1.02
-    line = f'<i class="threshold" style="left:{threshold / full * 100:.2f}%"></i>' if threshold else ""
-    bars = ""
-    for place, (row, share) in enumerate(zip(tally["lists"], shares)):
-        state = "" if row["eligible"] else " left-out"
-        bars += (f'<div class="bar list-{place % COLOURS}{state}"><span class="label">{escaped(row["code"])} '
-                 f'<span class="name">{escaped(row["name"])}</span></span><span class="value">{row["share"]} %</span>'
-                 f'<span class="track"><i class="length" style="width:{share / full * 100:.2f}%"></i>{line}</span></div>\n')
-    said = ", ".join(f'{row["code"]} {row["share"]} per cent' for row in tally["lists"])
-    limit = f"The threshold is {per_cent(rule['threshold'])} per cent of {BASES[rule['base']]}." if threshold else ""
-    legend = f'<figcaption><i class="threshold" aria-hidden="true"></i> {limit}</figcaption>\n' if limit else ""
-    return (f'<figure class="bars" role="img" aria-label="Votes as bars: {escaped(said)}. {limit} The table below has the '
-            f'numbers.">\n{bars}{legend}</figure>\n')
-
-
-def rows_of_dots(count):
-    """Radii of the rows of a half circle of so many dots, the dots in each row, and a dot's radius, as large as it may be."""
-    best = None
-    for rows in range(1, 16):
-        gap = 62 / rows
-        radii = [100 - gap * row for row in range(rows)]
-        dots = [round(count * radius / sum(radii)) for radius in radii]
-        dots[0] += count - sum(dots)
-        apart = [math.pi * radius / (many - 1) for radius, many in zip(radii, dots) if many > 1]
-        size = min([gap, 26, *apart]) * 0.44
-        if min(dots) >= 0 and (best is None or size > best[2]):
-            best = radii, dots, size
-    return best
-
-
-def places_of_dots(count):
-    """Angle and radius of each dot of a half circle, from the left to the right, and a dot's radius."""
-    radii, dots, size = rows_of_dots(count)
-    found = []
-    for radius, many in zip(radii, dots):
-        found += [(math.pi * (1 - (place / (many - 1) if many > 1 else 0.5)), radius) for place in range(many)]
-    return sorted(found, key=lambda dot: (-dot[0], dot[1])), size
-
-
-def half_circle(seats, total):
-    """The seats as a half circle of dots, by list in the setup's order."""
-    dots, size = places_of_dots(total)
-    groups, numbers, start, beside = "", "", 0, 9.0
-    for place, (code, many) in enumerate(seats.items()):
-        own, start = dots[start:start + many], start + many
-        if not own:
-            continue
-        circles = "".join(f'<circle cx="{r * math.cos(a):.1f}" cy="{-r * math.sin(a):.1f}" r="{size:.1f}"/>' for a, r in own)
-        groups += f'<g class="list-{place % COLOURS}"><title>{escaped(code)}: {many}</title>{circles}</g>\n'
-        middle = (own[0][0] + own[-1][0]) / 2
-        if beside - middle > 0.16:  # else the numbers of two narrow lists would lie on one another
-            beside, far = middle, 108 + size
-            numbers += f'<text x="{far * math.cos(middle):.1f}" y="{-far * math.sin(middle) + 3:.1f}" ' \
-                       f'text-anchor="middle" dx="{6 * math.cos(middle):.1f}">{many}</text>\n'
-    said = ", ".join(f"{code} {many}" for code, many in seats.items())
-    legend = " ".join(f'<span class="entry">{list_name(code, place)} {many}</span>'
-                      for place, (code, many) in enumerate(seats.items()) if many)
-    return (f'<figure class="seats" role="img" aria-label="Seats as a half circle of dots: {escaped(said)}. The table below '
-            f'has the numbers.">\n<svg viewBox="-128 -126 256 142" aria-hidden="true">\n{groups}{numbers}'
-            f'<text class="total" x="0" y="-6" text-anchor="middle">{total}</text></svg>\n'
-            f'<figcaption>{legend}</figcaption>\n</figure>\n')
-
-
-# ---- sections of a constituency's page
-
-
-def counted_section(row, tally):
-    closed = f'{number(row["closed"])} of {number(row["stations"])} returns are closed; the votes are those of closed returns.'
-    width = row["closed"] / max(row["stations"], 1) * 100
-    heads = ("Stations", "#without a return", "#received", "#queried", "#corrected", "#closed")
-    cells = [number(row[key]) for key in ("stations", "missing", "received", "queried", "corrected", "closed")]
-    return (f'<section><h2>The count</h2>\n<p>{closed}</p>\n<div class="progress" role="img" aria-label="{closed}">'
-            f'<i style="width:{width:.2f}%"></i></div>\n'
-            + table("Returns of the stations", ("#" + heads[0], *heads[1:]), [cells])
-            + f'<p>Valid votes {number(tally["valid"])}, blank ones among them {number(tally["blank"])}; '
-              f'spoiled {number(tally["spoiled"])}.</p></section>\n')
-
-
-def seats_section(con, row, rule):
-    if not con["view"]["certified"]:
-        why = ("A certificate needs every return closed." if row["closed"] < row["stations"] else
-               "Every return is closed; the board has not certified.")
-        again = " The certificate that there was is withdrawn." if con["past"] else ""
-        return f'<section><h2>Seats</h2>\n<p class="none"><b>No certificate yet.</b> {why}{again} No seat is given.</p></section>\n'
-    seats, names = con["seats"], {entry["code"]: entry["name"] for entry in con["tally"]["lists"]}
-    rows = [[list_name(code, place, names[code]), number(many)] for place, (code, many) in enumerate(seats["seats"].items())]
-    rows.append(["Total", number(seats["total"])])
-    by = f" by {METHODS[rule['method']]}" if rule else ""
-    lot = con["view"]["lot"]
-    drawn = f'<p>A lot was drawn: first {escaped(", then ".join(lot))}.</p>\n' if lot else ""
-    return (f'<section><h2>Seats</h2>\n<p>Certified in edition {seats["edition"]}: {number(seats["total"])} seats{by}.</p>\n'
-            + f'<div class="pair">\n{half_circle(seats["seats"], seats["total"])}'
-            + table("Seats of each list", ("List", "#seats"), rows, "totalled") + f"</div>\n{drawn}</section>\n")
-
-
-def votes_section(con, rule):
-    rows = [[list_name(row["code"], place, row["name"]), number(row["votes"]), row["share"] + " %",
-             "yes" if row["eligible"] else "no"] for place, row in enumerate(con["tally"]["lists"])]
-    base = f" of {BASES[rule['base']]}" if rule else ""
-    closed, stations = con["tally"]["closed"], con["tally"]["stations"]
-    so_far = "" if closed == stations else (
-        f'<p class="none"><b>Not all votes.</b> {number(closed)} of {number(stations)} returns are closed, and these are their votes.</p>\n')
-    return (f'<section><h2>Votes</h2>\n{so_far}<div class="pair">\n{vote_bars(con["tally"], rule)}'
-            + table("Votes of each list", ("List", "#votes", "#share", "takes part"), rows)
-            + f"</div>\n<p>Shares are in per cent{base}, rounded down. A list takes part in the award of seats if it has votes and "
-              "reaches the threshold, which is compared without rounding.</p></section>\n")
-
-
-def holders_section(con, places, candidates):
-    if "holders" not in con:
-        return ""
-    rows = [[list_name(row["list"], places[row["list"]]), "–" if row["place"] is None else number(row["place"]),
-             "<i>empty</i>" if row["place"] is None else escaped(row["name"])] for row in con["holders"]]
-    gone = "".join(f'<li>{list_name(row["list"], places[row["list"]])}, place {row["place"]}'
-                   f'{candidate(candidates, row)}: <q>{escaped(row["note"])}</q></li>\n' for row in con["view"]["gone"])
-    left = f"<h3>Candidates who are gone</h3>\n<ul>\n{gone}</ul>\n" if gone else ""
-    return ("<section><h2>Who holds the seats</h2>\n"
-            + table("Holders of the seats", ("List", "#place", "name"), rows) + left + "</section>\n")
-
-
-def candidate(candidates, row):
-    """The name of a candidate, where the setup is known."""
-    names = candidates.get(row["list"], [])
-    return f", {escaped(names[row['place'] - 1])}" if row["place"] <= len(names) else ""
-
-
-def awards_section(con, places):
-    if "awards" not in con:
-        return ""
-    rows = [[number(row["seat"]), list_name(row["list"], places[row["list"]]), number(row["of_list"]), number(row["votes"]),
-             number(row["divisor"]), number(row["quotient"])] for row in con["awards"]]
-    heads = ("#Seat", "list", "#seat of the list", "#votes in the rule’s unit", "#divisor", "#quotient")
-    return ("<section><h2>The seats in the order of their award</h2>\n" + table("Awards in order", heads, rows)
-            + "<p>Quotients are rounded down here; the rule compares them whole.</p></section>\n")
-
-
-def quotients_section(con, places):
-    if "quotients" not in con:
-        return ""
-    many = max((len(row) for _, row in con["quotients"]), default=0)
-    rows = [[list_name(code, places[code]), *(quotient(value, won) for value, won in row)] for code, row in con["quotients"]]
-    heads = ("List", *(f"#seat {place}" for place in range(1, many + 1)))
-    short = [[list_name(row["list"], places[row["list"]]), number(row["seats"]),
-              "–" if row["short"] is None else number(row["short"])] for row in con["short"]]
-    return ("<section><h2>Quotients</h2>\n<p>Each list’s quotient for its first seat, its second and so on. "
-            "Those with a star won a seat.</p>\n" + table("Quotients of each list", heads, rows, "quotients")
-            + table("Votes that a list lacked for one seat more, if the others had stayed as they are",
-                    ("List", "#seats", "#votes short"), short) + "</section>\n")
-
-
-def quotient(value, won):
-    if not won:
-        return f'<td class="number">{number(value)}</td>'
-    return f'<td class="number won"><b>{number(value)}</b><span aria-hidden="true"> ★</span><span class="unseen"> won</span></td>'
-
-
-def quota_section(con, places):
-    if "quota" not in con:
-        return ""
-    rows = [[list_name(row["list"], places[row["list"]]), number(row["votes"]), number(row["whole"]), number(row["remainder"]),
-             number(row["seats"])] for row in con["quota"]["lists"]]
-    heads = ("List", "#votes", "#whole quotas", "#remainder times the seats", "#seats")
-    return (f'<section><h2>Quotas and remainders</h2>\n<p>{number(con["quota"]["votes"])} votes for '
-            f'{number(con["quota"]["seats"])} seats.</p>\n' + table("Quotas of each list", heads, rows) + "</section>\n")
-
-
-def past_section(con, places, returns):
-    if not con["past"]:
-        return "<section><h2>Withdrawn certificates</h2>\n<p>No certificate was withdrawn.</p></section>\n"
-    note = con["view"]["note"]
-    parts = f"<p>Note of the last reopening: <q>{escaped(note)}</q></p>\n" if note else ""
-    for past in con["past"]:
-        rows = [[list_name(row["code"], places[row["code"]], row["name"]), number(row["seats"])] for row in past["lists"]]
-        of_stations = returns.get(past["edition"])
-        link = f'<p><a href="{of_stations}">Its returns, station by station (CSV)</a></p>\n' if of_stations else ""
-        parts += table(f"Certificate of edition {past['edition']}, withdrawn", ("List", "#seats"), rows, "withdrawn") + link
-    return f"<section><h2>Withdrawn certificates</h2>\n{parts}</section>\n"
-
-
-def files_section(code, edition, returns):
-    """Links to the same numbers for programs."""
-    links = [(f"con-{code}.csv", "Votes and seats (CSV)"), (f"con-{code}.json", "Everything on this page (JSON)")]
-    if edition in returns:
-        links.append((returns[edition], f"The returns of edition {edition}, station by station (CSV)"))
-    items = "".join(f'<li><a href="{escaped(file)}">{text}</a></li>\n' for file, text in links)
-    return f"<section><h2>For programs, and for those who add up</h2>\n<ul>\n{items}</ul></section>\n"
-
-
-def texts_section(texts):
-    parts = "".join(f'<h3 id="text-{name}">{name}</h3>\n<pre tabindex="0" role="region" aria-labelledby="text-{name}">'
-                    f"{escaped(text)}</pre>\n" for name, text in texts.items())
-    return f"<section><h2>The office’s own texts</h2>\n<p>As the office gave them, for those who check.</p>\n{parts}</section>\n"
-
-
-# ---- pages
-
-
-def page(title, body, moment, above=""):
-    """A whole page; the style is in it, so that it can be kept and printed alone."""
-    return (f'<!DOCTYPE html>\n<html lang="en">\n<head>\n<meta charset="utf-8">\n<title>{title}</title>\n'
-            '<meta name="viewport" content="width=device-width, initial-scale=1">\n<meta name="color-scheme" content="light dark">\n'
-            "<meta http-equiv=\"Content-Security-Policy\" content=\"default-src 'none'; style-src 'unsafe-inline'\">\n"
-            f"<style>\n{STYLE.read_text(encoding='utf-8')}</style>\n</head>\n<body>\n<header>{above}\n<h1>{title}</h1>\n"
-            f'<p class="moment">As the office had it on {moment_text(moment)}.</p>\n<!--age--><!--/age-->\n</header>\n<main>\n'
-            f"{body}</main>\n<footer><p>Every number on this page is the office’s own; only the lengths of bars are computed from "
-            "them. The edition of a constituency is raised by each lot, certificate and reopening. Nothing on this page is asked of "
-            "another site.</p></footer>\n</body>\n</html>\n")
-
-
-def moment_text(moment):
-    return f'<time datetime="{moment.isoformat(timespec="seconds")}">{moment.strftime("%d %B %Y, %H:%M:%S %z")}</time>'
-
-
-def con_page(code, con, row, entry, returns, moment):
-    """The page of a constituency; `entry` is what the setup says of it, or None."""
-    places = {listed["code"]: place for place, listed in enumerate(con["tally"]["lists"])}
-    candidates = {listed["code"]: listed["candidates"] for listed in entry["lists"]} if entry else {}
-    state = f"Certified, edition {row['edition']}" if row["certified"] else f"No certificate yet, edition {row['edition']}"
-    above = f'<p><a href="index.html">All constituencies</a></p>\n<p class="state {"certified" if row["certified"] else "open"}">{state}</p>'
-    body = (seats_section(con, row, entry) + votes_section(con, entry) + counted_section(row, con["tally"])
-            + holders_section(con, places, candidates) + awards_section(con, places) + quotients_section(con, places)
-            + quota_section(con, places) + past_section(con, places, returns)
-            + files_section(code, row["edition"], returns) + texts_section(con["texts"]))
-    return page(escaped(con["tally"]["name"]), body, moment, above)
-
-
-def index_page(progress, text, cons, names, moment, head=None):
-    """The page of all constituencies; of one whose page could not be written its progress stands alone."""
-    rows = []
-    for row in progress:
-        con = cons.get(row["con"])
-        name = escaped(names.get(row["con"], row["con"]))
-        link = f'<a href="con-{escaped(row["con"])}.html">{name}</a>'
-        state = f'certified, edition {row["edition"]}' if row["certified"] else "no certificate yet"
-        seats = con["seats"]["seats"] if con and "seats" in con else {}
-        given = ", ".join(f"{escaped(code)} {many}" for code, many in seats.items() if many) or "–"
-        rows.append([link, state, given, *(number(row[key]) for key in
-                                           ("stations", "missing", "received", "queried", "corrected", "closed"))])
-    heads = ("Constituency", "certificate", "seats", "#stations", "#without a return", "#received", "#queried", "#corrected", "#closed")
-    certified = sum(row["certified"] for row in progress)
-    said = f"{certified} of {len(progress)} constituencies certified"
-    bar = f'<div class="progress" role="img" aria-label="{said}"><i style="width:{certified / max(len(progress), 1) * 100:.2f}%"></i></div>\n'
-    files = ('<section><h2>For programs</h2>\n<ul>\n<li><a href="results.csv">Votes and seats of all constituencies (CSV)</a></li>\n'
-             '<li><a href="index.csv">This table (CSV)</a></li>\n<li><a href="index.json">This table (JSON)</a></li>\n'
-             '<li><a href="SHA256SUMS">The hash of each file (SHA-256)</a></li>\n</ul></section>\n' + head_section(head))
-    return page("Results of the election", f"<section><h2>The constituencies</h2>\n<p>{said}.</p>\n{bar}"
-                + table("Progress of the constituencies", heads, rows, "index") + "</section>\n" + files
-                + texts_section({"progress": text}), moment)
-
-
-def head_section(head):
-    """How long the record of commands is, and what nobody can change it without changing."""
-    if not head:
-        return ""
-    return (f'<section><h2>The record of commands</h2>\n<p>It has {number(head["n"])} lines. The SHA-256 of the last is '
-            f'<code>{escaped(head["hash"])}</code>. Each line has that of the line before it, so no line can be changed or removed '
-            'without changing this one. <a href="record.csv">What was shown before (CSV)</a></p></section>\n')
-
-
 # ---- files
 
 
@@ -571,10 +300,27 @@ def put(folder, name, text):
     file, compressed = folder / name, folder / f"{name}.gz"
     if file.exists() and compressed.exists() and file.read_bytes() == data:
         return
-    for target, content in ((compressed, gzip.compress(data, mtime=0)), (file, data)):
+    for target, content in ((compressed, gzip.compress(data, 6, mtime=0)), (file, data)):
         beside = folder / f".{target.name}.new"
         beside.write_bytes(content)
         os.replace(beside, target)
+
+
+def put_dated(folder, name, write, moment):
+    """Writes a file that says its moment, by a function of the moment. One that says the same of an earlier moment keeps that. The
+    moment that it says."""
+    before = text_of(folder / name)
+    found = re.search(r'"time": "([^"]+)"|<updated>([^<]+)<|<time datetime="([^"]+)">', before)
+    since = datetime.fromisoformat(found[found.lastindex]) if found else moment
+    text = write(since)
+    if text != unaged(before):
+        since, text = moment, write(moment)
+    put(folder, name, text)
+    return since
+
+
+def text_of(file):
+    return file.read_text(encoding="utf-8") if file.exists() else ""
 
 
 def remove(folder, name):
@@ -582,142 +328,204 @@ def remove(folder, name):
         file.unlink(missing_ok=True)
 
 
-def put_sums(folder):
-    """Writes the hash of each file, in the form of sha256sum."""
-    files = [file for file in sorted(folder.iterdir()) if file.is_file() and file.suffix != ".gz" and not file.name.startswith((".", "SHA256SUMS"))]
-    put(folder, "SHA256SUMS", "".join(f"{hashlib.sha256(file.read_bytes()).hexdigest()}  {file.name}\n" for file in files))
+def published(folder, *left):
+    """The files of a folder that are for readers, but for those left."""
+    return [file for file in sorted(folder.iterdir())
+            if file.is_file() and file.suffix != ".gz" and not file.name.startswith(".") and file.name not in left]
 
 
 def put_head(folder, file):
     """Adds the head of the record of commands to those that were shown; the head, or None where there is none."""
+    shown = folder / "record.csv"
     try:
         head = json.loads(file.read_text(encoding="utf-8"))
-        row = [head["time"], head["n"], head["hash"]]
+        text = record_csv(text_of(shown), head)
+        if not goes_on(text_of(shown), head):
+            print(f"failed: {file}: line {head['n']} is the last of the record, and {shown} has more, or another", file=sys.stderr, flush=True)
     except (OSError, ValueError, KeyError, TypeError) as error:
         print(f"failed: {file}: {error!r}", file=sys.stderr, flush=True)
         return None
-    shown = folder / "record.csv"
-    before = shown.read_text(encoding="utf-8") if shown.exists() else csv_text(["time", "lines", "sha256"], [])
-    if not before.endswith(f",{row[1]},{row[2]}\n"):
-        put(folder, "record.csv", before + ",".join(map(str, row)) + "\n")
+    put(folder, "record.csv", text)
     return head
 
 
-def csv_text(heads, rows):
-    out = io.StringIO()
-    csv.writer(out, lineterminator="\n").writerows([heads, *rows])
-    return out.getvalue()
-
-
-def json_text(value):
-    return json.dumps(value, ensure_ascii=False, indent=1) + "\n"
-
-
-LIST_COLUMNS = ["list", "name", "votes", "share", "takes_part", "seats"]
-
-
-def list_rows(con):
-    seats = con["seats"]["seats"] if "seats" in con else {}
-    return [[row["code"], row["name"], row["votes"], row["share"], "yes" if row["eligible"] else "no",
-             seats.get(row["code"], "")] for row in con["tally"]["lists"]]
-
-
-def results_csv(cons):
-    """Votes and seats of all constituencies that are known, in one table."""
-    keys = ("stations", "closed", "edition", "certified")
-    rows = [[code, con["tally"]["name"], *(str(con["view"][key]).lower() for key in keys), *row]
-            for code, con in cons.items() for row in list_rows(con)]
-    return csv_text(["con", "con_name", *keys, *LIST_COLUMNS], rows)
-
-
-def con_json(con, row, moment):
-    return json_text({"time": moment.isoformat(timespec="seconds"), "progress": row, **con})
-
-
-def mark_old(file, moment):
+def mark_old(site, file):
     """Says on a page that is there how old it is; whether there is one."""
     if not file.exists():
         return False
-    text = file.read_text(encoding="utf-8")
-    since = re.search(r'<time datetime="([^"]+)">', text)
-    age = moment - datetime.fromisoformat(since[1])
-    line = (f'<p class="old" role="status"><b>The office gave no answer that could be used at {moment.strftime("%H:%M:%S")}.</b> '
-            f"This page is {age_text(age.total_seconds())} old and stays as it is until there is one.</p>")
-    put(file.parent, file.name, re.sub(r"<!--age-->.*?<!--/age-->", lambda _: f"<!--age-->{line}<!--/age-->", text, count=1, flags=re.S))
+    put(file.parent, file.name, aged(site, text_of(file), datetime.now().astimezone()))
     return True
 
 
-def age_text(seconds):
-    for size, unit in ((86400, "day"), (3600, "hour"), (60, "minute"), (1, "second")):
-        if seconds >= size or unit == "second":
-            many = int(seconds // size)
-            return f"{many} {unit}{'' if many == 1 else 's'}"
+# ---- the returns of stations
 
 
-def write_returns(office, folder, code, con, entry):
-    """The returns of a certificate's stations, once an edition; the files that are there, by edition.
+def of_setup(target, found, wanted):
+    """What has to be as the setup has it."""
+    if list(found) != list(wanted):
+        raise NoAnswer(f"{target}: other stations or lists than those of the setup")
+
+
+def returns_of(office, code, entry):
+    """The rows of the returns that are recorded."""
+    target = f"/con/{code}/returns"
+    columns, returns = returns_in(office.text(target))
+    of_setup(target, columns, [*STATION, *(row["code"] for row in entry["lists"])])
+    return returns
+
+
+def certified_returns(office, code, view, entry):
+    """The returns of a certificate as CSV; None where they are of another moment: the next round asks for them again."""
+    returns = returns_of(office, code, entry)
+    text = returns_csv([row["code"] for row in entry["lists"]], returns)
+    if not adds_up(text, view) or office.json(f"/con/{code}") != view:
+        return None
+    of_setup(f"/con/{code}/returns", (row[0] for row in returns), (station["code"] for station in entry["stations"]))
+    return text
+
+
+def closed_returns(office, code, stations, entry):
+    """Of stations as they are the closed returns as CSV; None where one of these is another one by now."""
+    closed = {station: found[1] for station, found in stations.items() if found and found[0] == "closed"}
+    rows = {row[0]: row for row in returns_of(office, code, entry)} if closed else {}
+    for station, said in closed.items():
+        if station not in rows:
+            return None
+        _, slip, blank, spoiled, *votes = rows[station]
+        if [slip, sum(map(int, votes)), int(blank), int(spoiled)] != said:
+            return None
+    return returns_csv([row["code"] for row in entry["lists"]], [rows[station] for station in closed])
+
+
+def stations_of(office, code, before, entry):
+    """The table of stations; where it is not what it was before, what it says too, and the closed returns as CSV, with its slips
+    and its sums."""
+    for again in range(TRIES):
+        if again:
+            time.sleep(1.1)
+        text = office.text(f"/con/{code}/stations")
+        if text == before:
+            return text, None, None
+        stations = read_stations(text)
+        of_setup(f"/con/{code}/stations", stations, (station["code"] for station in entry["stations"]))
+        closed = closed_returns(office, code, stations, entry)
+        if closed is not None:
+            return text, stations, closed
+    raise NoAnswer(f"/con/{code}/stations: they change while they are asked for")
+
+
+def write_returns(office, folder, code, con, entry, may_ask):
+    """The returns of a certificate's stations, once an edition; the files of certificates that are there, by edition.
 
     A file of an edition that has no certificate is removed, and one whose sums are not those of the certificate is written again:
     they are of an office that was replaced by a copy from before."""
     view = con["view"]
     edition = view["edition"] if view["certified"] else None
-    name = f"stations-{code}-{edition}.csv"
-    if edition and entry and not adds_up(folder / name, view):
-        remove(folder, name)
-        found = [office.json(f"/station/{station['code']}") for station in entry["stations"]]
-        rows = [[one["station"], one["slip"], one["blank"], one["spoiled"], *one["votes"]] for one in found]
-        put(folder, name, csv_text(["station", "slip", "blank", "spoiled", *(row["code"] for row in entry["lists"])], rows))
-        # Another certificate may have come meanwhile: the next round writes it.
-        if not adds_up(folder / name, view) or office.json(f"/con/{code}") != view:
-            remove(folder, name)
-    there = {edition, *(past["edition"] for past in con["past"])}
     names = [re.fullmatch(rf"stations-{re.escape(code)}-(\d+)\.csv", file.name) for file in folder.iterdir()]
     files = {int(found[1]): found[0] for found in names if found}
-    for old in set(files) - there:
+    for old in set(files) - {edition, *(past["edition"] for past in con["past"])}:
         remove(folder, files.pop(old))
-    if edition in files and not adds_up(folder / files[edition], view):
+    if edition in files and not adds_up(text_of(folder / files[edition]), view):
         del files[edition]
+    if edition and entry and edition not in files and may_ask:
+        name, text = f"stations-{code}-{edition}.csv", certified_returns(office, code, view, entry)
+        if text is None:
+            remove(folder, name)
+        else:
+            put(folder, name, text)
+            files[edition] = name
     return files
 
 
-def adds_up(file, view):
-    """Whether a file of returns has the stations and the sums of a certificate."""
-    if not file.exists():
-        return False
-    try:
-        _, *rows = csv.reader(io.StringIO(file.read_text(encoding="utf-8"), newline=""))
-        sums = [sum(map(int, column)) for column in zip(*(row[2:] for row in rows))]
-    except ValueError:
-        return False
-    return len(rows) == view["stations"] and sums == [view["blank"], view["spoiled"], *view["votes"]]
+def open_file(code):
+    return f"stations-{code}-{OPEN}.csv"
+
+
+def write_open(office, folder, site, con, row, entry, seen, may_ask):
+    """The stations of a constituency without a certificate as they are, where they are to be asked for; the file of the closed
+    returns that is there, or none."""
+    code, name, key, now = row["con"], open_file(row["con"]), (row, con["view"]), time.monotonic()
+    if not entry or row["certified"] or row["missing"] == row["stations"]:
+        seen.stations.pop(code, None)
+        return {}
+    before, since, text = seen.stations[code] if code in seen.stations and (folder / name).exists() else (None, 0, None)
+    if may_ask and (before != key or now - since > AGAIN):
+        text, stations, closed = stations_of(office, code, text, entry)
+        if stations:
+            put(folder, name, closed)
+            states = {station: found[0] if found else "missing" for station, found in stations.items()}
+            write_stations(folder, site, code, con, entry, name, states)
+        seen.stations[code] = key, now, text
+    return {OPEN: name} if (folder / name).exists() else {}
+
+
+def write_stations(folder, site, code, con, entry, file, states=None):
+    """Writes the pages of the stations from a file of returns."""
+    write_parts(folder, f"stations-{code}", list(stations_pages(site, code, con, entry, text_of(folder / file), states)) if file else [])
+
+
+def write_parts(folder, name, pages):
+    """Writes pages that follow one another, and removes those of before that are not of them."""
+    for place, text in enumerate(pages, 1):
+        put(folder, f"{name}-{place}.html", text)
+    for page in folder.glob(f"{name}-*.html"):
+        place = re.fullmatch(rf"{re.escape(name)}-(\d+)\.html", page.name)
+        if place and int(place[1]) > len(pages):
+            remove(folder, page.name)
 
 
 # ---- rounds
 
 
-def write_con(office, folder, row, entry, before):
-    """Writes the files of a constituency; what is known of it."""
+@dataclass
+class Seen:
+    """What was seen of an election: its constituencies, and of each what was written last, and the moment that its page says; of one
+    without a certificate its stations, and when they were asked for; what the offices add up."""
+    cons: dict = field(default_factory=dict)
+    written: dict = field(default_factory=dict)
+    moments: dict = field(default_factory=dict)
+    stations: dict = field(default_factory=dict)
+    country: list | None = None
+
+
+def write_con(folder, site, row, con, entry, returns, seen):
+    """Writes the files of a constituency, where something of it has changed."""
     code = row["con"]
-    con = look(office, code, before)
-    # The counts of open returns are in the progress alone; what the view has too is the view's.
-    row = row | {key: con["view"][key] for key in ("stations", "closed", "edition", "certified")}
-    returns = write_returns(office, folder, code, con, entry)
-    moment = datetime.now().astimezone()
-    put(folder, f"con-{code}.html", con_page(code, con, row, entry, returns, moment))
-    put(folder, f"con-{code}.csv", csv_text(LIST_COLUMNS, list_rows(con)))
-    put(folder, f"con-{code}.json", con_json(con, row, moment))
-    return con
+    if seen.written.get(code) == (row, returns) and con is seen.cons.get(code):
+        return
+    site.meet(listed["code"] for listed in con["tally"]["lists"])
+    now = datetime.now().astimezone()
+    body, *more = con_bodies(site, code, con, row, entry, returns)
+    moment = put_dated(folder, f"con-{code}.html", lambda moment: con_page(site, con, row, body, moment), now)
+    write_parts(folder, f"details-{code}", [details_page(site, code, con, row, of_page) for of_page in more])
+    if OPEN not in returns:
+        write_stations(folder, site, code, con, entry, returns.get(row["edition"]) if row["certified"] and entry else None)
+        remove(folder, open_file(code))
+    put(folder, f"con-{code}.csv", con_csv(con))
+    put_dated(folder, f"con-{code}.json", lambda moment: con_json(con, row, moment), now)
+    seen.cons[code], seen.written[code], seen.moments[code] = con, (row, returns), moment
 
 
-def write_index(folder, progress, text, cons, setup, seen, head):
+def write_index(folder, site, progress, text, failed, setup, seen, head):
+    cons = {row["con"]: seen.cons[row["con"]] for row in progress if row["con"] in seen.cons}
     names = {code: entry["name"] for code, entry in setup.items()} | {code: con["tally"]["name"] for code, con in cons.items()}
-    moment = datetime.now().astimezone()
-    put(folder, "index.html", index_page(progress, text, cons, names, moment, head))
-    put(folder, "index.csv", csv_text(progress[0].keys(), [
-        [str(value).lower() if isinstance(value, bool) else value for value in row.values()] for row in progress]))
-    record = {"record": {"lines": head["n"], "sha256": head["hash"]}} if head else {}
-    put(folder, "index.json", json_text({"time": moment.isoformat(timespec="seconds"), **record, "constituencies": progress}))
-    put(folder, "results.csv", results_csv({row["con"]: seen[row["con"]] for row in progress if row["con"] in seen}))
+    moment, changed = datetime.now().astimezone(), max((seen.moments[code] for code in cons), default=None)
+    put(folder, "index.html", index_page(site, progress, cons, failed, setup, names, moment, changed, seen.country))
+    put(folder, "count.html", count_page(site, progress, text, cons, names, moment, changed, head))
+    put(folder, "index.csv", index_csv(progress))
+    put_dated(folder, "index.json", lambda since: index_json(progress, since), moment)
+    put(folder, "results.csv", results_csv(cons, setup))
+
+
+def write_about(folder, site, cons, codes, setup, seen, head):
+    """Writes the feed, after these constituencies, and what describes the other files. The codes are those of all constituencies,
+    where they are known."""
+    moment, before = datetime.now().astimezone(), text_of(folder / "feed.atom")
+    put_dated(folder, "feed.atom", lambda since: feed(before, cons, codes, setup, site, since), moment)
+    for name, text in {"openapi.json": text_of(ROUTES), **schemas()}.items():
+        put(folder, name, text)
+    put(folder, "datapackage.json", datapackage(published(folder), seen.cons, site))
+    put(folder, "manifest.json", manifest(published(folder, "manifest.json"), head, moment))
 
 
 def progress_of(offices):
@@ -733,28 +541,107 @@ def progress_of(offices):
     return texts, rows, failures
 
 
-def write_all(offices, folder, setup, seen, head=None):
-    """One round, after what was seen in the one before; how many pages were written, and what failed."""
-    cons = {}
-    texts, rows, failures = progress_of(offices)
-    if failures:
-        # The index is of all offices, or stays as it is.
-        here = {f"con-{row['con']}.html" for _, row in rows}
-        pages = [file.name for file in [folder / "index.html", *sorted(folder.glob("con-*.html"))]
-                 if file.name not in here and mark_old(file, datetime.now().astimezone())]
-        failures[-1] += f"; left as they are: {len(pages)} pages"
-    for office, row in rows:
+def country_of(offices):
+    """What the offices add up, each at one moment; None where there is no such text, as at a proxy in front of several."""
+    said = []
+    for office in offices:
+        status, text = office.get("/country")
+        if status == 404:
+            return None
+        if status != 200:
+            raise NoAnswer(f"/country: status {status}")
         try:
-            cons[row["con"]] = write_con(office, folder, row, setup.get(row["con"]), seen.get(row["con"]))
+            said.append(read_country(text))
+        except ValueError as error:
+            raise NoAnswer("/country: a text that is not of this report") from error
+    return said
+
+
+class Round:
+    """One round over the constituencies, after what was seen in the ones before. Stations are asked for until the answers took so
+    many seconds."""
+
+    def __init__(self, offices, folder, site, setup, seen, seconds):
+        self.offices, self.folder, self.site, self.setup, self.seen, self.seconds = offices, folder, site, setup, seen, seconds
+        self.texts, self.rows, self.failures = progress_of(offices)
+        self.whole = len(self.texts) == len(offices)
+        # By constituency what it is, its counts, and the files of returns that are there.
+        self.cons, self.counts, self.files, self.failed = {}, {}, {}, set()
+
+    def leave_as_it_is(self):
+        """What is of all offices is of all of them, or stays as it is."""
+        here = {f"con-{row['con']}.html" for _, row in self.rows}
+        pages = [file for file in [self.folder / "index.html", self.folder / "count.html", *sorted(self.folder.glob("con-*.html"))]
+                 if file.name not in here and mark_old(self.site, file)]
+        self.failures[-1] += f"; left as they are: {len(pages)} pages"
+        self.seen.written = {code: written for code, written in self.seen.written.items() if f"con-{code}.html" in here}
+
+    def each(self, act, order=None):
+        """Does this for each constituency that has not failed."""
+        for office, row in sorted(self.rows, key=order) if order else self.rows:
+            code = row["con"]
+            if code in self.failed:
+                continue
+            try:
+                act(office, code, row)
+            except NoAnswer as error:
+                mark_old(self.site, self.folder / f"con-{code}.html")
+                self.seen.written.pop(code, None)
+                self.failed.add(code)
+                self.failures.append(str(error))
+
+    def look(self, office, code, row):
+        con = self.cons[code] = look(office, code, self.seen.cons.get(code))
+        # The counts of open returns are in the progress alone; what the view has too is the view's.
+        self.counts[code] = row | {key: con["view"][key] for key in ("stations", "closed", "edition", "certified")}
+
+    def add_up(self):
+        """Asks what the offices add up, where a constituency is another one than before."""
+        if not self.whole or all(con is self.seen.cons.get(code) for code, con in self.cons.items()):
+            return
+        try:
+            self.seen.country = country_of(self.offices)
         except NoAnswer as error:
-            mark_old(folder / f"con-{row['con']}.html", datetime.now().astimezone())
-            failures.append(str(error))
-    seen.update(cons)
-    if len(texts) == len(offices):
-        write_index(folder, [row for _, row in rows], "".join(texts), cons, setup, seen, head and put_head(folder, head))
-    if rows:
-        put_sums(folder)
-    return len(cons) + (len(texts) == len(offices)), failures
+            self.seen.country = None
+            self.failures.append(str(error))
+
+    def write_returns(self, office, code, _):
+        con, entry, before, may_ask = self.cons[code], self.setup.get(code), office.took, self.seconds > 0
+        try:
+            files = write_returns(office, self.folder, code, con, entry, may_ask)
+            files |= write_open(office, self.folder, self.site, con, self.counts[code], entry, self.seen, may_ask)
+            self.seconds -= office.took - before
+        except (ValueError, csv.Error) as error:
+            raise NoAnswer(f"/con/{code}/returns: a text that is not of its report: {error!r}") from error
+        self.files[code] = files
+
+    def write_con(self, _, code, __):
+        write_con(self.folder, self.site, self.counts[code], self.cons[code], self.setup.get(code), self.files[code], self.seen)
+
+    def write_rest(self, head):
+        """What is of all constituencies."""
+        shown = head and self.rows and put_head(self.folder, head)
+        rows = [row for _, row in self.rows]
+        if self.whole:
+            write_index(self.folder, self.site, rows, "".join(self.texts), self.failed, self.setup, self.seen, shown)
+        if rows:
+            codes = [row["con"] for row in rows]
+            cons = {code: self.seen.cons[code] for code in codes if code not in self.failed}
+            write_about(self.folder, self.site, cons, codes if self.whole else None, self.setup, self.seen, shown)
+
+
+def write_all(offices, folder, site, setup, seen, head=None, seconds=math.inf):
+    """One round; how many pages of constituencies and of the country were written, and what failed."""
+    it = Round(offices, folder, site, setup, seen, seconds)
+    if it.failures:
+        it.leave_as_it_is()
+    it.each(it.look)
+    it.add_up()
+    # First what is certified, and then those that waited longest.
+    it.each(it.write_returns, lambda one: (not one[1]["certified"], seen.stations.get(one[1]["con"], (None, 0))[1]))
+    it.each(it.write_con)
+    it.write_rest(head)
+    return len(it.rows) - len(it.failed) + it.whole, it.failures
 
 
 def main():
@@ -764,16 +651,22 @@ def main():
     command.add_argument("--every", type=float, metavar="SECONDS", help="write them again so often, until it is ended")
     command.add_argument("--setup", type=Path, metavar="FILE", help="the setup file of the office, before it was split")
     command.add_argument("--head", type=Path, metavar="FILE", help="what the recorder writes: how long the record is, and its hash")
+    command.add_argument("--site", type=Path, metavar="FOLDER", help="what the pages are called, and in which language; colours, names, a map")
     given = command.parse_args()
     given.folder.mkdir(parents=True, exist_ok=True)
     setup = read_setup(given.setup) if given.setup else []
+    try:
+        site = Site(given.site)
+    except (Wrong, OSError) as error:
+        sys.exit(f"failed: {error}")
+    site.meet(row["code"] for entry in setup for row in entry["lists"])
     if setup:
         put(given.folder, "setup.json", json_text(setup))
     signal.signal(signal.SIGTERM, lambda *_: sys.exit(0))
-    offices, entries, seen, asked = [Office(address) for address in given.office], {entry["code"]: entry for entry in setup}, {}, 0
+    offices, entries, seen, asked = [Office(address) for address in given.office], {entry["code"]: entry for entry in setup}, Seen(), 0
     while True:
         before, began = asked, time.monotonic()
-        written, failures = write_all(offices, given.folder, entries, seen, given.head)
+        written, failures = write_all(offices, given.folder, site, entries, seen, given.head, math.inf if given.every is None else STATIONS)
         asked = sum(office.asked for office in offices)
         for failure in failures:
             print(f"failed: {failure}", file=sys.stderr, flush=True)

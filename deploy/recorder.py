@@ -5,8 +5,8 @@
 
 In FOLDER it listens on a socket for each desk, `1.sock`, `2.sock`, .., to which the proxy sends commands with the name, the
 role and the address of who gave them. A command that cannot be recorded is answered 503 and goes no further: so is each
-one while the file system of RECORD has less than --room bytes left. A command that its role may not give is recorded and
-answered 403.
+one while the file system of RECORD has less than --room bytes left, and while RECORD is another file than the one that was
+written to, or longer or shorter. A command that its role may not give is recorded and answered 403.
 
 The record has a line of JSON for each command, with `n`, its own number, and another for the answer, with `to`, the number of
 the command; each has in `before` the SHA-256 of the line before it. So no line can be changed, removed or put between others
@@ -14,20 +14,30 @@ without changing the hash of the last, which is in FOLDER/head with its number. 
 
 While a desk starts again a command waits for it, and so does a GET, which is not recorded. A desk that ended without an answer
 is sent the command again: no command acts a second time.
+
+It answers who did what to a station (GET /history/CODE), to the roles that may see it: the names, the times and the acts; to
+a clerk and to the board with what was sent and answered, to a second without. Where the lines of each station are it knows
+from reading the record once, as it starts. The table of the stations of a constituency (GET /stations/CODE) is the desk's, to
+a clerk and to the board; to others each line ends with the revision, before what the slip says.
 Python 3.11 or later.
 """
 
 import argparse
 import base64
 import contextlib
+import csv
+import fcntl
 import grp
 import hashlib
+import io
 import json
 import os
+import re
 import socket
 import sys
 import threading
 import time
+from array import array
 from datetime import datetime
 from pathlib import Path
 
@@ -39,31 +49,37 @@ WAIT, PATIENCE = 60, 300
 TRIES = 5
 # A station gives few commands: so many at once, and then one each so many seconds.
 STATION_COMMANDS, STATION_SECONDS = 20, 15
+# A history has the last lines, so many, and of one that is longer not what was sent.
+LINES, LONGEST = 200, 65_536
+# The roles that see what a slip says. Who enters it a second time is not to see the first entry.
+SEE_FIGURES = ("clerk", "board")
+# What a status leaves open: the command may have been done.
+UNKNOWN = (None, 502, 503, 504)
 FIRST = "0" * 64
 
 
-def answer(status, reason, word=""):
-    body = json.dumps({"word": word}).encode() if word else b""
-    return b"HTTP/1.1 %d %s\r\nContent-Type: application/json\r\nContent-Length: %d\r\nConnection: close\r\n\r\n%s" % (
-        status, reason, len(body), body)
+def answer(status, reason, body=b"", kind=b"application/json"):
+    return b"HTTP/1.1 %d %s\r\nContent-Type: %s\r\nContent-Length: %d\r\nConnection: close\r\n\r\n%s" % (
+        status, reason, kind, len(body), body)
 
 
 FORBIDDEN = answer(403, b"Forbidden")
 TOO_MANY = answer(429, b"Too Many Requests")
 NO_DESK = answer(502, b"Bad Gateway")
-UNAVAILABLE = answer(503, b"Service Unavailable", "unavailable")
+UNAVAILABLE = answer(503, b"Service Unavailable", b'{"word": "unavailable"}')
 
 
 class Record:
     """A file of numbered lines, each with the hash of the one before."""
 
     def __init__(self, file, room):
-        self.file, self.room, self.lock = file, room, threading.Lock()
+        self.file, self.room, self.lock, self.index = file, room, threading.Lock(), Index()
         self.descriptor = os.open(file, os.O_WRONLY | os.O_APPEND | os.O_CREAT, 0o640)
-        self.number, line = 0, b"\n"
+        self.number, self.size, line = 0, 0, b"\n"
         with open(file, "rb") as lines:
             for self.number, line in enumerate(lines, 1):
-                pass
+                self.index.take(line, self.size)
+                self.size += len(line)
         self.last = hash_of(line.removesuffix(b"\n")) if self.number else FIRST
         # A line that was cut, as by a power cut or a full disk, is ended and counts as a line.
         self.is_cut = not line.endswith(b"\n")
@@ -75,25 +91,112 @@ class Record:
             line = json.dumps({"n": number, "time": datetime.now().astimezone().isoformat(timespec="milliseconds"), **entry,
                                "before": self.last}, ensure_ascii=False).encode()
             whole = b"\n" * self.is_cut + line + b"\n"
+            if not self.is_as_left():
+                raise OSError(f"{self.file} is another file, or longer or shorter than it was left")
             disk = os.statvfs(self.file)
             if disk.f_bavail * disk.f_frsize < self.room + len(whole):
                 raise OSError(f"less than {self.room} bytes are left for {self.file}")
             written = os.write(self.descriptor, whole)
+            self.size += written
             if written < len(whole):
                 line = whole[self.is_cut:written]
             self.number, self.last, self.is_cut = number, hash_of(line), written < len(whole)
             if self.is_cut:
                 raise OSError(f"line {number} was cut")
+            place = self.size - len(line) - 1
             with contextlib.suppress(OSError):
                 os.write(sys.stdout.fileno(), whole)
+        self.index.take(line, place)
         return number
+
+    def is_as_left(self):
+        """Whether nobody has moved the file, put another in its place, or cut it or added to it."""
+        there, own = os.stat(self.file), os.fstat(self.descriptor)
+        return (there.st_dev, there.st_ino, there.st_size) == (own.st_dev, own.st_ino, self.size)
 
     def sync(self):
         os.fdatasync(self.descriptor)
 
+    def history(self, station):
+        """The last commands that are about a station, each with its answer, and whether these are all."""
+        places, commands = self.index.of(station), {}
+        with open(self.file, "rb") as lines:
+            for place in places[-LINES:]:
+                lines.seek(place)
+                line = lines.readline(LONGEST)
+                # An import may be long, and is cut before its body.
+                entry = json.loads(line if len(line) < LONGEST else line.partition(b', "body')[0] + b"}")
+                if "to" in entry:
+                    commands.get(entry["to"], {}).update({key: entry[key] for key in ("status", "answer") if key in entry})
+                else:
+                    commands[entry["n"]] = command_of(entry)
+        return {"station": station, "whole": len(places) <= LINES, "commands": list(commands.values())}
+
     def head(self):
         with self.lock:
             return {"n": self.number, "hash": self.last, "time": datetime.now().astimezone().isoformat(timespec="seconds")}
+
+
+class Index:
+    """Where the lines of the record are that are about each station."""
+
+    def __init__(self):
+        # Of what was answered or refused, and of commands without an answer by their numbers.
+        self.places, self.waiting, self.lock = {}, {}, threading.Lock()
+
+    def take(self, line, place):
+        """A line of the record at its place, whatever is in it."""
+        try:
+            entry = json.loads(line)
+            if "to" in entry:
+                self.answered(entry, place)
+                return
+            stations = stations_of(entry)
+            with self.lock:
+                if "status" in entry:
+                    self.add(stations, place)
+                else:
+                    self.waiting[entry["n"]] = place, stations, entry["path"]
+        except (ValueError, KeyError, TypeError, AttributeError, RecursionError, csv.Error):
+            # No recorder wrote it.
+            return
+
+    def answered(self, entry, place):
+        with self.lock:
+            command, stations, path = self.waiting.pop(entry["to"])
+            # A file of which nothing was lodged is about no station.
+            if path.startswith("/station/") or entry["status"] in UNKNOWN or json.loads(entry["answer"])["lodged"]:
+                self.add(stations, command, place)
+
+    def add(self, stations, *places):
+        for station in stations:
+            self.places.setdefault(station, array("Q")).extend(places)
+
+    def of(self, station):
+        """The places of its lines, in their order."""
+        with self.lock:
+            waiting = [place for place, stations, _ in self.waiting.values() if station in stations]
+            return sorted([*self.places.get(station, ()), *waiting])
+
+
+def stations_of(entry):
+    """The stations that a command is about: the one that it names, or those of the rows of a file."""
+    _, kind, code, act = entry["path"].split("/", 3)
+    if kind == "station":
+        return {code}
+    if not act.startswith("import") or "bytes" in entry:
+        return set()
+    text = entry["body"] if "body" in entry else base64.b64decode(entry["body_base64"]).decode(errors="replace")
+    rows = csv.reader(io.StringIO(text.removeprefix("\ufeff"), newline=""), delimiter=";" if act == "import/semicolon" else ",")
+    return {row[0] for row in rows if row}
+
+
+def command_of(entry):
+    """A command as a history shows it. Of a file it shows no rows: they are other stations' too."""
+    _, kind, _, act = entry["path"].split("/", 3)
+    shown = {"n": entry["n"], "time": entry["time"], "name": entry["name"], "role": entry["role"], "act": act.split("/")[0],
+             "status": entry.get("status")}
+    return shown | ({"body": entry["body"]} if kind == "station" and "body" in entry else {})
 
 
 def hash_of(line):
@@ -128,30 +231,24 @@ class Limit:
             return False
 
 
+def part_of(connection):
+    part = connection.recv(1 << 20)
+    if not part:
+        raise OSError("a message that was cut")
+    return part
+
+
 def read_message(connection):
-    """Method, path, fields and body of a message, which the proxy sends whole."""
+    """First line, fields and body of a message, which ends where its length says, and the whole of it."""
     read = b""
     while b"\r\n\r\n" not in read:
-        part = connection.recv(65536)
-        if not part:
-            raise OSError("a message without an end")
-        read += part
+        read += part_of(connection)
     head, body = read.split(b"\r\n\r\n", 1)
-    first, *rest = head.decode().split("\r\n")
-    method, path, _ = first.split(" ")
-    fields = {name.lower(): value.strip() for name, value in (line.split(":", 1) for line in rest)}
-    return method, path, fields, rest_of(connection, body, int(fields.get("content-length", 0)))
-
-
-def rest_of(connection, read, length):
-    parts, missing = [read], length - len(read)
-    while missing > 0:
-        part = connection.recv(min(missing, 1 << 20))
-        if not part:
-            raise OSError("a message that was cut")
-        parts.append(part)
-        missing -= len(part)
-    return b"".join(parts)
+    first, *lines = head.decode().split("\r\n")
+    fields = {name.lower(): value.strip() for name, value in (line.split(":", 1) for line in lines)}
+    while len(body) < int(fields.get("content-length", 0)):
+        body += part_of(connection)
+    return first, fields, body, head + b"\r\n\r\n" + body
 
 
 class Desk:
@@ -180,16 +277,8 @@ class Desk:
         with connection:
             try:
                 connection.sendall(message)
-                read = b""
-                while b"\r\n\r\n" not in read:
-                    part = connection.recv(65536)
-                    if not part:
-                        return b""
-                    read += part
-                head, body = read.split(b"\r\n\r\n", 1)
-                lengths = [line.split(b":")[1] for line in head.split(b"\r\n") if line.lower().startswith(b"content-length:")]
-                return head + b"\r\n\r\n" + rest_of(connection, body, int(lengths[0]))
-            except (OSError, IndexError, ValueError):
+                return read_message(connection)[-1]
+            except (OSError, ValueError):
                 return b""
 
     def ask(self, method, path, body):
@@ -213,11 +302,39 @@ def status_of(found):
     return int(found.split(b" ", 2)[1])
 
 
+def without_slips(table):
+    """A table of stations of which each line ends with the revision of the return. The first two lines are its head."""
+    lines = table.split(b"\n")
+    return b"\n".join(lines[:2] + [re.sub(rb"^(\S+ +\d+ [a-z]+ +\d+) .*", rb"\1", line, flags=re.S) for line in lines[2:]])
+
+
 class Recorder:
     def __init__(self, record, desk, office, limit):
         self.record, self.desk, self.office, self.limit = record, desk, office, limit
 
+    def history(self, station, fields):
+        """Who did what to a station, for a role that may see it."""
+        if fields["office-allowed"] != "1":
+            return FORBIDDEN
+        found = self.record.history(station)
+        if fields["office-role"] not in SEE_FIGURES:
+            for command in found["commands"]:
+                command.pop("body", None)
+                command.pop("answer", None)
+        return answer(200, b"OK", json.dumps(found, ensure_ascii=False).encode())
+
+    def stations(self, con, fields):
+        """The stations of a constituency, for a role that sees what slips say, and for others without that."""
+        status, found = self.desk.ask("GET", f"/con/{con}/stations", b"")
+        if status != 200 or fields["office-role"] in SEE_FIGURES:
+            return found
+        return answer(200, b"OK", without_slips(found.split(b"\r\n\r\n", 1)[1]), b"text/plain; charset=utf-8")
+
     def answered(self, method, path, fields, body):
+        if path.startswith("/history/"):
+            return self.history(path.removeprefix("/history/"), fields)
+        if path.startswith("/stations/"):
+            return self.stations(path.removeprefix("/stations/"), fields)
         if method == "GET":
             return self.desk.ask(method, path, b"")[1]
         name, role = fields["office-name"], fields["office-role"]
@@ -249,8 +366,10 @@ class Recorder:
             with connection:
                 connection.settimeout(PATIENCE)
                 try:
-                    connection.sendall(self.answered(*read_message(connection)))
-                except (OSError, ValueError, KeyError) as error:
+                    first, fields, body, _ = read_message(connection)
+                    method, path, _ = first.split(" ")
+                    connection.sendall(self.answered(method, path, fields, body))
+                except Exception as error:  # whatever was sent or answered, the next one is served
                     print(f"no answer: {error!r}", file=sys.stderr, flush=True)
 
 
@@ -292,9 +411,16 @@ def main():
     command.add_argument("--room", type=int, default=256 << 20, metavar="BYTES", help="what has to be left on the disk of the record")
     given = command.parse_args()
     given.folder.mkdir(parents=True, exist_ok=True)
+    # A second recorder would number the same lines: it ends here, with an error.
+    locked = os.open(given.record, os.O_RDONLY | os.O_CREAT, 0o640)
+    fcntl.flock(locked, fcntl.LOCK_EX | fcntl.LOCK_NB)
+    desks = given.desk or ["127.0.0.1:8080"]
+    # Who asks while the record is read waits.
+    listeners = [listen(given.folder / f"{office}.sock", given.group) for office in range(1, len(desks) + 1)]
+    csv.field_size_limit(sys.maxsize)
     record, limit = Record(given.record, given.room), Limit()
-    for office, address in enumerate(given.desk or ["127.0.0.1:8080"], 1):
-        listener, desk = listen(given.folder / f"{office}.sock", given.group), Desk(address)
+    for office, (listener, address) in enumerate(zip(listeners, desks), 1):
+        desk = Desk(address)
         for _ in range(THREADS):
             threading.Thread(target=Recorder(record, desk, office, limit).serve, args=(listener,), daemon=True).start()
     show_head(given.folder, record)

@@ -1,12 +1,16 @@
 #!/usr/bin/env python3
-"""Counts the seats of a published database again: recount.py FILE
+"""Counts seats again: of a published database, recount.py FILE, or from published returns alone,
+recount.py --setup FILE --returns FOLDER [--lots FILE]
 
 The votes of each constituency are added up from its closed returns, and each certified constituency's seats are allotted
-again: by the table of quotients (D'Hondt, Sainte-Lague) or by quotas and largest remainders (Hare). It says for each
-constituency whether the recorded totals and seats agree. The status is 1 where something differs, and 2 where the file
-cannot be read; nothing is written to it. Python 3.11 or later.
+again: by the table of quotients (D'Hondt, Sainte-Lague) or by quotas and largest remainders (Hare). Of a database it says
+for each constituency whether the recorded totals and seats agree. From returns it prints the seats of each list: FOLDER
+has CODE.csv of each constituency, as 'office show --report returns' prints it, and every row of it counts, which is right
+where all stations are closed; lots are lines 'CODE A B' of a file, the first first. The status is 1 where something differs
+or a lot is missing, and 2 where a file cannot be read; nothing is written to it. Python 3.11 or later.
 """
 import argparse
+import csv
 import sqlite3
 import sys
 import tomllib
@@ -79,12 +83,49 @@ def recount(select, con, profile):
     return wrong
 
 
-def main(file):
+def from_returns(con, profile, rows, lot):
+    """The seats of a constituency by its published returns, and what is to be said of them."""
+    header, *rows = csv.reader(rows)
+    codes, stations = [one["code"] for one in con["list"]], {one["code"] for one in con["station"]}
+    if header != ["station", "slip", "blank", "spoiled", *codes]:
+        raise ValueError(f"{con['code']}: another header than that of its lists")
+    if len({row[0] for row in rows} & stations) != len(rows):
+        raise ValueError(f"{con['code']}: a station twice, or of another constituency")
+    blank, _, *votes = [sum(map(int, column)) for column in list(zip(*rows))[2:]] if rows else [0] * (len(codes) + 2)
+    named = [codes.index(code) + 1 for code in lot]
+    seats, turned = (allotted(con, profile, votes, blank, order) if any(votes) else [0] * len(codes)
+                     for order in (named, named or list(range(len(codes), 0, -1))))
+    return seats, f"{len(rows)} of {len(stations)} stations" + ("; a lot is missing" if seats != turned else "")
+
+
+def count_returns(setup, profiles, folder, lots):
+    missing = False
+    for con in setup["constituency"]:
+        with open(folder / f"{con['code']}.csv", newline="", encoding="utf-8") as rows:
+            seats, said = from_returns(con, profiles[con["profile"]], rows, lots.get(con["code"], []))
+        missing |= said.endswith("missing")
+        print(con["code"], *(f"{one['code']} {n}" for one, n in zip(con["list"], seats)), f"({said})")
+    return 1 if missing else 0
+
+
+def main(arguments):
+    if arguments.returns:
+        lots = arguments.lots.read_text(encoding="utf-8").splitlines() if arguments.lots else []
+        setup = tomllib.loads(arguments.setup.read_text(encoding="utf-8"))
+        return count_returns(setup, profiles_of(setup), arguments.returns, {line.split()[0]: line.split()[1:] for line in lots if line})
+    return count_database(arguments.file.resolve())
+
+
+def profiles_of(setup):
+    return {profile["code"]: profile for profile in setup["profile"]}
+
+
+def count_database(file):
     # Where no log is beside the file, nothing is made there either.
     how = "mode=ro" if Path(f"{file}-wal").exists() else "mode=ro&immutable=1"
     database = sqlite3.connect(f"{file.as_uri()}?{how}", uri=True)
     setup = tomllib.loads(database.execute("SELECT text FROM setup").fetchone()[0])
-    profiles = {profile["code"]: profile for profile in setup["profile"]}
+    profiles = profiles_of(setup)
     found = {con["code"]: recount(database.execute, con, profiles[con["profile"]]) for con in setup["constituency"]}
     for code, wrong in found.items():
         print(code, "differs: " + ", ".join(wrong) if wrong else "agrees")
@@ -92,8 +133,13 @@ def main(file):
 
 
 command = argparse.ArgumentParser(description=__doc__.splitlines()[0])
-command.add_argument("file", type=Path)
+command.add_argument("file", type=Path, nargs="?", help="a database")
+for option in ("--setup", "--returns", "--lots"):
+    command.add_argument(option, type=Path)
+arguments = command.parse_args()
+if bool(arguments.file) == bool(arguments.returns) or bool(arguments.setup) != bool(arguments.returns):
+    command.error("either a database, or --setup and --returns")
 try:
-    sys.exit(main(command.parse_args().file.resolve()))
+    sys.exit(main(arguments))
 except Exception as error:  # whatever it is: status 1 is that of a difference
     command.error(f"{type(error).__name__}: {error}")

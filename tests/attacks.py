@@ -15,6 +15,7 @@ import os
 import re
 import shutil
 import signal
+import socket
 import statistics
 import subprocess
 import sys
@@ -27,7 +28,7 @@ import deploy
 from deploy import DEPLOY, NAME, TWIN, answer_of, answering_desk, chained, a_command, desk_with, needs, office_and_proxy, plain, press
 from deploy import backup, free_port, pipelined, proxy, ran, read, recording_desk, replayed, rows, same, serving, until, with_stations
 from office import constituency, party_list, profile, station
-from running import Skipped, run_tests, take_signals
+from running import Skipped
 
 LODGED = {"slip": "p1", "votes": [1, 2], "blank": 0, "spoiled": 0}
 
@@ -247,8 +248,8 @@ def rows_of_open(desk):
     return [plain(desk.port, "GET", target).body for target in ("/progress", "/station/s1", "/station/s2", "/con/c1")]
 
 
-def check(front):
-    done = subprocess.run([DEPLOY / "replay", "--check"], input=(front.folder / "log/commands.log").read_bytes(), capture_output=True, timeout=60)
+def check(front, *words):
+    done = subprocess.run([DEPLOY / "replay", "--check", *words], input=(front.folder / "log/commands.log").read_bytes(), capture_output=True, timeout=60)
     same(done.stderr, b"")
     return done.returncode, done.stdout.decode()
 
@@ -273,6 +274,27 @@ def test_a_record_whose_disk_is_full_all_the_same():
         same([json.loads(line)["n"] for line in lines[-3:-1]], [whole + 2, whole + 3])
         same(check(front), (1, f'line {whole + 1}: not a line of a record: {{"n": 1000, "ti\nto look at 1; lines {whole + 3}, '
                                f"the hash of the last {hashlib.sha256(lines[-2]).hexdigest()}\n"))
+
+
+@needs("nginx", "openssl", "mount")
+def test_logs_of_the_proxy_without_room():
+    """Strangers have filled them: what has no name writes nothing more, and commands are done and recorded."""
+    logs = Path.cwd() / "proxy/log"
+    with recording_desk() as (port, messages), small_disk(logs, 200_000):
+        # The record has a disk of its own.
+        (logs / "commands.log").symlink_to("../commands.log")
+        with proxy(port) as front:
+            for _ in range(2000):
+                with socket.create_connection(("127.0.0.1", front.port)) as it:
+                    # What is no TLS, of which the proxy writes a line.
+                    it.sendall(b"\x16\x03\x01\xff\xff" + b"x" * 100)
+            until(lambda: os.statvfs(logs).f_bavail == 0, 20)
+            size = (logs / "error.log").stat().st_size
+            same([front.ask("POST", "/con/c1/certify", {}, name, password=password).status
+                  for name, password in ((None, None), ("berta", "x"), ("berta", None), ("clara", None))], [401, 401, 200, 403])
+            same(front.ask("GET", "/con/c1").status, 200)
+            same(([line["status"] for line in front.record(2)], (logs / "error.log").stat().st_size), ([200, 403], size))
+            same((front.refused(), len(messages)), ([], 2))
 
 
 @needs("nginx", "openssl")
@@ -334,6 +356,22 @@ def test_a_record_of_a_hundred_spoiled_lines():
     assert re.search(r"^sent 1\d\d, to look at 1\d\d; lines 300, the hash of the last [0-9a-f]{64}$", said.splitlines()[-1]), said[-300:]
 
 
+def test_a_record_whose_clock_was_put_back():
+    """A copy of 22:14:10 lacks what was done after it, also where the clock said 22:12 then: it is sent, and the line is named."""
+    done = ((11, "22:13:00"), (12, "22:14:10"), (13, "22:12:20"), (14, "22:12:30"), (15, "22:14:20"))
+    entries = []
+    for n, time_of in done:
+        moment = {"time": f"2026-11-26T{time_of}.000+00:00"}
+        entries += [a_command(f"{n}", f"/station/s{n}/close") | moment, {"to": len(entries) + 1, "status": 200, "answer": ""} | moment]
+    with recording_desk() as (port, messages):
+        status, said = replayed(port, chained(*entries), "--since", "2026-11-26T22:14:10+00:00")
+        same((status, [body for _, body in messages]), (1, [b"12", b"13", b"14", b"15"]))
+        same(said.splitlines()[0], "line 5: the clock was put back before it. What was answered from here on is sent, whatever its time")
+        assert "\nsent 4, to look at 1; lines 10, " in said, said
+        # Over a new office it is nothing to look at.
+        same((replayed(port, chained(*entries))[0], len(messages)), (0, 9))
+
+
 @needs("nginx", "openssl")
 def test_a_record_of_odd_requests():
     """Two spaces, a space at the end, an absolute target: what the desk did, the record has as the desk got it, and replay sends it."""
@@ -357,12 +395,13 @@ def test_a_record_of_odd_requests():
 
 
 def test_a_record_that_was_changed():
-    """A line that is altered, removed, added or moved is found, wherever it is but the last, whose hash the pages show."""
+    """A line that is altered, removed, added or moved is found, wherever it is but the last, whose hash the pages show; and by what they have
+    shown also a record that was written again, or lacks its end."""
     entries = [entry for n in range(1, 6) for entry in (a_command(f'{{"rev":{n}}}', f"/station/s{n}/close"), {"to": 2 * n - 1, "status": 200, "answer": "{}"})]
     lines = chained(*entries).splitlines(keepends=True)
 
-    def checked(changed):
-        done = subprocess.run([DEPLOY / "replay", "--check"], input=b"".join(changed), capture_output=True, timeout=60)
+    def checked(changed, *words):
+        done = subprocess.run([DEPLOY / "replay", "--check", *words], input=b"".join(changed), capture_output=True, timeout=60)
         same(done.stderr, b"")
         return done.returncode, {int(number) for number in re.findall(rb"^line (\d+):", done.stdout, re.M)}, done.stdout.split()[-1].decode()
 
@@ -380,6 +419,16 @@ def test_a_record_that_was_changed():
         status, named, hash_of = checked(changed)
         same((status, named), (0, set()))
         assert hash_of != last
+    shown = f"time,lines,sha256\n2026-11-26T22:00:00+00:00,0,{'0' * 64}\n" + "".join(f"2026-11-26T22:14:00+00:00,{n},{hashlib.sha256(lines[n - 1].rstrip()).hexdigest()}\n" for n in (2, 4, 10))
+    Path("record.csv").write_text(shown, encoding="utf-8")
+    for changed, wanted in ((lines, (0, set())), (other, (1, {2, 4, 10})), (lines[:-2], (1, {10})), (lines[:4] + other[4:], (1, {5, 10})), ([], (1, {2, 4, 10}))):
+        same(checked(changed, "--shown", "record.csv")[:2], wanted)
+    # What was shown twice, and otherwise the second time, was not one record.
+    Path("record.csv").write_text(f"{shown}2026-11-26T22:14:00+00:00,4,{'f' * 64}\n", encoding="utf-8")
+    same(checked(lines, "--shown", "record.csv")[:2], (1, {4}))
+    Path("other.csv").write_text("time,lines\n2026,x\n", encoding="utf-8")
+    for file in ("other.csv", "nonesuch.csv"):
+        same(subprocess.run([DEPLOY / "replay", "--check", "--shown", file], input=b"", capture_output=True, timeout=60).returncode, 2)
 
 
 @needs("nginx", "openssl")
@@ -394,14 +443,13 @@ def test_the_head_of_the_record_on_the_pages():
             for _ in range(2):
                 press(desk.port, "--head", str(head))
             pages.append((str(len(lines)), hashlib.sha256(lines[-1]).hexdigest()))
-            assert f"It has {pages[-1][0]} lines." in read("index.html") and pages[-1][1] in read("index.html")
-            same(json.loads(read("index.json"))["record"], {"lines": len(lines), "sha256": pages[-1][1]})
+            assert f"It has {pages[-1][0]} lines." in read("count.html") and pages[-1][1] in read("count.html")
+            shown = json.loads(read("manifest.json"))["record"]
+            same((shown["lines"], shown["sha256"]), (len(lines), pages[-1][1]))
         same([tuple(line.split(",")[1:]) for line in read("record.csv").splitlines()], [("lines", "sha256"), *pages])
         same([count for count, _ in pages], ["2", "4"])
-    # And the files of the pages have their hashes, as sha256sum checks them.
-    ran("sh", "-c", "cd pages && sha256sum --check --strict SHA256SUMS")
-    same(sorted(line.split("  ")[1] for line in read("SHA256SUMS").splitlines()),
-         sorted(name for name in os.listdir("pages") if not name.endswith(".gz") and name != "SHA256SUMS"))
+        status, said = check(front, "--shown", "pages/record.csv")
+        same((status, said), (0, f"to look at 0; lines 4, the hash of the last {pages[-1][1]}\n"))
 
 
 # ---- anonymous loads
@@ -701,6 +749,9 @@ def test_a_setup_that_is_split():
         ran(deploy.PROGRAM, "new", "--db", f"{office}.db", "--setup", f"parts/setup-{office}.toml")
     Path("wrong.toml").write_text(three_offices_setup().replace("s1-1", "S7-1"), encoding="utf-8")
     assert "capitals" in ran(DEPLOY / "split", "wrong.toml", "3", "wrong", status=1)
+    # A code would be a line of the proxy's configuration.
+    Path("wrong.toml").write_text(three_offices_setup().replace('"s1-1"', '"s1-1 1;} map $uri $x {default"'), encoding="utf-8")
+    assert "is no code" in ran(DEPLOY / "split", "wrong.toml", "3", "wrong", status=1) and not Path("wrong").exists()
     assert "7 constituencies" in ran(DEPLOY / "split", "setup.toml", "8", "wrong", status=1)
 
 
@@ -730,8 +781,9 @@ def test_three_offices():
         same(front.ask("GET", "/now/progress").status, 401)
         addresses = [f"http://127.0.0.1:{desk.port}" for desk in desks]
         ran(sys.executable, DEPLOY / "press.py", *addresses, "pages", "--setup", "whole.toml")
-        results = [line.split(",") for line in read("results.csv").splitlines()[1:]]
-        same({row[0]: [int(one[8]) for one in results if one[0] == row[0]] for row in results}, {f"c{c}": [10 * c * c, c] for c in range(1, 8)})
+        names, *results = [line.split(",") for line in read("results.csv").splitlines()]
+        votes = names.index("votes")
+        same({row[0]: [int(one[votes]) for one in results if one[0] == row[0]] for row in results}, {f"c{c}": [10 * c * c, c] for c in range(1, 8)})
         same(json.loads(read("index.json"))["constituencies"][0]["certified"], True)
         same([line["office"] for line in front.record(42)].count(1), 3 + 2 * 10)
         # The same acts over three new offices.
@@ -762,14 +814,5 @@ def elect_three(front):
         ask(f"/con/c{c}/certify", {"edition": 1}, "berta", c)
 
 
-def main(names):
-    take_signals()
-    signal.signal(signal.SIGTERM, lambda *_: sys.exit(143))
-    words = sys.argv[1:]
-    if words[:1] == ["--program"]:
-        deploy.PROGRAM, words = Path(words[1]).resolve(), words[2:]
-    return run_tests(names, words, deploy.PROGRAM, prefix="office-attacks-", ignore_cleanup_errors=True)
-
-
 if __name__ == "__main__":
-    sys.exit(main(globals()))
+    sys.exit(deploy.main(globals(), "office-attacks-"))

@@ -408,7 +408,7 @@ def test_a_plan():
     ran = run(f"plan {GIVEN} --risk 5")
     sums = [hashlib.sha256(text.encode()).hexdigest() for text in (SETUP, RETURNS)]
     same((ran.status, ran.err), (0, ""))
-    # 24 draws reach s1 with a chance of 1 - (5/8.5)^24 and so on: nearly all of the papers.
+    # 24 draws reach s1 with a chance of 1 - (5/8.5)^24 and so on: nearly all papers.
     for line in ("c1 Town: 3 seats by D'Hondt", "3 stations, all closed, with 300 electors; 200 votes for lists, 0 blank, 0 spoiled",
                  "  A                         120     2", "            20  A's seat 2 comes before B's seat 2",
                  "  where no paper differs: 24 draws, of some 3 of 3 stations, with 200 of 200 papers",

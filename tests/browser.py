@@ -44,6 +44,10 @@ class Browser:
         """What a function's body returns in the page."""
         return self.of_session("POST", "/execute/sync", {"script": script, "args": list(arguments)})
 
+    def run_later(self, script, *arguments):
+        """What a function's body gives to the function that is its last argument."""
+        return self.of_session("POST", "/execute/async", {"script": script, "args": list(arguments)})
+
     def command(self, name, **parameters):
         """A command of the browser's own protocol."""
         return self.of_session("POST", "/goog/cdp/execute", {"cmd": name, "params": parameters})
@@ -66,16 +70,24 @@ class Browser:
         return self.run("const e = document.querySelector(arguments[0]); return Boolean(e && e.getClientRects().length)", css)
 
     def accept(self):
-        """Answers the page's question with yes; the question."""
-        text = self.of_session("GET", "/alert/text")
+        """Answers the page's question with yes, once it asks; the question."""
+        text = self.question()
         self.of_session("POST", "/alert/accept", {})
         return text
 
     def dismiss(self):
-        """Answers the page's question with no; the question."""
-        text = self.of_session("GET", "/alert/text")
+        """Answers the page's question with no, once it asks; the question."""
+        text = self.question()
         self.of_session("POST", "/alert/dismiss", {})
         return text
+
+    def question(self, seconds=60):
+        end = time.monotonic() + seconds
+        while not self.asked():
+            if time.monotonic() > end:
+                raise Failed("the page asks nothing")
+            time.sleep(0.05)
+        return self.of_session("GET", "/alert/text")
 
     def asked(self):
         """Whether the page asks a question."""
@@ -110,13 +122,13 @@ class Browser:
 
 
 @contextlib.contextmanager
-def browser(folder, *words):
-    """A browser with a profile of its own in the folder; it is ended at the end."""
+def browser(folder, *words, **environment):
+    """A browser with a profile of its own in the folder, and this added to its environment; it is ended at the end."""
     with socket.create_server(("127.0.0.1", 0)) as free:
         port = free.getsockname()[1]
     # Both keep files in the folder of temporary files, here the given folder.
     driver = subprocess.Popen([DRIVER, f"--port={port}"], stdout=subprocess.DEVNULL, stderr=subprocess.DEVNULL,
-                              env={**os.environ, "TMPDIR": str(folder), "HOME": str(folder)}, start_new_session=True)
+                              env={**os.environ, "TMPDIR": str(folder), "HOME": str(folder), **environment}, start_new_session=True)
     it = Browser(port)
     try:
         wait_for_driver(it)

@@ -7,6 +7,7 @@ The program and the last line are those of `tests/program.py`. In tables of rows
 feed, `~` for a carriage return, and `!` and `?` for bytes that no text in UTF-8 has there.
 """
 
+import contextlib
 import resource
 import subprocess
 import sys
@@ -209,6 +210,46 @@ def test_rows_after_a_long_record():
     for longer in range(15):
         text = HEADER + '"' + "x\n" * 150000 + "x" * 5 * longer + '"\n' + rows
         counted(text, f"{count}, 0, 0, 0, 1, 1 0, 0, 0, {count}, {2 * count}")
+
+
+def answered_before_its_end(text):
+    """What a check answers of a text that goes on: nothing follows, and its pipe stays open."""
+    pipes = {"stdin": subprocess.PIPE, "stdout": subprocess.PIPE, "stderr": subprocess.PIPE}
+    with subprocess.Popen([program.PROGRAM, "check"], bufsize=0, **pipes) as ran:
+        try:
+            with contextlib.suppress(BrokenPipeError):
+                ran.stdin.write(text.encode())
+            return Ran(ran.wait(60), ran.stdout.read().decode(), ran.stderr.read().decode())
+        except subprocess.TimeoutExpired:
+            raise AssertionError("it waits for the end of the text") from None
+        finally:
+            ran.kill()
+
+
+def test_too_many_rows_are_known_before_the_text_ends():
+    # The 262,144 bytes that are held first end in a row or, then, in a field in quotes with line
+    # ends, of a record that is no longer than a piece. What follows is read by pieces all the same.
+    rows = ("x" * 39 + "\n") * 40000
+    front = HEADER + ("x" * 9999 + "\n") * 25
+    for cut in ("", '"' + "x\n" * 10000 + '"\n'):
+        text = front + cut + rows
+        compared(text, answered_before_its_end(text), Ran(1, "", "refused: too_long\n"))
+
+
+def test_a_small_memory():
+    """A text of sixteen mebibytes is not held whole, also where lines end within quotes."""
+    def limited():
+        resource.setrlimit(resource.RLIMIT_AS, (12 * 1024 * 1024, 12 * 1024 * 1024))
+
+    good = HEADER + "".join(f"s{n},p,0,0,1,2\n" for n in range(10000))
+    for row in ('"xxxxxxxx\n\nxxxxxx",' + "y" * 1500 + "\n", "x" * 1600 + "\n", '"' + "x\n" * 800 + '"\n'):
+        text = good + row * 10000
+        assert 15000000 < len(text) <= 16777216, len(text)
+        words = [program.PROGRAM, "check"]
+        ran = subprocess.run(words, input=text.encode(), capture_output=True, timeout=120, env={}, preexec_fn=limited)
+        found = Ran(ran.returncode, ran.stdout.decode(), ran.stderr.decode())
+        numbers = zip(NAMES + ("A", "B"), ("10000", "0", "0", "0", "10000", "10001 0", "0", "0", "10000", "20000"), strict=True)
+        compared(text, found, Ran(0, "".join(f"{name} {number}\n" for name, number in numbers), ""))
 
 
 def test_a_small_stack():

@@ -17,6 +17,7 @@ import functools
 import hashlib
 import html.parser
 import http.client
+import http.server
 import json
 import os
 import re
@@ -32,6 +33,7 @@ import sys
 import tempfile
 import threading
 import time
+import tomllib
 from pathlib import Path
 
 import browser
@@ -41,6 +43,10 @@ from running import Skipped, run_tests, take_signals
 
 ROOT = Path(__file__).resolve().parent.parent
 DEPLOY = ROOT / "deploy"
+sys.path.append(str(DEPLOY))
+import press_pages
+import press_site
+
 PROGRAM = ROOT / "crates/tally_office/out/tally_office"
 PICTURES = None
 NAME = "office.example"
@@ -88,7 +94,7 @@ def free_port():
 
 
 def ran(*words, status=0):
-    done = subprocess.run(words, capture_output=True, text=True, timeout=120)
+    done = subprocess.run(words, capture_output=True, text=True, timeout=600)
     assert done.returncode == status, f"{words}: status {done.returncode}, {done.stdout}{done.stderr}"
     return done.stdout + done.stderr
 
@@ -304,7 +310,7 @@ def office_and_proxy(setup):
 
 
 @contextlib.contextmanager
-def desk_with(answered):
+def desk_with(answered, port=0):
     """In place of the office something that sends what this function answers to the head and the body of a message; its port."""
 
     def serve(listener):
@@ -314,7 +320,7 @@ def desk_with(answered):
                 with connection:
                     connection.sendall(answered(*whole_message(connection)))
 
-    with socket.create_server(("127.0.0.1", 0), backlog=512) as listener:
+    with socket.create_server(("127.0.0.1", port), backlog=512) as listener:
         threading.Thread(target=serve, args=(listener,), daemon=True).start()
         yield listener.getsockname()[1]
         listener.shutdown(socket.SHUT_RDWR)
@@ -356,8 +362,8 @@ def whole_message(connection):
 # ---- roles
 
 
-GETS = ("/progress", "/station/s1", "/con/c1", *(f"/con/c1/{name}" for name in (
-    "tally", "seats", "quotients", "awards", "quota", "short", "holders", "past")))
+GETS = ("/progress", "/country", "/station/s1", "/con/c1", *(f"/con/c1/{name}" for name in (
+    "tally", "seats", "quotients", "awards", "quota", "short", "holders", "past", "stations", "returns")))
 OF_CLERKS = ("/station/s1/query", "/station/s1/correct", "/station/s1/close", "/con/c1/import", "/con/c1/import/semicolon")
 OF_BOARD = ("/con/c1/draw", "/con/c1/certify", "/con/c1/reopen", "/con/c1/vacate")
 # Who asks, and what each is answered: lodging for s1, the clerks' commands, the board's. 400 is the
@@ -374,6 +380,19 @@ ROLES = {
     "s1 with another password": (401, 401, 401),
     "clara with the password of s1": (401, 401, 401),
 }
+
+
+@needs("nginx", "openssl")
+def test_tables_of_all_stations_are_kept_for_longer():
+    with office_and_proxy(with_stations(2)) as (_, front):
+        for name in ("stations", "returns"):
+            before = front.ask("GET", f"/con/c1/{name}")
+            front.ask("GET", "/progress")
+            station = {"stations": "s1", "returns": "s2"}[name]
+            same(front.ask("POST", f"/station/{station}/lodge", {"slip": "p1", "votes": [1, 2], "blank": 0, "spoiled": 0}, "clara").status, 200)
+            until(lambda: front.ask("GET", "/progress").body.split()[3] == station[1:].encode(), 10)
+            same((front.ask("GET", f"/con/c1/{name}").body, before.status), (before.body, 200))
+            assert front.ask("GET", f"/now/con/c1/{name}", name="clara").body != before.body
 
 
 @needs("nginx", "openssl")
@@ -610,12 +629,17 @@ def pipelined(front, asked, times, source, headers=""):
     each = [headers] * times if isinstance(headers, str) else headers
     with front.connect(source) as it:
         it.sendall("".join(f"{asked} HTTP/1.1\r\nHost: {NAME}\r\n{one}Content-Length: 0\r\n\r\n" for one in each).encode())
-        answers = b""
-        while len(statuses := re.findall(rb"^HTTP/1.1 (\d+) ", answers, re.M)) < times or not answers.endswith(b"</html>\r\n"):
+        statuses, answers = collections.Counter(), b""
+        while statuses.total() < times:
             part = it.recv(65536)
-            assert part, answers[-500:]
+            assert part, (statuses, answers[-500:])
             answers += part
-    return collections.Counter(statuses)
+            end = 0
+            for found in re.finditer(rb"^HTTP/1.1 (\d+) ", answers, re.M):
+                statuses[found[1]] += 1
+                end = found.end()
+            answers = answers[end:]
+    return statuses
 
 
 @needs("nginx", "openssl")
@@ -903,10 +927,10 @@ def test_the_record_replayed():
         # 28 commands with their answers, and a line for the one that clara might not give.
         end = f"lines 57, the hash of the last {hash_of_last(front)}\n"
         same(replay(desk, front), (0, f"sent 25, to look at 0; {end}"))
-        # Once more: the import and the two returns are the same, and nothing else is done a second
-        # time.
+        # Once more: the two returns are the same, and so is the import but for the row that was
+        # corrected since; nothing else is done a second time.
         status, said = replay(desk, front)
-        assert status == 1 and said.endswith(f"\nsent 25, to look at 22; {end}") and '"word":"stale"' in said, said
+        assert status == 1 and said.endswith(f"\nsent 25, to look at 23; {end}") and '"word":"stale"' in said, said
         same(replay(desk, front, "--since", "2100-01-01T00:00:00+00:00"), (0, f"sent 0, to look at 0; {end}"))
         same(replay(desk, front, "--since", record[0]["time"])[1], said)
     same(rows("again.db"), rows("office.db"))
@@ -924,7 +948,7 @@ def replay(desk, front, *words):
 def replayed(port, record, *words):
     # What cannot be encoded is an error here, whatever the locale is.
     done = subprocess.run([DEPLOY / "replay", f"http://127.0.0.1:{port}", *words], input=record, capture_output=True, timeout=120,
-                          env={**os.environ, "PYTHONIOENCODING": "utf-8:strict"})
+                          env={**os.environ, "PYTHONIOENCODING": "ascii:strict"})
     same(done.stderr, b"")
     return done.returncode, done.stdout.decode()
 
@@ -1064,6 +1088,9 @@ def test_the_units():
 
 # ---- the press pages
 
+# What a page may weigh.
+PAGE_BYTES = 60_000
+
 # What a desk answers of Twin Town, certified with the lot B, A: the texts of docs/FORMATS.md.
 TWIN = {
     "/progress": "c1                    1      0      0      0      0      1      3 certified\n",
@@ -1079,9 +1106,10 @@ TWIN = {
     "/con/c1/short": "SHORT c1 Twin Town\nA                   1           1\nB                   2         200\n",
     "/con/c1/holders": "HOLDERS c1 Twin Town\nA                   1 Ana\nB                   1 Bea\nB                   - empty\n",
     "/con/c1/past": "PAST c1 Twin Town\n",
-    "/station/s1": {"blank": 0, "note": "", "rev": 2, "slip": "p1", "spoiled": 0, "station": "s1", "status": "closed",
-                    "votes": [100, 100]},
+    "/con/c1/stations": "STATIONS c1 Twin Town\nstations 1 missing 0 closed 1\ns1                   300 closed       2 p1                   200       0       0\n",
+    "/con/c1/returns": "station,slip,blank,spoiled,A,B\ns1,p1,0,0,100,100\n",
 }
+OF_STATIONS = ("/con/c1/stations", "/con/c1/returns")
 REOPENED = TWIN | {
     "/progress": "c1                    1      0      0      0      0      1      4 open\n",
     "/con/c1": TWIN["/con/c1"] | {"certified": False, "edition": 4, "note": "a <recount>", "seats": []},
@@ -1112,10 +1140,23 @@ def answer_of(answer):
     return f"HTTP/1.1 {status} X\r\nContent-Type: {kind}\r\nContent-Length: {len(body)}\r\nConnection: close\r\n\r\n".encode() + body
 
 
+@contextlib.contextmanager
+def modelled(setup):
+    """In place of the office its model in plain Python; the model, and its port."""
+    office = model.Office(tomllib.loads(setup))
+    with desk_with(lambda head, _: answer_of(office.ask("GET", head.split(b" ")[1].decode()))) as port:
+        yield office, port
+
+
+def done(office, target, body):
+    """What the model of an office did, as it has to."""
+    same(office.ask("POST", target, body if isinstance(body, str) else json.dumps(body))[0], 200)
+
+
 def press(port, *words, folder="pages", status=0):
     """Runs press.py once; its last line."""
     done = subprocess.run([sys.executable, DEPLOY / "press.py", f"http://127.0.0.1:{port}", folder, *words],
-                          capture_output=True, text=True, timeout=120)
+                          capture_output=True, text=True, timeout=600)
     assert done.returncode == status, f"status {done.returncode}: {done.stdout}{done.stderr}"
     return done.stdout.splitlines()[-1]
 
@@ -1134,6 +1175,7 @@ class Page(html.parser.HTMLParser):
         self.open, self.wrong, self.tables, self.ids = [], [], {}, set()
         self.figures = self.waiting = 0
         self.caption, self.cells, self.row = None, None, None
+        self.policy, self.scripts = "", 0
         self.feed(text)
         self.close()
         self.wrong += [f"{tag} is not closed" for tag in self.open]
@@ -1156,7 +1198,11 @@ class Page(html.parser.HTMLParser):
 
     def look(self, tag, attributes):
         """What no element may have, and each picture has to."""
-        if tag == "script" or any(name.startswith("on") for name in attributes):
+        if tag == "script":
+            self.scripts += 1
+        if tag == "meta" and attributes.get("http-equiv") == "Content-Security-Policy":
+            self.policy = attributes["content"]
+        if any(name.startswith("on") for name in attributes):
             self.wrong.append(f"{tag}: a script")
         self.wrong += [f"{tag}: {value}" for name, value in attributes.items() if name in ("href", "src") and re.match(r"\w+:|//", value)]
         if "id" in attributes:
@@ -1180,6 +1226,8 @@ class Page(html.parser.HTMLParser):
             self.wrong.append("a figure without its table")
 
     def handle_data(self, data):
+        if self.open[-1:] == ["script"] and f"script-src 'sha256-{sha256_in_base64(data)}'" not in self.policy:
+            self.wrong.append("a script that the policy does not name")
         if self.cells is None:
             return
         if "caption" in self.open:
@@ -1188,10 +1236,19 @@ class Page(html.parser.HTMLParser):
             self.cells[-1][-1] += data
 
 
+def sha256_in_base64(text):
+    return base64.b64encode(hashlib.sha256(text.encode()).digest()).decode()
+
+
 def page_of(name, folder="pages"):
-    """A page that is well formed, has no script and no address elsewhere, and a table for each picture."""
-    page = Page(read(name, folder))
+    """A page that is well formed, below 60 kB, has no address elsewhere, and a table for each picture. Only those with a search
+    have a script, and the policy names it."""
+    text = read(name, folder)
+    page = Page(text)
     same(page.wrong, [])
+    same((page.scripts, text.count('type="search"')), (1, 1) if re.match(r"index\.|stations-", name) else (0, 0))
+    assert page.policy.startswith("default-src 'none'; style-src 'unsafe-inline'"), page.policy
+    assert len(text.encode()) < PAGE_BYTES, f"{name}: {len(text.encode())} bytes"
     return page
 
 
@@ -1200,8 +1257,8 @@ def test_a_page_of_the_press():
     Path("setup.toml").write_text(with_stations(1), encoding="utf-8")
     with answering_desk(TWIN) as (port, asked):
         last = press(port, "--setup", "setup.toml")
-        assert re.fullmatch(r"\d\d:\d\d:\d\d pages 2 failed 0 GETs 12 in \d+\.\d s", last), last
-        same(len(asked), 12)
+        assert re.fullmatch(r"\d\d:\d\d:\d\d pages 2 failed 0 GETs 13 in \d+\.\d s", last), last
+        same((len(asked), [target for target in asked if target in OF_STATIONS]), (13, ["/con/c1/returns"]))
     page = page_of("con-c1.html")
     same(page.figures, 2)
     same(page.tables["Seats of each list"], [["List", "seats"], ["A Alpha", "1"], ["B Beta", "2"], ["Total", "3"]])
@@ -1216,12 +1273,12 @@ def test_a_page_of_the_press():
     text = read("con-c1.html")
     assert "A lot was drawn: first B, then A." in text and "No certificate was withdrawn." in text
     for target, said in TWIN.items():
-        if target.startswith("/con/c1/"):
+        if target.startswith("/con/c1/") and target not in OF_STATIONS:
             assert f">{said}</pre>" in text, target
-    same(text.count("<circle"), 3)
+    same(text.count("h0"), 3)
     same(read("con-c1.csv"), "list,name,votes,share,takes_part,seats\nA,Alpha,100,50.00,yes,1\nB,Beta,100,50.00,yes,2\n")
-    same(read("results.csv"), "con,con_name,stations,closed,edition,certified,list,name,votes,share,takes_part,seats\n"
-                              "c1,Twin Town,1,1,3,true,A,Alpha,100,50.00,yes,1\nc1,Twin Town,1,1,3,true,B,Beta,100,50.00,yes,2\n")
+    same(read("results.csv"), "con,con_name,stations,closed,edition,certified,electors,valid,blank,spoiled,list,name,votes,share,takes_part,seats\n"
+                              "c1,Twin Town,1,1,3,true,300,200,0,0,A,Alpha,100,50.00,yes,1\nc1,Twin Town,1,1,3,true,300,200,0,0,B,Beta,100,50.00,yes,2\n")
     same(read("stations-c1-3.csv"), "station,slip,blank,spoiled,A,B\ns1,p1,0,0,100,100\n")
     same(read("index.csv"), "con,stations,missing,received,queried,corrected,closed,edition,certified\nc1,1,0,0,0,0,1,3,true\n")
     found = json.loads(read("con-c1.json"))
@@ -1245,15 +1302,22 @@ def test_a_code_in_capitals():
 
 
 def test_a_page_without_a_certificate():
-    """A reopened constituency: no seat is shown as given, and the certificate is shown as withdrawn, with the note."""
-    with answering_desk(REOPENED) as (port, _):
-        press(port)
-    page, text = page_of("con-c1.html"), read("con-c1.html")
-    assert "<b>No certificate yet.</b>" in text and "a &lt;recount&gt;" in text and "Seats of each list" not in page.tables
-    same(page.tables["Certificate of edition 3, withdrawn"][1:], [["A Alpha", "1"], ["B Beta", "2"]])
-    same((page.figures, text.count("<circle")), (1, 0))
+    """A reopened constituency: the certificate is shown as withdrawn, on top and with its note, and no seat as given. One that
+    never had a certificate has none yet."""
+    never = REOPENED | {"/con/c1/past": TWIN["/con/c1/past"]}
+    for desk, state in ((REOPENED, "Certificate withdrawn"), (never, "No certificate yet")):
+        with answering_desk(desk) as (port, _):
+            press(port)
+        page, text = page_of("con-c1.html"), read("con-c1.html")
+        assert f">{state}, edition 4</p>\n<h1>Twin Town</h1>" in text and f"<b>{state}.</b>" in text and "Seats of each list" not in page.tables
+        same((page.figures, text.count("h0")), (1, 0))
+        same(page_of("count.html").tables["Progress of the constituencies"][1][:2], ["Twin Town", state.lower()])
+        same(page_of("index.html").tables["Constituencies in the order of their names"][1], [f"Twin Town {state.lower()}", "–", "–", "100.00 %"])
+        same("<b>Certificate withdrawn:</b> <a href=\"con-c1.html\">Twin Town</a>." in read("index.html"), desk is REOPENED)
+        if desk is REOPENED:
+            assert "a &lt;recount&gt;" in text
+            same(page.tables["Certificate of edition 3, withdrawn"][1:], [["A Alpha", "1"], ["B Beta", "2"]])
     same(read("con-c1.csv").splitlines()[1:], ["A,Alpha,100,50.00,yes,", "B,Beta,100,50.00,yes,"])
-    same(page_of("index.html").tables["Progress of the constituencies"][1][:3], ["Twin Town", "no certificate yet", "–"])
 
 
 def test_a_page_of_a_part_of_the_votes():
@@ -1284,7 +1348,7 @@ def test_a_page_by_quotas():
         "/con/c1/holders": "HOLDERS c1 Twin Town\nA                   1 Ana\nA                   2 Abel\nA                   - empty\n"}
     with answering_desk(answers) as (port, asked):
         press(port)
-        same(len(asked), 9)
+        same(len(asked), 10)
     page = page_of("con-c1.html")
     same(page.tables["Quotas of each list"][1:], [["A", "168,000", "2", "384,000", "3"], ["E", "40,000", "0", "320,000", "0"]])
     assert "Quotients of each list" not in page.tables and "Awards in order" not in page.tables
@@ -1312,7 +1376,7 @@ def test_a_page_that_gets_old():
     answers = dict(TWIN)
     with answering_desk(answers) as (port, _):
         press(port)
-        first = {name: read(name) for name in ("con-c1.html", "con-c1.csv", "index.html")}
+        first = {name: read(name) for name in ("con-c1.html", "con-c1.csv")}
         for broken, target in ((503, "/con/c1/seats"), ("no such text\n", "/con/c1/tally"), (404, "/con/c1"), ("{", "/con/c1")):
             answers[target] = broken
             said = press(port, status=1)
@@ -1320,17 +1384,56 @@ def test_a_page_that_gets_old():
             answers[target] = TWIN[target]
             old = read("con-c1.html")
             assert re.search(r'<!--age--><p class="old" role="status"><b>The office gave no answer that could be used at '
-                             r"[\d:]{8}\.</b> This page is \d+ (second|minute)s? old", old), old[:9000]
+                             r"[\d:]{8}\.</b> This page stays as it is until there is one; it was changed last \d+ (second|minute)s? before\.</p>",
+                             old), old[:9000]
+            # The page of the country says of which constituency it has no numbers of now.
+            assert "<b>No answer that could be used:</b> <a href=\"con-c1.html\">" in read("index.html")
             same(re.sub("<!--age-->.*<!--/age-->", "<!--age--><!--/age-->", old), first["con-c1.html"])
             same(read("con-c1.csv"), first["con-c1.csv"])
             page_of("con-c1.html")
         press(port)
-        assert "<!--age--><!--/age-->" in read("con-c1.html")
+        # Nothing has changed meanwhile: the page is as it was first written.
+        same(read("con-c1.html"), first["con-c1.html"])
     # Nobody listens now: every page says so, and a page that is not there is not made.
     same(" pages 0 failed 1 GETs 1 " in press(port, status=1), True)
-    assert 'class="old"' in read("index.html") and 'class="old"' in read("con-c1.html")
+    assert all('class="old"' in read(name) for name in ("index.html", "count.html", "con-c1.html"))
     press(port, folder="others", status=1)
     same(os.listdir("others"), [])
+
+
+def test_a_page_that_gets_old_and_is_written_again():
+    """While a constituency gives no answer, the country goes on with what it said before, and says so; later its page has no age."""
+    answers = dict(TWIN)
+
+    def rounds(process):
+        """The line of a round that began after this call."""
+        process.stdout.readline()
+        return process.stdout.readline()
+
+    with answering_desk(answers) as (port, _):
+        process = subprocess.Popen([sys.executable, DEPLOY / "press.py", f"http://127.0.0.1:{port}", "pages", "--every", "0.1"],
+                                   stdout=subprocess.PIPE, stderr=subprocess.DEVNULL, text=True)
+        try:
+            assert " pages 2 failed 0 " in process.stdout.readline()
+            first = read("con-c1.html")
+            for broken, old in (("/con/c1", ("con-c1.html",)), ("/progress", ("con-c1.html", "index.html", "count.html"))):
+                answers[broken] = 503
+                assert " failed 1 " in rounds(process)
+                same([name for name in ("con-c1.html", "index.html", "count.html") if 'class="old"' in read(name)], list(old))
+                same(page_of("index.html").tables["Seats and votes of each list"][1:3], [["B Beta", "2", "100", "50.00 %"], ["A Alpha", "1", "100", "50.00 %"]])
+                same("<b>No answer that could be used:</b>" in read("index.html"), broken == "/con/c1")
+                answers[broken] = TWIN[broken]
+                assert " pages 2 failed 0 " in rounds(process)
+                same(read("con-c1.html"), first)
+                assert 'class="old"' not in read("index.html") and "No answer" not in read("index.html")
+            # What only the progress says changes the page too.
+            answers["/progress"] = "c1                    1      0      1      0      0      1      3 certified\n"
+            rounds(process)
+            same(page_of("con-c1.html").tables["Returns of the stations"][1], ["1", "0", "1", "0", "0", "1"])
+        finally:
+            process.terminate()
+            process.wait(timeout=20)
+            process.stdout.close()
 
 
 def test_a_page_of_one_moment():
@@ -1353,7 +1456,7 @@ def test_pages_through_a_proxy_that_limits():
     """It answers 429 for a while: what it did not answer is asked again, and the page is written."""
     first = iter([429, 429])
     with answering_desk(TWIN | {"/con/c1/tally": lambda: next(first, TWIN["/con/c1/tally"])}) as (port, asked):
-        assert " pages 2 failed 0 GETs 12 " in press(port), asked
+        assert " pages 2 failed 0 GETs 13 " in press(port), asked
         same(asked.count("/con/c1/tally"), 3)
 
 
@@ -1371,16 +1474,368 @@ def test_pages_that_are_written_again_and_again():
             process.terminate()
             process.wait(timeout=20)
             process.stdout.close()
-    same([int(re.search(r"GETs (\d+)", line)[1]) for line in lines], [10, 2, 2, 2, 2, 2])
+    same([int(re.search(r"GETs (\d+)", line)[1]) for line in lines], [11, 2, 2, 2, 2, 2])
 
+
+# ---- the page of the country
+
+# By hand. Norte has 3 seats by D'Hondt of A 100 (50, 33), B 90 (45), C 5: A, B, A. Este has 2 of
+# A 30, B 80 (40), C 10: both B's. Sur was certified and reopened; of Oeste one return of two is
+# closed. So B has 3 seats and A 2, and 5 of 10 are open.
+FOUR = {"norte": ("Norte", 3, {"n1": 500, "n2": 500}, "ABC"), "este": ("Este", 2, {"e1": 400}, "ABC"),
+        "sur": ("Sur", 2, {"s1": 300}, "AB"), "oeste": ("Óeste <3>", 3, {"o1": 400, "o2": 400}, "ABD")}
+FOUR_NAMES = {"A": "Alpha", "B": "Beta", "C": "Gamma", "D": "Delta"}
+FOUR_RETURNS = {"norte": "n1,p1,5,1,60,50,5\nn2,p2,0,2,40,40,0\n", "este": "e1,p1,0,0,30,80,10\n", "sur": "s1,p1,0,0,10,20\n",
+                "oeste": "o1,p1,0,0,7,3,90\n"}
+# A former result: in Norte A had 20 per cent of the valid votes and B 30, and in Este each a seat.
+FOUR_BEFORE = ("con,list,votes,seats,valid\nnorte,A,40,2,200\nnorte,B,60,1,200\neste,A,50,1,100\neste,B,50,1,100\n"
+               "sur,A,50,2,100\noeste,A,1,1,100\n")
+
+
+def setup_of_four():
+    text = profile("d0")
+    for code, (name, seats, stations, lists) in FOUR.items():
+        text += constituency(code, name, seats, "d0")
+        text += "".join(party_list(of, FOUR_NAMES[of], *(f"{of}{n}" for n in range(1, 4))) for of in lists)
+        text += "".join(station(name, electors) for name, electors in stations.items())
+    return text
+
+
+def count_four(office):
+    for code, (_, _, stations, lists) in FOUR.items():
+        done(office, f"/con/{code}/import", f"station,slip,blank,spoiled,{','.join(lists)}\n{FOUR_RETURNS[code]}")
+        for name in stations:
+            if name != "o2":
+                done(office, f"/station/{name}/close", {"rev": 1})
+        if code != "oeste":
+            done(office, f"/con/{code}/certify", {"edition": 1})
+    done(office, "/con/sur/reopen", {"edition": 2, "note": "a recount"})
+
+
+def site_folder(**files):
+    """A folder of a site with these files."""
+    folder = Path("site")
+    folder.mkdir(exist_ok=True)
+    for name, text in files.items():
+        kind = {"site": "toml", "map": "svg"}.get(name, "csv")
+        (folder / f"{name}.{kind}").write_text(text, encoding="utf-8")
+    return "--site", str(folder)
+
+
+@contextlib.contextmanager
+def four():
+    """The model of an office of the four constituencies, counted as far as it is, and its port."""
+    Path("setup.toml").write_text(setup_of_four(), encoding="utf-8")
+    with modelled(setup_of_four()) as (office, port):
+        count_four(office)
+        yield office, port
+
+
+# What the page of the country says of the office's own sums.
+SAME = "The office adds up the same seats and votes itself, at one moment."
+OTHER = "The office was asked for one constituency after the other, and had other sums at the end: returns came meanwhile."
+
+
+def shown_text(text):
+    """The text of a page, without its marks."""
+    return re.sub(r"\s+", " ", re.sub(r"<(style|script)>.*?</\1>|<[^>]*>", "", text, flags=re.S))
+
+
+def test_the_page_of_a_country():
+    """Its seats, votes and turnout are sums of the constituencies; what is open and what is withdrawn is said; the closest seats are
+    in order; and each constituency is found by its name."""
+    with four() as (office, port):
+        press(port, "--setup", "setup.toml")
+        page, text = page_of("index.html"), shown_text(read("index.html"))
+        for sentence in (
+                "Certified: 5 of 10 seats, in 2 of 4 constituencies. Open: 5 seats.", "Certificate withdrawn: Sur. No seat of theirs is counted here.",
+                "The line marks the majority: 6 of 10 seats.", "5 of 6 returns are closed, 83.33 per cent",
+                # Norte 203 of 1,000, Este 120 of 400, Sur 30 of 300.
+                "Turnout in the 3 constituencies whose returns are all closed: 20.76 per cent, 353 of 1,700 electors.",
+                "Valid votes 450, blank ones among them 5; spoiled 3."):
+            assert sentence in text, sentence
+        same(page.tables["Seats and votes of each list"], [
+            ["List", "seats", "votes", "share"], ["B Beta", "3", "193", "42.88 %"], ["A Alpha", "2", "147", "32.66 %"],
+            ["D Delta", "0", "90", "20.00 %"], ["C Gamma", "0", "15", "3.33 %"], ["Total", "5", "445", ""]])
+        assert 'aria-label="Seats as a half circle of dots: B 3, A 2, open 5.' in read("index.html")
+        dots = re.findall(r'<g class="([\w-]+)"><path d="([^"]*)"', read("index.html"))
+        same([(of, path.count("h0")) for of, path in dots], [("list-B", 3), ("list-A", 2), ("open-seats", 5)])
+        same([shown_text(item) for item in re.findall("<li>(.*? lacked .*?)</li>", read("index.html"))], [
+            "B lacked 11 votes for a seat in Norte", "A lacked 11 votes for a seat in Este", "C lacked 31 votes for a seat in Este",
+            "C lacked 46 votes for a seat in Norte", "A lacked 170 votes for a seat in Norte"])
+        same(page.tables["Constituencies in the order of their names"][1:], [
+            ["Este certified", "B", "B 2", "100.00 %"], ["Norte certified", "A", "A 2 B 1", "100.00 %"],
+            ["Óeste <3> no certificate yet", "D", "–", "50.00 %"], ["Sur certificate withdrawn", "B", "–", "100.00 %"]])
+        same([row[0] for row in page_of("count.html").tables["Progress of the constituencies"][1:]], ["Norte", "Este", "Sur", "Óeste <3>"])
+        assert text.count(SAME) == 1 and OTHER not in text
+        # Without the setup the office says how many seats there are, but nobody knows the electors.
+        press(port, folder="without")
+        text = shown_text(read("index.html", "without"))
+        assert "Certified: 5 of 10 seats, in 2 of 4 constituencies." in text and SAME in text and "Turnout" not in text
+        # Once everything is certified nothing is open.
+        done(office, "/con/sur/certify", {"edition": 3})
+        done(office, "/station/o2/lodge", {"slip": "p2", "votes": [0, 0, 1], "blank": 0, "spoiled": 0})
+        done(office, "/station/o2/close", {"rev": 1})
+        done(office, "/con/oeste/certify", {"edition": 1})
+        press(port, "--setup", "setup.toml")
+        text = shown_text(read("index.html"))
+        for sentence in ("All 10 seats are certified, in 4 constituencies.", "Turnout: 18.16 per cent, 454 of 2,500 electors.", "D 3"):
+            assert sentence in text, sentence
+        assert "Certificate withdrawn" not in text and '<g class="open-seats">' not in read("index.html")
+        # D has three seats of few votes: lists are by seats, and in Oeste by votes.
+        same([row[:3] for row in page_of("index.html").tables["Seats and votes of each list"][1:]], [
+            ["B Beta", "5", "193"], ["D Delta", "3", "91"], ["A Alpha", "2", "147"], ["C Gamma", "0", "15"], ["Total", "10", "446"]])
+        page = page_of("con-oeste.html")
+        for table in ("Votes of each list", "Seats of each list", "Quotients of each list"):
+            same([row[0][0] for row in page.tables[table][1:4]], ["D", "A", "B"])
+
+
+def test_what_the_office_adds_up():
+    """Where it says other sums than the constituencies have, which are asked one after the other, or none, the page says so, or
+    nothing; a text that is none is a failure."""
+    said = "COUNTRY\nconstituencies 1 certified 1\nstations 1 closed 1\nA                     1           100 Alpha\nB                     2           100 Beta\n" \
+           "total                 3           200\nseats 3 majority 2\n"
+    for country, words, status in ((said, SAME, 0), (404, None, 0), (503, None, 1), ("no such text\n", None, 1), (said[:-19], None, 1)):
+        with answering_desk(TWIN | {"/country": country}) as (port, _):
+            assert f" failed {status} " in press(port, status=status)
+        same([one for one in (SAME, OTHER) if one in shown_text(read("index.html"))], [words] if words else [])
+    for old, new in (("certified 1", "certified 0"), ("closed 1", "closed 0"), ("  1           100 Alpha", "  2           100 Alpha"), ("100 Beta", "101 Beta"),
+                     ("B   ", "C   "), ("stations 1", "stations 2"), ("constituencies 1", "constituencies 2")):
+        assert old in said, old
+        with answering_desk(TWIN | {"/country": said.replace(old, new)}) as (port, _):
+            press(port)
+        same([one for one in (SAME, OTHER) if one in shown_text(read("index.html"))], [OTHER])
+
+
+def test_a_country_of_many_lists():
+    """Of lists without a seat the twenty with the most votes have a row each, and the others one together."""
+    votes = [100, *range(40, 16, -1)]  # L1 has the seat; L22 to L25 have 20, 19, 18 and 17 votes
+    lists = "".join(party_list(f"L{n}", f"List {n}", "Ana") for n in range(1, 26))
+    setup = profile("d0") + constituency("c1", "Town", 1, "d0") + lists + station("s1", 2000)
+    Path("setup.toml").write_text(setup, encoding="utf-8")
+    with modelled(setup) as (office, port):
+        done(office, "/station/s1/lodge", {"slip": "p1", "votes": votes, "blank": 0, "spoiled": 0})
+        done(office, "/station/s1/close", {"rev": 1})
+        done(office, "/con/c1/certify", {"edition": 1})
+        press(port, "--setup", "setup.toml")
+    rows = page_of("index.html").tables["Seats and votes of each list"][1:]
+    same([row[0] for row in rows], [*(f"L{n} List {n}" for n in range(1, 22)), "4 more lists without a seat", "Total"])
+    same([row[1:3] for row in rows[-3:]], [["0", "21"], ["0", "74"], ["1", "784"]])
+
+
+def test_when_a_page_changed():
+    """A page of a constituency has the moment of its last change, and is not written again before; the country's says how long that is
+    ago. What is known no more is said."""
+    with four() as (office, port):
+        press(port, "--setup", "setup.toml")
+        first = {name: (read(name), os.stat(f"pages/{name}").st_ino) for name in sorted(os.listdir("pages")) if re.match("(con|stations)-", name)
+                 and not name.endswith((".gz", ".json"))}
+        time.sleep(1.1)
+        done(office, "/station/o2/lodge", {"slip": "p2", "votes": [0, 0, 1], "blank": 0, "spoiled": 0})
+        press(port, "--setup", "setup.toml")
+        changed = [name for name, was in first.items() if (read(name), os.stat(f"pages/{name}").st_ino) != was]
+        same(changed, ["con-oeste.html", "stations-oeste-1.html"])
+        moments = re.findall(r'<time datetime="([^"]*)">', read("index.html"))
+        same(moments[1], re.search(r'<time datetime="([^"]*)">', read("con-oeste.html"))[1])
+        assert re.search(r"The last change was on <time .*?</time>, [0-3] seconds? before\.", read("index.html"))
+
+
+def test_a_former_result():
+    """Seats are compared where they are certified, and shares where every return is closed; of what no former result is known
+    nothing is said."""
+    with four() as (_, port):
+        press(port, "--setup", "setup.toml", *site_folder(before=FOUR_BEFORE))
+    same([row[:2] for row in page_of("index.html").tables["Seats and votes of each list"]], [
+        ["List", "seats change"], ["B Beta", "3 +1"], ["A Alpha", "2 −1"], ["D Delta", "0 ±0"], ["C Gamma", "0 ±0"], ["Total", "5"]])
+    same(page_of("con-norte.html").tables["Votes of each list"], [
+        ["List", "votes", "share change", "takes part"], ["A Alpha", "100", "50.00 % +30.00", "yes"],
+        ["B Beta", "90", "45.00 % +15.00", "yes"], ["C Gamma", "5", "2.50 % +2.50", "yes"]])
+    same(page_of("con-norte.html").tables["Seats of each list"][1:], [["A Alpha", "2 ±0"], ["B Beta", "1 ±0"], ["C Gamma", "0 ±0"], ["Total", "3"]])
+    without = ["List", "votes", "share", "takes part"]
+    same(page_of("con-oeste.html").tables["Votes of each list"][0], without)
+    # Shares of another base are not compared with those of the valid votes, and a country only
+    # where each certified constituency has a former result.
+    lists, north = setup_of_four().replace('base = "valid"', 'base = "lists"'), FOUR_BEFORE.partition("este")[0]
+    with four() as (_, port):
+        Path("lists.toml").write_text(lists, encoding="utf-8")
+        press(port, "--setup", "lists.toml", *site_folder(before=FOUR_BEFORE), folder="lists")
+        press(port, "--setup", "setup.toml", *site_folder(before=north), folder="north")
+    same(page_of("con-norte.html", "lists").tables["Votes of each list"][0], without)
+    same(page_of("index.html", "north").tables["Seats and votes of each list"][0], ["List", "seats", "votes", "share"])
+
+
+# ---- what an office says of its pages
+
+
+def refused_site(port, words, **files):
+    """A folder with this file is refused, in these words."""
+    found = subprocess.run([sys.executable, DEPLOY / "press.py", f"http://127.0.0.1:{port}", "wrong", *site_folder(**files)],
+                           capture_output=True, text=True, timeout=60)
+    assert found.returncode == 1 and words in found.stderr and "Traceback" not in found.stderr, found
+
+
+def test_the_texts_of_a_site():
+    """Title, day, authority, licence and language are those of the folder; Spanish has its own numbers and days. The texts of each
+    language are the same ones, with the same places."""
+    say = 'title = "Elecciones & más"\ndate = 2026-11-29\nauthority = "Junta"\nlicence = "CC-BY-4.0"\nlanguage = "es"\n'
+    with four() as (_, port):
+        press(port, "--setup", "setup.toml", *site_folder(site=say))
+        text = shown_text(read("index.html"))
+        for name in ("index.html", "count.html", "con-norte.html", "stations-norte-1.html"):
+            page_of(name)
+            assert '<html lang="es">' in read(name) and "Elecciones &amp; más" in read(name) and "Licencia de los datos: CC-BY-4.0." in read(name), name
+            own = shown_text(re.sub("<h3 id=.*?</h3>|<pre.*?</pre>", "", read(name), flags=re.S))  # the office's own texts are in English
+            same((name, re.findall(r"\b(?:list|seats|votes|stations?|the|returns|of|is)\b", own)), (name, []))
+        assert "<h1>Elecciones &amp; más</h1>" in read("index.html") and "29 de noviembre de 2026 · Junta" in text
+        assert "A B le faltaron 11 votos para un escaño en Norte" in text and "42,88 %" in text and "353 de 1.700 electores" in text
+        for site, words in (('language = "xx"', "no texts of the language 'xx'"), ("title = ", "Invalid value"), ('date = "today"', "date is not a date"), ('language = "../en"', "no texts of the language")):
+            refused_site(port, words, site=site)
+    texts = {file.name: tomllib.loads(file.read_text(encoding="utf-8")) for file in DEPLOY.glob("press_*.toml")}
+    same(sorted(texts), ["press_en.toml", "press_es.toml"])
+
+    def places(of):
+        return {key: sorted(re.findall(r"\{\w*\}", str(value))) for key, value in {**of, **of["methods"]}.items()}
+
+    same(places(texts["press_es.toml"]), places(texts["press_en.toml"]))
+
+
+def contrast(one, other):
+    """The contrast of two colours after WCAG 2."""
+    def light(colour):
+        parts = [int(colour[n:n + 2], 16) / 255 for n in (1, 3, 5)]
+        return sum(weight * (part / 12.92 if part <= 0.04045 else ((part + 0.055) / 1.055) ** 2.4)
+                   for weight, part in zip((0.2126, 0.7152, 0.0722), parts))
+    low, high = sorted((light(one), light(other)))
+    return (high + 0.05) / (low + 0.05)
+
+
+def test_the_colours_of_lists():
+    """Each has a contrast of 3 with every ground, light and dark, those of a file too; neighbours in a half circle have one of 1.5, or
+    one of them is drawn as rings. A list has the same colour on each page."""
+    same((round(contrast("#000000", "#ffffff"), 2), round(contrast("#777777", "#ffffff"), 2)), (21.0, 4.48))
+    style = (DEPLOY / "press.css").read_text(encoding="utf-8")
+    grounds = [re.findall(rf"--{ground}: (#[0-9a-f]{{6}})", style) for ground in ("paper", "sheet", "track")]
+    same([len(found) for found in grounds], [2, 2, 2])
+    colours = "list,colour\nA,#d1495b\nB,#2f8f4e\nC,#ffee00\n"
+    with four() as (_, port):
+        press(port, "--setup", "setup.toml", folder="own")
+        press(port, "--setup", "setup.toml", *site_folder(colours=colours))
+        for wrong, words in (("list,colour\nA,red\n", "A: not a colour such as #12538c"), ("list,colour\nA\n", "A: not a colour"),
+                             ("code,colour\n", "no column list")):
+            refused_site(port, words, colours=wrong)
+    with answering_desk(sixty_lists()) as (port, _):
+        press(port, folder="sixty")
+    # A red and a green that differ by 1.07 only: B beside A is drawn as rings.
+    for folder, name, rings in (("pages", "con-norte", ["B"]), ("own", "con-norte", []), ("pages", "index", ["A"]), ("own", "index", []), ("sixty", "con-c1", None)):
+        text = read(f"{name}.html", folder)
+        given = {code: colours for code, *colours in re.findall(r"\.list-([\w-]+)\{--light:(#\w{6});--dark:(#\w{6})\}", text)}
+        for code, pair in given.items():
+            for ground in grounds:
+                assert all(contrast(colour, under) >= 3 for colour, under in zip(pair, ground)), (code, pair, ground)
+        drawn = [(code, "hole" in inner) for code, inner in re.findall(r'<g class="list-([\w-]+)">(.*?)</g>', text)]
+        same(len(drawn) > 1, True)
+        for (one, ring), (other, next_ring) in zip(drawn, drawn[1:]):
+            assert ring != next_ring or all(contrast(a, b) >= 1.5 for a, b in zip(given[one], given[other])), (one, other)
+        if rings is not None:
+            same([code for code, ring in drawn if ring], rings)
+    of_pages = {re.search(r"\.list-A\{.*?\}", read(f"{name}.html"))[0] for name in ("index", "con-norte", "con-este", "con-sur", "con-oeste")}
+    same(of_pages, {".list-A{--light:#d1495b;--dark:#d1495b}"})
+    # A yellow is as it is in the dark, and darker on light paper.
+    same(re.search(r"\.list-C\{--light:(#\w+);--dark:(#\w+)\}", read("index.html"))[2], "#ffee00")
+
+
+def test_a_map():
+    """Its shapes have the colour of the first list, pale without a certificate; nothing else of the file is on the page."""
+    drawn = ('<svg xmlns="http://www.w3.org/2000/svg" viewBox="0 0 9 9" onload="alert(1)"><script>alert(1)</script><style>*{fill:red}</style>'
+             '<image href="https://example.org/x.png"/><path id="norte" d="M0 0H4V4Z" onclick="alert(1)" style="fill:red"/>'
+             '<g id="este"><rect x="5" y="0" width="2" height="2"/></g><path id="oeste" d="M5 5h3v3z"/><path id="nowhere" d="M0 8h1"/></svg>')
+    with four() as (_, port):
+        press(port, "--setup", "setup.toml", *site_folder(map=drawn))
+        text = read("index.html")
+        page_of("index.html")
+        picture = re.search(r'<figure class="map".*?</figure>', text, re.S)[0]
+        assert not re.search(r"script|style|image|onclick|onload|nowhere", picture), picture
+        for part in ('<path d="M0 0H4V4Z" class="con list-A"><title>Norte: A</title></path>',
+                     '<g class="con list-B"><title>Este: B</title><rect x="5" y="0" width="2" height="2"></rect>',
+                     '<path d="M5 5h3v3z" class="con list-D pale"><title>Óeste &lt;3&gt;: D</title></path>', '<path d="M0 8h1"></path>'):
+            assert part in picture, part
+        refused_site(port, "map.svg", map="<svg")
+        Path("site/map.svg").write_bytes("<svg>é</svg>".encode("latin-1"))
+        refused_site(port, "map.svg: not UTF-8")
+        press(port, "--setup", "setup.toml", folder="none")
+        assert 'class="map"' not in read("index.html", "none")
+
+
+def test_pages_of_stations():
+    """They have each return of a certificate, with the name of its station and its electors; long ones go on on further pages. Without
+    a certificate they have what each return is, and the figures of closed ones alone."""
+    names = "station,name\nn1,\"School <old>, hall\"\nx,elsewhere\n"
+    with four() as (office, port):
+        press(port, "--setup", "setup.toml", *site_folder(stations=names))
+        same(page_of("stations-norte-1.html").tables["Returns station by station"], [
+            ["Station", "electors", "A", "B", "C", "blank", "spoiled"], ["n1 School <old>, hall", "500", "60", "50", "5", "5", "1"],
+            ["n2", "500", "40", "40", "0", "0", "2"]])
+        assert 'href="stations-norte-1.html"' in read("con-norte.html")
+        pages = [f"stations-{con}-1.html" for con in ("este", "norte", "oeste", "sur")]
+        same(sorted(name for name in os.listdir("pages") if re.match(r"stations-.*\.html$", name)), pages)
+        same(page_of("stations-oeste-1.html").tables["Returns station by station"], [
+            ["Station", "return", "electors", "D", "A", "B", "blank", "spoiled"], ["o1", "closed", "400", "90", "7", "3", "0", "0"],
+            ["o2", "none", "400", *"–––––"]])
+        assert "There is no certificate yet: 1 of 2 returns are closed here." in shown_text(read("stations-oeste-1.html"))
+        same(read("stations-oeste-open.csv"), "station,slip,blank,spoiled,A,B,D\no1,p1,0,0,7,3,90\n")
+        assert 'href="stations-oeste-1.html"' in read("con-oeste.html") and 'href="stations-oeste-open.csv"' in read("con-oeste.html")
+        done(office, "/con/norte/reopen", {"edition": 2, "note": "a recount"})
+        done(office, "/station/n2/query", {"rev": 2, "note": "a recount"})
+        press(port, "--setup", "setup.toml", *site_folder(stations=names))
+        same(page_of("stations-norte-1.html").tables["Returns station by station"][1:], [
+            ["n1 School <old>, hall", "closed", "500", "60", "50", "5", "5", "1"], ["n2", "queried", "500", *"–––––"]])
+        same([name for name in sorted(os.listdir("pages")) if re.match(r"stations-norte-.*csv$", name)], ["stations-norte-2.csv", "stations-norte-open.csv"])
+        # With the certificate the file of before goes, as without the setup.
+        done(office, "/station/n2/correct", {"rev": 3, "slip": "p3", "votes": [40, 40, 1], "blank": 0, "spoiled": 2})
+        done(office, "/station/n2/close", {"rev": 4})
+        done(office, "/con/norte/certify", {"edition": 3})
+        press(port, "--setup", "setup.toml", *site_folder(stations=names))
+        same([name for name in sorted(os.listdir("pages")) if re.match(r"stations-norte-.*csv$", name)], ["stations-norte-2.csv", "stations-norte-4.csv"])
+        same(page_of("stations-norte-1.html").tables["Returns station by station"][2], ["n2", "500", "40", "40", "1", "0", "2"])
+        assert "open.csv" not in read("con-norte.html")
+        press(port, *site_folder(stations=names))
+        same([name for name in os.listdir("pages") if re.match(r"stations-.*(html|open.csv)$", name) and "norte" not in name and "este-1" not in name], [])
+        assert "The return of each station is published once it is closed." not in read("con-oeste.html") and "stations-oeste" not in read("con-oeste.html")
+    many_stations()
+    pages = [f"stations-c1-{n}.html" for n in range(1, 4)]
+    same(sorted(name for name in os.listdir("many") if re.match(r"stations-.*\.html$", name)), pages)
+    rows = [row for name in pages for row in page_of(name, "many").tables["Returns station by station"][1:]]
+    same(rows, [[f"s{n}", "300", str(n % 100), "1", "0", "0"] for n in range(1, 1001)])
+    links = re.search('<p class="parts">.*?</p>', read(pages[1], "many"))[0]
+    same(re.findall('href="(.*?)"', links), [pages[0], pages[2]])
+    assert re.match(r's\d+ – s\d+', re.search("<b.*?>(.*?)</b>", links)[1])
+
+
+def many_stations():
+    """A certified constituency of a thousand stations, in the folder `many`; the folder's name."""
+    setup = with_stations(1000)
+    Path("many.toml").write_text(setup, encoding="utf-8")
+    with modelled(setup) as (office, port):
+        done(office, "/con/c1/import", "station,slip,blank,spoiled,A,B\n" + "".join(f"s{n},p1,0,0,{n % 100},1\n" for n in range(1, 1001)))
+        for n in range(1, 1001):
+            done(office, f"/station/s{n}/close", {"rev": 1})
+        done(office, "/con/c1/certify", {"edition": 1})
+        press(port, "--setup", "many.toml", folder="many")
+    return "many"
+
+
+# ---- a country of 60,000 stations
 
 # How many stations each of the 52 constituencies has. With 1154 they are a country of 60,000, which
 # takes some minutes.
 COUNTRY_STATIONS = int(os.environ.get("COUNTRY_STATIONS", 20))
 # What a round of the pages may cost the office, however many stations there are: so many seconds of
-# the processor, and one request of it so many times as much as the request for a return.
-ROUND_SECONDS = 5
+# the processor, with --every; and without the returns one request of it so many times as much as
+# the request for a return.
+ROUND_SECONDS = 1.05
 BESIDE_A_RETURN = 10
+# What a round may cost press.py, also one that writes every page and file.
+PAGES_SECONDS = 3
 
 
 def country(stations):
@@ -1396,81 +1851,213 @@ def country(stations):
     return setup, returns
 
 
-def close_all(sums):
+def summed(returns):
+    """Per constituency the sums of its returns: blank, spoiled, votes."""
+    return {con: [sum(column) for column in zip(*of.values())] for con, of in returns.items()}
+
+
+def close_all(sums, db="office.db"):
     """Closes every return of an office that was ended. The next opening compares the sums with the returns."""
-    ran(PROGRAM, "show", "--db", "office.db", "--report", "progress")  # takes the log into the file
-    with contextlib.closing(sqlite3.connect("office.db")) as it, it:
+    ran(PROGRAM, "show", "--db", db, "--report", "progress")  # takes the log into the file
+    with contextlib.closing(sqlite3.connect(db)) as it, it:
         it.execute("UPDATE returns SET status = 4, rev = 2")
         it.executemany("UPDATE totals SET n = ? WHERE con = ? AND item = ?", [
             (n, con, item) for con, column in sums.items() for item, n in zip((0, 61, 1, 2, 3, 4, 5), column)])
 
 
-def spent(desk):
-    """Seconds that the office has been on a processor."""
-    return int(Path(f"/proc/{desk.process.pid}/schedstat").read_text().split()[0]) / 1e9
+@contextlib.contextmanager
+def closed_country(setup, files, sums, db="office.db"):
+    """An office of a country, into which the returns of each constituency were imported from its CSV, and closed."""
+    with serving(setup, db) as desk:
+        for con, text in files.items():
+            imported = json.loads(plain(desk.port, "POST", f"/con/{con}/import", text).body)
+            same((con, imported), (con, {"ok": "import", "lodged": text.count("\n") - 1, "same": 0, "differs": 0, "refused": 0, "bad": 0, "first": None}))
+            same((con, plain(desk.port, "GET", f"/con/{con}/returns").body.decode()), (con, text))
+        desk.end()
+        close_all(sums, db)
+        desk.start()
+        yield desk
+
+
+def certify_all(desk, cons):
+    for con in cons:
+        same(plain(desk.port, "POST", f"/con/{con}/certify", '{"edition":1}').body, b'{"edition":2,"ok":"edition"}')
+
+
+def files_of(returns):
+    """The returns of each constituency as CSV."""
+    return {con: "station,slip,blank,spoiled,A,B,C,D,E\n" + "".join(f"{name},p1,{','.join(map(str, row))}\n" for name, row in of.items())
+            for con, of in returns.items()}
+
+
+@contextlib.contextmanager
+def without_a_disk():
+    """The folder of a test in memory, where that can be: no command then waits for a disk."""
+    with contextlib.ExitStack() as held:
+        if os.path.isdir("/dev/shm"):
+            os.chdir(held.enter_context(tempfile.TemporaryDirectory(prefix="office-deploy-", dir="/dev/shm")))
+        yield
+
+
+def spent(process):
+    """Seconds that a program of one thread has been on a processor."""
+    return int(Path(f"/proc/{process.pid}/schedstat").read_text().split()[0]) / 1e9
+
+
+def round_of(desk, gets, what, *words):
+    """A round of press.py that is started for it and takes so many requests; seconds that the office was on a processor."""
+    began = spent(desk.process)
+    last = press(desk.port, *words)
+    took = spent(desk.process) - began
+    assert f" pages 53 failed 0 GETs {gets} " in last, last
+    print(f"a round of {52 * COUNTRY_STATIONS} stations, {what}: {took:.2f} s of the office, {gets} GETs; {last.split(' in ')[1]} by the clock")
+    return took
+
+
+def dearest_round(desk, folder, name):
+    """The most seconds that the office is on a processor in a round of press.py as a service, from an empty folder until each
+    constituency has its file of returns."""
+    os.mkdir(folder)
+    began, costs = spent(desk.process), []
+    process = subprocess.Popen([sys.executable, DEPLOY / "press.py", f"http://127.0.0.1:{desk.port}", folder, "--setup", "setup.toml", "--every", "0.5"],
+                               stdout=subprocess.PIPE, text=True)
+    try:
+        while len(list(Path(folder).glob(f"stations-*-{name}.csv"))) < 52:
+            assert " pages 53 failed 0 " in process.stdout.readline()
+            costs.append(spent(desk.process) - began - sum(costs))
+    finally:
+        process.terminate()
+        process.wait(timeout=60)
+        process.stdout.close()
+    print(f"rounds of {52 * COUNTRY_STATIONS} stations as a service, {folder}: at most {max(costs):.2f} s of the office, {len(costs)} until all is published")
+    assert max(costs) < ROUND_SECONDS, costs
+
+
+def spent_on_rounds(port):
+    """Seconds that press.py is on a processor until it has read the setup, for the dearest round until everything is written, and for
+    one in which nothing changes."""
+    process = subprocess.Popen([sys.executable, DEPLOY / "press.py", f"http://127.0.0.1:{port}", "fresh", "--setup", "setup.toml", "--every", "0.1"],
+                               stdout=subprocess.PIPE, text=True)
+    try:
+        until(lambda: os.path.exists("fresh/setup.json") or process.poll() is not None, 120)
+        ends, gets = [spent(process)], []
+        # The last round is the third after which nothing changed.
+        while gets.count(53) < 4:
+            found = re.search(r" pages 53 failed 0 GETs (\d+) ", line := process.stdout.readline())
+            assert found and len(gets) < 60, (line, gets)
+            gets.append(int(found[1]))
+            ends.append(spent(process))
+    finally:
+        process.terminate()
+        process.wait(timeout=60)
+        process.stdout.close()
+    same(gets[-4:], [53] * 4)
+    return ends[0], max(after - before for before, after in zip(ends, ends[1:-4])), (ends[-1] - ends[-4]) / 3
 
 
 def test_a_country_of_52():
-    """An office of 52 constituencies, all certified: its pages have the sums of the returns and the seats of the rule, and cost
-    the office little."""
+    """An office of 52 constituencies, counted and then certified: its pages have the sums of the returns and the seats of the rule,
+    and each return, and cost the office little."""
     setup, returns = country(COUNTRY_STATIONS)
-    sums = {con: [sum(column) for column in zip(*of.values())] for con, of in returns.items()}
-    with contextlib.ExitStack() as held:
-        if os.path.isdir("/dev/shm"):  # no command then waits for a disk
-            os.chdir(held.enter_context(tempfile.TemporaryDirectory(prefix="office-deploy-", dir="/dev/shm")))
-        with serving(setup) as desk:
-            for con, of in returns.items():
-                rows_of = "".join(f"{name},p1,{','.join(map(str, row))}\n" for name, row in of.items())
-                imported = plain(desk.port, "POST", f"/con/{con}/import", f"station,slip,blank,spoiled,A,B,C,D,E\n{rows_of}")
-                same(json.loads(imported.body)["lodged"], len(of))
-        close_all(sums)
-        desk.start()
-        held.callback(desk.end)
-        for con in returns:
-            same(plain(desk.port, "POST", f"/con/{con}/certify", '{"edition":1}').body, b'{"edition":2,"ok":"edition"}')
-        began = spent(desk)
-        last = press(desk.port)
-        took = spent(desk) - began
-        assert " pages 53 failed 0 GETs 469 " in last, last
-        began = spent(desk)
+    files, sums = files_of(returns), summed(returns)
+    with without_a_disk(), closed_country(setup, files, sums) as desk:
+        # Of each the view, two reports and the view again, and of its stations the table and the
+        # returns.
+        round_of(desk, 2 + 52 * 6, "without a certificate, each return published", "--setup", "setup.toml")
+        same({con: read(f"stations-{con}-open.csv") for con in files}, files)
+        same(sorted(stations_on_pages()), sorted(name for of in returns.values() for name in of))
+        dearest_round(desk, "open", "open")
+        certify_all(desk, returns)
+        dearest_round(desk, "certified", 2)
+        same({con: read(f"stations-{con}-2.csv", "certified") for con in files}, files)
+        # Of each the view, seven reports and the view again.
+        took = round_of(desk, 2 + 52 * 9, "certified")
+        assert took < ROUND_SECONDS, f"{took} s of the office"
+        look_at_country(returns, sums)
+        began = spent(desk.process)
         for name in list(returns["c1"])[:20] * 5:
             plain(desk.port, "GET", f"/station/{name}")
-        of_return = (spent(desk) - began) / 100
-        print(f"a round of {52 * COUNTRY_STATIONS} stations: {took:.2f} s of the office, a GET {took / 469 * 1e3:.2f} ms, "
-              f"that of a return {of_return * 1e3:.2f} ms; {last.split(' in ')[1]} by the clock")
-        look_at_country(returns, sums)
-        assert took < ROUND_SECONDS, f"{took} s of the office"
-        assert took < 469 * BESIDE_A_RETURN * of_return, f"{took} s, and a return {of_return} s"
-        # With the setup every return is published too.
-        last = press(desk.port, "--setup", "setup.toml")
-        assert f" pages 53 failed 0 GETs {469 + 52 * (COUNTRY_STATIONS + 1)} " in last, last
-        print(f"a round that publishes every return: {last.split(' in ')[1]} by the clock")
-        for con, of in returns.items():
-            same(read(f"stations-{con}-2.csv").splitlines()[1:], [f"{name},p1,{','.join(map(str, row))}" for name, row in of.items()])
+        of_return = (spent(desk.process) - began) / 100
+        print(f"a GET {took / 470 * 1e3:.2f} ms, that of a return {of_return * 1e3:.2f} ms")
+        assert took < 470 * BESIDE_A_RETURN * of_return, f"{took} s, and a return {of_return} s"
+        # With the setup every return is published too: the returns of each, and its view once more.
+        round_of(desk, 2 + 52 * 11, "certified, each return published", "--setup", "setup.toml")
+        same({con: read(f"stations-{con}-2.csv") for con in files}, files)
+        of_start, of_all, of_none = spent_on_rounds(desk.port)
+        print(f"press.py: {of_start:.2f} s of the processor to start, at most {of_all:.2f} s for a round until everything is written, "
+              f"{of_none:.2f} s for one in which nothing changes")
+        assert max(of_all, of_none) < PAGES_SECONDS, f"{of_all} s, {of_none} s"
+        same(sorted(stations_on_pages()), sorted(name for of in returns.values() for name in of))
+        for name in sorted(os.listdir("pages")):
+            if name.endswith(".html"):
+                page_of(name)
         desk.end()
         same(ran(sys.executable, ROOT / "examples/recount.py", "office.db"), "".join(f"{con} agrees\n" for con in returns))
 
 
+def stations_on_pages():
+    """The stations that have a row on the pages of stations."""
+    names = [name for name in os.listdir("pages") if re.fullmatch(r"stations-.*\.html", name)]
+    return [row[0] for name in names for row in page_of(name).tables["Returns station by station"][1:]]
+
+
+def test_a_country_from_its_published_returns():
+    """The published returns of each constituency are imported into a new office, whole, and are its returns then; closed and certified
+    it has the same seats. So has a count of the files alone."""
+    setup, returns = country(COUNTRY_STATIONS)
+    sums = summed(returns)
+    with without_a_disk():
+        with closed_country(setup, files_of(returns), sums) as desk:
+            certify_all(desk, returns)
+            press(desk.port, "--setup", "setup.toml")
+        published = {con: read(f"stations-{con}-2.csv") for con in returns}
+        seats = seats_on_pages("pages")
+        same({con: sum(given.values()) for con, given in seats.items()}, dict.fromkeys(returns, 7))
+        Path("office.db").unlink()
+        # What is imported is what was published, and no return of before.
+        with closed_country(setup, published, sums, "fresh.db") as desk:
+            certify_all(desk, returns)
+            press(desk.port, "--setup", "setup.toml", folder="fresh")
+        same(seats_on_pages("fresh"), seats)
+        same({con: read(f"stations-{con}-2.csv", "fresh") for con in returns}, published)
+        os.mkdir("published")
+        for con, text in published.items():
+            Path(f"published/{con}.csv").write_text(text, encoding="utf-8")
+        said = ran(sys.executable, ROOT / "examples/recount.py", "--setup", "setup.toml", "--returns", "published")
+        same(said.splitlines(), [" ".join([con, *(f"{code} {many}" for code, many in given.items()), f"({COUNTRY_STATIONS} of {COUNTRY_STATIONS} stations)"])
+                                 for con, given in seats.items()])
+
+
+def seats_on_pages(folder):
+    """The published seats of each list of each constituency."""
+    found = {}
+    for row in [line.split(",") for line in read("results.csv", folder).splitlines()[1:]]:
+        found.setdefault(row[0], {})[row[10]] = int(row[15])
+    return found
+
+
 def look_at_country(returns, sums):
     """The pages of the country have its sums, and the seats of an allotment in plain Python."""
-    same(len(page_of("index.html").tables["Progress of the constituencies"]), 53)
+    same(len(page_of("count.html").tables["Progress of the constituencies"]), 53)
     results = [line.split(",") for line in read("results.csv").splitlines()[1:]]
-    same([(row[0], int(row[8])) for row in results], [(con, n) for con in returns for n in sums[con][2:]])
-    same(sum(int(row[11]) for row in results), 52 * 7)
+    same([(row[0], int(row[12])) for row in results], [(con, n) for con in returns for n in sums[con][2:]])
+    same(sum(int(row[15]) for row in results), 52 * 7)
     for con in returns:
         blank, spoiled, *votes = sums[con]
         poll = model.Poll({"method": "dhondt", "threshold": 300, "base": "valid"}, 7, votes, blank)
         found = json.loads(read(f"con-{con}.json"))["view"]
         same((found["votes"], found["blank"], found["spoiled"], found["stations"]), (votes, blank, spoiled, COUNTRY_STATIONS))
         same(found["seats"], poll.allotted())
-        same([int(row[1].replace(",", "")) for row in page_of(f"con-{con}.html").tables["Votes of each list"][1:]], votes)
-        same([row[1] for row in page_of(f"con-{con}.html").tables["Seats of each list"][1:-1]], [str(n) for n in found["seats"]])
+        order = sorted(range(5), key=lambda n: -votes[n])
+        same([int(row[1].replace(",", "")) for row in page_of(f"con-{con}.html").tables["Votes of each list"][1:]], [votes[n] for n in order])
+        same([row[1] for row in page_of(f"con-{con}.html").tables["Seats of each list"][1:-1]], [str(found["seats"][n]) for n in order])
 
 
 def without_time(text):
-    """A page or a file without the moment it is of, and without its style."""
-    text = re.sub(r"<style>.*?</style>", "<style></style>", text, flags=re.S)
-    return re.sub(r'"time": "[^"]*"', '"time": ""', re.sub(r"<time [^>]*>[^<]*</time>", "<time></time>", text))
+    """A page or a file without the moment it is of, and without its style and its script."""
+    text = re.sub(r"(?<=sha256-)[\w+/=]+", "", re.sub(r"<(style|script)>.*?</\1>", r"<\1></\1>", text, flags=re.S))
+    text = re.sub(r"<time [^>]*>[^<]*</time>(, \d+ seconds? before)?", "<time></time>", text)
+    return re.sub(r'"time": "[^"]*"', '"time": ""', re.sub(r"<updated>[^<]*<", "<updated><", text))
 
 
 def readme_election(desk):
@@ -1490,9 +2077,9 @@ def test_the_pages_of_the_first_election():
     """They are those of tests/pages/, whose numbers are those of examples/README.md."""
     with serving(EXAMPLES) as desk:
         readme_election(desk)
-        press(desk.port, "--setup", "setup.toml")
+        press(desk.port, "--setup", "setup.toml", "--site", str(ROOT / "examples/site"))
     stored = {file.name: file.read_text(encoding="utf-8") for file in (ROOT / "tests/pages").iterdir()}
-    found = {name: without_time(read(name)) for name in os.listdir("pages") if not name.endswith(".gz") and name != "SHA256SUMS"}
+    found = {name: without_time(read(name)) for name in os.listdir("pages") if not name.endswith(".gz") and name not in ("manifest.json", "openapi.json")}
     same(sorted(found), sorted(stored))
     for name, text in found.items():
         if name.endswith(".html"):
@@ -1502,9 +2089,9 @@ def test_the_pages_of_the_first_election():
             raise AssertionError(f"{name} differs from tests/pages/{name}; it is in {tempfile.gettempdir()}. Look at it before you store it")
     # By hand, in examples/README.md.
     same(page_of("con-montehondo.html").tables["Votes of each list"][1:], [
-        ["ROBLE Lista del Roble", "1,235", "35.58 %", "yes"], ["ENCINA Lista de la Encina", "1,134", "32.67 %", "yes"],
-        ["HAYA Lista del Haya", "694", "19.99 %", "yes"], ["SAUCE Lista del Sauce", "299", "8.61 %", "yes"],
-        ["OLIVO Lista del Olivo", "65", "1.87 %", "no"]])
+        ["ROBLE Lista del Roble", "1,235", "35.58 % +0.99", "yes"], ["ENCINA Lista de la Encina", "1,134", "32.67 % −5.38", "yes"],
+        ["HAYA Lista del Haya", "694", "19.99 % +3.64", "yes"], ["SAUCE Lista del Sauce", "299", "8.61 % +0.75", "yes"],
+        ["OLIVO Lista del Olivo", "65", "1.87 % −0.01", "no"]])
     same(page_of("con-montehondo.html").tables["Quotients of each list"][1:], [
         ["ROBLE", "1,235 ★ won", "617 ★ won", "411 ★ won", "308 ★ won", "247"], ["ENCINA", "1,134 ★ won", "567 ★ won", "378 ★ won", "283", "226"],
         ["HAYA", "694 ★ won", "347 ★ won", "231", "173", "138"], ["SAUCE", "299", "149", "99", "74", "59"]])
@@ -1518,8 +2105,9 @@ def test_the_pages_of_the_first_election():
 # ---- the pages in a browser
 
 # What is wrong with how a page is shown: an element that is wider than the window, unless it may be
-# moved sideways, and a text that has too little contrast with its background (4.5 to 1, after WCAG
-# 2, or 3 to 1 where it is large).
+# moved sideways; a text that has too little contrast with its background (4.5 to 1, after WCAG
+# 2, or 3 to 1 where it is large); a text that is cut off, where it cannot be moved; and two texts
+# or fields of which one is over the other, by more than three points.
 SHOWN_WRONG = """
 const wrong = [], wide = innerWidth;
 if (document.documentElement.scrollWidth > wide) wrong.push("the page is " + document.documentElement.scrollWidth + " wide");
@@ -1577,19 +2165,200 @@ def sixty_lists():
     return TWIN | {"/con/c1": view} | {f"/con/c1/{name}": f"{name.upper()} c1 Twin Town\n{text}" for name, text in reports.items()}
 
 
+# What is wrong with the half circles of a page: a label that is on another or on a dot, or outside
+# of the picture; and with what can be moved sideways: keys reach neither it nor a link in it.
+# The line of the threshold has to have a contrast of 3 with its edge.
+DRAWN_WRONG = """
+const wrong = [];
+for (const svg of document.querySelectorAll(".seats svg")) {
+  const box = svg.viewBox.baseVal, texts = [...svg.querySelectorAll("text")].map((text) => [text.textContent, text.getBBox()]);
+  const dots = [...svg.querySelectorAll("path:not(.hole)")].flatMap((path) => [...path.getAttribute("d").matchAll(/M(\\S+) (\\S+)h0/g)]
+    .map(([, x, y]) => [Number(x), Number(y), parseFloat(getComputedStyle(path).strokeWidth) / 2]));
+  texts.forEach(([text, one], n) => {
+    if (one.x < box.x || one.x + one.width > box.x + box.width || one.y < box.y - 1 || one.y + one.height > box.y + box.height + 4) wrong.push(text + " is outside");
+    for (const [other, two] of texts.slice(n + 1))
+      if (one.x < two.x + two.width && two.x < one.x + one.width && one.y + 2 < two.y + two.height - 2 && two.y + 2 < one.y + one.height - 2) wrong.push(text + " on " + other);
+    for (const [x, y, r] of dots) {
+      const dx = Math.max(one.x - x, 0, x - one.x - one.width), dy = Math.max(one.y + 2 - y, 0, y - one.y - one.height + 2);
+      if (Math.hypot(dx, dy) < r - 0.5) { wrong.push(text + " on a dot"); break; }
+    }
+  });
+}
+for (const e of document.querySelectorAll(".scroll, pre"))
+  if (e.scrollWidth > e.clientWidth + 1 && e.tabIndex < 0 && !e.querySelector("a[href]")) wrong.push(e.textContent.trim().slice(0, 40) + " is not reached");
+const light = (colour) => colour.match(/[0-9.]+/g).slice(0, 3).map((c) => c / 255)
+  .map((c) => c <= 0.03928 ? c / 12.92 : ((c + 0.055) / 1.055) ** 2.4).reduce((sum, c, i) => sum + c * [0.2126, 0.7152, 0.0722][i], 0);
+for (const e of document.querySelectorAll(".track .threshold")) {
+  const style = getComputedStyle(e), edge = style.boxShadow.match(/rgb[^)]*\\)/);
+  const [one, two] = [light(style.borderLeftColor), edge ? light(edge[0]) : 9].sort((a, b) => b - a);
+  if (!edge || (one + 0.05) / (two + 0.05) < 3 || e.getBoundingClientRect().width < 2) wrong.push("the threshold");
+}
+return wrong;
+"""
+
+
+def printed_well(it, name):
+    """On paper, A4 within its margins, nothing is wider than the sheet, and the paper is white, in the dark too."""
+    it.size(718, 1000)
+    it.command("Emulation.setEmulatedMedia", media="print", features=[{"name": "prefers-color-scheme", "value": "dark"}])
+    same((name, it.run(SHOWN_WRONG)), (name, []))
+    cut = "return [...document.querySelectorAll('.scroll, pre')].filter((e) => getComputedStyle(e).overflowX !== 'visible').length"
+    same((name, it.run(cut)), (name, 0))
+    same((name, it.run("return [getComputedStyle(document.body).backgroundColor, document.querySelectorAll('.search').length && "
+                       "document.querySelector('.search').getClientRects().length]")), (name, ["rgb(255, 255, 255)", 0]))
+    if PICTURES:
+        it.picture(PICTURES / f"{name}-print.png", True)
+    it.command("Emulation.setEmulatedMedia", media="", features=[])
+
+
+def drawn_well(it, name):
+    for width, dark in ((320, False), (1280, True)):
+        it.size(width, 900, dark)
+        same((name, width, it.run(DRAWN_WRONG)), (name, width, []))
+
+
 @needs("chromium")
 def test_how_the_press_pages_are_shown():
     with browser.browser(Path.cwd()) as it:
         for name, answers in (("certified", TWIN), ("reopened", REOPENED), ("sixty-lists", sixty_lists())):
             with answering_desk(answers) as (port, _):
                 press(port, folder=name)
-            for file in ("con-c1", "index"):
+            for file in ("con-c1", "index", "count", *(["details-c1-1", "details-c1-4"] if name == "sixty-lists" else [])):
                 it.open((Path.cwd() / name / f"{file}.html").as_uri())
                 shows_well(it, f"{name}-{file}", whole=name != "sixty-lists")
+                drawn_well(it, f"{name}-{file}")
+                printed_well(it, f"{name}-{file}")
+        drawn = '<svg xmlns="http://www.w3.org/2000/svg" viewBox="0 0 9 6"><path id="norte" d="M0 0H4V4Z"/><path id="oeste" d="M4 0h3v3z"/></svg>'
+        with four() as (_, port):
+            press(port, "--setup", "setup.toml", *site_folder(map=drawn, before=FOUR_BEFORE, site='language = "es"\n'), folder="four")
+        for file in ("index", "count", "con-norte", "con-oeste", "stations-norte-1"):
+            it.open((Path.cwd() / f"four/{file}.html").as_uri())
+            shows_well(it, f"four-{file}")
+            drawn_well(it, f"four-{file}")
+            printed_well(it, f"four-{file}")
         it.open((Path.cwd() / "certified/con-c1.html").as_uri())
         # Each dot and each bar has the colour of its list, and a bar's length is its share.
-        same(it.run("return new Set([...document.querySelectorAll('circle')].map((c) => getComputedStyle(c).fill)).size"), 2)
+        same(it.run("return new Set([...document.querySelectorAll('.seats path')].map((c) => getComputedStyle(c).stroke)).size"), 2)
         same(it.run("const [a, b] = document.querySelectorAll('.length'); return [a, b].map((e) => e.getBoundingClientRect().width > 100)"), [True] * 2)
+
+
+def invented_country():
+    """The country of `country` with two stations each, by the model: three constituencies are open, and one is withdrawn. Its pages
+    are in the folder `country`."""
+    setup, returns = country(2)
+    Path("country.toml").write_text(setup, encoding="utf-8")
+    squares = "".join(f'<rect id="c{n + 1}" x="{n % 8}" y="{n // 8}" width="1" height="1"/>' for n in range(52))
+    with modelled(setup) as (office, port):
+        for con, of in returns.items():
+            rows = "".join(f"{name},p1,{','.join(map(str, row))}\n" for name, row in of.items())
+            done(office, f"/con/{con}/import", f"station,slip,blank,spoiled,A,B,C,D,E\n{rows}")
+            for name in list(of)[:1 if con in ("c3", "c8", "c15") else 2]:
+                done(office, f"/station/{name}/close", {"rev": 1})
+            if con not in ("c3", "c8", "c15"):
+                done(office, f"/con/{con}/certify", {"edition": 1})
+        done(office, "/con/c5/reopen", {"edition": 2, "note": "a recount"})
+        press(port, "--setup", "country.toml", folder="country", *site_folder(
+            map=f'<svg xmlns="http://www.w3.org/2000/svg" viewBox="0 0 8 7">{squares}</svg>', site='title = "Election of the council"\ndate = 2026-11-29\n'))
+
+
+def test_the_weight_of_a_country():
+    """With 52 constituencies, 364 seats and a map each page is below 60 kB."""
+    invented_country()
+    pages = [name for name in os.listdir("country") if name.endswith(".html")]
+    same(len(pages), 2 + 52 + 52)
+    for name in pages:
+        page_of(name, "country")
+    text = shown_text(read("index.html", "country"))
+    assert "Certified: 336 of 364 seats, in 48 of 52 constituencies. Open: 28 seats." in text
+    same(len(re.findall('<rect [^>]*class="con ', read("index.html", "country"))), 52)
+
+
+def test_the_weight_of_a_constituency():
+    """With 60 lists, 100 seats and names as long as they may be each page is below 60 kB, and what has no room on one is on the next:
+    every number and every text, once, and links from each to all. They go where there is room on one."""
+    answers = sixty_lists()
+    with answering_desk(answers) as (port, _):
+        press(port)
+    names = ["con-c1.html", *(f"details-c1-{n}.html" for n in range(1, 6))]
+    same(sorted(name for name in os.listdir("pages") if re.match(r"(con|details)-.*\.html$", name)), names)
+    found, texts = {}, {}
+    for here, name in enumerate(names):
+        tables, text = page_of(name).tables, read(name)
+        same((name, set(tables) & set(found)), (name, set()))
+        found |= tables
+        same((name, re.findall(r'href="(details-.*?)"', text)), (name, [other for other in names[1:] if other != name]))
+        same((name, '<a href="con-c1.html">Twin Town</a>' in text, "Certified, edition 3</p>" in text), (name, here > 0, True))
+        for report, part in re.findall(r'<pre [^>]*aria-labelledby="text-(\w+)[-\d]*">(.*?)</pre>', text, re.S):
+            texts[report] = texts.get(report, "") + part
+    reports = ("tally", "past", "seats", "holders", "quotients", "awards", "short")
+    same([name for name in reports if texts.pop(name, "") != answers[f"/con/c1/{name}"]], [])
+    same(texts, {})
+    rows = {caption: len(cells) - 1 for caption, cells in found.items()}
+    quotients = [f"Quotients of each list, seats {first} to {min(first + 7, 42)}" for first in range(1, 43, 8)]
+    same(rows, {"Seats of each list": 61, "Votes of each list": 60, "Returns of the stations": 1, "Holders of the seats": 100, "Awards in order": 100,
+                **dict.fromkeys(quotients, 60), "Votes that a list lacked for one seat more, if the others had stayed as they are": 60})
+    same([cell for caption in quotients for cell in found[caption][2][1:]], ["1,000 ★ won", *(str(1000 // k) for k in range(2, 43))])
+    same(read("con-c1.html").count('<div class="bar '), 12)
+    assert "The other 48 lists are in the table." in read("con-c1.html")
+    # The pages of its stations, of which one has room for some forty.
+    con, codes = json.loads(read("con-c1.json")), [f"LIST-{n:02}-{'X' * 8}" for n in range(60)]
+    entry = {"stations": [{"code": f"station-{n:08}", "electors": 900_000} for n in range(200)]}
+    returns = "".join(f"station-{n:08},p{n},0,0{',123456' * 60}\n" for n in range(200))
+    pages = list(press_pages.stations_pages(press_site.Site(), "c1", con, entry, f"station,slip,blank,spoiled,{','.join(codes)}\n{returns}"))
+    same((len(pages) > 3, sum(text.count("123,456") for text in pages)), (True, 200 * 60))
+    same([len(text.encode()) for text in pages if len(text.encode()) >= PAGE_BYTES], [])
+    with answering_desk(TWIN) as (port, _):
+        press(port)
+    same([name for name in os.listdir("pages") if name.startswith("details-")], [])
+    assert "details-" not in read("con-c1.html")
+
+
+@contextlib.contextmanager
+def web_server(folder):
+    """A web server of the files of a folder, without any headers of its own; its address."""
+    class Quiet(http.server.SimpleHTTPRequestHandler):
+        def log_message(self, *_):
+            pass
+
+    with http.server.ThreadingHTTPServer(("127.0.0.1", 0), functools.partial(Quiet, directory=folder)) as server:
+        threading.Thread(target=server.serve_forever, daemon=True).start()
+        yield f"http://127.0.0.1:{server.server_port}"
+        server.shutdown()
+
+
+def erase(it, typed):
+    """The backspace key, for each letter that was typed into the search."""
+    it.of_session("POST", f"/element/{it.find('.search input')}/value", {"text": "\ue003" * len(typed)})
+
+
+@needs("chromium")
+def test_the_search_of_the_press_pages():
+    """It leaves the rows with what is typed, whatever the accents and the case, and takes those of further pages with them. Without
+    scripts every row is there, and no field."""
+    heads = "return [...document.querySelectorAll('.searched tbody th')].map((e) => e.innerText.split('\\n')[0])"
+    with four() as (_, port):
+        press(port, "--setup", "setup.toml", folder="four")
+    many_stations()
+    with browser.browser(Path.cwd()) as it, web_server(Path.cwd()) as site:
+        it.open(f"{site}/four/index.html")
+        same(it.run(heads), ["Este", "Norte", "Óeste <3>", "Sur"])
+        for typed, found in (("OEST", ["Óeste <3>"]), ("beta", []), ("withdrawn", ["Sur"])):
+            it.type(".search input", typed)
+            same((it.run(heads), it.text(".search output")), (found, str(len(found))))
+        erase(it, "withdrawn")
+        same((it.run(heads), it.text(".search output")), (["Este", "Norte", "Óeste <3>", "Sur"], ""))
+        it.open(f"{site}/many/stations-c1-2.html")
+        own = it.run(heads)
+        same((own[0] > "s1", "s7" in own), (True, False))
+        it.type(".search input", "s99")
+        it.wait("return document.querySelector('.search output').textContent === '11'")
+        same(it.run(heads), ["s99", *(f"s{n}" for n in range(990, 1000))])
+        erase(it, "s99")
+        it.wait("return document.querySelector('.search output').textContent === ''")
+        same(it.run(heads), own)
+        it.command("Emulation.setScriptExecutionDisabled", value=True)
+        it.open(f"{site}/four/index.html")
+        same((it.run(heads), it.visible(".search")), (["Este", "Norte", "Óeste <3>", "Sur"], False))
 
 
 BOTH = EXAMPLES + "\n" + with_stations(1).replace('"d0"', '"d1"')
@@ -1705,7 +2474,8 @@ def clerks_part(it, desk):
     same(it.visible("#find"), False)
     choose_con(it, "c1")
     it.click("#find")
-    it.wait("return document.getElementById('open-stations').textContent === 'Without a return, 1: s1'")
+    said(it, "Stations that are not closed: 1. They are listed below.")
+    same(it.text("#open-stations"), "Without a return: 1\ns1")
     # A station of another constituency is shown beside the lists of its own.
     for code, con, first in ((STATIONS[0], "montehondo", "ROBLE Lista del Roble"), ("s1", "c1", "A Alpha")):
         choose_station(it, code)
@@ -1741,6 +2511,9 @@ def boards_part(it, desk):
     confirmed(it, "#certify button", "Certify Twin Town, edition 1?", "A lot is needed among A, B, for one seat.")
     draw(it, "B", "B")
     said(it, "The lot has to name each of these lists once and no other: A, B.")
+    # What was chosen is there, and the first place has the focus.
+    same(it.run("const all = [...document.querySelectorAll('#order select')]; return [...all.map((e) => e.value), all.indexOf(document.activeElement)]"),
+         ["B", "B", 0])
     draw(it, "B", "A")
     said(it, "Done: edition 2.")
     same(it.visible("#draw"), False)
@@ -1819,6 +2592,8 @@ def test_what_the_clerks_page_is():
     lost = [word for word in words if not re.search(rf"^  {word}: \(a?\)? ?=> [\"`]|^  {word}: \(a?\) => ", text, re.M)]
     same(lost, [])
     assert re.search("^  unavailable: .*it may have been done", text, re.M)
+    # So do those of requests whose answer is lost.
+    same(re.findall(r'^  (\d+): "[^"]*\bIt may have been done\b', text, re.M), ["0", "502", "504"])
     script = re.search("<script>(.*?)</script>", text, re.S)[1]
     wanted = base64.b64encode(hashlib.sha256(script.encode()).digest()).decode()
     assert f"script-src 'sha256-{wanted}'" in text, f"the policy of clerk.html has to name its script: 'sha256-{wanted}'"
@@ -1828,7 +2603,7 @@ def test_what_the_clerks_page_is():
 # ---- running the tests
 
 
-def main(names):
+def main(names, prefix="office-deploy-"):
     """Runs the tests among these names, or those of them that the arguments give."""
     global PROGRAM, PICTURES
     take_signals()
@@ -1838,7 +2613,7 @@ def main(names):
         where = Path(words[1]).resolve()
         PROGRAM, PICTURES = (where, PICTURES) if words[0] == "--program" else (PROGRAM, where)
         words = words[2:]
-    return run_tests(names, words, PROGRAM, prefix="office-deploy-", ignore_cleanup_errors=True)
+    return run_tests(names, words, PROGRAM, prefix=prefix, ignore_cleanup_errors=True)
 
 
 if __name__ == "__main__":

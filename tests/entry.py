@@ -14,10 +14,14 @@ import subprocess
 import sys
 from pathlib import Path
 
+import browser
 import deploy
-from deploy import (BOTH, DEPLOY, Proxy, a_command, chained, choose_con, choose_station, clerks_browser, confirmed, enter, needs,
-                    office_and_proxy, plain, press, recording_desk, said, same, serving, shows_well, type_slip)
-from office import LISTS, PROFILE, constituency, party_list, station
+from deploy import (BOTH, DEPLOY, NAME, Proxy, a_command, chained, choose_con, choose_station, clerks_browser, confirmed, enter, needs,
+                    office_and_proxy, plain, press, proxy, recording_desk, said, same, serving, shows_well, type_slip)
+from office import LISTS, PROFILE, constituency, party_list, station, with_stations
+
+sys.path.append(str(DEPLOY))
+import recorder
 
 # Two constituencies that take two entries, and one that takes one.
 TWICE = (PROFILE + constituency("c1", "Twin Town", 3, "d0") + 'entry = "double"\n' + LISTS + "".join(station(f"s{n}", 300) for n in range(1, 7))
@@ -113,6 +117,22 @@ def focused(it):
     return it.run("const e = document.activeElement; return [e.name || e.id, (e.labels && e.labels[0] || e).textContent.trim()]")
 
 
+# An id that is there twice; and what is a tab stop, though it does not act.
+TWICE_OR_IDLE = """
+const ids = [...document.querySelectorAll('[id]')].map((e) => e.id), acts = ['INPUT', 'SELECT', 'BUTTON', 'SUMMARY', 'A'];
+return [...ids.filter((id, n) => ids.indexOf(id) < n), ...[...document.querySelectorAll('*')]
+  .filter((e) => e.tabIndex >= 0 && e.getClientRects().length && !acts.includes(e.tagName)).map((e) => e.outerHTML.slice(0, 80))];
+"""
+
+
+def unspoken(it):
+    """What is wrong for a screen reader: what acts, or is a part of the page, and has no name, two forms of one name, an id that
+    is there twice, and a tab stop that does not act."""
+    named = it.named("button", "checkbox", "combobox", "DisclosureTriangle", "form", "link", "region", "textbox")
+    names = [name for role, name in named if role == "form"]
+    return [one for one in named if not one[1]] + [name for name in set(names) if names.count(name) > 1] + it.run(TWICE_OR_IDLE)
+
+
 def receipt(it):
     """What the receipt says, by the heads of its rows."""
     return dict(it.run("return [...document.querySelectorAll('#receipt tr')].map((row) => [...row.children].map((e) => e.textContent))"))
@@ -127,11 +147,12 @@ def test_a_second_entry():
             same((it.text("#person"), forms(it), it.visible("#of-con")), ("sara, second entry", [], False))
             choose_station(it, "s1")
             same((forms(it), it.text("#return"), focused(it)[0]), (["confirm", "query"], "Station s1: 300 electors.", "slip"))
+            same(unspoken(it), [])
             for wrong in ({"votes": [120, 17]}, {"slip": "p2"}, {"blank": 1, "spoiled": 2}):
                 enter(it, "confirm", SLIP | wrong)
                 said(it, DIFFERS)
-                # What was typed is still there, and the office has what it had.
-                same((it.text("#alert"), focused(it)[0]), (DIFFERS, "slip"))
+                # What was typed is there, the office has what it had, and there is no receipt.
+                same((it.text("#alert"), focused(it)[0], it.visible("#receipt")), (DIFFERS, "slip", False))
                 same(it.run("return document.querySelector('#confirm input[name=slip]').value"), (SLIP | wrong)["slip"])
                 same(shown(desk, "s1"), {"station": "s1", **SLIP, "rev": 1, "status": "received", "note": ""})
             enter(it, "confirm", SLIP)
@@ -168,7 +189,6 @@ def test_a_second_entry():
 def choose_station_again(it, code, words="This is what the office has now."):
     """Goes to another station, where something is typed that was not sent: it may go."""
     it.run("const e = document.getElementById('station'); e.value = arguments[0]; setTimeout(() => e.dispatchEvent(new Event('change')))", code)
-    deploy.until(it.asked, 10)
     it.accept()
     said(it, words)
 
@@ -219,9 +239,23 @@ def test_a_second_entry_of_another_constituency():
         same([shown(desk, code)["status"] for code in ("t1", "u1")], ["closed"] * 2)
 
 
+# The groups of the stations that are not closed: head, codes of the links, whether it is unfolded.
+OPEN = """return [...document.querySelectorAll('#open-stations details')]
+    .map((e) => [e.firstChild.textContent, [...e.querySelectorAll('a')].map((a) => a.textContent), e.open])"""
+ENTER, TAB = "\ue007", "\ue004"
+
+
+def press_keys(it, *keys):
+    """Presses keys, each where the focus is by then."""
+    for key in keys:
+        found = it.of_session("GET", "/element/active")[browser.KEY]
+        it.of_session("POST", f"/element/{found}/value", {"text": key})
+
+
 @needs("chromium", "nginx", "openssl")
-def test_the_stations_that_wait_for_their_second_entry():
-    """Both clerks see which they are, as buttons; the first is offered no closing, and no form that shows figures is there twice."""
+def test_the_stations_that_are_not_closed():
+    """Both clerks see which they are, as links, after one request and by keys alone; the first is offered no closing, and no form
+    that shows figures is there twice."""
     with office_with_a_second(TWICE) as (desk, front):
         for code in ("s1", "s2", "s3", "s4"):
             post(desk, f"/station/{code}/lodge", SLIP)
@@ -230,27 +264,100 @@ def test_the_stations_that_wait_for_their_second_entry():
         post(desk, "/station/s4/correct", {"rev": 2, **SLIP})
         post(desk, "/station/s1/confirm", {"rev": 1, **SLIP})
         same(post(desk, "/station/s2/close", {"rev": 1}, 409), {"refused": 24, "word": "not_confirmed"})
-        listed = "return [...document.querySelectorAll('#open-stations p')].map((e) => e.textContent)"
-        wanted = ["Without a return, 2: s5s6", "Waiting for their second entry, 2: s2s4", "Queried, 1: s3"]
+        wanted = [["Without a return: 2", ["s5", "s6"], True], ["Received, waiting for their second entry: 1", ["s2"], True],
+                  ["Queried, to be corrected: 1", ["s3"], True], ["Corrected, waiting for their second entry: 1", ["s4"], True]]
         for name in ("clara", "sara"):
             with clerks_browser(front, name) as it:
                 same(it.text("#progress-line"), "1 of 6 stations closed; without a return 2, received 1, queried 1, corrected 1. "
                      "Waiting for their second entry: 2.")
-                it.click("#find")
-                it.wait("return document.querySelector('#open-stations p')")
-                same(it.run(listed), wanted)
-                it.run("[...document.querySelectorAll('#open-stations button')].find((e) => e.textContent === 's4').click()")
+                it.run("performance.clearResourceTimings(); document.getElementById('find').focus()")
+                press_keys(it, ENTER)
+                said(it, "Stations that are not closed: 5. They are listed below.")
+                same((it.run(OPEN), focused(it)[0], unspoken(it)), (wanted, "find", []))
+                asked_for = it.run("return performance.getEntriesByType('resource').map((one) => new URL(one.name).pathname)")
+                same(asked_for, ["/now/con/c1/stations"])
+                # Over the heads of four groups and the links of three.
+                press_keys(it, *[TAB] * 9)
+                same(it.run("return document.activeElement.textContent"), "s4")
+                press_keys(it, ENTER)
                 said(it, "This is what the office has now.")
+                same(it.run("return document.getElementById('station').value"), "s4")
                 if name == "clara":
                     same((forms(it), it.visible("#compare")), (["query", "import"], False))
                     assert "It waits for its second entry: somebody else types the slip again" in it.text("#return")
                 else:
                     # The list said which revision it has.
-                    same(it.text("#confirm-rev"), "It is compared with revision 3 of the return.")
+                    same((it.text("#confirm-rev"), focused(it)[0]), ("It is compared with revision 3 of the return.", "slip"))
                     enter(it, "confirm", SLIP)
                     said(it, "closed, revision 4.")
-                    same(it.run(listed), [wanted[0], "Waiting for their second entry, 1: s2", wanted[2]])
+                    same(it.run(OPEN), wanted[:3])
                     shows_well(it, "second")
+                    # They are not those of another constituency.
+                    choose_con(it, "c2")
+                    same(it.run(OPEN), [])
+
+
+@needs("chromium", "nginx", "openssl")
+def test_many_stations_that_are_not_closed():
+    """A group of many is folded up until somebody opens it, and is then as it was left; a link that is opened in another window is
+    the page with that station; where the office does not answer nothing is listed."""
+    with office_and_proxy(with_stations(52)) as (desk, front):
+        press(desk.port, "--setup", "setup.toml", folder=str(front.folder / "pages"))
+        with clerks_browser(front, "clara") as it:
+            many = [f"s{n}" for n in range(1, 53)]
+            it.click("#find")
+            said(it, "Stations that are not closed: 52. They are listed below.")
+            same(it.run(OPEN), [["Without a return: 52", many, False]])
+            press_keys(it, TAB, TAB)
+            same(focused(it)[0], "station")
+            it.click("#open-stations summary")
+            it.click("#open-stations a")
+            said(it, "This is what the office has now.")
+            enter(it, "lodge", SLIP)
+            said(it, "Lodged, revision 1.")
+            same(it.run(OPEN), [["Without a return: 51", many[1:], True], ["Received, to be closed: 1", ["s1"], True]])
+            it.click("#open-stations summary")
+            it.click("#find")
+            said(it, "Stations that are not closed: 52.")
+            same([one[2] for one in it.run(OPEN)], [False, True])
+            it.open(it.run("return document.querySelector('#open-stations details:last-child a').href"))
+            it.of_session("POST", "/refresh", {})
+            said(it, "This is what the office has now.")
+            same((it.run("return document.getElementById('station').value"), forms(it)), ("s1", ["close", "query", "import"]))
+            desk.end()
+            front.end_recorder()
+            it.click("#find")
+            said(it, "The office does not answer now.")
+            same((it.run(OPEN), it.text("#alert").startswith("The office does not answer now.")), ([], True))
+
+
+@needs("nginx", "openssl")
+def test_which_stations_wait_and_not_what_their_slips_say():
+    """Past the cache clerks and the board are shown the table of stations as the desk has it, and whoever enters slips a second time
+    the same up to the revisions, whatever a client says of its role."""
+    with office_with_a_second(TWICE.replace("Twin Town", "12 towns 3 closed 4 p1")) as (desk, front):
+        front.name("stations", "s1")
+        post(desk, "/station/s1/lodge", SLIP)
+        post(desk, "/station/s2/lodge", SLIP | {"slip": "2", "votes": [3, 4]})
+        post(desk, "/station/s2/query", {"rev": 1, "note": "smudged"})
+        rest = "".join(f"s{n}                   300 -\n" for n in range(3, 7))
+        head = "STATIONS c1 12 towns 3 closed 4 p1\nstations 6 missing 4 closed 0\n"
+        whole = (head + "s1                   300 received     1 p1                   191       2       1\n"
+                 "s2                   300 queried      2 2                      7       2       1\n" + rest)
+        bare = f"{head}s1                   300 received     1\ns2                   300 queried      2\n{rest}"
+        target = "/now/con/c1/stations"
+        for name, text in (("clara", whole), ("berta", whole), ("sara", bare), ("s1", bare)):
+            for headers in ({}, {"Office-Role": "clerk", "Office-Allowed": "1"}):
+                found = front.ask("GET", target, name=name, headers=headers)
+                same((name, found.status, found.body.decode(), found.head["Content-Type"]), (name, 200, text, "text/plain; charset=utf-8"))
+        ask = lambda method, target, name, **more: front.ask(method, target, name=name, **more).status
+        same([ask("GET", target, None), ask("GET", target, "clara", password="x"), ask("POST", target, "clara"), ask("HEAD", target, "clara"),
+              ask("GET", f"{target}?x", "clara"), ask("GET", target, "clara", headers={"Sec-Fetch-Site": "cross-site"}),
+              ask("GET", "/stations/c1", "clara")], [401, 401, 405, 405, 404, 403, 404])
+        for name in ("clara", "sara"):
+            found = front.ask("GET", "/now/con/c9/stations", name=name)
+            same((found.status, json.loads(found.body)), (404, {"refused": 2, "word": "no_constituency"}))
+        same(front.lines(), [])
 
 
 # ---- what is typed
@@ -283,6 +390,7 @@ def test_the_total_of_the_slip():
                 same(plain(desk.port, "GET", "/station/s1").status, 404)
             enter(it, "lodge", SLIP)
             said(it, "Lodged, revision 1.")
+            same(it.run("return document.querySelector('#lodge input[name=total]').ariaInvalid"), "false")
             # A receipt of a first entry has no figures: it may go with the slip.
             same(set(receipt(it)), {"Station", "Constituency", "Done", "Slip", "By", "At", "The office’s answer"})
             same(shown(desk, "s1")["votes"], [120, 71])
@@ -299,6 +407,7 @@ UNUSUAL = (
                             ["C", f"{MORE} Exchanged with the figure of B it would fit."]]),
     ([300, 200, 60], 0, 0, [["C", MORE]]),
     ([300, 200, 5], 0, 0, [["C", LESS]]),
+    ([300, 220, 0], 0, 0, [["C", LESS]]),
     ([30, 200, 15], 0, 0, [["A", LESS], ["B", MORE]]),
     ([300, 200, 20], 28, 0, [["Blank", "More than 5 per cent of all votes are blank."]]),
     ([300, 200, 20], 0, 28, [["Spoiled", "More than 5 per cent of all votes are spoiled."]]),
@@ -333,6 +442,7 @@ def test_what_is_unusual_in_a_slip():
                 same(it.run("return document.getElementById(document.activeElement.getAttribute('aria-describedby')).textContent"), wanted[0][1])
                 same(plain(desk.port, "GET", "/station/s2").status, 404)
             shows_well(it, "unusual")
+            same(unspoken(it), [])
             # One tick of two is not enough; a figure that is typed again is looked at again.
             type_slip(it, "lodge", {"slip": "p2", "votes": [300, 20, 200], "blank": 0, "spoiled": 0})
             it.click("#lodge button")
@@ -346,7 +456,7 @@ def test_what_is_unusual_in_a_slip():
             it.run("document.querySelectorAll('#lodge .warning input').forEach((e) => e.checked || e.click())")
             it.click("#lodge button")
             said(it, "Lodged, revision 1.")
-            same(shown(desk, "s2")["votes"], [300, 20, 200])
+            same((shown(desk, "s2")["votes"], it.run(WARNED)), ([300, 20, 200], []))
             for n, (votes, blank, spoiled) in enumerate(USUAL, 3):
                 choose_station(it, f"s{n}")
                 type_slip(it, "lodge", {"slip": f"p{n}", "votes": votes, "blank": blank, "spoiled": spoiled})
@@ -372,15 +482,20 @@ def test_what_was_typed_and_not_sent():
             for chosen, code in (("station", "04-001-B"), ("con", "montehondo")):
                 it.run("const e = document.getElementById(arguments[0]); e.value = arguments[1]; setTimeout(() => e.dispatchEvent(new Event('change')))",
                        chosen, code)
-                deploy.until(it.asked, 10)
                 same(it.dismiss(), "What you typed for s1 was not sent. Leave it?")
                 same(it.run("return [document.getElementById('station').value, document.getElementById('con').value]"), ["s1", "c1"])
                 same(it.run(slip), "p1")
             choose_station_again(it, "04-001-B")
             same((it.run(slip), it.run(leaves), it.run("return document.getElementById('con').value")), ("", True, "montehondo"))
-            # A note alone is asked for as well.
+            # What is not shown any more is asked for as well, and a note alone.
             post(desk, "/station/s1/lodge", SLIP)
             choose_station(it, "s1")
+            it.click("#compare")
+            it.type("#lodge input[name=slip]", "p1")
+            it.click("#compare")
+            same((it.visible("#lodge"), it.run(leaves)), (False, False))
+            it.run("document.getElementById('lodge').reset()")
+            same(it.run(leaves), True)
             it.type("#query input[name=note]", "smudged")
             same(it.run(leaves), False)
             choose_station_again(it, "04-001-B")
@@ -397,7 +512,7 @@ def acts(it, button, question, words, wanted):
     it.click(button)
     same((it.dismiss(), it.text("#said")), (question, before))
     confirmed(it, button, question, words)
-    same((it.asked(), it.visible("#receipt tr")), (False, True))
+    same((it.asked(), it.visible("#receipt tr"), unspoken(it)), (False, True, []))
     found = receipt(it)
     same({name: found.get(name) for name in wanted}, wanted)
     assert re.match(r"\w{3} \w{3} \d\d \d{4} \d\d:\d\d:\d\d ", found["At"]), found
@@ -448,15 +563,200 @@ def test_the_clerks_page_for_a_screen_reader():
             same(it.named("form"), [("form", "Correct it"), ("form", "Import a file of returns")])
             same([name for _, name in it.named("textbox", "combobox")], ["Constituency", "Station", "Slip", "A Alpha", "B Beta", "Blank", "Spoiled",
                  "Total of all these on the slip", "Fields are separated by"])
-            assert all(name for _, name in it.named("button", "checkbox", "region")), it.named("button", "checkbox", "region")
+            same(unspoken(it), [])
             same(it.run("return [document.getElementById('status').role, document.getElementById('alert').role]"), ["status", "alert"])
             enter(it, "correct", SLIP | {"votes": [301, 0], "total": 304})
             said(it, "are more than the station has electors.")
             same((it.text("#status"), focused(it)[0]), ("", "total"))
-            stops = it.run("return [...document.querySelectorAll('*')].filter((e) => e.tabIndex >= 0 && e.getClientRects().length)"
-                           ".map((e) => e.tagName)")
-            same(set(stops), {"INPUT", "SELECT", "BUTTON"})
+            for button, words in (("again", "This is what the office has now."), ("who", "The history of station s1 is shown.")):
+                it.click(f"#{button}")
+                said(it, words)
+                same(it.run("return document.activeElement.id"), button)
+            same(unspoken(it), [])
             same(it.run("return [document.scripts.length, document.scripts[0].src]"), [1, ""])
+
+
+# ---- who did what to a station
+
+
+def history(front, code, name):
+    return json.loads(front.ask("GET", f"/now/station/{code}/history", name=name).body)
+
+
+@needs("nginx", "openssl")
+def test_who_did_what_to_a_station():
+    """From the record: the staff see who and when, what was answered and typed, and a second nothing of what was typed or
+    answered; stations and strangers see nothing. After a start of the recorder it is the same."""
+    with office_with_a_second(TWICE) as (desk, front):
+        front.name("stations", "s1")
+        wrong, rows = SLIP | {"votes": [120, 17]}, "station,slip,blank,spoiled,A,B\r\ns2,p2,0,0,10,20\r\ns1,p1,2,1,120,71\r\n"
+        noted = {"rev": 1, "note": "the slip says 71 for B"}
+        given = (("clara", "/station/s1/lodge", wrong), ("sara", "/station/s1/confirm", {"rev": 1, **SLIP}), ("sara", "/station/s1/query", noted),
+                 ("berta", "/station/s1/close", {"rev": 2}), ("bruno", "/station/s1/correct", {"rev": 2, **SLIP}),
+                 ("sara", "/station/s1/confirm", {"rev": 3, **SLIP}), ("clara", "/con/c1/import", rows), ("clara", "/con/c1/import", rows),
+                 ("s1", "/station/s1/lodge", SLIP), ("clara", "/station/s3/lodge", SLIP))
+        statuses = [front.ask("POST", target, body, name).status for name, target, body in given]
+        same(statuses, [200, 409, 200, 403, 200, 200, 200, 200, 200, 200])
+        record = front.record(10)
+        for again in (False, True):
+            if again:
+                front.end_recorder()
+                front.start_recorder()
+            for name in ("clara", "berta"):
+                found = history(front, "s1", name)
+                same((found["station"], found["whole"]), ("s1", True))
+                # The second import lodged nothing.
+                wanted = [("clara", "clerk", "lodge", 200, json.dumps(wrong), '{"ok":"lodged","rev":1}'),
+                          ("sara", "second", "confirm", 409, json.dumps(given[1][2]), '{"refused":7,"rev":1,"word":"differs"}'),
+                          ("sara", "second", "query", 200, json.dumps(noted), '{"ok":"moved","rev":2}'),
+                          ("berta", "board", "close", 403, None, None),
+                          ("bruno", "clerk", "correct", 200, json.dumps(given[4][2]), '{"ok":"moved","rev":3}'),
+                          ("sara", "second", "confirm", 200, json.dumps(given[5][2]), '{"ok":"moved","rev":4}'),
+                          ("clara", "clerk", "import", 200, None,
+                           '{"bad":0,"differs":0,"first":null,"lodged":1,"ok":"import","refused":0,"same":1}'),
+                          ("s1", "station", "lodge", 200, json.dumps(SLIP), '{"ok":"same","rev":4}')]
+                same([(*(one[key] for key in ("name", "role", "act", "status")), one.get("body"), one.get("answer")) for one in found["commands"]],
+                     wanted)
+                same([(one["n"], one["time"]) for one in found["commands"]], [(one["n"], one["time"]) for one in record[:7] + record[8:9]])
+                same([(one["act"], one["n"]) for one in history(front, "s2", name)["commands"]], [("import", record[6]["n"])])
+                same(history(front, "s4", name), {"station": "s4", "whole": True, "commands": []})
+            seen = history(front, "s1", "sara")
+            bare = ("n", "time", "name", "role", "act", "status")
+            same(seen, {"station": "s1", "whole": True, "commands": [{key: one[key] for key in bare} for one in found["commands"]]})
+        ask = lambda method, target, name, **more: front.ask(method, target, name=name, **more).status
+        target = "/now/station/s1/history"
+        same([ask("GET", target, None), ask("GET", target, "clara", password="other"), ask("GET", target, "s1"), ask("GET", target, "nonesuch")],
+             [401, 401, 403, 401])
+        same([ask("POST", target, "clara"), ask("HEAD", target, "clara"), ask("GET", target + "?x", "clara"), ask("GET", "/station/s1/history", "clara"),
+              ask("GET", "/history/s1", "clara"), ask("GET", "/now/station/s%31/history", "clara"),
+              ask("GET", target, "clara", headers={"Sec-Fetch-Site": "cross-site"})], [405, 405, 404, 404, 404, 404, 403])
+        # A client says nothing of its role.
+        same(json.loads(front.ask("GET", target, name="sara", headers={"Office-Role": "clerk", "Office-Allowed": "1"}).body), seen)
+        same(front.ask("GET", target, name="s1", headers={"Office-Role": "clerk", "Office-Allowed": "1"}).status, 403)
+        # What is read is not recorded.
+        same(len(front.record()), 10)
+
+
+def test_a_history_reads_the_lines_of_its_station():
+    """And no others, however many there are: what they are turned into afterwards changes nothing. It has the last lines alone;
+    long lines, commands without an answer and lines of no recorder are no trouble."""
+    file = lambda body: a_command(body, "/con/c1/import/semicolon")
+    answered = lambda to, answer="": {"to": to, "status": 200, "answer": answer}
+    lodged, nothing = '{"lodged":1}', '{"lodged":0}'
+    lines = [b"5", b"[" * 20_000, b'{"to":1}', b"", b'{"path":"/station/s1/close"}',
+             a_command("{}", "/station/s1/lodge"), a_command("{}", "/station/s2/lodge"), answered(7), answered(6), a_command("{}", "/station/s1/close"),
+             file("s7;p\n" + "x" * 100_000), answered(11, lodged), file("s7;p\u00e9\n".encode("latin-1")), answered(13, lodged), file("s7;q"),
+             file("s7;r"), answered(16, nothing), a_command("{}", "/con/s1/certify"), answered(18),
+             a_command("{}", "/station/s8/lodge"), a_command('"' * 16_384, "/station/s8/lodge"), answered(21), answered(20)]
+    for n in range(24, 324, 2):
+        lines += [a_command("{}", "/station/s2/query"), answered(n)]
+    Path("commands.log").write_bytes(chained(*lines))
+    record = recorder.Record("commands.log", 0)
+
+    def found(code):
+        history = record.history(code)
+        return history["whole"], [(one["n"], one["act"], one["status"]) for one in history["commands"]]
+
+    wanted = {"s1": (True, [(6, "lodge", 200), (10, "close", None)]), "s7": (True, [(11, "import", 200), (13, "import", 200), (15, "import", None)]),
+              "s2": (False, [(n, "query", 200) for n in range(124, 324, 2)]), "s8": (True, [(20, "lodge", 200), (21, "lodge", 200)]), "s9": (True, [])}
+    same({code: found(code) for code in wanted}, wanted)
+    same([[key for key in one if key not in ("n", "time", "name", "role", "act", "status")] for one in record.history("s7")["commands"]],
+         [["answer"], ["answer"], []])
+    same([one["body"] for one in record.history("s8")["commands"]], ["{}", '"' * 16_384])
+    # The lines of s2 say that they are of s1, and those of files that they are of other stations.
+    text = Path("commands.log").read_bytes()
+    Path("commands.log").write_bytes(text.replace(b"/station/s2", b"/station/s1").replace(b"s7;", b"s9;"))
+    same({code: found(code) for code in wanted}, wanted)
+
+
+@needs("chromium", "nginx", "openssl")
+def test_the_history_in_the_page():
+    """A clerk is shown what was typed and answered, a second who and when alone; a station has no such button."""
+    with office_with_a_second(TWICE) as (desk, front):
+        front.name("stations", "s1")
+        for name, target, body in (("clara", "/station/s1/lodge", SLIP | {"votes": [120, 17]}), ("sara", "/station/s1/confirm", {"rev": 1, **SLIP}),
+                                   ("sara", "/station/s1/query", {"rev": 1, "note": "<b>71</b> for B"}), ("berta", "/station/s1/close", {"rev": 2})):
+            front.ask("POST", target, body, name)
+        times = [line["time"][:19].replace("T", " ") for line in front.record(4)]
+        shown_there = "return [...document.querySelectorAll('#history li')].map((e) => e.textContent)"
+        seen = {"clara": ["clara (clerk) entered it: slip p1, A 120, B 17, blank 2, spoiled 1. Done: revision 1.",
+                          "sara (second entry) entered it a second time: slip p1, A 120, B 71, blank 2, spoiled 1. It was refused: differs.",
+                          "sara (second entry) queried it: “<b>71</b> for B”. Done: revision 2.",
+                          "berta (board) closed it. It was refused: the name may not do it."],
+                "sara": ["clara (clerk) entered it. Done.", "sara (second entry) entered it a second time. It was refused.",
+                         "sara (second entry) queried it. Done.", "berta (board) closed it. It was refused: the name may not do it."]}
+        for name, lines in seen.items():
+            with clerks_browser(front, name) as it:
+                same(it.visible("#who"), False)
+                choose_station(it, "s1")
+                it.click("#who")
+                said(it, "The history of station s1 is shown.")
+                same(it.run(shown_there), [f"{time} {line}" for time, line in zip(times, lines)])
+                shows_well(it, f"history-{name}")
+                # It is of this station, and of no other.
+                choose_station(it, "s2")
+                same(it.run(shown_there), [])
+                it.click("#who")
+                said(it, "The history of station s2 is shown.")
+                same(it.text("#history"), "Nothing was done to station s2.")
+        with clerks_browser(front, "s1") as it:
+            same(it.visible("#who"), False)
+
+
+# ---- leaving
+
+
+@needs("nginx", "openssl")
+def test_the_name_of_nobody():
+    """With it `/logout` is 204, else 401 in the realm of the office; it opens nothing, and another site cannot log anybody out."""
+    with recording_desk() as (port, messages), proxy(port) as front:
+        for name, password, headers, status in ((None, None, {}, 401), ("clara", None, {}, 401), ("logout", "logout", {}, 204), ("logout", "x", {}, 204),
+                                                ("logout", "logout", {"Sec-Fetch-Site": "cross-site"}, 403),
+                                                ("logout", "logout", {"Origin": "https://elsewhere.example"}, 403)):
+            found = front.ask("GET", "/logout", name=name, password=password, headers=headers)
+            same((name, headers, found.status, found.head["WWW-Authenticate"]),
+                 (name, headers, status, 'Basic realm="office"' if status == 401 else None))
+        for target in ("/clerk.html", "/now/progress", "/now/station/s1/history"):
+            same(front.ask("GET", target, name="logout", password="logout").status, 401)
+        same(front.ask("POST", "/station/s1/lodge", {}, "logout", password="logout").status, 401)
+        same(messages, [])
+
+
+@needs("chromium", "nginx", "openssl")
+def test_logging_out():
+    """Chromium, which was given a name and a password once, sends them until the button is pressed, and then nobody's name."""
+    with office_and_proxy(BOTH) as (desk, front):
+        press(desk.port, "--setup", "setup.toml", folder=str(front.folder / "pages"))
+        with browser.browser(Path.cwd(), f"--host-resolver-rules=MAP {NAME} 127.0.0.1") as it:
+            site = f"https://{NAME}:{front.port}"
+            status = "const done = arguments[arguments.length - 1]; fetch('/now/progress').then((a) => done(a.status), String)"
+            it.open(f"https://clara:{front.passwords['clara']}@{NAME}:{front.port}/clerk.html")
+            it.open(f"{site}/clerk.html")
+            said(it, "This is what the office has now.")
+            same(it.text("#person"), "clara, clerk")
+            choose_station(it, "s1")
+            type_slip(it, "lodge", SLIP)
+            it.click("#logout")
+            same(it.dismiss(), "What you typed for s1 was not sent. Leave it?")
+            same((it.text("#person"), it.run_later(status)), ("clara, clerk", 200))
+            # Where the proxy does not take the name of nobody, the page says that the browser
+            # keeps the other.
+            it.run("window.open_it = XMLHttpRequest.prototype.open; XMLHttpRequest.prototype.open = function (way, target, ...more) {"
+                   "window.open_it.call(this, way, '/nonesuch', ...more); };")
+            it.click("#logout")
+            it.accept()
+            said(it, "This browser keeps your name and password: close all its windows.")
+            it.run("XMLHttpRequest.prototype.open = window.open_it")
+            type_slip(it, "lodge", SLIP)
+            it.click("#logout")
+            it.accept()
+            it.wait("return document.querySelector('h1').textContent === 'You are logged out'")
+            same(it.run("return [...document.body.children].map((e) => e.tagName)"), ["H1", "P", "P"])
+            # What it asks now bears nobody's name, or none, and is refused. (Chromium then asks for one.)
+            it.run("fetch('/now/progress')")
+            asked = lambda: [line["name"] for line in front.refused() if line["request"] == "GET /now/progress"]
+            deploy.until(lambda: "logout" in asked(), 60)
+            same(set(asked()) - {"", "logout"}, set())
 
 
 # ---- who entered what, from the record
@@ -562,8 +862,14 @@ def test_a_spoiled_record_of_entries():
     for one in spoiled:
         status, said_of = entries([one] + twice)
         same((status, said_of[1:]), (1, both))
-        text = one.decode(errors="backslashreplace").replace("\\xe9", "\\udce9")[:200]
+        text = one.decode(errors="backslashreplace").replace("\\xe9", "\\udce9").replace("\0", "\\x00")[:200]
         same(said_of[0], f"line 1 is no whole line of a record: {text}")
+    # What a terminal obeys is shown and not obeyed, in a line, a name or a time.
+    odd = "\x1b[1A\x1b[2K\x9b\u202e\r"
+    shown = "\\x1b[1A\\x1b[2K\\x9b\\u202e\\r"
+    same(entries([odd.encode()] + twice)[1][0], f"line 1 is no whole line of a record: {shown}")
+    named = [(command | {"name": odd, "time": odd}, statuses) for command, statuses in twice]
+    same(entries(named)[1][0], f"s1: both entries are by {shown} ({shown}, {shown})")
     # What another office answered as done.
     for path, what in (("/station/zz/lodge", "lodge zz"), ("/con/zz/certify", "certify zz"), ("/con/zz/import", "import zz"),
                        ("/con/c1/certify", "certify c1")):

@@ -402,15 +402,16 @@ def a_current_program_starts_at_once(copy):
         return 1000 * (time.perf_counter() - begun)
 
     # The shortest of many, since other work on the machine only adds to a time: of more, where it
-    # does much of that.
+    # does much of that. (People still take a tenth of a second for at once. It is some 25 ms on a
+    # machine that is not slow.)
     with_launcher, alone = [], []
     for rounds in range(400):
         with_launcher.append(took(copy.root / "office", "check"))
         alone.append(took(copy.program, "check"))
         more = min(with_launcher) - min(alone)
-        if rounds >= 40 and more <= 30:
+        if rounds >= 40 and more <= 100:
             break
-    assert more <= 30, f"{more:.1f} ms more than the program"
+    assert more <= 100, f"{more:.1f} ms more than the program"
     return f"{more:.1f} ms more than the program"
 
 

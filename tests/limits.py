@@ -19,8 +19,9 @@ from pathlib import Path
 
 import model
 import program
+from office import PROFILE, constituency, party_list, station
 from program import (
-    NINE_REPORTS, Ran, answered_as, before_the_library, counted_and_certified, database, get, imports, office, post, returns_of_sixty_lists,
+    CON_REPORTS, LOOKS_AT_ALL, OFFICE_REPORTS, Ran, answered_as, before_the_library, counted_and_certified, database, get, imports, office, post, returns_of_sixty_lists,
     same, serving, shown_as, write,
 )
 
@@ -142,7 +143,7 @@ def lodged(con, returns):
 
 
 def reports_of(con):
-    return [get(f"/con/{con.code}/{report}") for report in NINE_REPORTS[:-1]]
+    return [get(f"/con/{con.code}/{report}") for report in CON_REPORTS]
 
 
 # What a command is sent to: with `anew`, a server is begun for each.
@@ -164,9 +165,9 @@ def test_an_office_of_every_limit_is_made():
     same(Path("office.db").read_bytes(), before)
     cons = [con_of(plain, n) for n in (COUNTRY, SIXTY, ALL - 1)]
     stations = [station for con in cons for station in (min(con.electors), max(con.electors))]
-    looks = [get("/progress"), *(get(f"/station/{station}") for station in stations)]
+    looks = [*LOOKS_AT_ALL, *(get(f"/station/{station}") for station in stations)]
     answered_as(plain, "office.db", looks + [it for con in cons for it in (get(f"/con/{con.code}"), *reports_of(con))])
-    shown_as(plain, "office.db", [cons[0].code], ("progress", "tally", "seats"))
+    shown_as(plain, "office.db", [cons[0].code], ("progress", "country", "tally", "seats", "stations"))
 
 
 def tied(con, votes):
@@ -252,7 +253,70 @@ def test_five_thousand_stations_and_sixty_lists():
     closed_by_hand(con, most)
     answers = answered_as(plain, "office.db", requests_of_the_country(con, last), COMMANDS)
     same([status for path, status, _ in answers if path.endswith(("/draw", "/certify"))], [409, 409, 409, 200, 200, 409, 200, 200])
-    shown_as(plain, "office.db", [con.code], ("progress", "seats", "awards", "holders", "past"))
+    shown_as(plain, "office.db", [con.code], ("progress", "seats", "awards", "holders", "past", "stations", "returns"))
+
+
+# Comes before the C library. What is tried here is not the disk, and each commit would wait for it.
+WITHOUT_A_DISK = """
+int fsync(int file) { return 0; }
+int fdatasync(int file) { return 0; }
+"""
+
+
+def without_a_disk(run, *words):
+    """Runs this where no commit waits for a disk."""
+    os.environ.update(LD_PRELOAD=before_the_library(WITHOUT_A_DISK)["LD_PRELOAD"])
+    try:
+        return run(*words)
+    finally:
+        del os.environ["LD_PRELOAD"]
+
+
+def of_its_own_lists(n):
+    """A constituency of sixty lists, of which one is in each constituency."""
+    lists = [("all", "All")] + [(f"L{n}-{l}", f"List {l} of {n}") for l in range(59)]
+    return constituency(f"c{n}", f"Town {n}", 500, "d0") + "".join(party_list(*it, "Ana") for it in lists) + station(f"s{n}", 1000000)
+
+
+def test_a_country_of_twelve_thousand_lists():
+    """The table of the country has a line for each code, however many there are."""
+    setup = PROFILE + "".join(map(of_its_own_lists, range(ALL)))
+    plain = model.Office(tomllib.loads(setup))
+    program.new(setup, constituencies=ALL)
+    requests = [get("/country")]
+    for n in (0, ALL // 2, ALL - 1):
+        requests.append(post(f"/station/s{n}/lodge", slip="p1", votes=[16000 - 100 * l - n for l in range(60)], blank=n, spoiled=1))
+        requests.append(post(f"/station/s{n}/close", rev=1))
+        requests += [post(f"/con/c{n}/certify", edition=1)] * (n > 0) + [get("/country")]
+    answers = answered_as(plain, "office.db", requests)
+    same(({status for _, status, _ in answers}, len(answers[-1][2].splitlines())), ({200}, 3 + 59 * ALL + 1 + 2))
+    shown_as(plain, "office.db", ["c0"], ("country",))
+
+
+def everybody_goes(con):
+    """The requests by which each candidate of the first list goes, one after the other, and what is shown between them."""
+    looks = [get(f"/con/{con.code}"), get(f"/con/{con.code}/holders")]
+    for place in range(1, len(con.candidates[0]) + 1):
+        yield post(f"/con/{con.code}/vacate", list=con.lists[0], place=place, note=NOTE)
+        if place in (1, 11, 101):
+            yield from looks
+    yield post(f"/con/{con.code}/vacate", list=con.lists[0], place=1, note=NOTE)
+    yield from looks
+
+
+def test_a_list_of_which_everybody_goes():
+    """A list of a thousand candidates, who hold 500 seats: each one goes, and at last nobody holds a seat."""
+    names = [f"Candidate {n}" for n in range(1000)]
+    setup = PROFILE + constituency("c1", "Twin Town", 500, "d0") + party_list("A", "Alpha", *names) + station("s1")
+    plain = model.Office(tomllib.loads(setup))
+    program.new(setup)
+    con = plain.cons["c1"]
+    answered_as(plain, "office.db", [post("/station/s1/lodge", slip="p1", votes=[300], blank=0, spoiled=0), post("/station/s1/close", rev=1),
+                                     post("/con/c1/certify", edition=1)])
+    answers = without_a_disk(answered_as, plain, "office.db", everybody_goes(con))
+    same(sum(status == 200 for path, status, _ in answers if path.endswith("/vacate")), 1000)
+    answered_as(plain, "office.db", [get("/con/c1"), get("/con/c1/holders")])
+    shown_as(plain, "office.db", ["c1"], ("holders",))
 
 
 def equal_votes(con, lists, spare):
@@ -292,14 +356,21 @@ def test_sixty_lists_and_five_hundred_seats_by_each_rule():
         verbs = [path.rsplit("/", 1)[1] for path, status, _ in answers if status == 200]
         same(((method, lot), verbs.count("certify"), verbs.count("draw") >= 2), ((method, lot), 5, True))
         answered_as(plain, "office.db", counted_and_certified(con, returns_of_sixty_lists(draw)))
-    shown_as(plain, "office.db", [con_of(plain, SIXTY + 2).code], NINE_REPORTS)
+    shown_as(plain, "office.db", [con_of(plain, SIXTY + 2).code], CON_REPORTS + OFFICE_REPORTS)
 
 
-# Comes before the C library. What is tried here is not the disk, and each commit would wait for it.
-WITHOUT_A_DISK = """
-int fsync(int file) { return 0; }
-int fdatasync(int file) { return 0; }
-"""
+def looks_at_no_certificate(db, con, edited):
+    """A constituency with 4,999 certificates on record is looked at as one that has none, and one of a setup of 8 MiB as one of a small
+    setup: what is not shown is not read."""
+    program.new(db="small.db")
+    looks = ("", "/tally")
+    with serving("small.db", len(looks) * TIMES) as desk:
+        small = [spent(desk, *get(f"/con/c1{look}")) for look in looks]
+    with serving(db, 2 * len(looks) * TIMES) as desk:
+        for look, least in zip(looks, small):
+            none = spent(desk, *get(f"/con/{con.code}{look}"))
+            costs_no_more(f"{look or 'the view'} in a large office", none, least)
+            costs_no_more(f"{look or 'the view'} beside certificates", spent(desk, *get(f"/con/{edited.code}{look}")), none)
 
 
 def requests_up_to_the_last(con, station, edited):
@@ -333,41 +404,45 @@ def test_the_last_revision_and_the_last_edition():
     plain = begun()
     con, edited = con_of(plain, REVISED), con_of(plain, EDITED)
     [station] = con.electors
-    os.environ.update(LD_PRELOAD=before_the_library(WITHOUT_A_DISK)["LD_PRELOAD"])
-    try:
-        answers = answered_as(plain, "office.db", requests_up_to_the_last(con, station, edited))
-    finally:
-        del os.environ["LD_PRELOAD"]
+    answers = without_a_disk(answered_as, plain, "office.db", requests_up_to_the_last(con, station, edited))
     same(sum(status == 200 for _, status, _ in answers), 2 * (model.LAST - 1) + 3 + 8)
     same({text for path, status, text in answers if status == 409 and "exhausted" in text}, {'{"refused":12,"word":"exhausted"}'})
     answered_as(plain, "office.db", [get(f"/station/{station}"), get(f"/con/{edited.code}"), get("/progress")])
     shown_as(plain, "office.db", [edited.code], ("past",))
+    looks_at_no_certificate("office.db", con, edited)
 
 
 TIMES = 5
 
 
-def spent(desk, *request):
-    """The fewest nanoseconds of the processor that an answer takes, of five which are 200: other work on the machine adds to some."""
+def spent(desk, *request, times=TIMES):
+    """The fewest nanoseconds of the processor that an answer takes, of so many which are 200: other work on the machine adds to some."""
     # (the clock of a process, as Linux numbers it: clock_getcpuclockid)
     clock, took = ~desk.process.pid << 3 | 2, []
-    for _ in range(TIMES):
+    for _ in range(times):
         before = time.clock_gettime_ns(clock)
         same((request[:2], desk.ask(*request)[0]), (request[:2], 200))
         took.append(time.clock_gettime_ns(clock) - before)
     return min(took)
 
 
+def costs_no_more(what, most, least):
+    """It takes at most ten times as much of the processor as the same where there is little. Rows that need not be read would take more."""
+    assert most <= 10 * least, f"{what}: {most} ns, and {least} where there is little"
+
+
 def looks_at_no_station(db, plain):
     """What is asked of the country takes no more of the processor than the same of a constituency of four stations: the returns of a
-    constituency are counted as the office opens. Each of 5,000 would be some microseconds."""
+    constituency are counted as the office opens, and once more after an import with a fault. Each of 5,000 would be some microseconds."""
     large, *small = (con_of(plain, n) for n in (COUNTRY, SIXTY, SIXTY + 1, SIXTY + 2))
     reports = ("", "/tally")
-    with serving(db, len(reports) * (len(small) + 1) * TIMES) as desk:
+    with serving(db, len(reports) * (len(small) + 1) * TIMES + 2) as desk:
         for report in reports:
             least = min(spent(desk, *get(f"/con/{con.code}{report}")) for con in small)
-            most = spent(desk, *get(f"/con/{large.code}{report}"))
-            assert most <= 10 * least, f"{report or 'the view'}: {most} ns, and {least} where there are four stations"
+            if report == reports[0]:
+                costs_no_more("the view, the first time", spent(desk, *get(f"/con/{large.code}"), times=1), least)
+                same(desk.ask("POST", f"/con/{large.code}/import", "x")[::2], (400, '{"word":"bad_header"}'))
+            costs_no_more(report or "the view", spent(desk, *get(f"/con/{large.code}{report}")), least)
 
 
 def test_sixty_thousand_returns():

@@ -202,6 +202,8 @@ class Office:
     def show(self, kind, code=None, report=None):
         if kind == "progress":
             return "".join(map(progress, self.cons.values()))
+        if kind == "country":
+            return country(list(self.cons.values()))
         if kind == "station":
             con = self.con_of(code)
             need(code in con.returns, 8)
@@ -429,4 +431,37 @@ def past(con):
     return titled("past", con, rows)
 
 
-REPORTS = {"tally": tally, "seats": seats, "quotients": quotients, "awards": awards, "quota": quota, "short": short, "holders": holders, "past": past}
+def stations(con):
+    def entry(code, it):
+        votes = f"{it['status']:9}{it['rev']:5} {it['slip']:16}{sum(it['votes']):8}{it['blank']:8}{it['spoiled']:8}" if it else "-"
+        return f"{code:16}{con.electors[code]:8} {votes}"
+
+    missing = len(con.electors) - len(con.returns)
+    head = f"stations {len(con.electors)} missing {missing} closed {con.statuses()[3]}"
+    return titled("stations", con, [head, *(entry(code, con.returns.get(code)) for code in con.electors)])
+
+
+def returns(con):
+    rows = [["station", "slip", "blank", "spoiled", *con.lists]]
+    for code in con.electors:
+        if it := con.returns.get(code):
+            rows.append([code, it["slip"], it["blank"], it["spoiled"], *it["votes"]])
+    return "".join(",".join(map(str, row)) + "\n" for row in rows)
+
+
+def country(cons):
+    won, polled, names = {}, {}, {}
+    for con in cons:
+        for code, name, seats, votes in zip(con.lists, con.names, con.certified or [0] * len(con.lists), con.closed()[0]):
+            won[code], polled[code] = won.get(code, 0) + seats, polled.get(code, 0) + votes
+            names.setdefault(code, name)
+    total = sum(con.seats for con in cons)
+    return "".join(f"{line}\n" for line in [
+        "COUNTRY", f"constituencies {len(cons)} certified {sum(con.certified is not None for con in cons)}",
+        f"stations {sum(len(con.electors) for con in cons)} closed {sum(con.statuses()[3] for con in cons)}",
+        *(f"{code:16}{won[code]:7}{polled[code]:14} {name}" for code, name in names.items()),
+        f"{'total':16}{sum(won.values()):7}{sum(polled.values()):14}", f"seats {total} majority {total // 2 + 1}",
+    ])
+
+
+REPORTS = {"stations": stations, "returns": returns, "tally": tally, "seats": seats, "quotients": quotients, "awards": awards, "quota": quota, "short": short, "holders": holders, "past": past}

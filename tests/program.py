@@ -504,19 +504,39 @@ def wait_until(holds):
         time.sleep(0.005)
 
 
-def test_an_office_that_another_made_first_stays():
-    """A `new` makes a file, and before it opens that a second `new` makes its office in it: the first leaves the office as it is."""
+def new_that_waits():
+    """A `new` that has made a file, and waits before it opens it until there is a file `go`."""
     environment = before_the_library(WAITING_AFTER_A_FILE_IS_MADE)
     write("setup.toml", SETUP)
     first = subprocess.Popen([PROGRAM, *making("office.db")], env=environment, stdout=subprocess.PIPE, stderr=subprocess.PIPE)
     STARTED.append(first)
     wait_until(lambda: os.path.exists("office.db"))
+    return first
+
+
+def test_an_office_that_another_made_first_stays():
+    """A `new` makes a file, and before it opens that a second `new` makes its office in it: the first leaves the office as it is."""
+    first = new_that_waits()
     done("constituencies 1\n", *making("office.db"))
     made = Path("office.db").read_bytes()
     write("go", "")
     same((*first.communicate(timeout=60), first.returncode), (b"", b"refused: not_empty\n", 1))
     same(Path("office.db").read_bytes(), made)
     shows("progress", PROGRESS, con=None)
+    only("before.c", "before.so", "go", "office.db")
+
+
+def test_a_file_that_another_has_locked_stays():
+    """A `new` makes a file, and before it opens that another program locks it: the file is that program's."""
+    first = new_that_waits()
+    with contextlib.closing(sqlite3.connect("office.db", isolation_level=None)) as other:
+        other.execute("BEGIN EXCLUSIVE")
+        write("go", "")
+        same((*first.communicate(timeout=60), first.returncode), (b"", b"failed: store\n", 3))
+        other.execute("CREATE TABLE other (a INTEGER)")
+        other.execute("COMMIT")
+    with database() as it:
+        same(it.execute("SELECT name FROM sqlite_master").fetchall(), [("other",)])
     only("before.c", "before.so", "go", "office.db")
 
 
@@ -535,6 +555,21 @@ def test_a_database_with_two_names():
     os.link("office.db", "other.db")
     failed("store", "show", "--db", "office.db", "--report", "progress")
     only("office.db", "other.db")
+
+
+def test_files_in_a_folder_of_a_long_name():
+    """As long as C SQLite takes, which reads the file at the end: 512 bytes in all."""
+    folder = "x" * 200 + "/" + "y" * 180
+    os.makedirs(folder)
+    db, setup, csv = (f"{folder}/{name}" for name in ("office.db", "setup.toml", "returns.csv"))
+    write(setup, THREE_STATIONS)
+    write(csv, RETURNS)
+    done("constituencies 1\n", "new", "--db", db, "--setup", setup)
+    done("lodged 3\nsame 0\ndiffers 0\nrefused 0\nbad 0\nfirst -\n", "import", "--db", db, "--con", "c1", "--csv", csv)
+    shows("progress", "c1                    3      0      3      0      0      0      1 open\n", con=None, db=db)
+    with serving(db, 1) as desk:
+        desk.get("/progress", "c1                    3      0      3      0      0      0      1 open\n")
+    same(sorted(os.listdir(folder)), ["office.db", "returns.csv", "setup.toml"])
 
 
 # ---- opening
@@ -793,15 +828,30 @@ B                   2 Beta
 
 PROGRESS = "c1                    1      1      0      0      0      0      1 open\n"
 
+COUNTRY_OPEN = """\
+COUNTRY
+constituencies 1 certified 0
+stations 1 closed 0
+A                     0             0 Alpha
+B                     0             0 Beta
+total                 0             0
+seats 3 majority 2
+"""
+
 
 def test_an_office_that_opens():
     new()
     shows("progress", PROGRESS, con=None)
     shows("progress", PROGRESS, con="zz")
     shows("past", "PAST c1 Twin Town\n")
+    shows("stations", "STATIONS c1 Twin Town\nstations 1 missing 1 closed 0\ns1                   300 -\n")
+    shows("returns", "station,slip,blank,spoiled,A,B\n")
+    shows("country", COUNTRY_OPEN, con=None)
     for report in ("seats", "quotients", "awards", "quota", "holders", "short"):
         same(show(report), Ran(1, "", "refused: not_certified\n"))
     for con in ("zz", "no code", ""):
+        for report in ("stations", "returns"):
+            refused("no_constituency", "show", "--db", "office.db", "--report", report, f"--con={con}")
         same(show("tally", con=None), Ran(2, "", "missing --con\n"))
         refused("no_constituency", "show", "--db", "office.db", "--report", "tally", f"--con={con}")
     only("office.db")
@@ -813,6 +863,12 @@ def test_the_reports_of_a_certified_constituency():
     for report, text in (
         ("tally", TALLY), ("seats", SEATS), ("quotients", QUOTIENTS), ("awards", AWARDS), ("short", SHORT),
         ("past", "PAST c1 Twin Town\n"), ("progress", "c1                    1      0      0      0      0      1      3 certified\n"),
+        ("stations", "STATIONS c1 Twin Town\nstations 1 missing 0 closed 1\ns1                   300 closed       2 p1                   200       0       0\n"),
+        ("returns", "station,slip,blank,spoiled,A,B\ns1,p1,0,0,100,100\n"),
+        ("country", COUNTRY_OPEN.replace("certified 0", "certified 1").replace("closed 0", "closed 1").replace(
+            "A                     0             0", "A                     1           100").replace(
+            "B                     0             0", "B                     2           100").replace(
+            "total                 0             0", "total                 3           200")),
     ):
         shows(report, text)
     same(show("quota"), Ran(1, "", "refused: other_method\n"))
@@ -1326,25 +1382,39 @@ def never_read(db):
         return time.monotonic() - began
 
 
+def stays(db):
+    """The seconds for which a client that has its answer, and sends and closes nothing then, keeps the next one waiting."""
+    with serving(db, 2) as desk, socket.create_connection(("127.0.0.1", desk.port), timeout=60) as it:
+        it.sendall(b"GET /progress HTTP/1.1\r\n\r\n")
+        while it.recv(65536):
+            pass
+        began = time.monotonic()
+        desk.get("/progress", PROGRESS)
+        return time.monotonic() - began
+
+
 def test_clients_that_keep_the_office_waiting():
     """Ten seconds for a read, thirty for a message in all: a client that sends nothing is given up, and one that sends a byte a second. Of
-    the thirty for an answer one may take nothing for fifteen: it has the answer whole. One that takes nothing at all is given up."""
+    the thirty for an answer one may take nothing for fifteen: it has the answer whole. One that takes nothing at all is given up, and one
+    that has its answer and stays is waited for two seconds."""
     # The offices are made one after the other, since each is made of the same file.
-    for name in ("silent", "slow", "late", "never"):
+    for name in ("silent", "slow", "late", "never", "stays"):
         os.mkdir(name)
-    new(db="silent/office.db")
-    new(db="slow/office.db")
+    for name in ("silent", "slow", "stays"):
+        new(db=f"{name}/office.db")
     past = reopened_a_thousand_times("late/office.db").encode()
     shutil.copy("late/office.db", "never/office.db")
     slow = f"GET /progress HTTP/1.1\r\na: {'b' * 200}".encode()
-    with ThreadPoolExecutor(4) as all_four:
-        late = all_four.submit(read_late, "late/office.db")
-        never = all_four.submit(never_read, "never/office.db")
-        silent, slow = all_four.map(waits_for, ("silent/office.db", "slow/office.db"), (b"", slow))
+    with ThreadPoolExecutor(5) as all_five:
+        late = all_five.submit(read_late, "late/office.db")
+        never = all_five.submit(never_read, "never/office.db")
+        stayed = all_five.submit(stays, "stays/office.db")
+        silent, slow = all_five.map(waits_for, ("silent/office.db", "slow/office.db"), (b"", slow))
         head, _, body = late.result().partition(b"\r\n\r\n")
     assert 9.5 <= silent <= 14, silent
     assert 29 <= slow <= 35, slow
     assert 9.5 <= never.result() <= 35, never.result()
+    assert stayed.result() <= 8, stayed.result()
     assert head.startswith(b"HTTP/1.1 200 OK\r\n") and body == past, (head, len(body), len(past))
 
 
@@ -1555,7 +1625,7 @@ def answered_as(plain, db, requests, anew=()):
 def shown_as(plain, db, cons, reports):
     """What is shown of a database is what the plain office shows."""
     for con, report in itertools.product(cons, reports):
-        status, text = plain.ask("GET", "/progress" if report == "progress" else f"/con/{con}/{report}")
+        status, text = plain.ask("GET", f"/{report}" if report in OFFICE_REPORTS else f"/con/{con}/{report}")
         wanted = Ran(0, text, "") if status == 200 else Ran(1, "", f"refused: {json.loads(text)['word']}\n")
         same((con, report, show(report, con, db)), (con, report, wanted))
 
@@ -1568,7 +1638,9 @@ def post(path, **body):
     return "POST", path, json.dumps(body)
 
 
-NINE_REPORTS = ("tally", "seats", "quotients", "awards", "quota", "short", "holders", "past", "progress")
+CON_REPORTS = ("tally", "seats", "quotients", "awards", "quota", "short", "holders", "past", "stations", "returns")
+OFFICE_REPORTS = ("progress", "country")
+LOOKS_AT_ALL = [get(f"/{report}") for report in OFFICE_REPORTS]
 
 # The codes of three constituencies, their methods, thresholds and bases.
 SIXTY_LISTS = (("d", "dhondt", 0, "valid"), ("w", "sainte-lague", 100, "lists"), ("q", "hare", 150, "valid"))
@@ -1618,7 +1690,7 @@ def counted_and_certified(con, returns):
 def requests_on_sixty_lists(plain, draw):
     """Each constituency is certified, some who hold a seat go, it is opened again and certified with other votes, shown at each end."""
     for con in plain.cons.values():
-        reports = [get("/progress"), *(get(f"/con/{con.code}/{report}") for report in NINE_REPORTS[:-1]), get(f"/con/{con.code}")]
+        reports = [*LOOKS_AT_ALL, *(get(f"/con/{con.code}/{report}") for report in CON_REPORTS), get(f"/con/{con.code}")]
         yield from counted_and_certified(con, returns_of_sixty_lists(draw))
         yield from reports
         for n in (0, 30, 59):
@@ -1640,7 +1712,28 @@ def test_sixty_lists_and_five_hundred_seats():
     lots = {path.split("/")[2] for path, status, _ in answers if path.endswith("/draw") and status == 200}
     same(lots, {"d", "w", "q"})
     assert any(path.endswith("/confirm") and status == 200 for path, status, _ in answers)
-    shown_as(plain, "office.db", plain.cons, NINE_REPORTS)
+    shown_as(plain, "office.db", plain.cons, CON_REPORTS + OFFICE_REPORTS)
+    published_and_read_back(plain, setup)
+
+
+def published_and_read_back(plain, setup):
+    """What is published of each constituency, imported into a fresh office, is the same returns; and counted from these texts alone, with
+    the lots, the seats are those that are certified."""
+    new(setup, db="fresh.db", constituencies=len(plain.cons))
+    Path("published").mkdir()
+    for con in plain.cons:
+        text = show("returns", con).out
+        write(f"published/{con}.csv", text)
+        imports({"lodged": len(plain.cons[con].returns)}, text, con, db="fresh.db")
+        imports({"same": len(plain.cons[con].returns)}, text, con)
+        shows("returns", text, con, db="fresh.db")
+    write("lots", "".join(" ".join([con.code, *(con.lists[n] for n in con.lot)]) + "\n" for con in plain.cons.values() if con.lot))
+    words = (sys.executable, ROOT / "examples/recount.py", "--setup", "setup.toml", "--returns", "published")
+    counted = subprocess.run([*words, "--lots", "lots"], capture_output=True, text=True, timeout=120)
+    seats = ((con, " ".join(f"{code} {n}" for code, n in zip(con.lists, con.certified))) for con in plain.cons.values())
+    same(counted.stdout, "".join(f"{con.code} {won} ({len(con.returns)} of {len(con.returns)} stations)\n" for con, won in seats))
+    without = subprocess.run(words, capture_output=True, text=True, timeout=120)
+    same((without.returncode, without.stdout.count("a lot is missing")), (1, len(plain.cons)))
 
 
 def two_entries():
@@ -1665,7 +1758,7 @@ def entries_at_random(plain, draw, count):
         body = {"lodge": figures, "query": {**rev, "note": "sum"}, "correct": rev | figures, "close": rev, "confirm": rev | figures,
                 "certify": {"edition": con.edition}, "reopen": {"edition": con.edition, "note": "recount"}}[verb]
         yield post(f"/con/{con.code}/{verb}" if "edition" in body else f"/station/{code}/{verb}", **body)
-        yield get(draw.choice((f"/station/{code}", f"/con/{con.code}", "/progress")))
+        yield get(draw.choice((f"/station/{code}", f"/con/{con.code}", "/progress", "/country", f"/con/{con.code}/stations", f"/con/{con.code}/returns")))
 
 
 def test_returns_that_are_entered_twice():
@@ -1690,7 +1783,7 @@ def five_thousand_stations():
 # What is looked at between the requests on a constituency of 5,000 stations.
 LOOKS = (get("/progress"), get("/con/c1"), get("/con/c1/tally"), get("/station/s4999"))
 
-NINE_LOOKS = (get("/progress"), *(get(f"/con/c1/{report}") for report in NINE_REPORTS[:-1]))
+EACH_LOOK = (*LOOKS_AT_ALL, *(get(f"/con/c1/{report}") for report in CON_REPORTS))
 
 
 def requests_that_close(con):
@@ -1735,14 +1828,14 @@ def requests_on_five_thousand(con):
     yield "POST", "/con/c1/import", text
     yield from requests_that_close(con)
     yield post("/con/c1/certify", edition=1)
-    yield from NINE_LOOKS
+    yield from EACH_LOOK
     yield "POST", "/con/c1/import", text
     yield post("/station/s1/query", rev=2, note="too late")
     yield post("/con/c1/vacate", list="A", place=1, note="resigned")
     yield post("/con/c1/reopen", edition=2, note="recount")
     yield from requests_that_correct(con, text)
     yield post("/con/c1/certify", edition=3)
-    yield from NINE_LOOKS
+    yield from EACH_LOOK
 
 
 def requests_on_a_second_recount(con):
@@ -1760,12 +1853,12 @@ def requests_on_a_second_recount(con):
             yield "POST", "/con/c1/import", text
             yield post(f"/station/{station}/{path}", rev=rev, **body)
     yield post("/con/c1/certify", edition=con.edition)
-    yield from NINE_LOOKS
+    yield from EACH_LOOK
     yield "POST", "/con/c1/import", text
     yield post("/con/c1/reopen", edition=con.edition, note="at once")
     yield from LOOKS
     yield post("/con/c1/certify", edition=con.edition)
-    yield from NINE_LOOKS
+    yield from EACH_LOOK
 
 
 def test_an_office_of_five_thousand_stations():
@@ -1874,6 +1967,10 @@ RECOUNT = [step[:2] for step in SCRIPT if step[2] == 200]
 CERTIFIED = [*counted([120, 100]), ("/con/c1/certify", {"edition": 1})]
 ROWS = ("/con/c1/import", RETURNS.rstrip())
 WORKED = ("/station/s1/lodge", json.loads(LODGE[LODGE.index(b"{"):]))
+# A second constituency, which has the list B too.
+PORT = constituency("c2", "Port", 2, "d0") + party_list("B", "Beta", "Bo") + party_list("C", "Gamma", "Cleo") + station("t1", 100)
+IN_PORT = [("/station/t1/lodge", {"slip": "q1", "votes": [30, 10], "blank": 0, "spoiled": 0}), ("/station/t1/close", {"rev": 1})]
+THIRD = ("/station/s3/lodge", {"slip": "p3", "votes": [30, 40], "blank": 1, "spoiled": 2})
 
 # The states in which examples are given: a setup, the requests that lead there, and what is then
 # changed by hand.
@@ -1887,6 +1984,7 @@ STATES = {
     "last revision": (SETUP, RECOUNT[:2], "UPDATE returns SET rev = 9999"),
     "last edition": (SETUP, RECOUNT[:2], "UPDATE cons SET edition = 9999"),
     "last certificate": (SETUP, CERTIFIED, "UPDATE cons SET edition = 9999"), "entered twice": (PROFILE + CONSTITUENCY + DOUBLE + LISTS + station("s1"), RECOUNT[:1]),
+    "one of three missing": (THREE_STATIONS, [*counted([100, 100]), THIRD]), "two constituencies": (SETUP + PORT, RECOUNT[:4] + IN_PORT),
 }
 
 
@@ -1902,6 +2000,7 @@ GIVEN = {
     "progress report": given("new"), "station corrected": given("corrected"), "station received": given("imported", s="s2"),
     "constituency certified": given("certified"), "constituency entered_twice": given("entered twice"), "tally report": given("closed"), "report": given("certified"),
     "quota report": given("hare"), "past report": given("reopened"),
+    "stations report": given("one of three missing"), "returns returns": given("closed"), "country country": given("two constituencies"),
     "other_method": given("hare"), "quota other_method": given("certified"),
     "lodge lodged": given("new"), "same": given("worked"), "differs": given("closed again"), "bad_body": given("new", "x"),
     "bad_counts": given("queried", votes=[50, 40, 30]), "too_many_votes": given("queried", votes=[300, 1]), "bad_note": given("certified", note=""),
@@ -1983,7 +2082,7 @@ def examples():
 def lead_to(state):
     """An office in a state, in a file of its name."""
     setup, steps, *by_hand = STATES[state]
-    db = new(setup, f"{state}.db")
+    db = new(setup, f"{state}.db", setup.count("[[constituency]]"))
     if steps:
         with serving(db, len(steps)) as desk:
             for path, body in steps:
@@ -2150,6 +2249,62 @@ def test_a_disk_that_fails_shuts_an_office():
     write("broken", "")
     ran = subprocess.run([PROGRAM, *making("other.db")], env=library, capture_output=True, text=True, timeout=60)
     same(Ran(ran.returncode, ran.stdout, ran.stderr), Ran(3, "", "failed: store\n"))
+
+
+# Comes before the C library: each call that brings a file to its disk leaves a byte in a file
+# `synced` of the program's folder.
+COUNTING_DISK = r"""
+#define _GNU_SOURCE
+#include <dlfcn.h>
+#include <fcntl.h>
+#include <unistd.h>
+
+static int sync_by(const char *name, int file)
+{
+    int (*real)(int) = dlsym(RTLD_NEXT, name);
+    int noted = open("synced", O_WRONLY | O_CREAT | O_APPEND, 0600);
+    if (noted < 0 || write(noted, "x", 1) != 1 || close(noted))
+        _exit(99);
+    return real(file);
+}
+
+int fsync(int file)
+{
+    return sync_by("fsync", file);
+}
+
+int fdatasync(int file)
+{
+    return sync_by("fdatasync", file);
+}
+"""
+
+
+def test_each_commit_is_brought_to_the_disk_twice():
+    """A write that a crash tears may leave any bytes: what is committed is on the disk before the word that it is. Each command that is
+    answered as done waits for both, and what is shown for none."""
+    library = before_the_library(COUNTING_DISK)
+    new(THREE_STATIONS)
+    desk = Desk("office.db", 9, env=library)
+
+    def synced(method, path, body=None, status=200):
+        before = os.path.getsize("synced") if os.path.exists("synced") else 0
+        same((path, desk.ask(method, path, body)[0]), (path, status))
+        return (os.path.getsize("synced") if os.path.exists("synced") else 0) - before
+
+    lodge = json.dumps({"slip": "p1", "votes": [100, 100], "blank": 0, "spoiled": 0})
+    # (the first commit also begins the log)
+    first = synced("POST", "/station/s1/lodge", lodge)
+    assert first >= 2, first
+    for path, body in (("/station/s2/lodge", lodge), ("/station/s1/close", '{"rev":1}'), ("/con/c1/import", RETURNS)):
+        same((path, synced("POST", path, body)), (path, 2))
+    for path, body, status in (("/station/s2/lodge", lodge, 200), ("/station/s1/close", '{"rev":1}', 409)):
+        same((path, synced("POST", path, body, status)), (path, 0))
+    for path in ("/progress", "/con/c1/stations"):
+        same((path, synced("GET", path)), (path, 0))
+    # After the last answer the office is closed, which is brought to the disk too.
+    same(desk.ask("GET", "/progress")[0], 200)
+    same(desk.end(), Ran(0, "answered 9 failed 0\n", ""))
 
 
 # ---- the first page

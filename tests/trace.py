@@ -193,9 +193,10 @@ def has_label(path, name, label):
     return any(re.search(rf"\b(?:ensures|requires|ghost) {re.escape(label)}\b", it) for it in contracts)
 
 
-def named(path):
-    """The links of a document with a name as their text: the name, the file and the labels."""
-    for name, target, labels in NAMED.findall(text_of(path)):
+def named(path, lines=r".*"):
+    """The links of a document with a name as their text, in its lines of one form: the name, the file and the labels."""
+    text = "\n".join(re.findall(rf"^{lines}$", text_of(path), re.M))
+    for name, target, labels in NAMED.findall(text):
         if "://" not in target and not target.startswith("#"):
             yield name, (path.parent / target.split("#")[0]).resolve(), re.findall(r"`([^`]+)`", labels or "")
 
@@ -527,8 +528,10 @@ def test_what_is_believed_names_nothing_else():
 
 
 def test_the_clauses_of_the_promises_use_no_internal_word():
+    """Those of the promises by number on the pages of the crates too."""
     wrong, count = [], 0
-    for name, file, labels in named(PROMISES):
+    pages = ((path, r"\| \d+ .*") for path in found_in("crates/*/README.md"))
+    for name, file, labels in (link for path, lines in [(PROMISES, ".*"), *pages] for link in named(path, lines)):
         if file.suffix != ".rt" or not file.is_file():
             continue
         internal = set()
@@ -544,6 +547,16 @@ def test_the_clauses_of_the_promises_use_no_internal_word():
                 for word in sorted(internal & set(re.findall(r"[^\W\d][\w-]*", clause))):
                     wrong.append(f"{shown(file)}: {name}: {word}")
     return count, wrong
+
+
+def test_each_promise_has_a_number_of_its_own():
+    """Of the rows of PROMISES and of those on the pages of the crates."""
+    rows = {}
+    for path in (PROMISES, *found_in("crates/*/README.md")):
+        for number in re.findall(r"^\| (\d+) \|", text_of(path), re.M):
+            rows.setdefault(int(number), []).append(shown(path))
+    wrong = [f"{number}: {', '.join(paths)}" for number, paths in sorted(rows.items()) if len(paths) > 1]
+    return len(rows), wrong if len(rows) >= 100 else [*wrong, f"only {len(rows)} promises"]
 
 
 def test_no_document_names_a_place_on_one_machine():

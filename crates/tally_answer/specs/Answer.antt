@@ -25,6 +25,7 @@ phrase s = unwrap_or (reason_phrase (http_status s)) []
 abbrev pub type_name : BodyType → List ℕ
 type_name body.Json = codes "application/json"
 type_name body.Text = codes "text/plain; charset=utf-8"
+type_name body.Csv = codes "text/csv; charset=utf-8"
 
 -- The lines of a head, each with its line end.
 abbrev pub status_line : AnswerStatus → List ℕ

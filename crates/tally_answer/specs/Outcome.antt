@@ -5,8 +5,7 @@ use Rattle.std.specs.Prelude.{Result, Ok, Err}
 use Rattle.std.specs.List.{flat_map}
 use Rattle.tally_rules.specs.Constituency.{ListEntry}
 use Rattle.tally_returns.specs.Refusals.{refusal_number}
-use Rattle.tally_returns.specs.declared.returns.Status.{Status}
-use Rattle.tally_returns.specs.declared.returns.Status.TheVariants as of_return
+use Rattle.tally_returns.specs.Return.{status_word}
 use Rattle.tally_returns.specs.declared.reply.Reply.{Reply}
 use Rattle.tally_returns.specs.declared.reply.Reply.TheVariants as reply
 use Rattle.tally_returns.specs.declared.refusal.Refusal.{Refusal}
@@ -33,12 +32,6 @@ reply_body (reply.Con shown) = []
 reply_body (reply.Progress shown) = []
 
 -- ---- refusals
-
-abbrev pub status_word : Status → List ℕ
-status_word of_return.Received = codes "received"
-status_word of_return.Queried = codes "queried"
-status_word of_return.Corrected = codes "corrected"
-status_word of_return.Closed = codes "closed"
 
 -- the lists that are marked, in order
 abbrev pub marked_lists : List ListEntry → List Bool → List ListEntry

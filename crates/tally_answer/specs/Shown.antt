@@ -9,9 +9,8 @@ use Rattle.tally_rules.specs.Constituency.{Constituency, ListEntry}
 use Rattle.tally_rules.specs.declared.constituency.Entry.{Entry}
 use Rattle.tally_rules.specs.declared.constituency.Entry.TheVariants.{Single, Double}
 use Rattle.tally_returns.specs.GoneCandidate.{GoneCandidate}
-use Rattle.tally_returns.specs.Return.{StationReturn}
+use Rattle.tally_returns.specs.Return.{StationReturn, status_word}
 use Rattle.tally_returns.specs.View.{View}
-use Rattle.tally_answer.specs.Outcome.{status_word}
 
 abbrev pub whole_value : ℕ → Data
 whole_value n = number (unsigned n)

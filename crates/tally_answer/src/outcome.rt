@@ -4,7 +4,7 @@ ghost use Rattle.std.specs.Prelude.{◌≡◌, ◌≤◌, ◌+◌, ◌++◌, Lis
 ghost use Rattle.std.specs.Prelude.{vec_capacity};
 ghost use Rattle.tally_frac.specs.Limits.{most_lists};
 ghost use Rattle.tally_rules.specs.Constituency.{ListEntry};
-ghost use Rattle.tally_answer.specs.Outcome.{reply_body, status_word, group_text, refusal_word};
+ghost use Rattle.tally_answer.specs.Outcome.{reply_body, group_text, refusal_word};
 ghost use Rattle.tally_answer.specs.Outcome.{refusal_status, members_before, members_after};
 ghost use Rattle.tally_answer.specs.Outcome.{word_member, refusal_members, refusal_body};
 ghost use Rattle.tally_answer.specs.Outcome.{outcome_answer, outcome_text};
@@ -13,7 +13,7 @@ use crate::answer::write_answer;
 use crate::group::push_group;
 use crate::push::{push, push_around};
 use crate::status::{AnswerStatus, BodyType};
-use tally_returns::{ListSet, Refusal, Reply, Status};
+use tally_returns::{ListSet, Refusal, Reply};
 use tally_rules::ListEntry;
 
 /// The room that an answer to a command needs.
@@ -61,19 +61,6 @@ fn push_reply(out: &mut Vec<u8>, reply: &Reply)
         }
         Reply::Vacated { next: None } => push(out, b"{\"next\":null,\"ok\":\"vacated\"}"),
         Reply::Return(_) | Reply::Con(_) | Reply::Progress(_) => {}
-    }
-}
-
-/// The word of a return's status.
-pub(crate) fn status_word(status: Status) -> &'static str
-    ensures word { result.now ≡ status_word status }
-    ensures short { length result.now ≤ 16 }
-{
-    match status {
-        Status::Received => "received",
-        Status::Queried => "queried",
-        Status::Corrected => "corrected",
-        Status::Closed => "closed",
     }
 }
 
@@ -163,12 +150,7 @@ fn push_after(out: &mut Vec<u8>, refusal: &Refusal)
     match refusal {
         Refusal::Differs { rev } => push_around(out, b"\"rev\":", *rev, b","),
         Refusal::WrongStatus { status } => {
-            push_between(
-                out,
-                b"\"status\":\"",
-                status_word(*status).as_bytes(),
-                b"\",",
-            )
+            push_between(out, b"\"status\":\"", status.word().as_bytes(), b"\",")
         }
         Refusal::LotMissing { seats, .. } => push_around(out, b"\"seats\":", *seats, b","),
         _ => {}

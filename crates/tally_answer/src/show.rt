@@ -10,7 +10,6 @@ ghost use Rattle.tally_answer.specs.Shown.{shown_gone, shown_return, whole_value
 ghost use Rattle.tally_answer.specs.Shown.{con_members, with_entry};
 ghost use Rattle.tally_rules.specs.declared.constituency.Entry.TheVariants.{Single};
 
-use crate::outcome::status_word;
 use serde_json::{Map, Value, json};
 use std::alloc::{AllocError, Global};
 use tally_returns::{ConView, Gone, Return};
@@ -77,7 +76,7 @@ fn put_from_spoiled(
         "votes",
         whole_values(alloc, &kept.counts.votes)?,
     )?;
-    put_text(map, alloc, "status", status_word(kept.status))?;
+    put_text(map, alloc, "status", kept.status.word())?;
     put_text(map, alloc, "station", station)?;
     put_number(map, alloc, "spoiled", kept.counts.spoiled)
 }

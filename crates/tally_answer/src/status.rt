@@ -32,6 +32,8 @@ pub enum BodyType {
     Json,
     /// Plain text in UTF-8.
     Text,
+    /// CSV (RFC 4180) in UTF-8.
+    Csv,
 }
 
 /// The status as `http` has it.
@@ -80,5 +82,6 @@ pub(crate) fn name_of(body: BodyType) -> &'static [u8]
     match body {
         BodyType::Json => b"application/json",
         BodyType::Text => b"text/plain; charset=utf-8",
+        BodyType::Csv => b"text/csv; charset=utf-8",
     }
 }

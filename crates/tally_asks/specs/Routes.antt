@@ -22,6 +22,7 @@ use Rattle.tally_asks.specs.declared.routes.StationCommand.TheVariants as on_sta
 abbrev pub station_routes : List (List ℕ × Route)
 station_routes =
     (codes "/progress", route.Progress)
+    ∷ (codes "/country", route.Country)
     ∷ (codes "/station/{s}", route.Return)
     ∷ (codes "/station/{s}/lodge", route.OnStation on_station.Lodge)
     ∷ (codes "/station/{s}/query", route.OnStation on_station.Query)
@@ -42,6 +43,8 @@ con_routes =
     ∷ (codes "/con/{c}/short", route.Report report.Short)
     ∷ (codes "/con/{c}/holders", route.Report report.Holders)
     ∷ (codes "/con/{c}/past", route.Report report.Past)
+    ∷ (codes "/con/{c}/returns", route.Returns)
+    ∷ (codes "/con/{c}/stations", route.Stations)
     ∷ []
 
 -- the commands on a constituency and the imports into it
@@ -84,6 +87,9 @@ takes_get route.Progress = true
 takes_get route.Return = true
 takes_get route.Con = true
 takes_get (route.Report which) = true
+takes_get route.Returns = true
+takes_get route.Stations = true
+takes_get route.Country = true
 takes_get (route.OnStation command) = false
 takes_get (route.OnCon command) = false
 takes_get (route.Import sep) = false

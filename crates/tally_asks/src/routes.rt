@@ -43,6 +43,12 @@ pub enum Route {
     Con,
     /// A report of a constituency.
     Report(Report),
+    /// The returns of a constituency, as rows that an import takes.
+    Returns,
+    /// The stations of a constituency, and what each has come to.
+    Stations,
+    /// The seats and votes of each list over all constituencies.
+    Country,
     /// A command on a station.
     OnStation(StationCommand),
     /// A command on a constituency.
@@ -52,8 +58,9 @@ pub enum Route {
 }
 
 // The routes of the whole office and of a station.
-const STATION_ROUTES: [(&str, Route); 7] = [
+const STATION_ROUTES: [(&str, Route); 8] = [
     ("/progress", Route::Progress),
+    ("/country", Route::Country),
     ("/station/{s}", Route::Return),
     (
         "/station/{s}/lodge",
@@ -78,7 +85,7 @@ const STATION_ROUTES: [(&str, Route); 7] = [
 ];
 
 // What is shown of a constituency.
-const CON_ROUTES: [(&str, Route); 9] = [
+const CON_ROUTES: [(&str, Route); 11] = [
     ("/con/{c}", Route::Con),
     ("/con/{c}/tally", Route::Report(Report::Tally)),
     ("/con/{c}/seats", Route::Report(Report::Seats)),
@@ -88,6 +95,8 @@ const CON_ROUTES: [(&str, Route); 9] = [
     ("/con/{c}/short", Route::Report(Report::Short)),
     ("/con/{c}/holders", Route::Report(Report::Holders)),
     ("/con/{c}/past", Route::Report(Report::Past)),
+    ("/con/{c}/returns", Route::Returns),
+    ("/con/{c}/stations", Route::Stations),
 ];
 
 // The commands on a constituency and the imports into it.
@@ -169,6 +178,7 @@ pub fn takes_get(route: Route) -> bool
 {
     match route {
         Route::Progress | Route::Return | Route::Con | Route::Report(_) => true,
+        Route::Returns | Route::Stations | Route::Country => true,
         Route::OnStation(_) | Route::OnCon(_) | Route::Import(_) => false,
     }
 }

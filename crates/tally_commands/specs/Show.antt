@@ -12,12 +12,18 @@ use Rattle.tally_returns.specs.declared.progress.ProgressRow.{ProgressRow}
 use Rattle.tally_returns.specs.declared.refusal.Refusal.TheVariants as refusal
 use Rattle.tally_returns.specs.declared.reply.Reply.{Reply}
 use Rattle.tally_returns.specs.declared.reply.Reply.TheVariants as reply
+use Rattle.tally_returns.specs.declared.station_row.StationRow.{StationRow}
 use Rattle.tally_keeper.specs.Keeper.{Happens, request}
+use Rattle.tally_keeper.specs.Shown.{ShowsReturns}
+use Rattle.tally_desk.specs.Shown.{ShowsAll}
+use Rattle.tally_overview.specs.CountryText.{country_text}
 use Rattle.tally_report.specs.ProgressText.{progress_text}
 use Rattle.tally_report.specs.declared.fault.ReportFault.{ReportFault}
 use Rattle.tally_report.specs.declared.fault.ReportFault.TheVariants as fault
 use Rattle.tally_report.specs.Reports.{IsReport, report_fault}
 use Rattle.tally_report.specs.declared.report.Report.{Report}
+use Rattle.tally_overview.specs.Shown.{stations_report}
+use Rattle.tally_overview.specs.declared.shown.StationsReport.{StationsReport}
 use Rattle.tally_commands.specs.declared.trouble.Trouble.{Trouble}
 use Rattle.tally_commands.specs.declared.trouble.Trouble.TheVariants as trouble
 
@@ -76,3 +82,38 @@ IsProgressTrouble setup old trouble.Memory new =
 IsProgressTrouble setup old trouble.Store new =
     Happens setup old (request ShowProgress (Err refusal.Store)) new
 IsProgressTrouble setup old other new = ⊥
+
+-- ---- the stations of a constituency
+
+-- The text is a report of the constituency of this code, by the rows of its stations.
+abbrev pub AreStationsShown : List Constituency → Option State → List ℕ → StationsReport → List ℕ
+    → Option State → Type 0
+AreStationsShown setup old code which text new =
+    (con : Constituency) × (rows : Vec StationRow Global)
+    × (constituency_with code setup ≡ Some con)
+    × ShowsReturns setup old code (Ok rows) new × (text ≡ stations_report which con rows.items)
+
+-- No constituency has the code, it is out of memory, or the database failed.
+abbrev pub IsStationsTrouble : List Constituency → Option State → List ℕ → Trouble → Option State
+    → Type 0
+IsStationsTrouble setup old code trouble.NoConstituency new =
+    (constituency_with code setup ≡ None) × (new ≡ old)
+IsStationsTrouble setup old code trouble.Memory new =
+    ShowsReturns setup old code (Err refusal.Memory) new
+IsStationsTrouble setup old code trouble.Store new =
+    ShowsReturns setup old code (Err refusal.Store) new
+IsStationsTrouble setup old code other new = ⊥
+
+-- ---- the country
+
+-- The text is that of all constituencies, by what each has come to.
+abbrev pub IsCountryShown : List Constituency → Option State → List ℕ → Option State → Type 0
+IsCountryShown setup old text new =
+    (views : Vec View Global) × ShowsAll setup old (Ok views) new
+    × (text ≡ country_text setup views.items)
+
+-- It is out of memory, or the database failed.
+abbrev pub IsCountryTrouble : List Constituency → Option State → Trouble → Option State → Type 0
+IsCountryTrouble setup old trouble.Memory new = ShowsAll setup old (Err refusal.Memory) new
+IsCountryTrouble setup old trouble.Store new = ShowsAll setup old (Err refusal.Store) new
+IsCountryTrouble setup old other new = ⊥

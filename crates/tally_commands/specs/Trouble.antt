@@ -9,10 +9,10 @@ use Rattle.tally_keeper.specs.declared.source.ImportFault.{ImportFault}
 use Rattle.tally_keeper.specs.declared.source.ImportFault.TheVariants as lodging
 use Rattle.tally_report.specs.declared.fault.ReportFault.{ReportFault}
 use Rattle.tally_report.specs.declared.fault.ReportFault.TheVariants as report
-use Rattle.tally_faults.specs.declared.fault.CreateFault.{CreateFault}
-use Rattle.tally_faults.specs.declared.fault.CreateFault.TheVariants as create
-use Rattle.tally_faults.specs.declared.fault.OpenFault.{OpenFault}
-use Rattle.tally_faults.specs.declared.fault.OpenFault.TheVariants as opening
+use Rattle.tally_keeper.specs.declared.fault.CreateFault.{CreateFault}
+use Rattle.tally_keeper.specs.declared.fault.CreateFault.TheVariants as create
+use Rattle.tally_keeper.specs.declared.fault.OpenFault.{OpenFault}
+use Rattle.tally_keeper.specs.declared.fault.OpenFault.TheVariants as opening
 use Rattle.tally_commands.specs.declared.trouble.Trouble.{Trouble}
 use Rattle.tally_commands.specs.declared.trouble.Trouble.TheVariants.{Setup, NotEmpty, NoTables}
 use Rattle.tally_commands.specs.declared.trouble.Trouble.TheVariants.{BadTables, BadSetup}

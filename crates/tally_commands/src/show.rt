@@ -1,22 +1,27 @@
 //! What the office shows, as text.
 
+ghost use Rattle.std.specs.List.{AllZip};
 ghost use Rattle.std.specs.Prelude.{◌≡◌, Err, IfErr, IfOk, None, Some, string_bytes};
 ghost use Rattle.tally_keeper.specs.StaysKeeper.{StaysKeeper};
+ghost use Rattle.tally_overview.specs.CountryText.{country_text};
 ghost use Rattle.tally_report.specs.ProgressText.{progress_text};
+ghost use Rattle.tally_overview.specs.Shown.{stations_report};
 ghost use Rattle.tally_returns.specs.View.{FitsView};
 ghost use Rattle.tally_rules.specs.Setup.{constituency_with};
 ghost use Rattle.tally_report.specs.Reports.{IsEnoughFor, report_fault};
 ghost use Rattle.tally_commands.specs.Trouble.{IsTroubleOfDatabase, IsTroubleOfProgress};
 ghost use Rattle.tally_commands.specs.Trouble.{IsTroubleOfReport};
+ghost use Rattle.tally_commands.specs.Show.{AreStationsShown, IsCountryShown, IsCountryTrouble};
 ghost use Rattle.tally_commands.specs.Show.{IsGiven, IsProgressShown, IsProgressTrouble};
-ghost use Rattle.tally_commands.specs.Show.{IsReportShown, IsReportTrouble};
+ghost use Rattle.tally_commands.specs.Show.{IsReportShown, IsReportTrouble, IsStationsTrouble};
 ghost use Rattle.tally_commands.specs.internal.Withheld.{IsWithheld, OfCon, refusal_trouble};
 
 use crate::named::code_named;
 use crate::trouble::Trouble;
 use std::alloc::Global;
-use tally_desk::{progress_of, view_for};
-use tally_keeper::{ConView, Keeper, ProgressRow, Refusal};
+use tally_desk::{all_views, country_report, progress_of, view_for};
+use tally_keeper::{ConView, Keeper, ProgressRow, Refusal, StationRow};
+use tally_overview::{StationsReport, stations_report_text};
 use tally_report::{Report, progress_text, report_text};
 use tally_rules::{Code, Setup};
 
@@ -64,6 +69,50 @@ pub fn show_progress<K: Keeper>(alloc: Global, keeper: &mut K) -> Result<String,
     }
 }
 
+/// A report of the constituency of a code that is made of its stations. It is shown, and nothing
+/// changes.
+pub fn show_stations<K: Keeper>(
+    alloc: Global,
+    keeper: &mut K,
+    con: &str,
+    which: StationsReport,
+) -> Result<String, Trouble>
+    ensures stays { StaysKeeper K.Keeper keeper.old keeper.new }
+    ensures named { IfErr result IsTroubleOfReport }
+    ensures shown { K.IsTrusted keeper.new → IfOk result (λ text.
+        AreStationsShown (K.constituencies keeper.old) (K.content keeper.old) con.now which
+        (string_bytes text) (K.content keeper.new)) }
+    ensures trouble { K.IsTrusted keeper.new → IfErr result (λ trouble.
+        IsStationsTrouble (K.constituencies keeper.old) (K.content keeper.old) con.now
+        trouble (K.content keeper.new)) }
+{
+    let Some(code) = code_named(keeper.setup(), con) else {
+        return Err(Trouble::NoConstituency);
+    };
+    match keeper.show_returns(code) {
+        Ok(rows) => text_of_stations(alloc, keeper.setup(), code, &rows, which),
+        Err(refusal) => Err(trouble_of(refusal)),
+    }
+}
+
+/// The seats and the votes of each list over all constituencies. They are shown, and nothing
+/// changes.
+pub fn show_country<K: Keeper>(alloc: Global, keeper: &mut K) -> Result<String, Trouble>
+    ensures stays { StaysKeeper K.Keeper keeper.old keeper.new }
+    ensures named { IfErr result IsTroubleOfProgress }
+    ensures shown { K.IsTrusted keeper.new → IfOk result (λ text.
+        IsCountryShown (K.constituencies keeper.old) (K.content keeper.old)
+        (string_bytes text) (K.content keeper.new)) }
+    ensures trouble { K.IsTrusted keeper.new → IfErr result (λ trouble.
+        IsCountryTrouble (K.constituencies keeper.old) (K.content keeper.old)
+        trouble (K.content keeper.new)) }
+{
+    match all_views(alloc, keeper) {
+        Ok(views) => text_of_country(alloc, keeper.setup(), &views),
+        Err(refusal) => Err(trouble_of(refusal)),
+    }
+}
+
 /// The text of a report of the constituency of a code.
 fn text_of(
     alloc: Global,
@@ -93,6 +142,40 @@ fn text_of_rows(alloc: Global, rows: &[ProgressRow]) -> Result<String, Trouble>
     ensures trouble { IfErr result (λ trouble. trouble ≡ Trouble.Memory) }
 {
     match progress_text(alloc, rows) {
+        Ok(text) => Ok(text),
+        Err(_) => Err(Trouble::Memory),
+    }
+}
+
+/// The text of a report of the constituency of a code that is made of its stations.
+fn text_of_stations(
+    alloc: Global,
+    setup: &Setup,
+    code: Code,
+    rows: &[StationRow],
+    which: StationsReport,
+) -> Result<String, Trouble>
+    ensures named { IfErr result IsTroubleOfReport }
+    ensures text { IfOk result (λ text. OfCon setup.now code (λ con.
+        string_bytes text ≡ stations_report which con rows.now)) }
+    ensures trouble { IfErr result (λ trouble. OfCon setup.now code (λ _.
+        trouble ≡ Trouble.Memory)) }
+{
+    let Some(con) = setup.con(code) else {
+        return Err(Trouble::NoConstituency);
+    };
+    match stations_report_text(alloc, con, rows, which) {
+        Ok(text) => Ok(text),
+        Err(_) => Err(Trouble::Memory),
+    }
+}
+
+fn text_of_country(alloc: Global, setup: &Setup, views: &[ConView]) -> Result<String, Trouble>
+    requires { AllZip FitsView setup.now views.now }
+    ensures text { IfOk result (λ text. string_bytes text ≡ country_text setup.now views.now) }
+    ensures trouble { IfErr result (λ trouble. trouble ≡ Trouble.Memory) }
+{
+    match country_report(alloc, setup, views) {
         Ok(text) => Ok(text),
         Err(_) => Err(Trouble::Memory),
     }

@@ -12,9 +12,8 @@ ghost use Rattle.tally_commands.specs.Trouble.{trouble_line, trouble_status};
 
 use crate::standard_error::{tell, tell_named};
 use std::io::Write;
-use tally_faults::{CreateFault, OpenFault};
 use tally_import::CheckFault;
-use tally_keeper::ImportFault;
+use tally_keeper::{CreateFault, ImportFault, OpenFault};
 use tally_report::ReportFault;
 use tally_rules::SetupFault;
 

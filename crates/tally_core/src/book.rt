@@ -6,14 +6,16 @@ ghost use Rattle.tally_returns.specs.State.{opening};
 mod answers;
 mod constituencies;
 mod rows;
+mod shown;
 
 use answers::answer_in;
 use rows::{take_out, take_source};
+use shown::show_returns;
 use std::alloc::{AllocError, Global};
 use std::marker::Model;
-use tally_keeper::{Ask, ImportCount, ImportFault, Keeper, Refusal, Reply, RowSource};
+use tally_keeper::{Ask, ImportCount, ImportFault, Keeper, Refusal, Reply, RowSource, StationRow};
 use tally_ledger::Ledger;
-use tally_rules::Setup;
+use tally_rules::{Code, Setup};
 
 /// Keeps the office's state in memory. Nothing of it outlasts the program.
 #[derive(Drop)]
@@ -65,6 +67,10 @@ impl Keeper for Book {
 
     fn answer(&mut self, ask: &Ask) -> Result<Reply, Refusal> {
         answer_in(self.alloc, &mut self.ledger, ask)
+    }
+
+    fn show_returns(&mut self, con: Code) -> Result<Vec<StationRow>, Refusal> {
+        show_returns(self.alloc, &self.ledger, con)
     }
 
     fn lodge_from<R: RowSource>(&mut self, rows: &mut R) -> Result<ImportCount, ImportFault> {

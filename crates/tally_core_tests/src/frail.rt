@@ -3,8 +3,10 @@
 
 ghost use Rattle.std.specs.Prelude.{◌≡◌, if◌then◌else◌, true, Some, None};
 
-use tally_core::{Ask, Book, ImportCount, ImportFault, Keeper, Refusal, Reply, RowSource};
-use tally_rules::Setup;
+use tally_core::{
+    Ask, Book, ImportCount, ImportFault, Keeper, Refusal, Reply, RowSource, StationRow,
+};
+use tally_rules::{Code, Setup};
 
 /// Keeps its state in memory, and fails as a disk would after some requests and imports.
 #[derive(Drop)]
@@ -56,6 +58,13 @@ impl Keeper for Frail {
             return Err(Refusal::Store);
         }
         self.book.answer(ask)
+    }
+
+    fn show_returns(&mut self, con: Code) -> Result<Vec<StationRow>, Refusal> {
+        if self.is_shut_now() {
+            return Err(Refusal::Store);
+        }
+        self.book.show_returns(con)
     }
 
     fn lodge_from<R: RowSource>(&mut self, rows: &mut R) -> Result<ImportCount, ImportFault> {

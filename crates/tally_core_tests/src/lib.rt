@@ -8,11 +8,15 @@ mod book;
 #[cfg(test)]
 mod certification;
 #[cfg(test)]
+mod codes;
+#[cfg(test)]
 mod decide;
 #[cfg(test)]
 mod failing;
 pub mod frail;
 #[cfg(test)]
 mod lodge;
+#[cfg(test)]
+mod setup;
 #[cfg(test)]
 mod setups;

@@ -26,8 +26,9 @@ use Rattle.tally_steps.specs.LawfulState.{IsLawfulState}
 use Rattle.tally_steps.specs.Outcome.{IsLawfulPast, IsLawfulView, rule_in}
 use Rattle.tally_steps.specs.Step.{IsConStepSeen, after_change, con_shown}
 use Rattle.tally_keeper.specs.Keeper.{Happens, request}
-use Rattle.tally_keeper.specs.Shown.{AnswersShowCon}
+use Rattle.tally_keeper.specs.Shown.{AnswersShowCon, ShowsReturns}
 use Rattle.tally_returns.specs.declared.refusal.Refusal.{Refusal}
+use Rattle.tally_returns.specs.declared.station_row.StationRow.{StationRow}
 use Rattle.tally_desk.specs.Reports.{IsReportText, IsReportTextBy}
 use Rattle.tally_desk.specs.Shown.{HasPastIf, ShowsFor, is_past}
 use Rattle.tally_message.specs.declared.message.Message.{Message}
@@ -132,6 +133,13 @@ pub enough-for : ViewsAreLawful → (setup : List Constituency) (old new : Optio
 enough-for law setup old new con which (Ok view) limits lawful is = λ found there needs.
     lawful-shown (is_past which) found view is.0 is.2 (shown-lawful law setup old new con (record view { past = is.0 }) found limits lawful there is.1)
 enough-for law setup old new con which (Err why) limits lawful is = tt
+
+-- nothing changed where stations were shown
+pub kept-rows : (setup : List Constituency) (old new : Option State) (con : List ℕ) (rows : Vec StationRow Global) → ShowsReturns setup old con (Ok rows) new → new ≡ old
+kept-rows setup (Some s) (Some t) con rows is = ap Some is.0
+kept-rows setup (Some s) None con rows is = absurd is
+kept-rows setup None (Some t) con rows is = absurd is
+kept-rows setup None None con rows is = absurd is
 
 -- ---- what a path names
 

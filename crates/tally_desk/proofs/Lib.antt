@@ -1,1 +1,2 @@
+pub mod CountryLemmas
 pub mod DeskLemmas

@@ -2,27 +2,34 @@
 -- The office's own part, what happens to it, is the machine's: a refused command changes nothing,
 -- and so does one that was not accepted, unless a disk that failed has shut the office.
 use Rattle.std.specs.Prelude.{◌≡◌, ℕ, List, [], Option, Some, None, option_and_then, option_map}
-use Rattle.std.specs.Prelude.{Result, Ok, Err}
+use Rattle.std.specs.Prelude.{Vec, Result, Ok, Err}
+use Rattle.std.specs.declared.alloc.Global.{Global}
 use Rattle.serde_json.specs.Data.{Data}
 use Rattle.serde_json.specs.Written.{compact_text}
 use Rattle.tally_rules.specs.Constituency.{Constituency, ListEntry}
 use Rattle.tally_rules.specs.Setup.{constituency_with, station_with}
 use Rattle.tally_returns.specs.AskSeen.{AskSeen, ask_seen}
 use Rattle.tally_returns.specs.State.{State}
+use Rattle.tally_returns.specs.View.{View}
 use Rattle.tally_returns.specs.declared.ask.Ask.{Ask}
 use Rattle.tally_returns.specs.declared.ask.Ask.TheVariants as ask
 use Rattle.tally_returns.specs.declared.refusal.Refusal.{Refusal}
 use Rattle.tally_returns.specs.declared.refusal.Refusal.TheVariants as refusal
 use Rattle.tally_returns.specs.declared.reply.Reply.{Reply}
 use Rattle.tally_returns.specs.declared.reply.Reply.TheVariants as reply
+use Rattle.tally_returns.specs.declared.station_row.StationRow.{StationRow}
 use Rattle.tally_keeper.specs.Keeper as keeper
+use Rattle.tally_keeper.specs.Shown.{ShowsReturns}
 use Rattle.tally_keeper.specs.Source.{Delivery}
 use Rattle.tally_keeper.specs.declared.import.ImportCount.{ImportCount}
 use Rattle.tally_keeper.specs.declared.source.ImportFault.{ImportFault}
 use Rattle.tally_keeper.specs.declared.source.ImportFault.TheVariants as cause
 use Rattle.tally_records.specs.declared.separator.Sep.{Sep}
 use Rattle.tally_import.specs.ReturnRows.{text_coming}
+use Rattle.tally_overview.specs.CountryText.{country_text}
 use Rattle.tally_report.specs.ProgressText.{progress_text}
+use Rattle.tally_overview.specs.ReturnsText.{returns_text}
+use Rattle.tally_overview.specs.StationsText.{stations_text}
 use Rattle.tally_report.specs.declared.report.Report.{Report}
 use Rattle.tally_message.specs.declared.message.Message.{Message}
 use Rattle.tally_asks.specs.Routes.{con_of_target, station_of_target}
@@ -37,6 +44,7 @@ use Rattle.tally_answer.specs.Outcome.{outcome_text}
 use Rattle.tally_answer.specs.Shown.{shown_con, shown_return}
 use Rattle.tally_answer.specs.Words.{word_text}
 use Rattle.tally_desk.specs.Reports.{IsReportText}
+use Rattle.tally_desk.specs.Shown.{ShowsAll}
 
 -- ---- answers of the desk itself, which leave the state
 
@@ -158,6 +166,43 @@ HasProgressText (Err why) text = text ≡ refusal_text why
 
 abbrev pub ShowsProgress : List Constituency → Option State → MessageAnswer
 ShowsProgress setup old = Asks setup old ask.ShowProgress HasProgressText
+
+-- what is shown of the stations of a constituency, in this form, or the refusal
+abbrev pub HasRowsText :
+    (List StationRow → List ℕ) → Result (Vec StationRow Global) Refusal → List ℕ → Type 0
+HasRowsText form (Ok rows) text = text ≡ form rows.items
+HasRowsText form (Err why) text = text ≡ refusal_text why
+
+abbrev pub ShowsRows : List Constituency → Option State → List ℕ → (List StationRow → List ℕ)
+    → MessageAnswer
+ShowsRows setup old code form text new =
+    (r : Result (Vec StationRow Global) Refusal) × ShowsReturns setup old code r new
+    × HasRowsText form r text
+
+-- the returns of a constituency, as CSV
+abbrev pub returns_answer : Constituency → List StationRow → List ℕ
+returns_answer con rows = answer_text status.Done body.Csv (returns_text con rows)
+
+abbrev pub PublishesReturns : List Constituency → Option State → Constituency → List ℕ
+    → MessageAnswer
+PublishesReturns setup old con code = ShowsRows setup old code (returns_answer con)
+
+-- the stations of a constituency, as plain text
+abbrev pub stations_answer : Constituency → List StationRow → List ℕ
+stations_answer con rows = answer_text status.Done body.Text (stations_text con rows)
+
+abbrev pub ShowsStations : List Constituency → Option State → Constituency → List ℕ → MessageAnswer
+ShowsStations setup old con code = ShowsRows setup old code (stations_answer con)
+
+-- all constituencies together, as plain text
+abbrev pub HasCountryText : List Constituency → Result (Vec View Global) Refusal → List ℕ → Type 0
+HasCountryText setup (Ok views) text =
+    text ≡ answer_text status.Done body.Text (country_text setup views.items)
+HasCountryText setup (Err why) text = text ≡ refusal_text why
+
+abbrev pub ShowsCountry : List Constituency → Option State → MessageAnswer
+ShowsCountry setup old text new =
+    (r : Result (Vec View Global) Refusal) × ShowsAll setup old r new × HasCountryText setup r text
 
 -- ---- imports
 

@@ -19,8 +19,9 @@ use Rattle.tally_asks.specs.Bodies.{con_command, station_command}
 use Rattle.tally_asks.specs.Routes.{IsRouted, route_method, takes_get}
 use Rattle.tally_answer.specs.declared.word.Word.{Word}
 use Rattle.tally_answer.specs.declared.word.Word.TheVariants as word
-use Rattle.tally_desk.specs.Requests.{MessageAnswer, AtCon, AtStation, ImportsBody, Orders, Reports}
-use Rattle.tally_desk.specs.Requests.{Says, ShowsCon, ShowsProgress, ShowsReturn}
+use Rattle.tally_desk.specs.Requests.{MessageAnswer, AtCon, AtStation, ImportsBody, Orders}
+use Rattle.tally_desk.specs.Requests.{PublishesReturns, Reports, Says, ShowsCon, ShowsCountry}
+use Rattle.tally_desk.specs.Requests.{ShowsProgress, ShowsReturn, ShowsStations}
 
 -- What is answered to a message that has this fault; nothing where a read failed.
 abbrev pub fault_word : MessageFault → Option Word
@@ -45,6 +46,11 @@ IsAnswerOn setup old route.Return m = AtStation setup old m (λ code con. ShowsR
 IsAnswerOn setup old route.Con m = AtCon setup old m (λ code con. ShowsCon setup old con code)
 IsAnswerOn setup old (route.Report which) m =
     AtCon setup old m (λ code con. Reports setup old con code which)
+IsAnswerOn setup old route.Returns m =
+    AtCon setup old m (λ code con. PublishesReturns setup old con code)
+IsAnswerOn setup old route.Stations m =
+    AtCon setup old m (λ code con. ShowsStations setup old con code)
+IsAnswerOn setup old route.Country m = ShowsCountry setup old
 IsAnswerOn setup old (route.OnStation command) m =
     AtStation setup old m (λ code con. Orders setup old con (station_command command code) m)
 IsAnswerOn setup old (route.OnCon command) m =

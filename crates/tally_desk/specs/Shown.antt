@@ -1,5 +1,7 @@
 -- What is shown of the office, and what happens to it then.
-use Rattle.std.specs.Prelude.{◌≡◌, ℕ, Bool, true, false, List, [], Option, Vec, Result, Ok, Err}
+use Rattle.std.specs.Prelude.{◌≡◌, ◌⊎◌, ℕ, Bool, true, false, List, [], Option, None, Vec}
+use Rattle.std.specs.Prelude.{Result, Ok, Err}
+use Rattle.std.specs.List.{AllZip}
 use Rattle.std.specs.declared.alloc.Global.{Global}
 use Rattle.tally_rules.specs.Constituency.{Constituency}
 use Rattle.tally_returns.specs.PastSeats.{PastSeats}
@@ -11,7 +13,7 @@ use Rattle.tally_returns.specs.declared.refusal.Refusal.{Refusal}
 use Rattle.tally_returns.specs.declared.reply.Reply.{Reply}
 use Rattle.tally_returns.specs.declared.reply.Reply.TheVariants as reply
 use Rattle.tally_keeper.specs.Keeper.{Happens, request}
-use Rattle.tally_keeper.specs.Shown.{con_with}
+use Rattle.tally_keeper.specs.Shown.{AnswersShowCon, IsOwnRefusal, con_with}
 use Rattle.tally_report.specs.declared.report.Report.{Report}
 use Rattle.tally_report.specs.declared.report.Report.TheVariants as report
 
@@ -42,3 +44,19 @@ ShowsFor which setup old con shown new =
 abbrev pub as_progress : Result (Vec ProgressRow Global) Refusal → Result Reply Refusal
 as_progress (Ok shown) = Ok (reply.Progress shown)
 as_progress (Err why) = Err why
+
+-- ---- the country
+
+-- A view of each constituency, in the setup's order, and all of one state: it is the same before
+-- and after each of them is shown.
+abbrev pub IsCountryOf : List Constituency → Option State → List View → Type 0
+IsCountryOf setup state views =
+    AllZip (λ (con : Constituency) (view : View).
+    AnswersShowCon setup state con.code (Ok view) state) setup views
+
+-- All constituencies are shown, and the state stays; or the office refuses to, out of memory or for
+-- its database, and nothing has changed, unless a failed disk shut it then.
+abbrev pub ShowsAll : List Constituency → Option State → Result (Vec View Global) Refusal
+    → Option State → Type 0
+ShowsAll setup old (Ok views) new = IsCountryOf setup old views.items × (new ≡ old)
+ShowsAll setup old (Err why) new = IsOwnRefusal why × ((new ≡ old) ⊎ (new ≡ None))

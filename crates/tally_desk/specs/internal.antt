@@ -1,3 +1,4 @@
 -- Words of private contracts and of proofs. No promise to a caller speaks of them.
+pub mod Form
 pub mod Gives
 pub mod Named

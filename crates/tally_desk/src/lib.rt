@@ -2,6 +2,7 @@
 #![tactic(auto)]
 
 mod command;
+mod country;
 mod desk;
 mod named;
 mod report;
@@ -9,7 +10,9 @@ mod respond;
 mod room;
 mod show;
 mod shown;
+mod stations;
 
+pub use country::{all_views, country_report};
 pub use desk::serve;
 pub use shown::{progress_of, view_for};
 pub use tally_door::{Door, DoorFault, MemoryConn, MemoryDoor, NoClock, TcpDoor};

@@ -8,8 +8,10 @@ ghost use Rattle.tally_desk.specs.internal.Gives.{GivesBy, GivesOn};
 ghost use Rattle.tally_desk.specs.Respond.{IsAnswer, fault_word, other_method};
 
 use crate::command::{import, order_on_con, order_on_station};
+use crate::country::show_country;
 use crate::room::Room;
 use crate::show::{show_con, show_progress, show_report, show_return};
+use crate::stations::{Form, show_rows};
 use matchit::Router;
 use std::alloc::Global;
 use tally_answer::Word;
@@ -64,6 +66,9 @@ fn answer_by_route<K: Keeper>(
         Route::Return => show_return(alloc, keeper, message),
         Route::Con => show_con(alloc, keeper, message),
         Route::Report(which) => show_report(alloc, keeper, message, which),
+        Route::Returns => show_rows(alloc, keeper, message, Form::Csv),
+        Route::Stations => show_rows(alloc, keeper, message, Form::Text),
+        Route::Country => show_country(alloc, keeper),
         Route::OnStation(command) => order_on_station(alloc, keeper, command, message),
         Route::OnCon(command) => order_on_con(alloc, keeper, command, message),
         Route::Import(sep) => import(alloc, keeper, sep, message),

@@ -80,6 +80,13 @@ pub(crate) fn text_answer(alloc: Global, text: &[u8]) -> Option<Vec<u8>>
     answer_of(alloc, AnswerStatus::Done, BodyType::Text, text).ok()
 }
 
+/// An answer that is CSV.
+pub(crate) fn csv_answer(alloc: Global, text: &[u8]) -> Option<Vec<u8>>
+    ensures { IfSome result (λ out. out.items ≡ answer_text status.Done body.Csv text.now) }
+{
+    answer_of(alloc, AnswerStatus::Done, BodyType::Csv, text).ok()
+}
+
 /// An answer that is JSON.
 pub(crate) fn json_answer(alloc: Global, text: &[u8]) -> Option<Vec<u8>>
     ensures { IfSome result (λ out. out.items ≡ answer_text status.Done body.Json text.now) }

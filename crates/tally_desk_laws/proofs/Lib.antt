@@ -4,3 +4,4 @@ pub mod MessageLemmas
 pub mod AgainLemmas
 pub mod BytesLemmas
 pub mod EnteredTwiceLemmas
+pub mod ReadBackLemmas

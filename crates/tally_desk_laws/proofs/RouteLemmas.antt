@@ -1,17 +1,21 @@
 -- What an answer has done: on each route it has shown something, or it
 -- has carried out an order or an import.
-use Rattle.std.proofs.Common.{◌≡◌, ◌⊎◌, ℕ, List, false, Option, Some, None, Result, Ok, Err, refl, inl, inr}
+use Rattle.std.proofs.Common.{◌≡◌, ◌⊎◌, ℕ, List, false, Option, Some, None, Vec, Global, Result, Ok, Err, refl, sym, ap, subst, inl, inr}
 use Rattle.tally_rules.specs.Constituency.{Constituency}
 use Rattle.tally_returns.specs.Named.{BringsCode}
 use Rattle.tally_returns.specs.State.{State}
+use Rattle.tally_returns.specs.View.{View}
 use Rattle.tally_returns.specs.declared.ask.Ask.{Ask}
 use Rattle.tally_returns.specs.declared.ask.Ask.TheVariants.{ShowReturn, ShowCon, ShowProgress}
 use Rattle.tally_returns.specs.declared.refusal.Refusal.{Refusal}
 use Rattle.tally_returns.specs.declared.refusal.Refusal.TheVariants.{NoConstituency, NoStation}
 use Rattle.tally_returns.specs.declared.reply.Reply.{Reply}
 use Rattle.tally_returns.specs.declared.reply.Reply.TheVariants as reply
+use Rattle.tally_returns.specs.declared.station_row.StationRow.{StationRow}
 use Rattle.tally_steps.specs.Runs.{is_act}
+use Rattle.tally_steps.specs.Step.{IsNotAccepted}
 use Rattle.tally_keeper.specs.Keeper.{Happens, request}
+use Rattle.tally_keeper.specs.Shown.{IsOwnRefusal, ShowsReturns}
 use Rattle.tally_records.specs.declared.separator.Sep.{Sep}
 use Rattle.tally_message.specs.declared.message.Message.{Message}
 use Rattle.tally_asks.specs.Bodies.{con_command, station_command}
@@ -20,8 +24,9 @@ use Rattle.tally_asks.specs.declared.routes.Route.{Route}
 use Rattle.tally_asks.specs.declared.routes.Route.TheVariants as route
 use Rattle.tally_asks.specs.declared.routes.StationCommand.{StationCommand}
 use Rattle.tally_desk_laws.specs.LawStatements.{IsImportRoute}
-use Rattle.tally_desk.specs.Requests.{Asks, HasConText, HasProgressText, HasReportText, HasReturnText, ImportsBody, Named, AtCon, AtNamed, AtStation, Orders, con_in_target, station_in_target}
+use Rattle.tally_desk.specs.Requests.{Asks, HasConText, HasProgressText, HasReportText, HasReturnText, ImportsBody, Named, AtCon, AtNamed, AtStation, Orders, ShowsRows, con_in_target, returns_answer, station_in_target, stations_answer}
 use Rattle.tally_desk.specs.Respond.{IsAnswerOn}
+use Rattle.tally_desk.specs.Shown.{ShowsAll}
 use Rattle.tally_report.specs.declared.report.Report.{Report}
 
 -- ---- what is shown
@@ -65,6 +70,34 @@ return-brings code = λ slip none. absurd (let k = none in cc)
 con-brings : (code : List ℕ) → BringsCode (ShowCon code)
 con-brings code = λ slip none. absurd (let k = none in cc)
 
+-- a look that was refused changed nothing, or the office was shut at it
+not-accepted : (why : Refusal) → IsOwnRefusal why → IsNotAccepted (Err why)
+not-accepted why (inl is) = inl (ap Err is)
+not-accepted why (inr is) = inr (ap Err is)
+
+shut-at : (setup : List Constituency) (old : Option State) (why : Refusal) → IsOwnRefusal why → Happens setup old (request ShowProgress (Err why)) None
+shut-at setup (Some s) why own = not-accepted why own
+shut-at setup None why own = not-accepted why own
+
+look-refused : (setup : List Constituency) (old new : Option State) (why : Refusal) → IsOwnRefusal why → (new ≡ old) ⊎ (new ≡ None) → IsShown setup old new
+look-refused setup old new why own (inl same) = inl same
+look-refused setup old new why own (inr shut) =
+    inr (ShowProgress, Err why, progress-brings, refl, subst (Happens setup old (request ShowProgress (Err why))) (sym shut) (shut-at setup old why own))
+
+rows-came : (setup : List Constituency) (old new : Option State) (code : List ℕ) (r : Result (Vec StationRow Global) Refusal) → ShowsReturns setup old code r new → IsShown setup old new
+rows-came setup (Some s) (Some t) code (Ok rows) is = inl (ap Some is.0)
+rows-came setup (Some s) (Some t) code (Err why) is = inl (ap Some is.0)
+rows-came setup (Some s) None code (Ok rows) is = absurd is
+rows-came setup (Some s) None code (Err why) own = look-refused setup (Some s) None why own (inr refl)
+rows-came setup None (Some t) code (Ok rows) is = absurd is
+rows-came setup None (Some t) code (Err why) is = absurd is
+rows-came setup None None code (Ok rows) is = absurd is
+rows-came setup None None code (Err why) own = inl refl
+
+all-came : (setup : List Constituency) (old new : Option State) (r : Result (Vec View Global) Refusal) → ShowsAll setup old r new → IsShown setup old new
+all-came setup old new (Ok views) is = inl is.1
+all-came setup old new (Err why) is = look-refused setup old new why is.0 is.1
+
 -- ---- what a path names
 
 named-shown : (setup : List Constituency) (old new : Option State) (why : Refusal) (o : Option Named) (F : List ℕ → Constituency → List ℕ → Option State → Type 0) (text : List ℕ)
@@ -85,6 +118,9 @@ kind route.Progress = shown
 kind route.Return = shown
 kind route.Con = shown
 kind (route.Report which) = shown
+kind route.Returns = shown
+kind route.Stations = shown
+kind route.Country = shown
 kind (route.OnStation command) = order_on_station command
 kind (route.OnCon command) = order_on_con command
 kind (route.Import sep) = import sep
@@ -115,6 +151,12 @@ report-on setup old new m which text is =
     named-shown setup old new NoConstituency (con_in_target setup m.target.items) (λ code con. Asks setup old (ShowCon code) (HasReportText con which)) text
     (λ code con. reported setup old new con code which text) is
 
+rows-on : (setup : List Constituency) (old new : Option State) (m : Message) (form : Constituency → List StationRow → List ℕ) (text : List ℕ)
+    → AtCon setup old m (λ code con. ShowsRows setup old code (form con)) text new → IsShown setup old new
+rows-on setup old new m form text is =
+    named-shown setup old new NoConstituency (con_in_target setup m.target.items) (λ code con. ShowsRows setup old code (form con)) text
+    (λ code con shows. rows-came setup old new code shows.0 shows.1) is
+
 -- what an answer on a route is
 pub of-kind : (setup : List Constituency) (old new : Option State) (r : Route) (m : Message) (text : List ℕ)
     → IsAnswerOn setup old r m text new → IsOfKind (kind r) setup old m text new
@@ -126,6 +168,9 @@ of-kind setup old new route.Con m text is =
     named-shown setup old new NoConstituency (con_in_target setup m.target.items) (λ code con. Asks setup old (ShowCon code) (HasConText con)) text
     (λ code con. asked setup old new (ShowCon code) (HasConText con) text (con-brings code) (con-idle con text)) is
 of-kind setup old new (route.Report which) m text is = report-on setup old new m which text is
+of-kind setup old new route.Returns m text is = rows-on setup old new m returns_answer text is
+of-kind setup old new route.Stations m text is = rows-on setup old new m stations_answer text is
+of-kind setup old new route.Country m text is = all-came setup old new is.0 is.1
 of-kind setup old new (route.OnStation command) m text is = is
 of-kind setup old new (route.OnCon command) m text is = is
 of-kind setup old new (route.Import sep) m text is = is

@@ -1,2 +1,3 @@
 pub mod LawStatements
 pub mod EnteredTwice
+pub mod ReadBack

@@ -2,6 +2,7 @@
 
 ghost use Rattle.tally_desk_laws.specs.EnteredTwice as twice;
 ghost use Rattle.tally_desk_laws.specs.LawStatements as law;
+ghost use Rattle.tally_desk_laws.specs.ReadBack as back;
 
 use tally_core::laws as keeper;
 use tally_machine::laws as machine;
@@ -57,4 +58,15 @@ pub fn what_counts_was_entered_twice()
     ensures certified { twice.CertifiedReturnsOfMessagesWereEnteredTwice }
     ensures first { twice.FirstEntriesAreMessages }
     ensures second { twice.SecondEntriesAreMessages }
+{}
+
+/// The returns text of a constituency of a lawful state is read back: its rows are one Lodge for
+/// each return that is recorded, in the order of the setup, with its slip and counts, no bad row
+/// and no fault. So an import of it into the opening state that is done is counted lodged, once for
+/// each of them, and nothing else; and then the returns of the constituency are those that were
+/// recorded, with revision 1, received, and an empty note.
+pub fn returns_read_back()
+    ensures rows { back.ReturnsAreReadBack }
+    ensures count { back.ReadBackIsCountedLodged }
+    ensures after { back.ReadBackReturnsAreThose }
 {}

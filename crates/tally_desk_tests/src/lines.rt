@@ -23,14 +23,21 @@ pub(crate) fn message(alloc: Global, line: &str) -> Result<String, AllocError> {
     Ok(text)
 }
 
-/// The answer of a line such as `200 OK|{"ok":"lodged","rev":1}`, in JSON, or that of a report.
+/// The type of a body: JSON, the CSV of returns, or a report.
+fn type_of(body: &str) -> &'static str {
+    if body.starts_with("{") {
+        return "application/json";
+    }
+    if body.starts_with("station,") {
+        return "text/csv; charset=utf-8";
+    }
+    "text/plain; charset=utf-8"
+}
+
+/// The answer of a line such as `200 OK|{"ok":"lodged","rev":1}`, by what its body begins with.
 pub(crate) fn answer(alloc: Global, line: &str) -> Result<String, AllocError> {
     let (status, body) = cut(line, "|");
-    let kind = if body.starts_with("{") {
-        "application/json"
-    } else {
-        "text/plain; charset=utf-8"
-    };
+    let kind = type_of(body);
     let body = body.replace(alloc, "|", "\n")?;
     let length = body.len();
     let mut text = format!(in alloc;

@@ -36,6 +36,9 @@ POST /station/s1/lodge {"slip":"p1","votes":[100,100],"blank":0,"spoiled":0} = 4
 // body, the return.
 const REFUSED: &str = r#"GET /nothing = 404 Not Found|{"word":"no_route"}
 GET /con/zz/tally = 404 Not Found|{"refused":2,"word":"no_constituency"}
+GET /con/zz/returns = 404 Not Found|{"refused":2,"word":"no_constituency"}
+GET /con/zz/stations = 404 Not Found|{"refused":2,"word":"no_constituency"}
+GET /country/ = 404 Not Found|{"word":"no_route"}
 POST /con/zz/certify x = 404 Not Found|{"refused":2,"word":"no_constituency"}
 POST /station/zz/close x = 404 Not Found|{"refused":1,"word":"no_station"}
 POST /station/s1/close x = 400 Bad Request|{"word":"bad_body"}
@@ -95,6 +98,47 @@ POST /con/c1/reopen {"edition":3,"note":"recount"} = 200 OK|{"edition":4,"ok":"e
 GET /con/c1/holders = 409 Conflict|{"word":"not_certified"}
 GET /con/c1/past = 200 OK|PAST c1 Twin Town|edition 3|A                   1 Alpha|B                   2 Beta|"#;
 
+// Three stations: what is shown of them with no return, and with one that is received and one that
+// is closed. What was published is the same when it is imported.
+const PUBLISHED: &str = r#"GET /con/c1/returns = 200 OK|station,slip,blank,spoiled,A,B|
+GET /con/c1/stations = 200 OK|STATIONS c1 Twin Town|stations 3 missing 3 closed 0|s1                   300 -|s2                   300 -|s3                   300 -|
+POST /station/s3/lodge {"slip":"p3","votes":[30,40],"blank":1,"spoiled":2} = 200 OK|{"ok":"lodged","rev":1}
+POST /station/s1/lodge {"slip":"p1","votes":[100,100],"blank":0,"spoiled":0} = 200 OK|{"ok":"lodged","rev":1}
+POST /station/s1/close {"rev":1} = 200 OK|{"ok":"moved","rev":2}
+GET /con/c1/returns = 200 OK|station,slip,blank,spoiled,A,B|s1,p1,0,0,100,100|s3,p3,1,2,30,40|
+GET /con/c1/stations = 200 OK|STATIONS c1 Twin Town|stations 3 missing 1 closed 1|s1                   300 closed       2 p1                   200       0       0|s2                   300 -|s3                   300 received     1 p3                    70       1       2|
+POST /con/c1/import station,slip,blank,spoiled,A,B|s1,p1,0,0,100,100|s3,p3,1,2,30,40| = 200 OK|{"bad":0,"differs":0,"first":null,"lodged":0,"ok":"import","refused":0,"same":2}"#;
+
+// A second constituency, which has the list B too.
+const PORT: &str = r#"
+[[constituency]]
+code = "c2"
+name = "Port"
+seats = 2
+profile = "d0"
+
+[[constituency.list]]
+code = "B"
+name = "Beta"
+candidates = ["Bo"]
+
+[[constituency.list]]
+code = "C"
+name = "Gamma"
+candidates = ["Cleo"]
+
+[[constituency.station]]
+code = "t1"
+electors = 100
+"#;
+
+// Twin Town is certified and Port is not, before and after its return.
+const COUNTRY: &str =
+    r#"GET /country = 200 OK|COUNTRY|constituencies 2 certified 1|stations 2 closed 1|A                     1           100 Alpha|B                     2           100 Beta|C                     0             0 Gamma|total                 3           200|seats 5 majority 3|
+POST /station/t1/lodge {"slip":"q1","votes":[30,10],"blank":0,"spoiled":0} = 200 OK|{"ok":"lodged","rev":1}
+POST /station/t1/close {"rev":1} = 200 OK|{"ok":"moved","rev":2}
+GET /country = 200 OK|COUNTRY|constituencies 2 certified 1|stations 2 closed 2|A                     1           100 Alpha|B                     2           130 Beta|C                     0            10 Gamma|total                 3           240|seats 5 majority 3|"#;
+
 // The returns of this office are entered twice: each line after a first entry.
 const LODGED: &str =
     r#"POST /station/s1/lodge {"slip":"p1","votes":[100,100],"blank":0,"spoiled":0} = 200 OK|{"ok":"lodged","rev":1}"#;
@@ -105,8 +149,8 @@ POST /station/s1/confirm {"rev":1,"slip":"p1","votes":[100,99],"blank":0,"spoile
 POST /station/s1/confirm {"rev":1,"slip":"p1","votes":[100,100],"blank":0,"spoiled":0} = 200 OK|{"ok":"moved","rev":2}
 GET /con/c1 = 200 OK|{"blank":0,"certified":false,"closed":0,"con":"c1","edition":1,"entry":"double","gone":[],"lot":[],"note":"","seats":[],"spoiled":0,"stations":1,"votes":[0,0]}"#;
 
-// The method of Twin Town, its other stations, what was done before, and a script.
-const SCRIPTS: [(&str, &str, &str, &str); 8] = [
+// The method of Twin Town, what else the setup has, what was done before, and a script.
+const SCRIPTS: [(&str, &str, &str, &str); 10] = [
     ("dhondt", "", "", RECOUNT),
     ("dhondt", "", "", REFUSED),
     ("dhondt", MORE_STATIONS, "", AGAIN),
@@ -115,17 +159,19 @@ const SCRIPTS: [(&str, &str, &str, &str); 8] = [
     ("dhondt", "", CERTIFIED, BY_DIVISORS),
     ("hare", "", CERTIFIED, BY_QUOTAS),
     ("dhondt", "", CERTIFIED, REOPENED),
+    ("dhondt", MORE_STATIONS, "", PUBLISHED),
+    ("dhondt", PORT, CERTIFIED, COUNTRY),
 ];
 
 fn check_script<K: Office>(
     alloc: Global,
     method: &str,
-    stations: &str,
+    more: &str,
     before: &str,
     script: &str,
 ) -> Result<(), Fail> {
     let mut setup = twin_town(alloc, method, 3)?;
-    setup.push_str(stations)?;
+    setup.push_str(more)?;
     let mut office = office_after::<K>(alloc, setup.as_str(), before)?;
     check_each(alloc, &mut office, script)
 }
@@ -140,8 +186,8 @@ fn check_entered_twice<K: Office>(alloc: Global) -> Result<(), Fail> {
 }
 
 fn check_scripts<K: Office>(alloc: Global) -> Result<(), Fail> {
-    for (method, stations, before, script) in SCRIPTS {
-        check_script::<K>(alloc, method, stations, before, script)?;
+    for (method, more, before, script) in SCRIPTS {
+        check_script::<K>(alloc, method, more, before, script)?;
     }
     check_entered_twice::<K>(alloc)
 }

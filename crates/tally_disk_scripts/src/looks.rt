@@ -7,7 +7,7 @@ use sqlite_value::value::Value;
 use std::alloc::Global;
 use std::test::Fail;
 use tally_core::{Book, Keeper};
-use tally_scripts::{setup, text_of_answers};
+use tally_scripts::{setup, text_of_answers, text_of_stations};
 
 /// A station or a constituency that the setup lacks is refused.
 const SHOWN: &str = "return s1
@@ -30,9 +30,13 @@ pub const FORMER_TABLES: &str =
 pub const TABLES: &str =
     "version 2, tables cons counts gone lots past returns seats setup totals\n";
 
-/// What a keeper shows: these returns, the constituencies, and the progress, a line each.
+/// What a keeper shows: these returns, the constituencies, and the progress, a line each; and the
+/// stations of the constituencies.
 pub(crate) fn shown<K: Keeper>(alloc: Global, keeper: &mut K) -> Result<String, Fail> {
-    text_of_answers(alloc, keeper, SHOWN)
+    let mut text = text_of_answers(alloc, keeper, SHOWN)?;
+    text.push_str(text_of_stations(alloc, keeper, "c1")?.as_str())?;
+    text.push_str(text_of_stations(alloc, keeper, "h")?.as_str())?;
+    Ok(text)
 }
 
 /// Adds a value.

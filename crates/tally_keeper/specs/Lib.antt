@@ -1,6 +1,7 @@
 pub mod internal
 pub mod Delivery
 pub mod Events
+pub mod FaultNumbers
 pub mod Given
 pub mod Held
 pub mod Import

@@ -9,14 +9,14 @@ ghost use Rattle.tally_steps.specs.Kinds.{IsReplyTo};
 ghost use Rattle.tally_steps.specs.LawfulState.{IsLawfulState};
 ghost use Rattle.tally_keeper.specs.Delivery.{delivery};
 ghost use Rattle.tally_keeper.specs.Keeper.{Happens, Imports, request};
-ghost use Rattle.tally_keeper.specs.Shown.{AnswersShowCon};
+ghost use Rattle.tally_keeper.specs.Shown.{AnswersShowCon, ShowsReturns};
 ghost use Rattle.tally_keeper.specs.Stays.{StaysBy};
 ghost use Rattle.tally_keeper.specs.declared.source.ImportFault.TheVariants as fault;
 ghost use Rattle.tally_returns.specs.declared.refusal.Refusal.TheVariants as refusal;
 
 use crate::import::ImportCount;
 use crate::source::{ImportFault, RowSource};
-use tally_returns::{Ask, ConView, Refusal, Reply};
+use tally_returns::{Ask, ConView, Refusal, Reply, StationRow};
 use tally_rules::{Code, Setup};
 
 /// Keeps the office's state, in memory or in a database.
@@ -73,6 +73,15 @@ pub trait Keeper {
             Err(refusal) => Err(refusal),
         }
     }
+
+    /// Shows the stations of a constituency in the setup's order, each with its return where it has
+    /// one. Nothing changes, unless a failed disk shuts the keeper at it.
+    fn show_returns(&mut self, con: Code) -> Result<Vec<StationRow>, Refusal>
+        ensures stays { StaysBy constituencies content IsTrusted HasDatabase self.old self.new }
+        ensures shows { IsTrusted self.new →
+            ShowsReturns (constituencies self.old) (content self.old) con result
+            (content self.new) }
+        ensures store { IfErr result (λ e. e ≡ refusal.Store → HasDatabase self.old) };
 
     /// Lodges the rows of a source one by one, all that it gives until its end and no others;
     /// refused and bad ones are passed over. With a fault nothing has changed, unless a failed disk

@@ -3,12 +3,14 @@
 //! `tally_store` a keeper in a database.
 #![tactic(auto)]
 
+mod fault;
 mod given;
 mod import;
 mod keeper;
 mod runs;
 mod source;
 
+pub use fault::{CreateFault, OpenFault};
 pub use given::Given;
 pub use import::{FirstRow, ImportCount, Row};
 pub use keeper::Keeper;
@@ -17,5 +19,5 @@ pub use source::{ImportFault, ROW_LIMIT, RowSource};
 pub use tally_ledger::moved;
 pub use tally_returns::{
     Ask, Change, ConView, Counts, Gone, ListSet, LodgeReply, Past, ProgressRow, Refusal, Reply,
-    Return, Status, decide_at, decide_lodge, decide_return,
+    Return, StationRow, Status, decide_at, decide_lodge, decide_return,
 };

@@ -26,13 +26,14 @@ use Rattle.clap.specs.declared.parser.matches.ArgMatches.TheViews.{out-SubComman
 use Rattle.clap.specs.declared.parser.matches.SubCommand.{SubCommand}
 use Rattle.std.specs.Box.{box_value}
 use Rattle.std.specs.Result.{IsErrAnd}
-use Rattle.tally_line.specs.Line.{IsRefusal, IsLineWithinLimits, LineSeen, NewSeen, ImportSeen, ShowSeen, ServeSeen, fault_from, LacksCon, is_out_of_memory, lacks_con, lacks_report, line_of, line_of_command, line_seen, needs_con, number_in_range, number_given, office_app, report_of, sep_given, show_line, show_seen, usage_kinds}
+use Rattle.tally_line.specs.Line.{IsRefusal, IsLineWithinLimits, LineSeen, NewSeen, ImportSeen, ShowSeen, ServeSeen, fault_from, LacksCon, is_out_of_memory, lacks_con, lacks_report, line_of, line_of_command, line_seen, number_in_range, number_given, office_app, report_of, sep_given, show_line, show_seen, usage_kinds}
 use Rattle.tally_line.specs.internal.Arguments.{IsCommandFault, has, has_arguments}
 use Rattle.tally_line.specs.declared.line.Line.{Line}
 use Rattle.tally_line.specs.declared.line.Line.TheVariants as line
 use Rattle.tally_line.specs.declared.line.LineFault.{LineFault}
 use Rattle.tally_line.specs.declared.line.LineFault.TheVariants.{Memory, NoCon, Usage}
-use Rattle.tally_report.specs.declared.report.Report.{Report}
+use Rattle.tally_overview.specs.Shown.{needs_con}
+use Rattle.tally_overview.specs.declared.shown.Shown.{Shown}
 use Rattle.tally_line.proofs.LeafLemmas.{IsReadable, LeafFits, OnFound, both_empty, found_each, leaf_fits, not_empty, value_given}
 
 pub office_is_simple : is_simple office_app ≡ true
@@ -391,7 +392,7 @@ import_within (Some d) None csv rows = tt
 import_within (Some d) (Some c) None rows = tt
 import_within (Some d) (Some c) (Some v) rows = tt
 
-shown_within : (db : Text) (name : Option Report) (con : Option Text) → OnFound IsSeenWithin (show_seen db name con)
+shown_within : (db : Text) (name : Shown) (con : Option Text) → OnFound IsSeenWithin (show_seen db name con)
 shown_within db name con = go (needs_con name) refl con
   where
     go : (b : Bool) → needs_con name ≡ b → (con : Option Text) → OnFound IsSeenWithin (cond (b && not (is_some con)) None (Some (ShowSeen db name con)))
@@ -399,7 +400,7 @@ shown_within db name con = go (needs_con name) refl con
     go true is None = tt
     go false is con = λ needs. absurd (true≢false (sym needs ∙ is))
 
-show_within : (db : Option Text) (name : Option (Option Report)) (con : Option Text) → OnFound IsSeenWithin (option_and_then (λ d. option_and_then (λ n. show_seen d n con) name) db)
+show_within : (db : Option Text) (name : Option Shown) (con : Option Text) → OnFound IsSeenWithin (option_and_then (λ d. option_and_then (λ n. show_seen d n con) name) db)
 show_within None name con = tt
 show_within (Some d) None con = tt
 show_within (Some d) (Some n) con = shown_within d n con
@@ -445,12 +446,12 @@ is_not : (b : Bool) → not b ≡ true → b ≡ false
 is_not true e = absurd (true≢false (sym e))
 is_not false e = refl
 
-no_show : (db : Option Text) (name : Option (Option Report)) (con : Option Text) → is_some name ≡ false → option_and_then (λ d. option_and_then (λ n. show_seen d n con) name) db ≡ None
+no_show : (db : Option Text) (name : Option Shown) (con : Option Text) → is_some name ≡ false → option_and_then (λ d. option_and_then (λ n. show_seen d n con) name) db ≡ None
 no_show None name con e = refl
 no_show (Some d) None con e = refl
 no_show (Some d) (Some n) con e = absurd (true≢false e)
 
-show_wants : (db : Option Text) (name : Option (Option Report)) (con : Option Text) → option_map_or needs_con name false ≡ true → is_some con ≡ false
+show_wants : (db : Option Text) (name : Option Shown) (con : Option Text) → option_map_or needs_con name false ≡ true → is_some con ≡ false
     → option_and_then (λ d. option_and_then (λ n. show_seen d n con) name) db ≡ None
 show_wants None name con needs e = refl
 show_wants (Some d) None con needs e = refl
@@ -522,7 +523,7 @@ refused_line P fault (Err f) is holds = subst P (sym is) holds
 
 -- ---- the words lack the constituency
 
-needs_named : (name : Option (Option Report)) → option_map_or needs_con name false ≡ true → not (is_some name) ≡ false
+needs_named : (name : Option Shown) → option_map_or needs_con name false ≡ true → not (is_some name) ≡ false
 needs_named None e = absurd (true≢false (sym e))
 needs_named (Some n) e = refl
 

@@ -23,8 +23,8 @@ use Rattle.tally_line.specs.declared.line.Line.{Line}
 use Rattle.tally_line.specs.declared.line.Line.TheVariants as line
 use Rattle.tally_line.specs.declared.line.LineFault.{LineFault}
 use Rattle.tally_line.specs.declared.line.LineFault.TheVariants.{Usage, NoCon, Memory}
-use Rattle.tally_report.specs.Reports.{report_named}
-use Rattle.tally_report.specs.declared.report.Report.{Report}
+use Rattle.tally_overview.specs.Shown.{needs_con, shown_named}
+use Rattle.tally_overview.specs.declared.shown.Shown.{Shown}
 
 -- ---- what the program offers
 
@@ -121,17 +121,9 @@ number_in_range low high text =
 abbrev pub number_given : Text → ℕ → ℕ → List Row → Option ℕ
 number_given id low high rows = option_and_then (number_in_range low high) (first_of id rows)
 
--- what is to be shown under a name: a report of a constituency, or the progress of all
-abbrev pub shown_named : Text → Option (Option Report)
-shown_named name =
-    if bytes_eq name (codes "progress") then Some None else option_map Some (report_named name)
-
-abbrev pub report_of : List Row → Option (Option Report)
+-- what is to be shown
+abbrev pub report_of : List Row → Option Shown
 report_of rows = option_and_then shown_named (first_of (codes "report") rows)
-
--- a report is of one constituency; the progress is of all
-abbrev pub needs_con : Option Report → Bool
-needs_con report = is_some report
 
 -- ---- lines
 
@@ -140,7 +132,7 @@ pub data LineSeen : Type 0 where
   CheckSeen : Sep → LineSeen
   NewSeen : Text → Text → LineSeen
   ImportSeen : Text → Text → Text → Sep → LineSeen
-  ShowSeen : Text → Option Report → Option Text → LineSeen
+  ShowSeen : Text → Shown → Option Text → LineSeen
   ServeSeen : Text → ℕ → ℕ → LineSeen
 
 abbrev pub line_seen : Line → LineSeen
@@ -174,7 +166,7 @@ import_line rows = do
   Some (ImportSeen db con csv (sep_given rows))
 
 -- a report, of the constituency that is named, where the report needs one
-abbrev pub show_seen : Text → Option Report → Option Text → Option LineSeen
+abbrev pub show_seen : Text → Shown → Option Text → Option LineSeen
 show_seen db name con =
     if needs_con name && not (is_some con) then None else Some (ShowSeen db name con)
 

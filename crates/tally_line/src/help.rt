@@ -276,14 +276,20 @@ What goes in:
               short      the fewest extra votes that would guarantee each list
                          another seat, whatever lot is drawn, if the other
                          votes stayed the same
+              stations   the stations, with the status of each return, or a dash
+                         where it is missing
+              returns    the returns as CSV, which 'office import' takes
               progress   how far every constituency is
+              country    the seats and votes of each list over all
+                         constituencies
   --con     the code of a constituency; one that begins with a dash is written
-            --con=-x. Every report but progress needs it; progress ignores it
+            --con=-x. Every report but progress and country needs it; these
+            ignore it
 
 What comes out:
-  The report. Tally, past and progress are given at any time, the others once
-  the constituency is certified: quotients, awards and short only under a
-  divisor rule, quota only under Hare's.";
+  The report. Tally, past, stations, returns, progress and country are given at
+  any time, the others once the constituency is certified: quotients, awards
+  and short only under a divisor rule, quota only under Hare's.";
 
 pub const SHOW_EXAMPLE: &str = "\
 Example:
@@ -318,9 +324,9 @@ pub const REPORT: &str = "The report, such as tally; --help has the names";
 
 pub const REPORTS: &str = "\
   [possible values: tally, seats, quotients, awards, quota, holders, past,
-  short, progress]";
+  short, stations, returns, progress, country]";
 
-pub const SHOW_CON: &str = "The code of the constituency; progress needs none";
+pub const SHOW_CON: &str = "The code of the constituency; progress and country need none";
 
 pub const SERVE: &str = "Answer requests over HTTP, at 127.0.0.1";
 
@@ -347,8 +353,9 @@ What goes in:
   --count  how many connections to serve, 1 to 1000000
 
 The routes, with S the code of a station, C that of a constituency:
-  GET /progress, /station/S, /con/C
-  GET /con/C/tally, and so seats, quotients, awards, quota, holders, past, short
+  GET /progress, /country, /station/S, /con/C
+  GET /con/C/tally, and so seats, quotients, awards, quota, holders, past,
+                            short, stations, returns
   POST /station/S/lodge     {\"slip\":\"p1\",\"votes\":[50,40],\"blank\":2,\"spoiled\":1}
   POST /station/S/query     {\"rev\":1,\"note\":\"the sum is wrong\"}
   POST /station/S/correct   as lodge, and \"rev\":2

@@ -9,7 +9,7 @@ ghost use Rattle.tally_line.specs.Line.{GivesLine, IsRefusal, IsLineWithinLimits
 ghost use Rattle.tally_line.specs.Line.{import_app, import_line, is_set, line_of, line_of_command};
 ghost use Rattle.tally_line.specs.Line.{new_line, new_office_app, number_given, number_rule};
 ghost use Rattle.tally_line.specs.Line.{office_app, semicolon_rule, sep_given};
-ghost use Rattle.tally_line.specs.Line.{serve_app, serve_line, show_app, show_line, shown_named};
+ghost use Rattle.tally_line.specs.Line.{serve_app, serve_line, show_app, show_line};
 ghost use Rattle.tally_line.specs.Line.{value_rule, wanted_rule, with_commands, with_csv};
 ghost use Rattle.tally_line.specs.internal.Arguments.{IsCommandFault, IsShowFault, given_rows, has};
 ghost use Rattle.tally_line.specs.internal.Arguments.{has_arguments, has_count, has_port};
@@ -19,8 +19,8 @@ use clap::builder::ValueParser;
 use clap::error::ErrorKind;
 use clap::{Arg, ArgAction, ArgMatches, Command};
 use std::alloc::{AllocError, Global};
+use tally_overview::Shown;
 use tally_records::Sep;
-use tally_report::Report;
 
 const CHECK: &str = "check";
 
@@ -43,8 +43,6 @@ const CON: &str = "con";
 const CSV: &str = "csv";
 
 const REPORT: &str = "report";
-
-const PROGRESS: &str = "progress";
 
 const PORT: &str = "port";
 
@@ -73,10 +71,10 @@ pub enum Line {
         csv: String,
         sep: Sep,
     },
-    /// Show a report of a constituency, or with no report the progress of all.
+    /// Show a report of a constituency, or of all.
     Show {
         db: String,
-        report: Option<Report>,
+        report: Shown,
         con: Option<String>,
     },
     /// Serve `count` connections, 1 to 1,000,000, on a port from 1.
@@ -186,11 +184,11 @@ fn read_show(alloc: Global, arguments: &ArgMatches<'_>) -> Result<Line, LineFaul
     let Some(name) = text_of(arguments, REPORT) else {
         unreachable!();
     };
-    let Some(report) = shown_named(name) else {
+    let Some(report) = Shown::named(name) else {
         return Err(LineFault::Usage(no_report(alloc, name)?));
     };
     let con = read_con(alloc, arguments)?;
-    if report.is_some() && con.is_none() {
+    if report.needs_con() && con.is_none() {
         return Err(LineFault::NoCon);
     }
     Ok(Line::Show {
@@ -272,16 +270,6 @@ fn is_given(arguments: &ArgMatches<'_>, flag: &str) -> bool
     ensures { result ≡ is_set flag.now (given_rows arguments.now) }
 {
     arguments.get_one(flag).unwrap_or(false)
-}
-
-// What is to be shown under a name: a report, or with `Some(None)` the progress.
-fn shown_named(name: &str) -> Option<Option<Report>>
-    ensures { result ≡ shown_named name.now }
-{
-    match name {
-        PROGRESS => Some(None),
-        _ => Report::named(name).map(Some),
-    }
 }
 
 // The error of a text that names no report, in the form of those of `clap`.

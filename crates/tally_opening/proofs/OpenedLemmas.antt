@@ -25,8 +25,8 @@ use Rattle.tally_opening.specs.Create.{IsAsBefore}
 use Rattle.tally_opening.specs.internal.Ending.{IsSettled}
 use Rattle.tally_opening.specs.Open.{AreFormerTables, CountsFound, HasSetup, IsOfKnownVersion, IsOpenFault, IsOpened, LacksTable}
 use Rattle.tally_opening.specs.internal.Opening.{AreOfNoStored, CountsFormer, CountsTables, HasSetupRow, HasStoredRow, IsJudged, IsTodayFault, Lacks, trees_with}
-use Rattle.tally_faults.specs.declared.fault.OpenFault.{OpenFault}
-use Rattle.tally_faults.specs.declared.fault.OpenFault.TheVariants.{BadTables, Memory, NoTables, Setup, Store}
+use Rattle.tally_keeper.specs.declared.fault.OpenFault.{OpenFault}
+use Rattle.tally_keeper.specs.declared.fault.OpenFault.TheVariants.{BadTables, Memory, NoTables, Setup, Store}
 
 -- ---- tables that are the same
 

@@ -17,6 +17,7 @@ use Rattle.tally_rows.proofs.EntryLemmas.{other_entries, inserted}
 use Rattle.tally_rows.proofs.RowsLemmas.{text_total, text_exact, none_then_all, with_key_is}
 use Rattle.tally_rules.specs.Constituency.{Constituency}
 use Rattle.tally_rules.specs.Limits.{IsSetup}
+use Rattle.tally_rules.specs.Reading.{setup_of_text}
 use Rattle.tally_rules.specs.Setup.{constituency_with}
 use Rattle.tally_rules.specs.declared.constituency.Station.{Station}
 use Rattle.tally_returns.specs.Counts.{VoteCounts}
@@ -130,10 +131,10 @@ no_past con = ap (flat_map (record_rows con.code)) (no_rows _ (sym (len-entries 
 abbrev seats_none : List ℕ → List ℕ
 seats_none code = []
 
-office_made : (setup : List Constituency) (text : List ℕ) (empty_tables set made : Seen) → IsSetup setup → HasEmptyTables 9 empty_tables → PutsSetup 2 text empty_tables set → AddsCons setup set made → IsMade setup text made
-office_made setup text old set made limits none row added = record {
+office_made : (setup : List Constituency) (text : List ℕ) (empty_tables set made : Seen) → setup_of_text text ≡ Ok setup → IsSetup setup → HasEmptyTables 9 empty_tables → PutsSetup 2 text empty_tables set → AddsCons setup set made → IsMade setup text made
+office_made setup text old set made reads limits none row added = record {
   inside = added.inside;
-  whole = whole_inside setup text (opening setup) made added.inside (record {
+  whole = whole_inside setup text (opening setup) made reads added.inside (record {
     given = seats_none;
     allotted = λ code con found. subst (HasSeats con (view_of con (opening setup) [])) (sym (ap (λ (c : ConState). c.certified) (opens_so setup con.code))) refl;
     setup_is = added.setup ∙ row.setup;
@@ -159,6 +160,6 @@ office_made setup text old set made limits none row added = record {
     first_rows : (t : KeyedTable) (rows : List Row) → rows ++ rows_in t set ≡ rows
     first_rows t rows = ap (λ l. rows ++ cells l) (row.others t ∙ tree_empty old none t) ∙ append-nil rows
 
-pub office_last : (setup : List Constituency) (text : List ℕ) (old set made : Seen) (r : Result Unit Error) → IsSetup setup → HasEmptyTables 9 old → PutsSetup 2 text old set → OnOk r (AddsCons setup set made) → OnOk r (IsMade setup text made)
-office_last setup text old set made (Ok done) limits none row added = office_made setup text old set made limits none row added
-office_last setup text old set made (Err e) limits none row added = tt
+pub office_last : (setup : List Constituency) (text : List ℕ) (old set made : Seen) (r : Result Unit Error) → setup_of_text text ≡ Ok setup → IsSetup setup → HasEmptyTables 9 old → PutsSetup 2 text old set → OnOk r (AddsCons setup set made) → OnOk r (IsMade setup text made)
+office_last setup text old set made (Ok done) reads limits none row added = office_made setup text old set made reads limits none row added
+office_last setup text old set made (Err e) reads limits none row added = tt

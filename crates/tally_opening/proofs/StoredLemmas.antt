@@ -15,8 +15,8 @@ use Rattle.tally_schema.specs.Tables.{setup_tree}
 use Rattle.tally_statements.specs.Office.{ShowsSetup, shown_setup, stored_setup}
 use Rattle.tally_tables.specs.TablesOfState.{version}
 use Rattle.tally_opening.specs.internal.Opening.{HasSetupRow, HasShownRow, HasStoredRow, IsSetupFault, IsShownFault, IsShownSetup, IsTablesFault, OrFails, setup_shown, shown_of_row}
-use Rattle.tally_faults.specs.declared.fault.OpenFault.{OpenFault}
-use Rattle.tally_faults.specs.declared.fault.OpenFault.TheVariants.{BadTables, Memory, NoTables, Setup, Store}
+use Rattle.tally_keeper.specs.declared.fault.OpenFault.{OpenFault}
+use Rattle.tally_keeper.specs.declared.fault.OpenFault.TheVariants.{BadTables, Memory, NoTables, Setup, Store}
 
 -- the one row of `setup` is shown
 pub row_shown : (number : ℕ) (text : List ℕ) (seen : Seen) (answer : List Row) → nat_lt number (2 ^ 32) ≡ true → ShowsSetup seen answer → seen.now.trees setup_tree ≡ setup_row number text ∷ []

@@ -20,7 +20,7 @@ use Rattle.tally_tables.specs.TablesOfState.{AreTables, version}
 use Rattle.tally_opening.specs.Crash.{LeavesTakenOver}
 use Rattle.tally_opening.specs.Open.{AreFormerTables, HasSetup, IsOpened, IsTakenOver, former_version, tables_taken_over}
 use Rattle.tally_opening.specs.internal.Opening.{AddsPast, AreFormerOfNone, AreOfNoStored, CountsFormer, CountsTables, HasSetupRow, HasStoredRow, IsFormerFault, IsJudged, IsJudgedFault, IsReady, IsTablesFault, AreTablesTakenOver, trees_with}
-use Rattle.tally_faults.specs.declared.fault.OpenFault.{OpenFault}
+use Rattle.tally_keeper.specs.declared.fault.OpenFault.{OpenFault}
 use Rattle.tally_opening.proofs.JudgingLemmas.{tables_still}
 use Rattle.tally_opening.proofs.OpenedLemmas.{AreSame, beside_setup, forms_differ, same_back, same_tables}
 use Rattle.tally_opening.proofs.StoredLemmas.{fault_as, or_fails}
@@ -149,7 +149,7 @@ leaves_taken setup old last db schema h is = record {
   state = h.state;
   lawful = h.lawful;
   tables = (h.reads, inr (schema, h.former));
-  whole = whole_left setup h.text h.state last db h.inside h.tables is;
+  whole = whole_left setup h.text h.state last db h.reads h.inside h.tables is;
 }
 
 -- ---- what calls answered

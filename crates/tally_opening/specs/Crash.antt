@@ -1,12 +1,11 @@
 -- What a crash may leave of an office that is made or opened, and when nothing was written.
-use Rattle.std.specs.Prelude.{◌≡◌, false, List, ℕ, Result, Ok, OnErr, IsTrue, codes}
+use Rattle.std.specs.Prelude.{◌≡◌, false, List, ℕ, Result, OnErr, IsTrue, codes}
 use Rattle.sqlite.specs.Effect.{Database}
 use Rattle.sqlite.specs.Held.{Held, state}
 use Rattle.sqlite.specs.State.{State as Seen, HasCleanDisk, KeepsCounts, Survives}
 use Rattle.sqlite_trees.specs.declared.store.Store.{Ghosts}
 use Rattle.sqlite_trees.specs.Tree.{Trees}
 use Rattle.tally_rules.specs.Constituency.{Constituency}
-use Rattle.tally_rules.specs.Reading.{setup_of_text}
 use Rattle.tally_steps.specs.LawfulState.{IsLawfulState}
 use Rattle.tally_returns.specs.State.{State, opening}
 use Rattle.tally_schema.specs.Made.{has_table}
@@ -19,8 +18,7 @@ use Rattle.tally_opening.specs.Open.{AreFound}
 -- is, and no others
 abbrev pub LeavesOpening : List ℕ → Trees → Type 0
 LeavesOpening text db =
-    (setup : List Constituency) × (setup_of_text text ≡ Ok setup)
-    × IsWholeOffice setup text (opening setup) db
+    (setup : List Constituency) × IsWholeOffice setup text (opening setup) db
 
 -- Beside what it could leave before: where the tables that were found are those of version 1 of a
 -- lawful state, the tables of this state in today's version, and no others.

@@ -10,9 +10,9 @@ use Rattle.tally_rules.specs.Reading.{setup_of_text}
 use Rattle.tally_rules.specs.declared.fault.SetupFault.TheVariants as setup_fault
 use Rattle.tally_schema.specs.Made.{takes_office_name}
 use Rattle.tally_schema.specs.Tables.{schema_with}
-use Rattle.tally_faults.specs.declared.fault.CreateFault.{CreateFault}
-use Rattle.tally_faults.specs.declared.fault.CreateFault.TheVariants.{Setup, NotEmpty, Memory}
-use Rattle.tally_faults.specs.declared.fault.CreateFault.TheVariants.{Store}
+use Rattle.tally_keeper.specs.declared.fault.CreateFault.{CreateFault}
+use Rattle.tally_keeper.specs.declared.fault.CreateFault.TheVariants.{Setup, NotEmpty, Memory}
+use Rattle.tally_keeper.specs.declared.fault.CreateFault.TheVariants.{Store}
 use Rattle.tally_opening.specs.Office.{HasState}
 
 -- no table, no index and no view

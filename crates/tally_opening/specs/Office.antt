@@ -16,9 +16,10 @@ use Rattle.tally_tables.specs.TablesOfState.{AreTables}
 abbrev pub HasOfficeSchema : Trees → Type 0
 HasOfficeSchema db = IsDatabase (record { schema = office_schema; trees = db })
 
--- Stored are the tables of a state, over a setup that has this text, and no others.
+-- Stored are the tables of a state, over the setup that this text is, and no others.
 pub record IsWholeOffice (setup : List Constituency) (text : List ℕ) (s : State) (db : Trees)
     : Type 0 where
+  pub reads : setup_of_text text ≡ Ok setup
   pub tables : AreTables setup text s db
   pub schema : HasOfficeSchema db
 

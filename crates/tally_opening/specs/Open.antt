@@ -20,9 +20,9 @@ use Rattle.tally_tables.specs.declared.views.Statuses.{Statuses}
 use Rattle.tally_statements.specs.declared.table.KeyedTable.{KeyedTable}
 use Rattle.tally_statements.specs.Office.{tree_of}
 use Rattle.tally_opening.specs.Office.{HasState}
-use Rattle.tally_faults.specs.declared.fault.OpenFault.{OpenFault}
-use Rattle.tally_faults.specs.declared.fault.OpenFault.TheVariants.{NoTables, BadTables, Setup}
-use Rattle.tally_faults.specs.declared.fault.OpenFault.TheVariants.{Memory, Store}
+use Rattle.tally_keeper.specs.declared.fault.OpenFault.{OpenFault}
+use Rattle.tally_keeper.specs.declared.fault.OpenFault.TheVariants.{NoTables, BadTables, Setup}
+use Rattle.tally_keeper.specs.declared.fault.OpenFault.TheVariants.{Memory, Store}
 
 -- the version of the tables that had no `past`
 abbrev pub former_version : ℕ

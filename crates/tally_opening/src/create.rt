@@ -18,7 +18,7 @@ use sqlite::{Alter, Connection, Error, ErrorCode};
 use sqlite_schema::schema::Schema;
 use std::alloc::Global;
 use std::str;
-use tally_faults::CreateFault;
+use tally_keeper::CreateFault;
 use tally_rules::{Setup, SetupFault, read_setup};
 use tally_schema::takes_office_name;
 use tally_statements::is_memory;

@@ -17,7 +17,7 @@ use crate::opening::{judge_stored, open_fault_of};
 use sqlite::{Alter, Connection, Error, Transaction};
 use std::alloc::Global;
 use std::collections::BTreeMap;
-use tally_faults::OpenFault;
+use tally_keeper::OpenFault;
 use tally_rules::{Code, Setup};
 use tally_schema::create_past;
 use tally_statements::update_version;

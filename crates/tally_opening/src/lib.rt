@@ -12,4 +12,4 @@ mod opening;
 
 pub use create::create_in;
 pub use open::open_in;
-pub use tally_faults::{CreateFault, OpenFault};
+pub use tally_keeper::{CreateFault, OpenFault};

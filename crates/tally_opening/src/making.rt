@@ -1,8 +1,9 @@
 //! Making the tables of an office that opens.
 
-ghost use Rattle.std.specs.Prelude.{◌≡◌, ◌∷◌, [], false, IsTrue, OnOk};
+ghost use Rattle.std.specs.Prelude.{◌≡◌, ◌∷◌, [], false, IsTrue, Ok, OnOk};
 ghost use Rattle.sqlite.specs.Held.{state};
 ghost use Rattle.tally_rules.specs.Limits.{IsSetup};
+ghost use Rattle.tally_rules.specs.Reading.{setup_of_text};
 ghost use Rattle.tally_schema.specs.Tables.{schema_with};
 ghost use Rattle.tally_statements.specs.internal.Inside.{InDatabase, Stays};
 ghost use Rattle.tally_opening.specs.Calls.{OnDisk, Yields};
@@ -76,6 +77,7 @@ fn make_office<S: Alter>(
     setup: &Setup,
     text: &str,
 ) -> Result<(), Error>
+    requires reads { setup_of_text text.now ≡ Ok setup.now }
     ensures stays { Stays S.Store tx.old tx.new }
     ensures made { InDatabase S.Store (Made setup.now text.now) tx.old tx.new result }
     ensures limits { OnOk result (IsSetup setup.now) }
@@ -92,6 +94,7 @@ pub(crate) fn make_in<S: Alter>(
     setup: &Setup,
     text: &str,
 ) -> Result<(), Error>
+    requires reads { setup_of_text text.now ≡ Ok setup.now }
     requires autocommit { conn.old.in_transaction ≡ false }
     requires unset { (state S.Store conn.old).now.schema ≡ schema_with 0 }
     requires settled { IsSettled (state S.Store conn.old) }

@@ -15,7 +15,7 @@ use sqlite::{Alter, Connection};
 use sqlite_schema::schema::Schema;
 use std::alloc::Global;
 use std::collections::BTreeMap;
-use tally_faults::OpenFault;
+use tally_keeper::OpenFault;
 use tally_rules::{Code, Setup};
 use tally_schema::{has_former_tables, has_past, is_former_schema, is_office_schema};
 use tally_tables::Statuses;

@@ -21,7 +21,7 @@ use crate::making::VERSION;
 use sqlite::{Alter, Connection, Error, ErrorCode, Row, Transaction};
 use std::alloc::Global;
 use std::collections::BTreeMap;
-use tally_faults::OpenFault;
+use tally_keeper::OpenFault;
 use tally_rows::{number_at, text_at};
 use tally_rules::{Code, Setup, SetupFault, read_setup};
 use tally_statements::{all_setup, is_memory};

@@ -10,6 +10,7 @@ ghost use Rattle.tally_commands.specs.Imported.{IsCountText};
 ghost use Rattle.tally_commands.specs.Made.{IsMadeText, constituencies_text};
 ghost use Rattle.tally_commands.specs.Served.{IsServedText, listening_line};
 ghost use Rattle.tally_commands.specs.Reported.{IsReported};
+ghost use Rattle.tally_overview.specs.Shown.{needs_con};
 ghost use Rattle.tally_program.specs.Commands.{AtPath, AtPort, IsAnyText, IsTroubleOfListening};
 ghost use Rattle.tally_program.specs.Commands.{IsWritten, TakesCourse};
 ghost use Rattle.tally_program.specs.internal.Served.{IsReportOfServing};
@@ -26,9 +27,9 @@ use std::alloc::Global;
 use std::fs::File;
 use std::io::Write;
 use tally_commands::{
-    CONSTITUENCIES_ROOM, LISTENING_ROOM, Report, SERVED_ROOM, Sep, Trouble, Watch,
-    constituencies_text, has_con, import_returns, listening_text, served_text, show_progress,
-    show_report, tell,
+    CONSTITUENCIES_ROOM, LISTENING_ROOM, SERVED_ROOM, Sep, Shown, Trouble, Watch,
+    constituencies_text, has_con, import_returns, listening_text, served_text, show_country,
+    show_progress, show_report, show_stations, tell,
 };
 use tally_desk::{Door, TcpDoor, serve};
 use tally_import::write_text;
@@ -179,16 +180,16 @@ fn import_file<K: Keeper>(
     }
 }
 
-/// Prints a report of the constituency that is named, or with no report the progress of all.
+/// Prints a report, of the constituency that is named where it is of one.
 pub fn show<O: Offices, W: Write>(
     rt: &HostRuntime,
     offices: &O,
     db: &str,
-    report: Option<Report>,
+    report: Shown,
     con: Option<&str>,
     output: &mut W,
 ) -> Result<(), Trouble>
-    requires { is_some report ≡ true → is_some con ≡ true }
+    requires { needs_con report ≡ true → is_some con ≡ true }
     ensures written { IsWritten W.contents IsAnyText output.old output.new result }
     ensures named { IfErr result IsTroubleOfShow }
 {
@@ -200,14 +201,14 @@ pub fn show<O: Offices, W: Write>(
     close_and_print(rt, offices, db, office, outcome, output)
 }
 
-/// The text of a report, or of the progress where there is none.
+/// The text of a report.
 fn show_in<K: Keeper>(
     rt: &HostRuntime,
     keeper: &mut K,
-    report: Option<Report>,
+    report: Shown,
     con: Option<&str>,
 ) -> Result<String, Trouble>
-    requires { is_some report ≡ true → is_some con ≡ true }
+    requires { needs_con report ≡ true → is_some con ≡ true }
     ensures stays { StaysKeeper K.Keeper keeper.old keeper.new }
     ensures named { IfErr result IsTroubleOfReport }
     ensures shown { K.IsTrusted keeper.new → IfOk result (λ text.
@@ -217,12 +218,17 @@ fn show_in<K: Keeper>(
         IsShowTrouble (K.constituencies keeper.old) (K.content keeper.old) report
         (option_map (λ c. c.now) con.entry) trouble (K.content keeper.new)) }
 {
-    let Some(which) = report else {
-        return show_progress(rt.alloc(), keeper);
-    };
-    match con {
-        Some(con) => show_report(rt.alloc(), keeper, con, which),
-        None => unreachable!(),
+    match report {
+        Shown::Progress => show_progress(rt.alloc(), keeper),
+        Shown::Country => show_country(rt.alloc(), keeper),
+        Shown::Stations(which) => match con {
+            Some(con) => show_stations(rt.alloc(), keeper, con, which),
+            None => unreachable!(),
+        },
+        Shown::Report(which) => match con {
+            Some(con) => show_report(rt.alloc(), keeper, con, which),
+            None => unreachable!(),
+        },
     }
 }
 

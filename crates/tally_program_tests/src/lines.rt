@@ -3,8 +3,8 @@
 use std::alloc::{AllocError, Global};
 use std::test::Fail;
 use tally_line::{Line, LineFault, read_line};
+use tally_overview::Shown;
 use tally_records::Sep;
-use tally_report::Report;
 
 /// The words of a line, at its spaces.
 fn words_of(alloc: Global, line: &str) -> Result<Vec<String>, AllocError> {
@@ -59,10 +59,11 @@ fn text_of_line(alloc: Global, line: &Line) -> Result<String, AllocError> {
     }
 }
 
-fn text_of_report(alloc: Global, report: Option<Report>) -> Result<String, AllocError> {
+fn text_of_report(alloc: Global, report: Shown) -> Result<String, AllocError> {
     match report {
-        Some(which) => format!(in alloc; "{which:?}"),
-        None => "Progress".to_string(alloc),
+        Shown::Stations(which) => format!(in alloc; "{which:?}"),
+        Shown::Report(which) => format!(in alloc; "{which:?}"),
+        other => format!(in alloc; "{other:?}"),
     }
 }
 
@@ -110,8 +111,12 @@ office show --db a.db --report holders --con c1 = show a.db Holders c1
 office show --db a.db --report past --con c1 = show a.db Past c1
 office show --db a.db --report short --con c1 = show a.db Short c1
 office show --db a.db --report tally --con=-x = show a.db Tally -x
+office show --db a.db --report stations --con c1 = show a.db Stations c1
+office show --db a.db --report returns --con c1 = show a.db Returns c1
 office show --db a.db --report progress = show a.db Progress
 office show --db a.db --report progress --con c1 = show a.db Progress c1
+office show --db a.db --report country = show a.db Country
+office show --db a.db --report country --con c1 = show a.db Country c1
 office serve --db a.db --port 1 --count 1 = serve a.db 1 1
 office serve --count 1000000 --port 65535 --db a.db = serve a.db 65535 1000000";
 
@@ -131,6 +136,8 @@ office show --db a.db --report quota = NoCon
 office show --db a.db --report holders = NoCon
 office show --db a.db --report past = NoCon
 office show --db a.db --report short = NoCon
+office show --db a.db --report stations = NoCon
+office show --db a.db --report returns = NoCon
 office new = MissingRequiredArgument
 office new --setup s = MissingRequiredArgument
 office new --db a = MissingRequiredArgument

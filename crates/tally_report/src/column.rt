@@ -7,14 +7,10 @@ use std::alloc::AllocError;
 use tally_rules::Constituency;
 
 /// The places of a column of codes: as many as the longest code has bytes.
-pub(crate) const CODE_WIDTH: usize = 16;
+pub const CODE_WIDTH: usize = 16;
 
 /// The first line of a report of a constituency.
-pub(crate) fn push_heading(
-    text: &mut String,
-    report: &str,
-    con: &Constituency,
-) -> Result<(), AllocError>
+pub fn push_heading(text: &mut String, report: &str, con: &Constituency) -> Result<(), AllocError>
     ensures { OnOk result (string_bytes text.new
         ≡ string_bytes text.old ++ heading report.now con.now) }
 {
@@ -23,7 +19,7 @@ pub(crate) fn push_heading(
 }
 
 /// A value at the left of a column of so many places.
-pub(crate) fn push_left(text: &mut String, value: &str, width: usize) -> Result<(), AllocError>
+pub fn push_left(text: &mut String, value: &str, width: usize) -> Result<(), AllocError>
     ensures { OnOk result (string_bytes text.new ≡
         string_bytes text.old ++ left_cell width value.now) }
 {
@@ -41,7 +37,7 @@ fn push_spaces(text: &mut String, count: usize) -> Result<(), AllocError>
 }
 
 /// A number at the right of a column of so many places.
-pub(crate) fn push_number(text: &mut String, n: u64, width: usize) -> Result<(), AllocError>
+pub fn push_number(text: &mut String, n: u64, width: usize) -> Result<(), AllocError>
     ensures { OnOk result (string_bytes text.new ≡ string_bytes text.old ++ number width n) }
 {
     write!(text, "{n:>width$}")

@@ -16,6 +16,7 @@ mod short;
 mod tally;
 
 pub use awards::awards_text;
+pub use column::{CODE_WIDTH, push_heading, push_left, push_number};
 pub use fault::ReportFault;
 pub use holders::holders_text;
 pub use past::past_text;

@@ -6,7 +6,7 @@
 #[cfg(test)]
 mod answers;
 #[cfg(test)]
-mod codes;
+mod country;
 #[cfg(test)]
 mod fractions;
 #[cfg(test)]
@@ -14,7 +14,7 @@ mod polls;
 #[cfg(test)]
 mod reports;
 #[cfg(test)]
-mod setup;
+mod stations;
 #[cfg(test)]
 mod threshold;
 #[cfg(test)]

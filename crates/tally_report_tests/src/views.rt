@@ -1,5 +1,9 @@
 //! Setups and views as text, and the reports of them.
 
+ghost use Rattle.std.specs.Prelude.{IfOk};
+ghost use Rattle.std.specs.List.{AllZip};
+ghost use Rattle.tally_returns.specs.View.{FitsView};
+
 use std::alloc::{AllocError, Global};
 use std::test::Fail;
 use tally_report::{Report, ReportFault, report_text};
@@ -162,6 +166,32 @@ pub(crate) fn check(
     check_view(alloc, con, &view, report, want)
 }
 
+/// The views of constituencies, each by a line.
+pub(crate) fn views_of(
+    alloc: Global,
+    cons: &[Constituency],
+    lines: &str,
+) -> Result<Vec<ConView>, Fail>
+    ensures { IfOk result (λ views. AllZip FitsView cons.now views.items) }
+{
+    let mut views = Vec::new(alloc);
+    let mut lines = lines.lines();
+    for con in cons {
+        views.push(fitting(alloc, con, lines.next().unwrap_or(""))?)?;
+    }
+    Ok(views)
+}
+
+fn fitting(alloc: Global, con: &Constituency, line: &str) -> Result<ConView, Fail>
+    ensures { IfOk result (FitsView con.now) }
+{
+    let view = view_of(alloc, line)?;
+    if !view.fits(con) {
+        return Err(Fail::from("a view that does not fit"));
+    }
+    Ok(view)
+}
+
 fn opening(alloc: Global) -> ConView {
     ConView {
         edition: 1,
@@ -255,16 +285,16 @@ fn past_of(alloc: Global, text: &str) -> Result<Past, AllocError> {
 }
 
 /// The texts before a mark and after it; where there is no mark, the whole text and an empty one.
-fn cut<'a>(text: &'a str, mark: &str) -> (&'a str, &'a str) {
+pub(crate) fn cut<'a>(text: &'a str, mark: &str) -> (&'a str, &'a str) {
     text.split_once(mark).unwrap_or((text, ""))
 }
 
 /// The number of a text, or 0 for a text that is not a number, so that the test that has it fails.
-fn number(text: &str) -> u32 {
+pub(crate) fn number(text: &str) -> u32 {
     text.parse::<u32>().unwrap_or(0)
 }
 
-fn places(alloc: Global, text: &str) -> Result<Vec<u32>, AllocError> {
+pub(crate) fn places(alloc: Global, text: &str) -> Result<Vec<u32>, AllocError> {
     let mut places = Vec::new(alloc);
     for word in text.split_whitespace() {
         places.push(number(word))?;

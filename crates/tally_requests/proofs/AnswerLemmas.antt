@@ -132,12 +132,12 @@ stays-on g a b d still one two =
 pub cons-still : (old new : Seen) (rows : List Row) → IsUnchanged old new → AreCons rows old → AreCons rows new
 cons-still old new rows same all = subst (λ d. IsPermutation (cells (d.trees (tree_of Cons))) rows) (sym same.0.now_is) all
 
--- the rows of one constituency more
-pub rows-more : (f : Constituency → ProgressRow) (cons : List Constituency) (i : ℕ) (con : Constituency) (rows more : List ProgressRow) (row : ProgressRow) → i < length cons → con ≡ slice_index_or cons i con
-    → rows ≡ map f (take i cons) → row ≡ f con → more ≡ rows ++ row ∷ [] → more ≡ map f (take (i + 1) cons)
-rows-more f cons i con rows more row less con_is before row_is after =
-    let next : take (i + 1) cons ≡ take i cons ++ con ∷ [] = take_more cons i con less ∙ ap (λ x. take i cons ++ x ∷ []) (sym con_is) in
-    after ∙ ap (λ l. l ++ row ∷ []) before ∙ ap (λ r. map f (take i cons) ++ r ∷ []) row_is ∙ sym (ap (map f) next ∙ map-append f (take i cons) (con ∷ []))
+-- the rows of one entry more
+pub rows-more : {X Y : Type 0} (f : X → Y) (entries : List X) (i : ℕ) (entry : X) (rows more : List Y) (row : Y) → i < length entries → entry ≡ slice_index_or entries i entry
+    → rows ≡ map f (take i entries) → row ≡ f entry → more ≡ rows ++ row ∷ [] → more ≡ map f (take (i + 1) entries)
+rows-more f entries i entry rows more row less entry_is before row_is after =
+    let next : take (i + 1) entries ≡ take i entries ++ entry ∷ [] = take_more entries i entry less ∙ ap (λ x. take i entries ++ x ∷ []) (sym entry_is) in
+    after ∙ ap (λ l. l ++ row ∷ []) before ∙ ap (λ r. map f (take i entries) ++ r ∷ []) row_is ∙ sym (ap (map f) next ∙ map-append f (take i entries) (entry ∷ []))
 
 -- what a call left as it was
 pub still-unchanged : (old new : Seen) → IsUnchanged old new → IsInside old → IsStill old new

@@ -9,6 +9,7 @@ pub mod MovedLemmas
 pub mod RecordLemmas
 pub mod RowLemmas
 pub mod ShownLemmas
+pub mod StationLemmas
 pub mod TotalLemmas
 pub mod UnwrittenLemmas
 pub mod WriteLemmas

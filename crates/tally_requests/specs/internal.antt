@@ -12,3 +12,4 @@ pub mod Inside
 pub mod Known
 pub mod Requests
 pub mod Shown
+pub mod Stations

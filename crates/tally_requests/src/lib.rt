@@ -10,8 +10,10 @@ mod moves;
 mod returns;
 mod rows;
 mod shown;
+mod stations;
 mod sums;
 
 pub use answer::answer_in;
 pub use rows::{import_fault_of, take_rows};
 pub use shown::{see_open, show_con_in};
+pub use stations::show_returns_in;

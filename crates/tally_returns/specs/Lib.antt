@@ -11,6 +11,7 @@ pub mod Lawful
 pub mod Decide
 pub mod State
 pub mod Progress
+pub mod StationRows
 pub mod GoneCandidate
 pub mod PastSeats
 pub mod View

@@ -12,6 +12,7 @@ mod progress;
 mod refusal;
 mod reply;
 mod returns;
+mod station_row;
 mod view;
 
 pub use ask::Ask;
@@ -23,5 +24,6 @@ pub use progress::ProgressRow;
 pub use refusal::Refusal;
 pub use reply::{LodgeReply, Reply};
 pub use returns::{Return, Status, is_note_or_empty};
+pub use station_row::StationRow;
 pub use tally_rules::ListSet;
 pub use view::{ConView, Gone, LAST_EDITION, Past};

@@ -1,11 +1,11 @@
 //! Returns of polling stations.
 
-ghost use Rattle.std.specs.Prelude.{◌≡◌, ◌≤◌, IfOk, IsTrue};
+ghost use Rattle.std.specs.Prelude.{◌≡◌, ◌≤◌, length, IfOk, IsTrue};
 ghost use Rattle.tally_frac.specs.Limits.{most_lists};
 ghost use Rattle.tally_rules.specs.declared.constituency.Entry as declared;
 ghost use Rattle.tally_returns.specs.Lawful.{IsLawful, is_note_or_empty};
 ghost use Rattle.tally_returns.specs.Lodge.{is_return_of, limits_for};
-ghost use Rattle.tally_returns.specs.Return.{first_return};
+ghost use Rattle.tally_returns.specs.Return.{first_return, status_word};
 
 use crate::counts::Counts;
 use crate::moves::LAST_REVISION;
@@ -24,6 +24,21 @@ pub enum Status {
     Corrected,
     /// Closed: its votes count.
     Closed,
+}
+
+impl Status {
+    /// Its word, as it is shown.
+    pub fn word(self) -> &'static str
+        ensures word { result.now ≡ status_word self }
+        ensures short { length result.now ≤ 16 }
+    {
+        match self {
+            Status::Received => "received",
+            Status::Queried => "queried",
+            Status::Corrected => "corrected",
+            Status::Closed => "closed",
+        }
+    }
 }
 
 /// The return of a polling station.

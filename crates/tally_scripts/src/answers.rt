@@ -1,9 +1,12 @@
 //! Answers as text.
 
 use crate::commands::{command, commands};
+use crate::setups::code;
 use std::alloc::Global;
 use std::test::Fail;
-use tally_keeper::{Ask, ConView, Keeper, ListSet, ProgressRow, Refusal, Reply, Return, run};
+use tally_keeper::{
+    Ask, ConView, Keeper, ListSet, ProgressRow, Refusal, Reply, Return, StationRow, run,
+};
 use tally_rules::Code;
 
 /// What is answered, as text: a word for it, and its numbers.
@@ -171,6 +174,43 @@ fn text_of_shown(alloc: Global, shown: &Result<ConView, Refusal>) -> Result<Stri
         Ok(view) => text_of_view(alloc, view),
         Err(refusal) => text_of_refusal(alloc, refusal),
     }
+}
+
+/// What a keeper shows of the stations of a constituency, a line for each: its code, its electors,
+/// and its return or `-`. Or what it refuses, on a line.
+pub fn text_of_stations<K: Keeper>(
+    alloc: Global,
+    keeper: &mut K,
+    con: &str,
+) -> Result<String, Fail> {
+    text_of_rows(alloc, &keeper.show_returns(code(con)?))
+}
+
+fn text_of_rows(alloc: Global, shown: &Result<Vec<StationRow>, Refusal>) -> Result<String, Fail> {
+    let mut text = String::new(alloc);
+    match shown {
+        Ok(rows) => {
+            for row in rows {
+                push_station(alloc, &mut text, row)?;
+            }
+        }
+        Err(refusal) => push_line(&mut text, text_of_refusal(alloc, refusal)?.as_str())?,
+    }
+    Ok(text)
+}
+
+fn push_station(alloc: Global, text: &mut String, row: &StationRow) -> Result<(), Fail> {
+    write!(text, "{} {} ", row.station, row.electors)?;
+    match &row.found {
+        Some(standing) => push_line(text, text_of_return(alloc, standing)?.as_str()),
+        None => push_line(text, "-"),
+    }
+}
+
+fn push_line(text: &mut String, line: &str) -> Result<(), Fail> {
+    text.push_str(line)?;
+    text.push_str("\n")?;
+    Ok(())
 }
 
 /// The first of these lines, `COMMAND = ANSWER`, whose answer is another, with that answer.

@@ -12,7 +12,7 @@ mod setups;
 
 pub use answers::{
     check_answers, first_wrong, first_wrong_of_run, text_of_answer, text_of_answers,
-    text_of_refusal,
+    text_of_refusal, text_of_stations,
 };
 pub use commands::{command, counts};
 pub use imports::{import_from, text_of_import_from};

@@ -3,5 +3,7 @@ pub mod ContentLemmas
 pub mod RequestLemmas
 pub mod EndLemmas
 pub mod ShownLemmas
+pub mod StationLemmas
 pub mod CertifiedLemmas
 pub mod EnteredTwiceLemmas
+pub mod NextOpeningLemmas

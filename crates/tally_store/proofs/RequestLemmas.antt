@@ -146,8 +146,8 @@ pub done_failed : (setup : List Constituency) (text : List ℕ) (s : State) (ask
     → IsDone setup text s ask (Err e) new
 done_failed setup text s ask e old new own h back = record { state = s; answered = inr (not_accepted e own, refl); has = state_back setup text s old new h back }
 
-pub tables_after : (setup : List Constituency) (text : List ℕ) (s : State) (ask : Ask) (r : Result Reply Refusal) (last : Seen) → IsCarriedOut setup text s ask r last → AreTablesAfter setup text s ask last.now.trees
-tables_after setup text s ask r last h = record { answer = r; state = h.state; answered = h.answered; whole = whole_inside setup text h.state last h.in_state.inside h.in_state.tables }
+pub tables_after : (setup : List Constituency) (text : List ℕ) (s : State) (ask : Ask) (r : Result Reply Refusal) (last : Seen) → setup_of_text text ≡ Ok setup → IsCarriedOut setup text s ask r last → AreTablesAfter setup text s ask last.now.trees
+tables_after setup text s ask r last reads h = record { answer = r; state = h.state; answered = h.answered; whole = whole_inside setup text h.state last reads h.in_state.inside h.in_state.tables }
 
 -- ---- an import
 
@@ -155,8 +155,8 @@ pub all_committed : (setup : List Constituency) (text : List ℕ) (s : State) (d
     → IsAllDone setup text s d count new
 all_committed setup text s d count last new h shown = record { state = h.state; imported = h.imported; has = state_committed setup text h.state last new h.in_state shown }
 
-pub tables_imported : (setup : List Constituency) (text : List ℕ) (s : State) (d : Delivery) (count : ImportCount) (last : Seen) → IsImported setup text s d count last → AreTablesImported setup text s d last.now.trees
-tables_imported setup text s d count last h = record { count = count; state = h.state; imported = h.imported; whole = whole_inside setup text h.state last h.in_state.inside h.in_state.tables }
+pub tables_imported : (setup : List Constituency) (text : List ℕ) (s : State) (d : Delivery) (count : ImportCount) (last : Seen) → setup_of_text text ≡ Ok setup → IsImported setup text s d count last → AreTablesImported setup text s d last.now.trees
+tables_imported setup text s d count last reads h = record { count = count; state = h.state; imported = h.imported; whole = whole_inside setup text h.state last reads h.in_state.inside h.in_state.tables }
 
 import-lawful : (setup : List Constituency) (s t : State) (d : Delivery) (count : ImportCount) → IsSetup setup → IsLawfulState setup s → IsImportOf setup (Some s) d count (Some t) → IsLawfulState setup t
 import-lawful setup s t d count limits lawful is =

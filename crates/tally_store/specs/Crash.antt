@@ -1,7 +1,7 @@
 -- What a crash may leave of a store. The clauses speak of a crash at the end of a call. A disk that
 -- stops within a call refuses every later access, so that the call still ends, and its clause holds
 -- of that stop too. That is an inference: no clause states it.
-use Rattle.std.specs.Prelude.{◌≡◌, ◌⊎◌, List, ℕ, IfOk, IsTrue, Some, Result}
+use Rattle.std.specs.Prelude.{◌≡◌, ◌⊎◌, List, ℕ, IfOk, IsTrue, Some, Result, Ok, Err}
 use Rattle.sqlite.specs.State.{State as Seen, HasCleanDisk, KeepsCounts}
 use Rattle.sqlite_trees.specs.Tree.{Trees}
 use Rattle.tally_rules.specs.Constituency.{Constituency}
@@ -12,6 +12,7 @@ use Rattle.tally_returns.specs.declared.ask.Ask.{Ask}
 use Rattle.tally_returns.specs.declared.refusal.Refusal.{Refusal}
 use Rattle.tally_returns.specs.declared.reply.Reply.{Reply}
 use Rattle.tally_keeper.specs.Keeper.{IsImportOf}
+use Rattle.tally_keeper.specs.Shown.{IsOwnRefusal}
 use Rattle.tally_keeper.specs.Source.{Delivery}
 use Rattle.tally_keeper.specs.declared.source.ImportFault.{ImportFault}
 use Rattle.tally_keeper.specs.declared.import.ImportCount.{ImportCount}
@@ -58,6 +59,12 @@ pub record LeavesImported (setup : List Constituency) (d : Delivery) (old : Seen
   pub has : HasState setup text state old
   pub after : AreTablesImported setup text state d db
 
+-- Beside what it could leave before: the store was open, and what is left are the tables that were
+-- there.
+pub record LeavesSame (old : Seen) (db : Trees) : Type 0 where
+  pub was_open : IsTrue old.is_open
+  pub same : db ≡ old.now.trees
+
 -- Nothing was written. Where the store was open, a crash leaves what was there and nothing else.
 -- While it is open, what is there and what was committed are what they were, row by row. No row was
 -- written again as it was either: the connection counts no change.
@@ -73,6 +80,14 @@ abbrev pub LeavesAsBefore : Seen → Seen → Result Reply Refusal → Type 0
 LeavesAsBefore old new r =
     WritesNothing old new
     ⊎ (IsNotAccepted r × (HasCleanDisk new → IsTrue new.is_open → IsAsBefore old new))
+
+-- After a look at what the store has: nothing was written, or it was refused for a reason of the
+-- store's own, and while the store is open what is there is what it was.
+abbrev pub LooksWithoutWriting : {T : Type 0} → Seen → Seen → Result T Refusal → Type 0
+LooksWithoutWriting old new (Ok shown) = WritesNothing old new
+LooksWithoutWriting old new (Err why) =
+    WritesNothing old new
+    ⊎ (IsOwnRefusal why × (HasCleanDisk new → IsTrue new.is_open → IsAsBefore old new))
 
 -- After an import that lodged nothing, nothing was written.
 abbrev pub WritesOnlyLodgedRows : Seen → Seen → Result ImportCount ImportFault → Type 0

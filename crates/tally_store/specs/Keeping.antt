@@ -1,5 +1,6 @@
 -- What a call on a store does to its content, what it keeps, and what a crash may leave after it.
-use Rattle.std.specs.Prelude.{ℕ, List, Option, Result, Ok, Err, IfSome, IsTrue}
+use Rattle.std.specs.Prelude.{ℕ, List, Option, Result, Ok, Err, IfSome, IsTrue, Vec}
+use Rattle.std.specs.declared.alloc.Global.{Global}
 use Rattle.sqlite_trees.specs.declared.store.Store.{Ghosts}
 use Rattle.sqlite.specs.Held.{Held, state}
 use Rattle.sqlite.specs.State.{HasCleanDisk, Survives}
@@ -7,8 +8,9 @@ use Rattle.tally_returns.specs.State.{State}
 use Rattle.tally_returns.specs.View.{View}
 use Rattle.tally_returns.specs.declared.ask.Ask.{Ask}
 use Rattle.tally_returns.specs.declared.refusal.Refusal.{Refusal}
+use Rattle.tally_returns.specs.declared.station_row.StationRow.{StationRow}
 use Rattle.tally_keeper.specs.Keeper.{Event, Happens, Imports}
-use Rattle.tally_keeper.specs.Shown.{AnswersShowCon}
+use Rattle.tally_keeper.specs.Shown.{AnswersShowCon, ShowsReturns}
 use Rattle.tally_keeper.specs.Source.{Delivery}
 use Rattle.tally_keeper.specs.Stays.{StaysBy}
 use Rattle.tally_keeper.specs.declared.import.ImportCount.{ImportCount}
@@ -16,7 +18,7 @@ use Rattle.tally_keeper.specs.declared.source.ImportFault.{ImportFault}
 use Rattle.tally_opening.specs.Office.{IsOffice}
 use Rattle.tally_store.specs.Certified.{HasCertificates}
 use Rattle.tally_store.specs.Content.{content_of}
-use Rattle.tally_store.specs.Crash.{IsKept, LeavesAfter, LeavesImported}
+use Rattle.tally_store.specs.Crash.{IsKept, LeavesAfter, LeavesImported, LeavesSame}
 use Rattle.tally_store.specs.Store.{KeepsText, Stored}
 
 -- the state that the tables of a store read as
@@ -42,6 +44,13 @@ ShowsConIn g con shown old new =
     HasCleanDisk (state g new.conn)
     → AnswersShowCon old.setup (content_in g old) con shown (content_in g new)
 
+-- and so were the stations of a constituency shown, with their returns
+abbrev pub ShowsReturnsIn : {S : Type 0} → Ghosts S → List ℕ
+    → Result (Vec StationRow Global) Refusal → Stored S → Stored S → Type 0
+ShowsReturnsIn g con shown old new =
+    HasCleanDisk (state g new.conn)
+    → ShowsReturns old.setup (content_in g old) con shown (content_in g new)
+
 -- and so was this import done or not
 abbrev pub ImportsIn : {S : Type 0} → Ghosts S → Delivery → Result ImportCount ImportFault
     → Stored S → Stored S → Type 0
@@ -65,6 +74,11 @@ KeepsTextIn g old new =
 abbrev pub SurvivesRequest : {S : Type 0} → Ghosts S → Ask → Stored S → Stored S → Type 0
 SurvivesRequest g ask old new =
     Survives (state g old.conn) (state g new.conn) (LeavesAfter old.setup ask (state g old.conn))
+
+-- A crash leaves what it could leave before, or the tables that were there.
+abbrev pub SurvivesLook : {S : Type 0} → Ghosts S → Stored S → Stored S → Type 0
+SurvivesLook g old new =
+    Survives (state g old.conn) (state g new.conn) (LeavesSame (state g old.conn))
 
 -- A crash leaves what it could leave before, or the tables after this import.
 abbrev pub SurvivesImport : {S : Type 0} → Ghosts S → Delivery → Stored S → Stored S → Type 0

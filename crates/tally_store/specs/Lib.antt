@@ -6,3 +6,4 @@ pub mod Keeping
 pub mod Content
 pub mod Certified
 pub mod EnteredTwice
+pub mod NextOpening

@@ -1,11 +1,11 @@
 //! The store as a keeper of the office's state.
 
-ghost use Rattle.std.specs.Prelude.{◌≡◌, [], false, Some, IfOk};
+ghost use Rattle.std.specs.Prelude.{◌≡◌, [], false, Some, IfErr, IfOk};
 ghost use Rattle.sqlite.specs.State.{HasCleanDisk};
 ghost use Rattle.sqlite.specs.Held.{state};
 ghost use Rattle.tally_keeper.specs.Delivery.{delivery};
 ghost use Rattle.tally_keeper.specs.Keeper.{request};
-ghost use Rattle.tally_keeper.specs.Shown.{con_with};
+ghost use Rattle.tally_keeper.specs.Shown.{IsReturnsRefusal, con_with};
 ghost use Rattle.tally_returns.specs.View.{FitsView};
 ghost use Rattle.tally_returns.specs.declared.ask.Ask.TheVariants.{ShowCon};
 ghost use Rattle.tally_rules.specs.Constituency.{Constituency};
@@ -13,15 +13,19 @@ ghost use Rattle.tally_rules.specs.Setup.{constituency_with};
 ghost use Rattle.tally_steps.specs.Kinds.{IsReplyTo};
 ghost use Rattle.tally_steps.specs.Runs.{is_act};
 ghost use Rattle.tally_store.specs.Content.{content_of};
-ghost use Rattle.tally_store.specs.Crash.{LeavesAsBefore, WritesOnlyLodgedRows};
+ghost use Rattle.tally_store.specs.Crash.{LeavesAsBefore, LooksWithoutWriting};
+ghost use Rattle.tally_store.specs.Crash.{WritesOnlyLodgedRows};
 ghost use Rattle.tally_store.specs.Keeping.{HappensIn, ImportsIn, KeepsTextIn, ShowsConIn};
-ghost use Rattle.tally_store.specs.Keeping.{ShowsContent};
-ghost use Rattle.tally_store.specs.Keeping.{StaysStore, SurvivesImport, SurvivesRequest};
+ghost use Rattle.tally_store.specs.Keeping.{ShowsContent, ShowsReturnsIn};
+ghost use Rattle.tally_store.specs.Keeping.{StaysStore, SurvivesImport, SurvivesLook};
+ghost use Rattle.tally_store.specs.Keeping.{SurvivesRequest};
 
-use crate::requests::{answer_request, import_rows, show_request};
+use crate::requests::{answer_request, import_rows, show_request, show_stations};
 use crate::store::Store;
 use sqlite::Alter;
-use tally_keeper::{Ask, ConView, ImportCount, ImportFault, Keeper, Refusal, Reply, RowSource};
+use tally_keeper::{
+    Ask, ConView, ImportCount, ImportFault, Keeper, Refusal, Reply, RowSource, StationRow,
+};
 use tally_machine::laws;
 use tally_rules::{Code, Setup};
 
@@ -85,6 +89,29 @@ impl<S: Alter> Keeper for Store<S> {
         // Called for what its contract says: a constituency has a view in each lawful state.
         laws::a_constituency_has_a_view();
         show_request(
+            self.alloc,
+            &mut self.conn,
+            &self.setup,
+            &mut self.known,
+            con,
+        )
+    }
+
+    /// Shows the stations of a constituency with their returns, in a transaction of its own.
+    /// Nothing is written.
+    fn show_returns(&mut self, con: Code) -> Result<Vec<StationRow>, Refusal>
+        ensures stays { StaysStore S.Store self.old self.new }
+        ensures refused { IfErr result (IsReturnsRefusal self.old.setup con) }
+        ensures shows { ShowsReturnsIn S.Store con result self.old self.new }
+        ensures tables { ShowsContent S.Store self.new }
+        ensures text { KeepsTextIn S.Store self.old self.new }
+        ensures crash { SurvivesLook S.Store self.old self.new }
+        ensures unwritten { LooksWithoutWriting
+            (state S.Store self.old.conn) (state S.Store self.new.conn) result }
+    {
+        // Called for what its contract says: a constituency has a view in each lawful state.
+        laws::a_constituency_has_a_view();
+        show_stations(
             self.alloc,
             &mut self.conn,
             &self.setup,

@@ -1,10 +1,14 @@
 //! What holds of every store.
 
+ghost use Rattle.sqlite_store.specs.FileStore.{view};
+ghost use Rattle.sqlite_trees.specs.View.{IsClean};
 ghost use Rattle.tally_store.specs.EnteredTwice.{HasRowsEnteredTwiceIn};
 ghost use Rattle.tally_store.specs.Keeping.{HasCertificatesIn, IsKeptIn};
+ghost use Rattle.tally_store.specs.NextOpening.{FindsContent, FindsWhatIsLeft, OpensWholeOffice};
 
 use crate::store::Store;
-use sqlite::Alter;
+use sqlite::{Alter, Connection, FileStore};
+use sqlite_disk::Disk;
 use tally_machine::laws as machine;
 
 /// Between calls, as long as the disk has returned what was written and has not failed, a crash
@@ -44,4 +48,23 @@ pub fn closed_rows_were_entered_twice<S: Alter>(store: &Store<S>)
     machine::a_constituency_has_a_view();
     // Called for what its contract says: what a store keeps true of its database.
     store.stored_setup();
+}
+
+/// The next opening finds the office. `next` is a connection that found in its files what a crash
+/// left of those of the store, as `open_from` says of what it opens: it has one of the databases
+/// that a crash may leave, and is opened as the state whose tables these are. Between calls that is
+/// the store's content. It holds as long as the disk of the store that is left has returned what
+/// was written.
+pub fn the_next_opening_finds_the_office<D: Disk + Drop, E: Disk + Drop>(
+    store: Store<FileStore<D>>,
+    next: &Connection<FileStore<E>>,
+) -> FileStore<D>
+    ensures left { IsClean (view result) → FindsWhatIsLeft store.conn next.now }
+    ensures opens { OpensWholeOffice next.now }
+    ensures between { IsClean (view result) → FindsContent store.conn next.now store.setup }
+{
+    // Called for what its contract says: between calls a crash leaves the last commit.
+    a_crash_between_calls_leaves_the_last_commit(&store);
+    // Called for what its contract says: the file lists each tree by the number that it has.
+    store.close().into_store()
 }

@@ -8,4 +8,4 @@ mod requests;
 mod store;
 
 pub use store::Store;
-pub use tally_faults::{CreateFault, OpenFault};
+pub use tally_keeper::{CreateFault, OpenFault};

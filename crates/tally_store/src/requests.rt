@@ -6,7 +6,7 @@ ghost use Rattle.sqlite.specs.State.{HasCleanDisk};
 ghost use Rattle.sqlite.specs.Held.{state};
 ghost use Rattle.tally_keeper.specs.Delivery.{delivery};
 ghost use Rattle.tally_keeper.specs.Keeper.{IsImportFault};
-ghost use Rattle.tally_keeper.specs.Shown.{con_with};
+ghost use Rattle.tally_keeper.specs.Shown.{IsReturnsRefusal, con_with};
 ghost use Rattle.tally_steps.specs.Kinds.{IsReplyTo};
 ghost use Rattle.tally_steps.specs.Runs.{is_act};
 ghost use Rattle.tally_steps.specs.Step.{IsNotAccepted};
@@ -15,13 +15,16 @@ ghost use Rattle.tally_rules.specs.Setup.{constituency_with};
 ghost use Rattle.tally_returns.specs.Named.{BringsCode};
 ghost use Rattle.tally_returns.specs.View.{FitsView};
 ghost use Rattle.tally_returns.specs.declared.ask.Ask.TheVariants.{ShowCon};
-ghost use Rattle.tally_store.specs.Crash.{LeavesAsBefore, WritesOnlyLodgedRows};
+ghost use Rattle.tally_store.specs.Crash.{LeavesAsBefore, LeavesSame, LooksWithoutWriting};
+ghost use Rattle.tally_store.specs.Crash.{WritesOnlyLodgedRows};
 ghost use Rattle.tally_statements.specs.internal.Inside.{StaysInside};
 ghost use Rattle.tally_requests.specs.internal.Inside.{StaysInState};
 ghost use Rattle.tally_requests.specs.internal.Known.{ForgetsNone, known_of};
 ghost use Rattle.tally_requests.specs.internal.Requests.{AnswersIn, LodgesRows};
-ghost use Rattle.tally_store.specs.internal.Requests.{Does, DoesImport, DoesShow, EndsImport};
-ghost use Rattle.tally_store.specs.internal.Requests.{EndsRequest, EndsTransaction, IsNothing};
+ghost use Rattle.tally_store.specs.internal.Requests.{Does, DoesImport, DoesShow, DoesShowReturns};
+ghost use Rattle.tally_store.specs.internal.Requests.{EndsFrom, EndsImport, EndsRequest};
+ghost use Rattle.tally_store.specs.internal.Requests.{EndsTransaction, IsNothing};
+ghost use Rattle.tally_store.specs.internal.Requests.{IsRefusedByKeeper};
 ghost use Rattle.tally_store.specs.internal.Requests.{KnowsAfter, KnowsImported, KnowsStill};
 ghost use Rattle.tally_store.specs.Store.{IsOfLawfulState};
 ghost use Rattle.tally_store.specs.internal.Served.{IsKnownOf};
@@ -29,8 +32,10 @@ ghost use Rattle.tally_store.specs.internal.Served.{IsKnownOf};
 use sqlite::{Alter, Connection, Error, ErrorCode, Transaction};
 use std::alloc::Global;
 use std::collections::BTreeMap;
-use tally_keeper::{Ask, ConView, ImportCount, ImportFault, Refusal, Reply, RowSource};
-use tally_requests::{answer_in, import_fault_of, see_open, show_con_in, take_rows};
+use tally_keeper::{Ask, ConView, ImportCount, ImportFault, Refusal, Reply, RowSource, StationRow};
+use tally_requests::{
+    answer_in, import_fault_of, see_open, show_con_in, show_returns_in, take_rows,
+};
 use tally_rules::{Code, Setup};
 use tally_statements::is_memory;
 use tally_tables::Statuses;
@@ -100,6 +105,36 @@ pub(crate) fn show_request<S: Alter>(
     let mut tx = conn.transaction();
     let shown = show_con_in(alloc, &mut tx, setup, known, con);
     end_request(tx, known, shown)
+}
+
+/// Shows the stations of a constituency by the database, with their returns. Nothing is written.
+/// What is known stays as it is, or the request was not accepted, and nothing is known.
+pub(crate) fn show_stations<S: Alter>(
+    alloc: Global,
+    conn: &mut Connection<S>,
+    setup: &Setup,
+    known: &mut BTreeMap<Code, Statuses>,
+    con: Code,
+) -> Result<Vec<StationRow>, Refusal>
+    requires autocommit { conn.old.in_transaction ≡ false }
+    requires office { IsOfLawfulState setup.now (state S.Store conn.old) }
+    requires known { IsKnownOf setup.now (state S.Store conn.old) (known_of known.old) }
+    ensures ends { EndsFrom (LeavesSame (state S.Store conn.old))
+        (state S.Store conn.old) (state S.Store conn.new) }
+    ensures refused { IfErr result (IsReturnsRefusal setup.now con) }
+    ensures done { DoesShowReturns setup.now con
+        (state S.Store conn.old) (state S.Store conn.new) result }
+    ensures known { KnowsStill setup.now
+        (state S.Store conn.old) (state S.Store conn.new) (known_of known.new) }
+    ensures shut { HasCleanDisk (state S.Store conn.new) →
+        (state S.Store conn.new).is_open ≡ false → IsRefusedByKeeper result }
+    ensures forgets { IsRefusedByKeeper result ⊎ (known_of known.new ≡ known_of known.old) }
+    ensures unwritten { LooksWithoutWriting
+        (state S.Store conn.old) (state S.Store conn.new) result }
+{
+    let mut tx = conn.transaction();
+    let rows = show_returns_in(alloc, &mut tx, setup, con);
+    end_request(tx, known, rows)
 }
 
 /// Lodges the rows of a source in the database. With a fault the database is as it was, unless a

@@ -19,7 +19,7 @@ use sqlite::{Alter, Connection};
 use std::alloc::Global;
 use std::collections::BTreeMap;
 use std::marker::Model;
-use tally_faults::{CreateFault, OpenFault};
+use tally_keeper::{CreateFault, OpenFault};
 use tally_machine::laws;
 use tally_opening::{create_in, open_in};
 use tally_rules::{Code, Setup};

@@ -13,3 +13,5 @@ mod imports;
 mod offices;
 #[cfg(test)]
 mod requests;
+#[cfg(test)]
+mod stations;

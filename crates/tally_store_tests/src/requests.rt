@@ -5,8 +5,10 @@ use crate::offices::{database, made, opened};
 use sqlite::{Alter, Connection};
 use std::alloc::Global;
 use std::test::*;
+use tally_core::Keeper;
 use tally_scripts::{
     CERTIFIED, TWIN_TOWN, first_wrong, first_wrong_of_run, setups_and_scripts, text_of_answers,
+    text_of_stations,
 };
 use tally_store::Store;
 
@@ -18,14 +20,22 @@ show c1
 show h
 progress";
 
+/// These, and the stations of the constituencies.
+fn shown<K: Keeper>(alloc: Global, office: &mut K) -> Result<String, Fail> {
+    let mut text = text_of_answers(alloc, office, SHOWN)?;
+    text.push_str(text_of_stations(alloc, office, "c1")?.as_str())?;
+    text.push_str(text_of_stations(alloc, office, "h")?.as_str())?;
+    Ok(text)
+}
+
 /// An office, closed and opened again, that shows what it showed before.
 fn reopened_the_same<S: Alter + Drop>(
     alloc: Global,
     mut office: Store<S>,
 ) -> Result<Store<S>, Fail> {
-    let before = text_of_answers(alloc, &mut office, SHOWN)?;
+    let before = shown(alloc, &mut office)?;
     let mut office = opened(alloc, office.close())?;
-    let after = text_of_answers(alloc, &mut office, SHOWN)?;
+    let after = shown(alloc, &mut office)?;
     if after.as_str() == before.as_str() {
         return Ok(office);
     }

@@ -4,30 +4,39 @@ use Rattle.std.specs.Prelude.{◌≡◌, ◌⊎◌, ℕ, true, is_some, List, Op
 use Rattle.tally_rules.specs.Constituency.{Constituency}
 use Rattle.tally_rules.specs.Setup.{constituency_with}
 use Rattle.tally_returns.specs.State.{State}
-use Rattle.tally_report.specs.declared.report.Report.{Report}
+use Rattle.tally_overview.specs.declared.shown.Shown.{Shown}
+use Rattle.tally_overview.specs.declared.shown.Shown.TheVariants as shown
 use Rattle.tally_records.specs.declared.separator.Sep.{Sep}
 use Rattle.tally_commands.specs.Imported.{IsTextImported, IsTextTrouble}
+use Rattle.tally_commands.specs.Show.{AreStationsShown, IsCountryShown, IsCountryTrouble}
 use Rattle.tally_commands.specs.Show.{IsProgressShown, IsProgressTrouble, IsReportShown}
-use Rattle.tally_commands.specs.Show.{IsReportTrouble}
+use Rattle.tally_commands.specs.Show.{IsReportTrouble, IsStationsTrouble}
 use Rattle.tally_commands.specs.declared.trouble.Trouble.{Trouble}
 use Rattle.tally_program.specs.Troubles.{IsTroubleOfFile}
 
--- The text is the report that is named, of the constituency of this code; or how far each
--- constituency has come, where none is.
-abbrev pub IsTextShown : List Constituency → Option State → Option Report → Option (List ℕ) → List ℕ
+-- The text is the report that is named, of the constituency of this code where it is of one.
+abbrev pub IsTextShown : List Constituency → Option State → Shown → Option (List ℕ) → List ℕ
     → Option State → Type 0
-IsTextShown setup old None code text new = IsProgressShown setup old text new
-IsTextShown setup old (Some which) (Some code) text new =
+IsTextShown setup old shown.Progress code text new = IsProgressShown setup old text new
+IsTextShown setup old shown.Country code text new = IsCountryShown setup old text new
+IsTextShown setup old (shown.Stations which) (Some code) text new =
+    AreStationsShown setup old code which text new
+IsTextShown setup old (shown.Report which) (Some code) text new =
     IsReportShown setup old code which text new
-IsTextShown setup old (Some which) None text new = ⊥
+IsTextShown setup old (shown.Stations which) None text new = ⊥
+IsTextShown setup old (shown.Report which) None text new = ⊥
 
 -- Why it is not shown.
-abbrev pub IsShowTrouble : List Constituency → Option State → Option Report →
-    Option (List ℕ) → Trouble
+abbrev pub IsShowTrouble : List Constituency → Option State → Shown → Option (List ℕ) → Trouble
     → Option State → Type 0
-IsShowTrouble setup old None code t new = IsProgressTrouble setup old t new
-IsShowTrouble setup old (Some which) (Some code) t new = IsReportTrouble setup old code which t new
-IsShowTrouble setup old (Some which) None t new = ⊥
+IsShowTrouble setup old shown.Progress code t new = IsProgressTrouble setup old t new
+IsShowTrouble setup old shown.Country code t new = IsCountryTrouble setup old t new
+IsShowTrouble setup old (shown.Stations which) (Some code) t new =
+    IsStationsTrouble setup old code t new
+IsShowTrouble setup old (shown.Report which) (Some code) t new =
+    IsReportTrouble setup old code which t new
+IsShowTrouble setup old (shown.Stations which) None t new = ⊥
+IsShowTrouble setup old (shown.Report which) None t new = ⊥
 
 -- Rows of a file were imported into the constituency of this code, and these are the six lines of
 -- their count.

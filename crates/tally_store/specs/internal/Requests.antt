@@ -1,6 +1,7 @@
 -- What a request or an import leaves of a connection. No public contract speaks of this.
 use Rattle.std.specs.Prelude.{◌≡◌, ◌⊎◌, false, List, ℕ, IsOk, IsTrue, None, OnOk, Some, Result, Ok}
-use Rattle.std.specs.Prelude.{Err}
+use Rattle.std.specs.Prelude.{Err, Vec}
+use Rattle.std.specs.declared.alloc.Global.{Global}
 use Rattle.std.specs.FinMap.{get}
 use Rattle.sqlite.specs.State.{State as Seen, HasCleanDisk, IsRolledBack, KeepsCounts, Shows}
 use Rattle.sqlite.specs.State.{Survives}
@@ -17,8 +18,9 @@ use Rattle.tally_returns.specs.declared.ask.Ask.TheVariants.{ShowCon}
 use Rattle.tally_returns.specs.declared.refusal.Refusal.{Refusal}
 use Rattle.tally_returns.specs.declared.refusal.Refusal.TheVariants.{Memory, Store}
 use Rattle.tally_returns.specs.declared.reply.Reply.{Reply}
+use Rattle.tally_returns.specs.declared.station_row.StationRow.{StationRow}
 use Rattle.tally_keeper.specs.Keeper.{IsImportOf}
-use Rattle.tally_keeper.specs.Shown.{con_with}
+use Rattle.tally_keeper.specs.Shown.{IsOwnRefusal, ShowsReturns, con_with}
 use Rattle.tally_keeper.specs.Source.{Delivery}
 use Rattle.tally_keeper.specs.declared.import.ImportCount.{ImportCount}
 use Rattle.tally_keeper.specs.declared.source.ImportFault.{ImportFault}
@@ -67,6 +69,21 @@ abbrev pub DoesShow : List Constituency → List ℕ → Seen → Seen → Resul
 DoesShow setup con old new shown =
     HasCleanDisk new → IsTrue new.is_open → (text : List ℕ) (s : State) → IsLawfulState setup s
     → HasState setup text s old → IsConShown setup text s con shown new
+
+-- The stations of a constituency were shown with the returns of this state, and the database is
+-- still that of this state. So it is for every lawful state that the database was of, where the
+-- disk returned what was written and has not failed.
+abbrev pub DoesShowReturns : List Constituency → List ℕ → Seen → Seen
+    → Result (Vec StationRow Global) Refusal → Type 0
+DoesShowReturns setup con old new shown =
+    HasCleanDisk new → IsTrue new.is_open → (text : List ℕ) (s : State) → IsLawfulState setup s
+    → HasState setup text s old
+    → ShowsReturns setup (Some s) con shown (Some s) × HasState setup text s new
+
+-- it was refused for a reason of the keeper's own
+abbrev pub IsRefusedByKeeper : {T : Type 0} → Result T Refusal → Type 0
+IsRefusedByKeeper (Ok x) = ⊥
+IsRefusedByKeeper (Err why) = IsOwnRefusal why
 
 -- All rows that a source gave were lodged as in this state, and the database is that of the state
 -- after that.

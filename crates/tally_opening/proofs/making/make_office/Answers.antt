@@ -20,5 +20,5 @@ returns-clause-made g c clean bare =
     let row = c.in_ok-insert_setup.ensures.inserted clean_set (empty_inside old empty sound) (setup_empty old empty) in
     let opened = c.insert_openings.ensures.opened clean row.inside in
     let limits : IsSetup c.args.setup.now = c.cons.ensures.limits in
-    office_last c.args.setup.now c.args.text.now old set made c.insert_openings.result limits empty row
+    office_last c.args.setup.now c.args.text.now old set made c.insert_openings.result c.requires.reads limits empty row
     (subst (λ cons. OnOk c.insert_openings.result (AddsCons cons set made)) c.cons.ensures.cons opened)

@@ -85,7 +85,7 @@ returns-in-Ok-commit-clause-ends g c =
           let has = office.2.has in
           let here : IsInside bare = rw begun (record { schema = has.schema; sound = has.sound; distinct = has.distinct; inside = refl }) in
           let held : AreTables setup text s bare.now.trees = rw begun has.tables in
-          record { was_open = was_open; text = text; state = s; lawful = lawful; has = has; after = tables_imported setup text s came c.in-Ok.count last (c.in-Ok.ensures.lodges.imported early here text s lawful held).0 }));
+          record { was_open = was_open; text = text; state = s; lawful = lawful; has = has; after = tables_imported setup text s came c.in-Ok.count last office.2.reads (c.in-Ok.ensures.lodges.imported early here text s lawful held).0 }));
     }
 
 pub returns-in-Err-commit-clause-done : goal.returns-in-Err-commit-clause-done
@@ -136,7 +136,7 @@ returns-in-Err-commit-clause-ends g c =
           let has = office.2.has in
           let here : IsInside bare = rw begun (record { schema = has.schema; sound = has.sound; distinct = has.distinct; inside = refl }) in
           let held : AreTables setup text s bare.now.trees = rw begun has.tables in
-          record { was_open = was_open; text = text; state = s; lawful = lawful; has = has; after = tables_imported setup text s came c.in-Ok.count last (c.in-Ok.ensures.lodges.imported early here text s lawful held).0 }));
+          record { was_open = was_open; text = text; state = s; lawful = lawful; has = has; after = tables_imported setup text s came c.in-Ok.count last office.2.reads (c.in-Ok.ensures.lodges.imported early here text s lawful held).0 }));
     }
 
 pub returns-in-Err-clause-done : goal.returns-in-Err-clause-done

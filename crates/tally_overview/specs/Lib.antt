@@ -1,0 +1,5 @@
+pub mod internal
+pub mod CountryText
+pub mod ReturnsText
+pub mod Shown
+pub mod StationsText

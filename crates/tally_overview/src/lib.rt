@@ -1,0 +1,13 @@
+//! The texts that go over many stations or constituencies: the returns of a constituency as CSV,
+//! its stations, and the country; and the names of all that is shown of an office.
+#![tactic(auto)]
+
+mod country;
+mod returns;
+mod shown;
+mod stations;
+
+pub use country::country_text;
+pub use returns::returns_text;
+pub use shown::{Shown, StationsReport, stations_report_text};
+pub use stations::stations_text;

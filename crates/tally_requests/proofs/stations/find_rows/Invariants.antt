@@ -1,0 +1,16 @@
+use Rattle.std.proofs.Common.{take}
+use Rattle.sqlite.specs.State.{HasCleanDisk, IsUnchanged}
+use Rattle.sqlite.specs.Held.{state}
+use Rattle.tally_statements.specs.internal.Inside.{IsOpenInside, StaysFrom}
+use Rattle.tally_requests.specs.internal.Stations.{FindsRows}
+use Rattle.tally_requests.proofs.stations.find_rows.Given as goal
+
+abbrev pub invariant-loop-station : goal.invariant-loop-station
+invariant-loop-station g l =
+    let old = state g.S.Store l.fn.tx.conn.now in
+    let now = state g.S.Store l.tx.conn.now in
+    record {
+      stays : StaysFrom IsOpenInside g.S.Store l.fn.tx l.tx;
+      same : HasCleanDisk now → IsOpenInside old → IsUnchanged old now;
+      found : HasCleanDisk now → IsOpenInside old → FindsRows l.setup (take l.station-index l.stations) old l.rows.items;
+    }

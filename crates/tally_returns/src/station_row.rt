@@ -1,0 +1,13 @@
+//! The stations of a constituency.
+
+use crate::returns::Return;
+use tally_rules::Code;
+
+/// A station, and its return where it has one.
+#[derive(Debug, Drop)]
+pub struct StationRow {
+    pub station: Code,
+    /// From 1 to 1,000,000.
+    pub electors: u32,
+    pub found: Option<Return>,
+}

@@ -1,0 +1,372 @@
+"""The files for programs: CSV and JSON of what `press.py` read, with what describes them."""
+
+import csv
+import hashlib
+import io
+import json
+import re
+import uuid
+import xml.etree.ElementTree as ET
+
+# Of the form of the files. The first number is raised when something goes or means something else,
+# the second when something is added.
+VERSION = "1.0.0"
+
+# In the name of a file of returns, in the place of the edition of a certificate.
+OPEN = "open"
+
+# ---- what a field may be, in the words of JSON Schema, and the fields of each table
+
+CODE, TEXT, FLAG = {"type": "string", "pattern": "^[A-Za-z0-9_-]{1,16}$"}, {"type": "string"}, {"type": "boolean"}
+COUNT, FROM_ONE = ({"type": "integer", "minimum": least} for least in (0, 1))
+EDITION = FROM_ONE | {"maximum": 9999}
+HASH = {"type": "string", "pattern": "^[0-9a-f]{64}$"}
+MOMENT = {"type": "string", "pattern": r"^\d{4}-\d\d-\d\dT\d\d:\d\d:\d\d[+-]\d\d:\d\d$"}
+
+
+def described(kind, words):
+    return kind | {"description": words}
+
+
+EDITION_NOW = described(EDITION, "Edition of the constituency, which each lot, certificate and reopening raises.")
+CERTIFIED = described(FLAG, "Whether a certificate is in force.")
+BLANK = described(COUNT, "Blank votes of closed returns. They are valid.")
+SPOILED = described(COUNT, "Spoiled votes of closed returns. They are not valid.")
+PROGRESS = {
+    "con": described(CODE, "Code of the constituency."), "stations": described(COUNT, "Stations."),
+    "missing": described(COUNT, "Stations without a return."), "received": described(COUNT, "Returns that are received and no more."),
+    "queried": described(COUNT, "Returns with a query that is open."), "corrected": described(COUNT, "Returns that were corrected."),
+    "closed": described(COUNT, "Returns that are closed. Only their votes count."), "edition": EDITION_NOW, "certified": CERTIFIED,
+}
+LIST = {
+    "list": described(CODE, "Code of the list."), "name": described(TEXT, "Name of the list."),
+    "votes": described(COUNT, "Votes of closed returns."),
+    "share": described(TEXT | {"pattern": r"^\d{1,3}\.\d\d$"}, "Per cent of the votes that the rule takes as its base, rounded down."),
+    "takes_part": described(FLAG, "Whether the list has votes and reaches the threshold."),
+    "seats": described(COUNT, "Seats that the certificate gives the list; missing without a certificate."),
+}
+RESULTS = {
+    "con": PROGRESS["con"], "con_name": described(TEXT, "Name of the constituency."),
+    **{key: PROGRESS[key] for key in ("stations", "closed", "edition", "certified")},
+    "electors": described(COUNT, "Electors of all stations of the constituency, those without a closed return among them; missing without a setup."),
+    "valid": described(COUNT, "Valid votes of closed returns, blank ones among them."), "blank": BLANK, "spoiled": SPOILED, **LIST,
+}
+RECORD = {
+    "time": described(TEXT, "When the recorder wrote the line."), "lines": described(COUNT, "Lines of the record of commands."),
+    "sha256": described(HASH, "SHA-256 of the last line. Each line has that of the line before it."),
+}
+STATION = {
+    "station": described(CODE, "Code of the station."), "slip": described(CODE, "Code of the paper that the return is from."),
+    "blank": described(COUNT, "Blank votes."), "spoiled": described(COUNT, "Spoiled votes."),
+}
+
+
+# ---- the JSON files, as JSON Schema (draft 2020-12)
+
+
+def an_object(fields, *optional):
+    """An object of these fields and no others, each of which is there but for the optional ones."""
+    return {"type": "object", "properties": fields, "required": [name for name in fields if name not in optional],
+            "additionalProperties": False}
+
+
+def an_array(items):
+    return {"type": "array", "items": items}
+
+
+def or_null(kind):
+    return kind | {"type": [kind["type"], "null"]}
+
+
+OF_LIST = {"list": LIST["list"]}
+VOTES = described(COUNT, "Votes in the unit of the rule.")
+HEAD = {"version": {"const": VERSION}, "time": described(MOMENT, "Since when the file says this.")}
+VIEW = an_object({
+    "blank": BLANK, "certified": CERTIFIED, "closed": PROGRESS["closed"], "con": PROGRESS["con"], "edition": EDITION_NOW,
+    "entry": described({"const": "double"}, "There where a return is closed by its second entry alone."),
+    "gone": described(an_array(an_object(OF_LIST | {"note": TEXT, "place": FROM_ONE})), "Candidates who are gone."),
+    "lot": described(an_array(CODE), "Lists in the order of the lot that was drawn, or none."),
+    "note": described(TEXT, "Note of the last reopening, or empty."),
+    "seats": described(an_array(COUNT), "In the order of the lists; none without a certificate."), "spoiled": SPOILED,
+    "stations": PROGRESS["stations"], "votes": described(an_array(COUNT), "In the order of the lists."),
+}, "entry")
+TALLY = an_object({
+    "name": RESULTS["con_name"], **{key: RESULTS[key] for key in ("stations", "closed", "valid", "blank", "spoiled")},
+    "lists": an_array(an_object({"code": CODE, **{key: LIST[key] for key in ("name", "votes", "share")},
+                                 "eligible": LIST["takes_part"]})),
+})
+PAST = an_array(an_object({"edition": EDITION, "lists": an_array(an_object({"code": CODE, "seats": COUNT, "name": TEXT}))}))
+REPORTS = {
+    "tally": TALLY, "past": described(PAST, "The certificates that were reopened, and are withdrawn."),
+    "seats": an_object({"edition": EDITION, "total": COUNT, "seats": {"type": "object", "additionalProperties": COUNT}}),
+    "holders": an_array(an_object(OF_LIST | {
+        "place": described(or_null(FROM_ONE), "Of the candidate within the list; null where a seat is empty."), "name": or_null(TEXT)})),
+    "quotients": an_array(an_object(OF_LIST | {"quotients": described(
+        an_array(an_object({"quotient": COUNT, "won": FLAG})), "For the first seat, the second and so on, rounded down.")})),
+    "awards": described(an_array(an_object({
+        "seat": FROM_ONE, **OF_LIST, "of_list": described(FROM_ONE, "Which of the list’s seats it is."), "votes": VOTES,
+        "divisor": FROM_ONE, "quotient": described(COUNT, "Rounded down; the rule compares it whole.")})), "The seats in the order of their award."),
+    "short": an_array(an_object(OF_LIST | {"seats": COUNT, "short": described(or_null(COUNT), "Votes that it lacked for one seat more.")})),
+    "quota": an_object({"votes": COUNT, "seats": COUNT, "lists": an_array(an_object(OF_LIST | {
+        "votes": VOTES, "whole": COUNT, "remainder": COUNT, "seats": COUNT}))}),
+}
+IF_CERTIFIED = ("seats", "holders", "quotients", "awards", "short", "quota")
+SCHEMAS = {
+    "index": ("The progress of all constituencies: index.json", an_object(HEAD | {"constituencies": an_array(an_object(PROGRESS))})),
+    "con": ("A constituency: con-CODE.json", an_object(
+        HEAD | {"progress": an_object(PROGRESS), "view": described(VIEW, "What GET /con/CODE shows."), "texts": described(
+            an_object(dict.fromkeys(REPORTS, TEXT), *IF_CERTIFIED), "The reports word for word."), **REPORTS}, *IF_CERTIFIED)),
+    "setup": ("The setup of the election: setup.json", an_array(an_object({
+        "code": PROGRESS["con"], "name": RESULTS["con_name"], "seats": COUNT, "method": {"enum": ["dhondt", "sainte-lague", "modified-sainte-lague", "hare"]},
+        "threshold": described(COUNT, "In hundredths of a per cent."), "base": {"enum": ["valid", "lists"]},
+        "lists": an_array(an_object({"code": CODE, "name": TEXT, "candidates": an_array(TEXT)})),
+        "stations": an_array(an_object({"code": CODE, "electors": COUNT}))}))),
+    "manifest": ("All files: manifest.json", an_object(
+        {"version": HEAD["version"], "time": described(MOMENT, "When the office was last asked. Of the files for programs this one alone is new each time."),
+         "record": described(an_object(RECORD), "The record of commands at that time."),
+         "files": described({"type": "object", "additionalProperties": HASH}, "The SHA-256 of each file.")}, "record")),
+}
+
+
+def schemas():
+    """The schema of each JSON file by its name: of con-CODE.json it is con.schema.json."""
+    return {f"{name}.schema.json": json_text({"$schema": "https://json-schema.org/draft/2020-12/schema", "title": title, **schema})
+            for name, (title, schema) in SCHEMAS.items()}
+
+
+# ---- the CSV files, as a data package (Frictionless)
+
+# In CSV a share is a number, a time a time, and this flag a word. In JSON a share is a text, with
+# its zeros.
+IN_CSV = {"share": {"type": "number"}, "time": {"type": "datetime"}, "takes_part": {"type": "boolean", "trueValues": ["yes"], "falseValues": ["no"]}}
+
+
+def table_field(name, kind):
+    """A field as Table Schema has it: what JSON Schema says of a value is a constraint there."""
+    found = {key: kind[key] for key in ("type", "description")}
+    if name in IN_CSV:
+        return {"name": name, **found, **IN_CSV[name]}
+    bounds = {key: kind[key] for key in ("pattern", "minimum", "maximum") if key in kind}
+    return {"name": name, **found, **({"constraints": bounds} if bounds else {})}
+
+
+def resource(file, words, fields, *key, **more):
+    return {"name": file.removesuffix(".csv"), "type": "table", "path": file, "description": words, "format": "csv",
+            "mediatype": "text/csv", "encoding": "utf-8", "schema": {
+                "fields": [table_field(name, kind) for name, kind in fields.items()], "primaryKey": list(key), **more}}
+
+
+def resource_of(file, cons):
+    """What a CSV file is, by its name."""
+    if file.name == "index.csv":
+        return resource(file.name, "The progress of all constituencies.", PROGRESS, "con")
+    if file.name == "results.csv":
+        return resource(file.name, "Votes and seats of all constituencies.", RESULTS, "con", "list",
+                        foreignKeys=[{"fields": ["con"], "reference": {"resource": "index", "fields": ["con"]}}])
+    if file.name == "record.csv":
+        return resource(file.name, "The heads of the record of commands that were shown.", RECORD, "lines", "sha256")
+    if found := re.fullmatch(r"con-(.+)\.csv", file.name):
+        return resource(file.name, f"Votes and seats of {named(found[1], cons)}.", LIST, "list")
+    if found := re.fullmatch(rf"stations-(.+)-(\d+|{OPEN})\.csv", file.name):
+        with file.open(encoding="utf-8", newline="") as lines:
+            codes = next(csv.reader(lines))[len(STATION):]
+        names = {row["code"]: row["name"] for row in cons[found[1]]["tally"]["lists"]} if found[1] in cons else {}
+        lists = {code: described(COUNT, f"Votes of {names.get(code, code)}.") for code in codes}
+        which = "that are closed so far" if found[2] == OPEN else f"of edition {found[2]}"
+        return resource(file.name, f"The returns {which} of {named(found[1], cons)}.", STATION | lists, "station")
+    return None
+
+
+def named(code, cons):
+    return cons[code]["tally"]["name"] if code in cons else code
+
+
+def title_of(site):
+    return site.about.get("title", site.say("title"))
+
+
+def datapackage(files, cons, site):
+    """The descriptor of the CSV files among these. The names of lists are those of the constituencies that are known."""
+    licence, authority = site.about.get("licence"), site.about.get("authority")
+    return json_text({
+        "$schema": "https://datapackage.org/profiles/2.0/datapackage.json", "title": title_of(site), "version": VERSION,
+        **({"licenses": [{"path" if ":" in licence else "name": licence}]} if licence else {}),
+        **({"contributors": [{"title": authority, "roles": ["publisher"]}]} if authority else {}),
+        "resources": [found for file in files if (found := resource_of(file, cons))]})
+
+
+# ---- the CSV files
+
+
+def csv_text(heads, rows):
+    out = io.StringIO()
+    csv.writer(out, lineterminator="\n").writerows(
+        [heads, *([str(cell).lower() if isinstance(cell, bool) else cell for cell in row] for row in rows)])
+    return out.getvalue()
+
+
+def list_rows(con):
+    seats = con["seats"]["seats"] if "seats" in con else {}
+    return [[row["code"], row["name"], row["votes"], row["share"], "yes" if row["eligible"] else "no",
+             seats.get(row["code"], "")] for row in con["tally"]["lists"]]
+
+
+def con_csv(con):
+    return csv_text(LIST, list_rows(con))
+
+
+def results_csv(cons, setup):
+    """Votes and seats of all constituencies that are known, in one table."""
+    def of_con(code, con):
+        electors = sum(station["electors"] for station in setup[code]["stations"]) if code in setup else ""
+        return [code, con["tally"]["name"], *(con["view"][key] for key in ("stations", "closed", "edition", "certified")), electors,
+                *(con["tally"][key] for key in ("valid", "blank", "spoiled"))]
+
+    return csv_text(RESULTS, [of_con(code, con) + row for code, con in cons.items() for row in list_rows(con)])
+
+
+def index_csv(progress):
+    return csv_text(PROGRESS, [[row[key] for key in PROGRESS] for row in progress])
+
+
+def record_csv(before, head):
+    """The heads of the record of commands that were shown, with one more; what was there before, or nothing."""
+    text = before or csv_text(RECORD, [])
+    row = [head["time"], head["n"], head["hash"]]
+    return text if text.endswith(f",{row[1]},{row[2]}\n") else text + ",".join(map(str, row)) + "\n"
+
+
+def goes_on(before, head):
+    """Whether a head of the record can follow on those that were shown: it has more lines than each, or is the same."""
+    shown = csv.DictReader(io.StringIO(before, newline=""))
+    return all(int(row["lines"]) < head["n"] or (int(row["lines"]), row["sha256"]) == (head["n"], head["hash"]) for row in shown)
+
+
+def returns_csv(lists, returns):
+    """Rows of returns, in the form in which they are imported."""
+    return csv_text([*STATION, *lists], returns)
+
+
+def returns_in(text):
+    """The columns and the rows of returns in this form."""
+    columns, *returns = csv.reader(io.StringIO(text, newline=""))
+    return columns, returns
+
+
+def adds_up(text, view):
+    """Whether returns have the stations and the sums of a certificate."""
+    try:
+        _, returns = returns_in(text)
+        sums = [sum(map(int, column)) for column in zip(*(row[2:] for row in returns))]
+    except ValueError:
+        return False
+    return len(returns) == view["stations"] and sums == [view["blank"], view["spoiled"], *view["votes"]]
+
+
+# ---- the JSON files
+
+
+def json_text(value):
+    return json.dumps(value, ensure_ascii=False, indent=1) + "\n"
+
+
+def dated(moment, **more):
+    return json_text({"version": VERSION, "time": moment.isoformat(timespec="seconds"), **more})
+
+
+def con_json(con, row, moment):
+    if "quotients" in con:
+        con = con | {"quotients": [{"list": code, "quotients": [{"quotient": value, "won": won} for value, won in row]}
+                                   for code, row in con["quotients"]]}
+    return dated(moment, progress=row, **con)
+
+
+def index_json(progress, moment):
+    return dated(moment, constituencies=progress)
+
+
+def manifest(files, head, moment):
+    """The hash of each file, with the head of the record of commands."""
+    record = {"record": {"time": head["time"], "lines": head["n"], "sha256": head["hash"]}} if head else {}
+    return dated(moment, **record, files={file.name: hashlib.sha256(file.read_bytes()).hexdigest() for file in files})
+
+
+# ---- the feed (Atom, RFC 4287)
+
+ATOM = "{http://www.w3.org/2005/Atom}"
+ET.register_namespace("", ATOM[1:-1])
+# What XML 1.0 cannot say, not even escaped.
+NO_XML = re.compile("[^\t\n\r\x20-\ud7ff\ue000-\ufffd\U00010000-\U0010ffff]")
+NAMES = uuid.UUID("5c1b9a5e-4e0f-4d0c-9a8e-0c6f6f1d2b47")
+
+
+def identity(*words):
+    """An identifier that nothing else has, and the same of the same words."""
+    return uuid.uuid5(NAMES, "\n".join(words)).urn
+
+
+def events(con, candidates):
+    """What a constituency shows of its certificates, reopenings and vacancies, as far as can be known in order of time: kind,
+    words that tell it from any other, the values of its title, and its text."""
+    past = con["past"]
+    certified = [(one["edition"], {row["code"]: row["seats"] for row in one["lists"]}) for one in past]
+    certified += [(con["seats"]["edition"], con["seats"]["seats"])] if "seats" in con else []
+    for n, (edition, seats) in enumerate(certified):
+        given = ", ".join(f"{code} {many}" for code, many in seats.items() if many)
+        yield "certificate", f"{edition} {given}", {"edition": edition}, given
+        if n < len(past):
+            note = con["view"]["note"] if n == len(past) - 1 else ""
+            yield "reopening", f"{edition} {given}", {"edition": edition}, note
+    for row in con["view"]["gone"]:
+        of_list = candidates.get(row["list"], [])
+        who = f" ({of_list[row['place'] - 1]})" if row["place"] <= len(of_list) else ""
+        yield "vacancy", f"{row['list']} {row['place']} {row['note']}", {"list": row["list"], "place": row["place"], "name": who}, row["note"]
+
+
+def entry_of(site, code, con, event, moment):
+    kind, words, of_title, text = event
+    entry, name = ET.Element(f"{ATOM}entry"), con["tally"]["name"]
+    for tag, said in (("id", identity(kind, code, name, words)), ("title", site.say(f"feed_{kind}", con=name, **of_title)), ("updated", moment),
+                      ("summary", text)):
+        ET.SubElement(entry, ATOM + tag).text = NO_XML.sub("\ufffd", said)
+    ET.SubElement(entry, f"{ATOM}link", href=f"con-{code}.html")
+    ET.SubElement(entry, f"{ATOM}category", term=kind)
+    return entry
+
+
+def said_before(text):
+    """The entries of a feed by their identifiers, in order of time."""
+    try:
+        return {entry.findtext(f"{ATOM}id"): entry for entry in reversed(ET.fromstring(text).findall(f"{ATOM}entry"))}
+    except ET.ParseError:
+        return {}
+
+
+def stays(entry, cons, codes):
+    code = re.fullmatch(r"con-(.*)\.html", entry.find(f"{ATOM}link").get("href"))[1]
+    return code not in cons and (codes is None or code in codes)
+
+
+def feed(before, cons, codes, setup, site, moment):
+    """The feed after what was in it before, where these constituencies were read. Of others everything stays, but for those that
+    are none of all that there are, where their codes are known.
+
+    An entry stays as it was first written, with the moment at which it was seen, for as long as its constituency shows what it
+    says. Where there was no feed, all that the office shows has the present moment, and the identifiers that it had."""
+    moment, known, shown = moment.isoformat(timespec="seconds"), said_before(before), {}
+    for code, con in cons.items():
+        candidates = {row["code"]: row["candidates"] for row in setup[code]["lists"]} if code in setup else {}
+        for event in events(con, candidates):
+            entry = entry_of(site, code, con, event, moment)
+            shown[entry.findtext(f"{ATOM}id")] = entry
+    kept = {of: entry for of, entry in known.items() if of in shown or stays(entry, cons, codes)}
+    found = ET.Element(f"{ATOM}feed", {"xml:lang": site.language})
+    licence = [("rights", site.about["licence"])] if "licence" in site.about else []
+    for tag, said in (("id", identity("feed", title_of(site))), ("title", title_of(site)), ("updated", moment), *licence):
+        ET.SubElement(found, ATOM + tag).text = said
+    ET.SubElement(ET.SubElement(found, f"{ATOM}author"), f"{ATOM}name").text = site.about.get("authority", site.say("office"))
+    for link in ({"rel": "self", "href": "feed.atom"}, {"href": "index.html"}):
+        ET.SubElement(found, f"{ATOM}link", link)
+    found.extend(reversed([*kept.values(), *(entry for of, entry in shown.items() if of not in kept)]))
+    ET.indent(found, " ")
+    return '<?xml version="1.0" encoding="utf-8"?>\n' + ET.tostring(found, "unicode") + "\n"

@@ -1,0 +1,191 @@
+"""What an office says of its pages, in a folder of its own: title and language, colours of lists, names of stations, a former
+result, a map. Each of its files may be missing."""
+
+import csv
+import io
+import re
+import tomllib
+import xml.etree.ElementTree as ET
+from collections import defaultdict
+from datetime import date
+from pathlib import Path
+
+# The tracks of press.css, light and dark: what is on them has more contrast with any other ground.
+TRACKS = ("#eceae4", "#2a2e36")
+# The least contrast of a colour with the ground, and with that of a neighbour in a half circle.
+FROM_GROUND, FROM_NEIGHBOUR = 3, 1.5
+# Colours of lists, light and dark, in the order in which the lists are met: one beyond them has
+# one of them again.
+PALETTE = (("#0f4775", "#2f7dc0"), ("#cc5f20", "#ffc08a"), ("#14532d", "#2f8a55"), ("#b0598a", "#ffb9df"), ("#4a2373", "#8f63c4"),
+           ("#9a6e14", "#f7d774"), ("#0b4a52", "#1a868f"), ("#d45252", "#ffbdb5"), ("#5c3415", "#a06a3f"), ("#5f7d22", "#d3e68a"),
+           ("#731840", "#c4527f"), ("#4f7aa3", "#b9dcff"))
+# Each language has a file beside this one.
+LANGUAGES = {file.stem.removeprefix("press_"): file for file in Path(__file__).resolve().parent.glob("press_*.toml")}
+ABOUT = {"title": str, "date": date, "authority": str, "licence": str, "language": str}
+SHAPES = {"svg", "g", "path", "polygon", "polyline", "rect", "circle", "ellipse", "line"}
+PLACES = {"viewBox", "d", "points", "x", "y", "width", "height", "cx", "cy", "r", "rx", "ry", "x1", "y1", "x2", "y2", "transform"}
+
+
+class Wrong(Exception):
+    """A file of the folder is not what it has to be."""
+
+
+# ---- colours
+
+
+def light_of(colour):
+    """The relative luminance of a colour, after WCAG 2."""
+    parts = [int(colour[place:place + 2], 16) / 255 for place in (1, 3, 5)]
+    red, green, blue = (part / 12.92 if part <= 0.04045 else ((part + 0.055) / 1.055) ** 2.4 for part in parts)
+    return 0.2126 * red + 0.7152 * green + 0.0722 * blue
+
+
+def contrast(one, other):
+    low, high = sorted((light_of(one), light_of(other)))
+    return (high + 0.05) / (low + 0.05)
+
+
+def readable(colour, ground):
+    """The colour, as much darker or lighter as its contrast with the ground needs."""
+    end = 0 if light_of(ground) > 0.5 else 255
+    parts = [int(colour[place:place + 2], 16) for place in (1, 3, 5)]
+    for step in range(21):
+        found = "#" + "".join(f"{round(part + (end - part) * step / 20):02x}" for part in parts)
+        if contrast(found, ground) >= FROM_GROUND:
+            return found
+    raise ValueError(colour)
+
+
+def like(one, other):
+    """Whether two lists' colours, light or dark, are too much alike to be neighbours."""
+    return any(contrast(a, b) < FROM_NEIGHBOUR for a, b in zip(one, other))
+
+
+# ---- the files of the folder
+
+
+def text_of(file):
+    """The text of a file; nothing where there is none."""
+    try:
+        return file.read_text(encoding="utf-8-sig") if file.exists() else ""
+    except UnicodeDecodeError as error:
+        raise Wrong(f"{file}: not UTF-8") from error
+
+
+def rows_of(file, *columns):
+    """The rows of a CSV file by the names of its columns, which has to have these."""
+    if not file.exists():
+        return []
+    reader = csv.DictReader(io.StringIO(text_of(file), newline=""), restval="")
+    if lost := [column for column in columns if column not in (reader.fieldnames or ())]:
+        raise Wrong(f"{file}: no column {', '.join(lost)}")
+    return list(reader)
+
+
+def read_about(file):
+    try:
+        about = tomllib.loads(text_of(file))
+    except tomllib.TOMLDecodeError as error:
+        raise Wrong(f"{file}: {error}") from error
+    for key, kind in ABOUT.items():
+        if key in about and not isinstance(about[key], kind):
+            raise Wrong(f"{file}: {key} is not a {kind.__name__}")
+    if about.get("language", "en") not in LANGUAGES:
+        raise Wrong(f"{file}: no texts of the language {about['language']!r}")
+    return about
+
+
+def read_colours(file):
+    found = {}
+    for row in rows_of(file, "list", "colour"):
+        if not re.fullmatch("#[0-9a-fA-F]{6}", row["colour"]):
+            raise Wrong(f"{file}: {row['list']}: not a colour such as #12538c")
+        found[row["list"]] = tuple(readable(row["colour"], ground) for ground in TRACKS)
+    return found
+
+
+def read_former(file):
+    """A former result: per constituency its lists' votes and seats, and its valid votes where the file has them."""
+    found = defaultdict(lambda: {"valid": None, "votes": {}, "seats": {}})
+    for row in rows_of(file, "con", "list", "votes", "seats"):
+        con = found[row["con"]]
+        try:
+            con["votes"][row["list"]], con["seats"][row["list"]] = int(row["votes"]), int(row["seats"])
+            con["valid"] = int(row["valid"]) if row.get("valid") else None
+        except ValueError as error:
+            raise Wrong(f"{file}: {row['con']}, {row['list']}: {error}") from error
+    return dict(found)
+
+
+def read_map(file):
+    """The shapes of a map, and nothing else that may be in it."""
+    if not file.exists():
+        return None
+    try:
+        return shapes(ET.fromstring(text_of(file)))
+    except ET.ParseError as error:
+        raise Wrong(f"{file}: {error}") from error
+
+
+def shapes(element):
+    kind = element.tag.rpartition("}")[2]
+    if kind not in SHAPES:
+        return None
+    places = {name: value for name, value in element.attrib.items() if name in PLACES}
+    return kind, element.get("id"), places, [found for child in element if (found := shapes(child))]
+
+
+class Site:
+    """What the folder says, with the words of its language."""
+
+    def __init__(self, folder=None):
+        folder = folder or Path("/nonexistent")
+        self.about = read_about(folder / "site.toml")
+        self.language = self.about.get("language", "en")
+        self.words = tomllib.loads(LANGUAGES[self.language].read_text(encoding="utf-8"))
+        self.colours = read_colours(folder / "colours.csv")
+        self.names = {row["station"]: row["name"] for row in rows_of(folder / "stations.csv", "station", "name")}
+        self.former = read_former(folder / "before.csv")
+        self.map = read_map(folder / "map.svg")
+        self.met = {}
+
+    def meet(self, codes):
+        """Gives each list that was not met before a place among the colours."""
+        for code in codes:
+            self.met.setdefault(code, len(self.met))
+
+    def colours_of(self, code):
+        """A list's colours, light and dark."""
+        return self.colours.get(code) or PALETTE[self.met.get(code, 0) % len(PALETTE)]
+
+    # ---- words
+
+    def say(self, key, **values):
+        return self.words[key].format(**values)
+
+    def number(self, value):
+        return str(value) if value < 1000 else f"{value:,}".replace(",", self.words["thousands"])
+
+    def decimal(self, text):
+        return text.replace(".", self.words["point"])
+
+    def per_cent(self, hundredths):
+        return self.decimal(f"{hundredths // 100}.{hundredths % 100:02}")
+
+    def change(self, value, written):
+        """A change with its sign."""
+        return "±0" if not value else ("+" if value > 0 else "−") + written(abs(value))
+
+    def day(self, day):
+        return self.say("day", day=day.day, month=self.words["months"][day.month - 1], year=day.year)
+
+    def moment(self, moment):
+        return (f'<time datetime="{moment.isoformat(timespec="seconds")}">{self.day(moment)}, '
+                f'{moment.strftime("%H:%M:%S %z")}</time>')
+
+    def age(self, seconds):
+        for size, unit in ((86400, "days"), (3600, "hours"), (60, "minutes"), (1, "seconds")):
+            if seconds >= size or unit == "seconds":
+                many = int(seconds // size)
+                one, more = self.words[unit]
+                return f"{many} {one if many == 1 else more}"
